@@ -1,0 +1,113 @@
+-- The jobs that are read today: which lines they have, the first line that is wrong, and what a job means.
+use Rattle.std.specs.Prelude.{ℕ, ◌+◌, ◌%◌, ◌==◌, ◌&&◌, nat_le, nat_lt, Bool, false, true, List, [], ◌∷◌, ◌++◌, length, Option, Some, None, unwrap_or, is_some, if◌then◌else◌, codes}
+use Rattle.kdf_top.specs.declared.job.Event.{Event}
+use Rattle.kdf_top.specs.declared.job.Event.TheVariants.{Orders}
+use Rattle.kdf_top.specs.declared.job.JobFault.{JobFault}
+use Rattle.kdf_top.specs.declared.job.JobFault.TheVariants.{Header, NotYet}
+use Rattle.kdf_top.specs.Options.{◌>>=◌}
+use Rattle.kdf_top.specs.Lines.{lines, words, line, is_text, number_in}
+use Rattle.kdf_top.specs.Deck.{Deck, deck}
+use Rattle.kdf_top.specs.Placement.{image_of}
+
+-- a slot of a job
+pub record SlotJob : Type 0 where
+  pub p : ℕ
+  pub size : ℕ
+  pub deck : List ℕ
+  pub shows : List (ℕ × ℕ)
+
+pub record Job : Type 0 where
+  pub slots : List SlotJob
+  pub events : List Event
+
+-- the number of a line of a name and a number
+abbrev pub number_of_words : List ℕ → ℕ → ℕ → List (List ℕ) → Option ℕ
+number_of_words name low high (first ∷ number ∷ []) = if is_text name first then number_in low high number else None
+number_of_words name low high _ = None
+
+abbrev pub if_in_groups : ℕ → Option ℕ
+if_in_groups n = if n % 32 == 0 then Some n else None
+
+-- the size in `STORE n`
+abbrev pub store_size : List ℕ → Option ℕ
+store_size l = number_of_words (codes "STORE") 32 8192 (words l) >>= if_in_groups
+
+-- the number of calls in `ORDERS n`
+abbrev pub order_count : List ℕ → Option ℕ
+order_count l = number_of_words (codes "ORDERS") 1 20000000 (words l)
+
+-- the addresses in `SHOW a b`, which don't fall and are below the size
+abbrev pub if_shown : ℕ → ℕ → ℕ → Option (ℕ × ℕ)
+if_shown size a b = if nat_le a b && nat_lt b size then Some (a, b) else None
+
+abbrev pub show_of_words : ℕ → List (List ℕ) → Option (ℕ × ℕ)
+show_of_words size (first ∷ a ∷ b ∷ []) =
+    if is_text (codes "SHOW") first then number_in 0 8191 a >>= (λ x. number_in 0 8191 b >>= if_shown size x) else None
+show_of_words size _ = None
+
+abbrev pub show_range : ℕ → List ℕ → Option (ℕ × ℕ)
+show_range size l = show_of_words size (words l)
+
+abbrev pub fits : ℕ → Option Deck → Bool
+fits size None = false
+fits size (Some d) = nat_le (length (image_of d)) size
+
+-- the line is a deck whose image fits the store
+abbrev pub is_deck : ℕ → List ℕ → Bool
+is_deck size l = fits size (deck l)
+
+-- line 3 tells the size of the store
+abbrev pub size_in : List (List ℕ) → ℕ
+size_in ls = unwrap_or (store_size (line ls 3)) 0
+
+-- line 7 may tell what to show
+abbrev pub show_in : List (List ℕ) → Option (ℕ × ℕ)
+show_in ls = show_range (size_in ls) (line ls 7)
+
+-- the forms that the lines of a job have, in order
+abbrev pub show_forms : ℕ → Option (ℕ × ℕ) → List (List ℕ → Bool)
+show_forms size None = []
+show_forms size (Some x) = (λ l. is_some (show_range size l)) ∷ []
+
+unfoldable pub forms : List (List ℕ) → List (List ℕ → Bool)
+forms ls =
+    (is_text (codes "KDF9 JOB 1") ∷ is_text (codes "SLOT 0") ∷ (λ l. is_some (store_size l)) ∷ is_text (codes "DECK") ∷ is_deck (size_in ls)
+    ∷ is_text (codes "ENDDECK") ∷ [])
+    ++ show_forms (size_in ls) (show_in ls)
+    ++ (is_text (codes "SCHEDULE") ∷ (λ l. is_some (order_count l)) ∷ is_text (codes "ENDJOB") ∷ [])
+
+-- the first line, from number n on, that hasn't its form: the end of the text counts as a line more, that has none
+abbrev pub first_off : ℕ → List (List ℕ → Bool) → List (List ℕ) → Option ℕ
+first_off n [] [] = None
+first_off n [] (l ∷ ls) = Some n
+first_off n (form ∷ forms) [] = Some n
+first_off n (form ∷ forms) (l ∷ ls) = if form l then first_off (n + 1) forms ls else Some n
+
+abbrev pub fault_at : ℕ → JobFault × ℕ
+fault_at n = (if n == 1 then Header else NotYet, n)
+
+abbrev pub fault_of_lines : List (List ℕ) → Option (JobFault × ℕ)
+fault_of_lines ls = first_off 1 (forms ls) ls >>= (λ n. Some (fault_at n))
+
+-- the first faulty line of a job, and what is wrong with it
+unfoldable pub job_fault : List ℕ → Option (JobFault × ℕ)
+job_fault bytes = fault_of_lines (lines bytes)
+
+abbrev pub shows_of : Option (ℕ × ℕ) → List (ℕ × ℕ)
+shows_of None = []
+shows_of (Some x) = x ∷ []
+
+-- the line of the schedule stands behind SCHEDULE
+abbrev pub orders_in : List (List ℕ) → ℕ
+orders_in ls = unwrap_or (order_count (line ls (8 + length (shows_of (show_in ls))))) 0
+
+abbrev pub job_of_lines : List (List ℕ) → Job
+job_of_lines ls =
+    record {
+      slots = record { p = 0; size = size_in ls; deck = line ls 5 ++ 10 ∷ []; shows = shows_of (show_in ls) } ∷ [];
+      events = Orders (orders_in ls) ∷ [];
+    }
+
+-- what the lines of a job without a fault mean
+unfoldable pub job : List ℕ → Job
+job bytes = job_of_lines (lines bytes)

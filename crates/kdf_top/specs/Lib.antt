@@ -1,0 +1,13 @@
+pub mod Options
+pub mod Lines
+pub mod Deck
+pub mod Placement
+pub mod Job
+pub mod Joined
+pub mod Counts
+pub mod Next
+pub mod Legal
+pub mod Follows
+pub mod Text
+pub mod Commands
+pub mod Shown

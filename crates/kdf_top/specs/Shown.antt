@@ -1,0 +1,32 @@
+-- What a machine is to its callers.
+use Rattle.std.specs.Prelude.{◌≡◌, ℕ, ◌==◌, List, [], ◌∷◌, map, Option, Some, None, if◌then◌else◌}
+use Rattle.kdf_processor.specs.State.{State}
+use Rattle.kdf_top.specs.declared.journal.Entry.{Entry}
+use Rattle.kdf_top.specs.Job.{Job, SlotJob}
+use Rattle.kdf_top.specs.Placement.{image}
+use Rattle.kdf_top.specs.Next.{Slot, own}
+
+-- the slots as they were loaded, the state of the program of each, and the journal
+pub record Shown : Type 0 where
+  pub slots : List Slot
+  pub states : List State
+  pub journal : List Entry
+
+-- the state of program p
+abbrev pub state_in : List Slot → List State → ℕ → Option State
+state_in (slot ∷ slots) (state ∷ states) p = if slot.p == p then Some state else state_in slots states p
+state_in _ _ p = None
+
+abbrev pub state_of : Shown → ℕ → Option State
+state_of m p = state_in m.slots m.states p
+
+-- each program is as it is by itself, after as many of its own orders
+abbrev pub ShowsLone : Shown → Type 0
+ShowsLone m = m.states ≡ map (λ (s : Slot). own m.slots m.journal s.p) m.slots
+
+-- the slots of a job, with the images of their decks
+abbrev pub slot_of_job : SlotJob → Slot
+slot_of_job s = record { p = s.p; size = s.size; words = image s.deck }
+
+abbrev pub slots_of : Job → List Slot
+slots_of job = map slot_of_job job.slots

@@ -1,0 +1,12 @@
+//! The top call: reads a job, runs it, writes the report.
+#![tactic(auto)]
+
+mod deck;
+mod job;
+mod journal;
+mod status;
+
+pub use deck::{Deck, Image, Piece};
+pub use job::{Event, Job, JobError, JobFault, SlotJob};
+pub use journal::Entry;
+pub use status::Status;
