@@ -2,11 +2,15 @@
 #![tactic(auto)]
 
 mod deck;
+mod entry_text;
 mod job;
 mod journal;
+mod octal;
 mod status;
 
 pub use deck::{Deck, Image, Piece};
 pub use job::{Event, Job, JobError, JobFault, SlotJob};
+pub use entry_text::write_entry;
 pub use journal::Entry;
+pub use octal::write_octal;
 pub use status::Status;
