@@ -5,6 +5,7 @@ use Rattle.kdf_processor.specs.declared.failure.Failure.{Failure}
 use Rattle.kdf_processor.specs.declared.failure.Failure.TheVariants.{Liv, Nouv, Out, Reset, Claim}
 use Rattle.kdf_processor.specs.declared.registers.Life.{Life}
 use Rattle.kdf_processor.specs.declared.registers.Life.TheVariants as life
+use Rattle.kdf_processor.specs.declared.registers.Registers.{Registers}
 use Rattle.kdf_processor.specs.State.{State, word_at}
 use Rattle.kdf_top.specs.declared.journal.Entry.{Entry}
 use Rattle.kdf_top.specs.declared.journal.Entry.TheVariants.{Ran, Fail, Ended}
@@ -52,17 +53,21 @@ word_line s a = codes "WORD " ++ decimal a ++ codes " " ++ octal (word_at s a)
 abbrev pub show_lines : State → ℕ × ℕ → List (List ℕ)
 show_lines s show = map (word_line s) (range_with_len show.0 (show.1 + 1 - show.0))
 
--- what a report says of one slot, from its state; no order that is built makes a link
+-- what a section says of the registers; no order that is built makes a link
+abbrev pub registers_lines : Registers → List (List ℕ)
+registers_lines r =
+    life_line r.state
+    ∷ (codes "ORDERS " ++ decimal r.ran)
+    ∷ (codes "AT " ++ decimal (r.at / 6) ++ codes " " ++ decimal (r.at % 6))
+    ∷ (codes "FLAGS " ++ bit r.flags.v ++ codes " " ++ bit r.flags.tr)
+    ∷ nest_line r.nest
+    ∷ codes "LINKS 0"
+    ∷ []
+
+-- what a report says of one slot, from its state
 unfoldable pub section : SlotJob → State → List (List ℕ)
 section slot s =
-    (codes "SLOT " ++ decimal slot.p)
-    ∷ life_line s.registers.state
-    ∷ (codes "ORDERS " ++ decimal s.registers.ran)
-    ∷ (codes "AT " ++ decimal (s.registers.at / 6) ++ codes " " ++ decimal (s.registers.at % 6))
-    ∷ (codes "FLAGS " ++ bit s.registers.flags.v ++ codes " " ++ bit s.registers.flags.tr)
-    ∷ nest_line s.registers.nest
-    ∷ codes "LINKS 0"
-    ∷ flat_map (show_lines s) slot.shows
+    (codes "SLOT " ++ decimal slot.p) ∷ registers_lines s.registers ++ flat_map (show_lines s) slot.shows
 
 -- the report of a job, its journal and the states of its programs
 unfoldable pub report_lines : Job → List Entry → (ℕ → State) → List (List ℕ)

@@ -6,11 +6,12 @@ mod entry_text;
 mod job;
 mod journal;
 mod octal;
+mod registers_text;
 mod status;
 
 pub use deck::{Deck, Image, Piece};
 pub use job::{Event, Job, JobError, JobFault, SlotJob};
-pub use entry_text::write_entry;
+pub use entry_text::write_entries;
 pub use journal::Entry;
-pub use octal::write_octal;
+pub use registers_text::write_registers;
 pub use status::Status;

@@ -1,0 +1,93 @@
+//! The lines of a program's registers.
+ghost use Rattle.std.specs.Prelude.{◌≡◌, ◌++◌, [], ◌∷◌, OnOk, string_bytes, codes, decimal, ◌/◌, ◌%◌};
+ghost use Rattle.std.specs.List.{flat_map};
+ghost use Rattle.kdf_top.specs.Text.{text, octal, life_line, bit, nest_line, registers_lines};
+
+use crate::octal::write_octal;
+use kdf_processor::{Flags, Life, Nest, Registers};
+use std::alloc::AllocError;
+use std::fmt::Write;
+
+/// Writes what a section says of the registers.
+pub fn write_registers(out: &mut String, registers: &Registers) -> Result<(), AllocError>
+    ensures { OnOk result (string_bytes out.new ≡ string_bytes out.old ++ text (registers_lines registers.now)) }
+{
+    write_life(out, registers.state)?;
+    write_place(out, registers.ran, registers.at)?;
+    write_flags(out, registers.flags)?;
+    write_nest(out, &registers.nest)?;
+    write_no_links(out)
+}
+
+#[tactic(auto, unfolding(crate::specs::Text::text))]
+fn write_life(out: &mut String, life: Life) -> Result<(), AllocError>
+    ensures { OnOk result (string_bytes out.new ≡ string_bytes out.old ++ text (life_line life ∷ [])) }
+{
+    match life {
+        Life::Live => writeln!(out, "STATE LIVE"),
+        Life::Ended => writeln!(out, "STATE ENDED"),
+        Life::Failed(kind) => {
+            let name = kind.name();
+            writeln!(out, "STATE FAILED {name}")
+        }
+    }
+}
+
+// How many orders were obeyed, and the word and syllable of the next.
+#[tactic(auto, unfolding(crate::specs::Text::text))]
+fn write_place(out: &mut String, ran: u32, at: u16) -> Result<(), AllocError>
+    ensures { OnOk result (string_bytes out.new ≡ string_bytes out.old ++ text (
+        (codes "ORDERS " ++ decimal ran) ∷ (codes "AT " ++ decimal (at / 6) ++ codes " " ++ decimal (at % 6)) ∷ [])) }
+{
+    let word = at / 6;
+    let syllable = at % 6;
+    writeln!(out, "ORDERS {ran}")?;
+    writeln!(out, "AT {word} {syllable}")
+}
+
+#[tactic(auto, unfolding(crate::specs::Text::text))]
+fn write_flags(out: &mut String, flags: Flags) -> Result<(), AllocError>
+    ensures { OnOk result (string_bytes out.new ≡ string_bytes out.old ++ text (
+        (codes "FLAGS " ++ bit flags.v ++ codes " " ++ bit flags.tr) ∷ [])) }
+{
+    let v = digit(flags.v);
+    let tr = digit(flags.tr);
+    writeln!(out, "FLAGS {v} {tr}")
+}
+
+fn digit(flag: bool) -> &'static str
+    ensures { result.now ≡ bit flag }
+{
+    if flag { "1" } else { "0" }
+}
+
+// The words of a nest, the top first, behind their number.
+#[tactic(auto, unfolding(crate::specs::Text::text))]
+fn write_nest(out: &mut String, nest: &Nest) -> Result<(), AllocError>
+    ensures { OnOk result (string_bytes out.new ≡ string_bytes out.old ++ text (nest_line nest.now ∷ [])) }
+{
+    let depth = nest.depth();
+    write!(out, "NEST {depth}")?;
+    write_words(out, nest)?;
+    writeln!(out)
+}
+
+// Each word of a nest behind a space.
+fn write_words(out: &mut String, nest: &Nest) -> Result<(), AllocError>
+    ensures { OnOk result (string_bytes out.new
+        ≡ string_bytes out.old ++ flat_map (λ w. codes " " ++ octal w) nest.now) }
+{
+    for i in 0..nest.depth() {
+        write!(out, " ")?;
+        write_octal(out, nest.peek(i))?;
+    }
+    Ok(())
+}
+
+// No order that is built makes a link.
+#[tactic(auto, unfolding(crate::specs::Text::text))]
+fn write_no_links(out: &mut String) -> Result<(), AllocError>
+    ensures { OnOk result (string_bytes out.new ≡ string_bytes out.old ++ text (codes "LINKS 0" ∷ [])) }
+{
+    writeln!(out, "LINKS 0")
+}
