@@ -1,5 +1,7 @@
 //! A job: one program with its deck, and the schedule under which it runs.
 
+ghost use Rattle.std.specs.Prelude.{◌≡◌};
+
 use thiserror::Error;
 
 /// A job, as it was read.
@@ -49,4 +51,18 @@ pub enum JobError {
     /// There was no memory for the job.
     #[error("out of memory")]
     Memory,
+}
+
+impl JobFault {
+    ghost use Rattle.kdf_top.specs.Text.{fault_name};
+
+    /// Its name, as it is printed.
+    pub fn name(&self) -> &'static str
+        ensures { result.now ≡ fault_name self.now }
+    {
+        match self {
+            JobFault::Header => "Header",
+            JobFault::NotYet => "NotYet",
+        }
+    }
 }

@@ -1,11 +1,13 @@
 //! The top call: reads a job, runs it, writes the report.
 #![tactic(auto)]
 
+mod command;
 mod deck;
 mod entry_text;
 mod job;
 mod journal;
 mod octal;
+mod refusal;
 mod registers_text;
 mod status;
 
@@ -13,5 +15,7 @@ pub use deck::{Deck, Image, Piece};
 pub use job::{Event, Job, JobError, JobFault, SlotJob};
 pub use entry_text::write_entries;
 pub use journal::Entry;
+pub use command::{Command, command_of};
 pub use registers_text::write_registers;
+pub use refusal::refusal_text;
 pub use status::Status;

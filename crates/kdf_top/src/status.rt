@@ -1,4 +1,5 @@
 //! How a call of `run` ended.
+ghost use Rattle.std.specs.Prelude.{◌≡◌};
 
 use crate::JobFault;
 
@@ -19,4 +20,24 @@ pub enum Status {
     WriteFault,
     /// There was no memory.
     Memory,
+}
+
+impl Status {
+    ghost use Rattle.kdf_top.specs.Codes.{code_of};
+
+    /// The number with which the program ends: 0 to 2 and 4 to 7, in the order of the variants.
+    /// The number 3 is kept for faults of decks.
+    pub fn code(&self) -> u8
+        ensures { result ≡ code_of self.now }
+    {
+        match self {
+            Status::Done => 0,
+            Status::Usage => 1,
+            Status::Job { .. } => 2,
+            Status::Large => 4,
+            Status::ReadFault => 5,
+            Status::WriteFault => 6,
+            Status::Memory => 7,
+        }
+    }
 }

@@ -1,0 +1,37 @@
+//! The commands of the program.
+ghost use Rattle.std.specs.Prelude.{◌≡◌, is_some, map, string_bytes};
+ghost use Rattle.kdf_top.specs.Commands.{is_command};
+ghost use Rattle.kdf_top.specs.Text.{job_limit};
+
+/// What the words behind the program's name ask for.
+#[derive(Clone, Copy, Debug, PartialEq, Eq)]
+pub enum Command {
+    /// `run`: reads a job, runs it and writes its report.
+    Run,
+}
+
+/// A job may have so many bytes.
+pub const JOB_LIMIT: usize = 4_194_304;
+
+impl Command {
+    /// How many bytes of input the command takes at most.
+    #[tactic(auto, unfolding(crate::specs::Text::job_limit))]
+    pub fn limit(self) -> usize
+        ensures { result ≡ job_limit }
+    {
+        match self {
+            Command::Run => JOB_LIMIT,
+        }
+    }
+}
+
+/// The command of these words, or none.
+#[tactic(auto, unfolding(crate::specs::Commands::is_command))]
+pub fn command_of(words: &[String]) -> Option<Command>
+    ensures { is_some result ≡ is_command (map string_bytes words.now) }
+{
+    match words {
+        [word] if word.as_str() == "run" => Some(Command::Run),
+        _ => None,
+    }
+}
