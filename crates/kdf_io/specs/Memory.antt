@@ -18,7 +18,7 @@ input_of s =
       most = s.most;
       fail = s.calls.fail.items;
       calls = s.calls.made;
-      faults = s.calls.faults;
+      faults = s.faults.count;
     }
 
 -- a sink over memory
@@ -38,7 +38,7 @@ output_of s =
       most = s.most;
       fail = s.calls.fail.items;
       calls = s.calls.made;
-      faults = s.calls.faults;
+      faults = s.faults.count;
     }
 
 -- so many bytes more go without a fault: none are promised where some calls are to fail

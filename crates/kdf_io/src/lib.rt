@@ -10,6 +10,7 @@
 
 mod calls;
 mod failed;
+mod faults;
 mod memory_sink;
 mod memory_source;
 mod read_end;

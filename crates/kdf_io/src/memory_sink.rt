@@ -1,7 +1,7 @@
-ghost use Rattle.std.specs.Prelude.{◌≡◌, ◌≤◌, [], ◌++◌, ◌↔◌, min, length, take, if◌then◌else◌, is_ok, Some, Contains, IfOk, IsErr, vec_items, vec_len, vec_capacity};
-ghost use Rattle.kdf_io.specs.Counts.{one_more};
+ghost use Rattle.std.specs.Prelude.{◌≡◌, ◌≤◌, [], Some, IfOk, vec_items, vec_len, vec_capacity};
 
 use crate::calls::Calls;
+use crate::faults::Faults;
 use crate::{Failed, Sink};
 use std::alloc::{AllocError, Global};
 
@@ -12,6 +12,7 @@ pub struct MemorySink {
     room: usize,
     most: usize,
     calls: Calls,
+    faults: Faults,
     ghost fits: { room ≤ vec_capacity bytes },
     ghost within: { vec_len bytes ≤ room },
     ghost takes: { 1 ≤ most },
@@ -35,7 +36,14 @@ impl MemorySink {
         fail: Vec<u32>,
     ) -> Result<MemorySink, AllocError>
         requires { 1 ≤ most }
-        ensures output { IfOk result (λ sink. output_of sink ≡ record { written = []; room = room; most = most; fail = fail.items; calls = 0; faults = 0 }) }
+        ensures output { IfOk result (λ sink. output_of sink ≡ record {
+          written = [];
+          room = room;
+          most = most;
+          fail = fail.items;
+          calls = 0;
+          faults = 0;
+        }) }
         ensures written { IfOk result (λ sink. ⟦<MemorySink as Sink>⟧.written sink ≡ Some []) }
         ensures faults { IfOk result (λ sink. ⟦<MemorySink as Sink>⟧.faults sink ≡ 0) }
         ensures room { fail.items ≡ [] → IfOk result (λ sink. ⟦<MemorySink as Sink>⟧.room sink ≡ room) }
@@ -45,6 +53,7 @@ impl MemorySink {
             room,
             most,
             calls: Calls::new(fail),
+            faults: Faults::new(),
         })
     }
 
@@ -67,7 +76,7 @@ impl Sink for MemorySink {
 
     ghost room = { λ s. sure_room (output_of s).fail ((output_of s).room - length (output_of s).written) };
 
-    ghost bounded = { λ s. s.calls.bounded };
+    ghost bounded = { λ s. s.faults.bounded };
 
     fn put(&mut self, piece: &[u8]) -> Result<usize, Failed>
         ensures fails { IsErr result
@@ -85,10 +94,10 @@ impl Sink for MemorySink {
           faults = one_more (output_of self.old).faults;
         }) }
     {
-        let numbered = self.calls.begin();
+        let numbered = self.calls.is_next_to_fail();
         let room = self.room - self.bytes.len();
         if numbered || (room == 0 && !piece.is_empty()) {
-            return Err(self.calls.fault());
+            return Err(self.faults.fail());
         }
         let taken = piece.len().min(self.most).min(room);
         self.bytes.extend_from_slice(&piece[..taken]).unwrap();

@@ -1,7 +1,7 @@
-ghost use Rattle.std.specs.Prelude.{◌≡◌, ◌≤◌, [], ◌++◌, ◌↔◌, min, length, take, if◌then◌else◌, is_ok, Some, Contains, IfOk, IsErr, vec_items, vec_len};
-ghost use Rattle.kdf_io.specs.Counts.{one_more};
+ghost use Rattle.std.specs.Prelude.{◌≡◌, ◌≤◌, [], Some, vec_items, vec_len};
 
 use crate::calls::Calls;
+use crate::faults::Faults;
 use crate::{Failed, Source};
 
 /// A source that gives bytes of memory, and fails as it is asked to.
@@ -11,6 +11,7 @@ pub struct MemorySource {
     at: usize,
     most: usize,
     calls: Calls,
+    faults: Faults,
     ghost within: { at ≤ vec_len bytes },
     ghost gives: { 1 ≤ most },
 }
@@ -22,7 +23,13 @@ impl MemorySource {
     /// the calls whose numbers, counted from 1, are in `fail`.
     pub fn new(bytes: Vec<u8>, most: usize, fail: Vec<u32>) -> MemorySource
         requires { 1 ≤ most }
-        ensures input { input_of result ≡ record { left = bytes.items; most = most; fail = fail.items; calls = 0; faults = 0 } }
+        ensures input { input_of result ≡ record {
+          left = bytes.items;
+          most = most;
+          fail = fail.items;
+          calls = 0;
+          faults = 0;
+        } }
         ensures left { ⟦<MemorySource as Source>⟧.left result ≡ Some bytes.items }
         ensures faults { ⟦<MemorySource as Source>⟧.faults result ≡ 0 }
         ensures steady { fail.items ≡ [] → ⟦<MemorySource as Source>⟧.steady result }
@@ -32,6 +39,7 @@ impl MemorySource {
             at: 0,
             most,
             calls: Calls::new(fail),
+            faults: Faults::new(),
         }
     }
 }
@@ -47,7 +55,7 @@ impl Source for MemorySource {
 
     ghost steady = { λ s. (input_of s).fail ≡ [] };
 
-    ghost bounded = { λ s. s.calls.bounded };
+    ghost bounded = { λ s. s.faults.bounded };
 
     fn read(&mut self, into: &mut [u8]) -> Result<usize, Failed>
         ensures fails { IsErr result
@@ -65,8 +73,8 @@ impl Source for MemorySource {
           faults = one_more (input_of self.old).faults;
         }) }
     {
-        if self.calls.begin() {
-            return Err(self.calls.fault());
+        if self.calls.is_next_to_fail() {
+            return Err(self.faults.fail());
         }
         let left = &self.bytes[self.at..];
         let given = into.len().min(self.most).min(left.len());

@@ -1,5 +1,6 @@
-ghost use Rattle.std.specs.Prelude.{◌≡◌, ◌^◌, ◌<◌};
+ghost use Rattle.std.specs.Prelude.{◌≡◌};
 
+use crate::faults::Faults;
 use crate::{Failed, Source};
 use std::io::Read;
 
@@ -9,8 +10,7 @@ use std::io::Read;
 #[derive(Debug, Drop)]
 pub struct ReadFrom<R> {
     reader: R,
-    faults: u64,
-    ghost bounded: { faults < 2 ^ 64 },
+    faults: Faults,
 }
 
 impl<R: Read> ReadFrom<R> {
@@ -18,7 +18,10 @@ impl<R: Read> ReadFrom<R> {
     pub fn new(reader: R) -> ReadFrom<R>
         ensures { ⟦<ReadFrom<R> as Source>⟧.faults result ≡ 0 }
     {
-        ReadFrom { reader, faults: 0 }
+        ReadFrom {
+            reader,
+            faults: Faults::new(),
+        }
     }
 }
 
@@ -28,9 +31,9 @@ impl<R: Read> Source for ReadFrom<R> {
 
     ghost left = { λ _. None };
 
-    ghost faults = { λ s. s.faults };
+    ghost faults = { λ s. s.faults.count };
 
-    ghost bounded = { λ s. s.bounded };
+    ghost bounded = { λ s. s.faults.bounded };
 
     fn read(&mut self, into: &mut [u8]) -> Result<usize, Failed>
         ensures fits { IfOk result (λ n. n ≤ length into.new) }
@@ -39,10 +42,7 @@ impl<R: Read> Source for ReadFrom<R> {
     {
         match self.reader.read(into) {
             Ok(given) => Ok(given),
-            Err(_) => {
-                self.faults = self.faults.saturating_add(1);
-                Err(Failed)
-            }
+            Err(_) => Err(self.faults.fail()),
         }
     }
 }

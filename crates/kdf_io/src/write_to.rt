@@ -1,5 +1,6 @@
-ghost use Rattle.std.specs.Prelude.{◌≡◌, ◌^◌, ◌<◌};
+ghost use Rattle.std.specs.Prelude.{◌≡◌};
 
+use crate::faults::Faults;
 use crate::{Failed, Sink};
 use std::io::Write;
 
@@ -10,8 +11,7 @@ use std::io::Write;
 #[derive(Debug, Drop)]
 pub struct WriteTo<W> {
     writer: W,
-    faults: u64,
-    ghost bounded: { faults < 2 ^ 64 },
+    faults: Faults,
 }
 
 impl<W: Write> WriteTo<W> {
@@ -19,7 +19,10 @@ impl<W: Write> WriteTo<W> {
     pub fn new(writer: W) -> WriteTo<W>
         ensures { ⟦<WriteTo<W> as Sink>⟧.faults result ≡ 0 }
     {
-        WriteTo { writer, faults: 0 }
+        WriteTo {
+            writer,
+            faults: Faults::new(),
+        }
     }
 }
 
@@ -29,9 +32,9 @@ impl<W: Write> Sink for WriteTo<W> {
 
     ghost written = { λ _. None };
 
-    ghost faults = { λ s. s.faults };
+    ghost faults = { λ s. s.faults.count };
 
-    ghost bounded = { λ s. s.bounded };
+    ghost bounded = { λ s. s.faults.bounded };
 
     fn put(&mut self, piece: &[u8]) -> Result<usize, Failed>
         ensures within { IfOk result (λ n. n ≤ length piece.now) }
@@ -41,10 +44,7 @@ impl<W: Write> Sink for WriteTo<W> {
     {
         match self.writer.write(piece) {
             Ok(taken) if taken > 0 || piece.is_empty() => Ok(taken),
-            _ => {
-                self.faults = self.faults.saturating_add(1);
-                Err(Failed)
-            }
+            _ => Err(self.faults.fail()),
         }
     }
 }
