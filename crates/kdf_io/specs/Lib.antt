@@ -2,3 +2,4 @@ pub mod Counts
 pub mod Memory
 pub mod Outside
 pub mod Reading
+pub mod Streams

@@ -14,9 +14,12 @@ pub struct ReadFrom<R> {
 }
 
 impl<R: Read> ReadFrom<R> {
+    ghost use Rattle.kdf_io.specs.Streams.{reader_of};
+
     /// A source over this reader, which has not failed yet.
     pub fn new(reader: R) -> ReadFrom<R>
-        ensures { ⟦<ReadFrom<R> as Source>⟧.faults result ≡ 0 }
+        ensures reader { reader_of result ≡ reader }
+        ensures faults { ⟦<ReadFrom<R> as Source>⟧.faults result ≡ 0 }
     {
         ReadFrom {
             reader,
@@ -27,7 +30,9 @@ impl<R: Read> ReadFrom<R> {
 
 impl<R: Read> Source for ReadFrom<R> {
     ghost use Rattle.std.specs.Prelude.{◌≤◌, None, length, IfOk};
+    ghost use Rattle.std.specs.Io.KnownBytes.{ReadConsumes};
     ghost use Rattle.kdf_io.specs.Counts.{CountsFault};
+    ghost use Rattle.kdf_io.specs.Streams.{reader_of};
 
     ghost left = { λ _. None };
 
@@ -37,6 +42,8 @@ impl<R: Read> Source for ReadFrom<R> {
 
     fn read(&mut self, into: &mut [u8]) -> Result<usize, Failed>
         ensures fits { IfOk result (λ n. n ≤ length into.new) }
+        ensures reader { ReadConsumes (R.remaining (reader_of self.old)) (R.remaining (reader_of self.new))
+            result into.new }
         ensures counts { CountsFault (⟦<ReadFrom<R> as Source>⟧.faults self.old) result
             (⟦<ReadFrom<R> as Source>⟧.faults self.new) }
     {

@@ -15,9 +15,12 @@ pub struct WriteTo<W> {
 }
 
 impl<W: Write> WriteTo<W> {
+    ghost use Rattle.kdf_io.specs.Streams.{writer_of};
+
     /// A sink over this writer, which has not failed yet.
     pub fn new(writer: W) -> WriteTo<W>
-        ensures { ⟦<WriteTo<W> as Sink>⟧.faults result ≡ 0 }
+        ensures writer { writer_of result ≡ writer }
+        ensures faults { ⟦<WriteTo<W> as Sink>⟧.faults result ≡ 0 }
     {
         WriteTo {
             writer,
@@ -28,7 +31,9 @@ impl<W: Write> WriteTo<W> {
 
 impl<W: Write> Sink for WriteTo<W> {
     ghost use Rattle.std.specs.Prelude.{◌≤◌, ◌<◌, None, length, IfOk};
+    ghost use Rattle.std.specs.Io.KnownBytes.{WriteAppends};
     ghost use Rattle.kdf_io.specs.Counts.{CountsFault};
+    ghost use Rattle.kdf_io.specs.Streams.{writer_of};
 
     ghost written = { λ _. None };
 
@@ -39,6 +44,8 @@ impl<W: Write> Sink for WriteTo<W> {
     fn put(&mut self, piece: &[u8]) -> Result<usize, Failed>
         ensures within { IfOk result (λ n. n ≤ length piece.now) }
         ensures some { IfOk result (λ n. 0 < length piece.now → 0 < n) }
+        ensures writer { WriteAppends (W.contents (writer_of self.old)) (W.contents (writer_of self.new))
+            result piece.now }
         ensures counts { CountsFault (⟦<WriteTo<W> as Sink>⟧.faults self.old) result
             (⟦<WriteTo<W> as Sink>⟧.faults self.new) }
     {
