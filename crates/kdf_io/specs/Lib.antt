@@ -1,2 +1,5 @@
+pub mod Counts
+pub mod Memory
 pub mod Outside
 pub mod Reading
+pub mod Streams

@@ -8,16 +8,28 @@
 //! readers and writers of the standard library.
 #![tactic(auto)]
 
+mod calls;
 mod failed;
+mod faults;
+mod memory_sink;
+mod memory_source;
 mod read_end;
+mod read_from;
 mod reading;
 mod sink;
 mod source;
+#[cfg(test)]
+mod tests;
+mod write_to;
 mod writing;
 
 pub use failed::Failed;
+pub use memory_sink::MemorySink;
+pub use memory_source::MemorySource;
 pub use read_end::ReadEnd;
+pub use read_from::ReadFrom;
 pub use reading::read_all;
 pub use sink::Sink;
 pub use source::Source;
+pub use write_to::WriteTo;
 pub use writing::write_all;
