@@ -11,3 +11,4 @@ pub mod Follows
 pub mod Text
 pub mod Commands
 pub mod Shown
+pub mod Kept

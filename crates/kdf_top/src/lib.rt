@@ -8,5 +8,5 @@ mod status;
 
 pub use deck::{Deck, Image, Piece};
 pub use job::{Event, Job, JobError, JobFault, SlotJob};
-pub use journal::Entry;
+pub use journal::{Entry, Journal};
 pub use status::Status;
