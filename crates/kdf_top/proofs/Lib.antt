@@ -1,2 +1,7 @@
 pub mod Pushed
-pub mod Bounds
+pub mod CallBounds
+pub mod Steps
+pub mod Added
+pub mod LoneRuns
+pub mod Owns
+pub mod LegalFacts

@@ -12,3 +12,5 @@ pub mod Text
 pub mod Commands
 pub mod Shown
 pub mod Kept
+pub mod Course
+pub mod Schedule

@@ -1,6 +1,6 @@
 use Rattle.std.proofs.Common.{◌<◌, ◌≤◌, ◌^◌, arith}
 use Rattle.kdf_top.specs.Counts.{ran, calls}
-use Rattle.kdf_top.proofs.Bounds.{ran-le-calls}
+use Rattle.kdf_top.proofs.CallBounds.{ran-le-calls}
 use Rattle.kdf_top.proofs.journal.Journal.ran.Goals as goal
 
 pub sum_ran-requires : goal.sum_ran-requires
