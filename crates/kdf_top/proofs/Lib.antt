@@ -5,3 +5,5 @@ pub mod Added
 pub mod LoneRuns
 pub mod Owns
 pub mod LegalFacts
+pub mod Courses
+pub mod Schedules
