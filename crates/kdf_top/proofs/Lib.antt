@@ -1,2 +1,11 @@
 pub mod OctalDigits
 pub mod Texts
+pub mod Pushed
+pub mod CallBounds
+pub mod Steps
+pub mod Added
+pub mod LoneRuns
+pub mod Owns
+pub mod LegalFacts
+pub mod Courses
+pub mod Schedules

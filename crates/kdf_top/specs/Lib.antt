@@ -13,3 +13,6 @@ pub mod Commands
 pub mod Shown
 pub mod Answers
 pub mod Codes
+pub mod Kept
+pub mod Course
+pub mod Schedule

@@ -1,0 +1,51 @@
+-- What one step makes of each program's own state.
+use Rattle.std.proofs.Common.{◌≡◌, ◌≢◌, ℕ, List, [], ◌∷◌, Option, Some, None, true, false, eqb, refl, ◌∙◌, ap, add-zero}
+use Rattle.std.proofs.lemmas.Bool.{eq-eqb, ne_eqb}
+use Rattle.kdf_processor.specs.Lone.{is_live, lone_step, lone}
+use Rattle.kdf_processor.specs.Row.{row}
+use Rattle.kdf_processor.specs.State.{State}
+use Rattle.kdf_top.specs.declared.journal.Entry.{Entry}
+use Rattle.kdf_top.specs.Counts.{ran}
+use Rattle.kdf_top.specs.Next.{Slot, slot_of, start_of, start, own}
+use Rattle.kdf_top.specs.Legal.{Note, Step, Obeys, added}
+use Rattle.kdf_top.proofs.Added.{ran_by, ran-added}
+use Rattle.kdf_top.proofs.LoneRuns.{step-live, lone-more, lone-ran}
+
+pub own-nil : (slots : List Slot) (p : ℕ) → own slots [] p ≡ start slots p
+unfolding own
+own-nil slots p = refl
+
+live_at : (o : Option Slot) → is_live (start_of o).registers.state ≡ true
+live_at None = refl
+live_at (Some s) = refl
+
+-- each program is live at its start
+pub live-start : (slots : List Slot) (p : ℕ) → is_live (start slots p).registers.state ≡ true
+live-start slots p = live_at (slot_of slots p)
+
+none_ran : (o : Option Slot) → (start_of o).registers.ran ≡ 0
+none_ran None = refl
+none_ran (Some s) = refl
+
+-- a live program has obeyed as many orders as the journal counts
+pub own-ran : (slots : List Slot) (J : List Entry) (p : ℕ) → is_live (own slots J p).registers.state ≡ true → (own slots J p).registers.ran ≡ ran p J
+unfolding own
+own-ran slots J p live = lone-ran (start slots p) (ran p J) (none_ran (slot_of slots p)) live
+
+own-same : (slots : List Slot) (J : List Entry) (s : Step) (q : ℕ) → ran_by q s ≡ 0 → own slots (added J s) q ≡ own slots J q
+unfolding own
+own-same slots J s q r = rw (ran-added q J s, r, add-zero)
+
+own-more : (slots : List Slot) (J : List Entry) (s : Step) (q : ℕ) → ran_by q s ≡ 1 → own slots (added J s) q ≡ lone_step [] (own slots J q)
+unfolding own
+own-more slots J s q r = rw (ran-added q J s, r) (lone-more (start slots q) (ran q J))
+
+-- the program that obeys makes a row of its next order
+pub own-obeys : (slots : List Slot) (J : List Entry) (p : ℕ) (note : Note) → is_live (own slots J p).registers.state ≡ true → own slots (added J (Obeys p note)) p ≡ row (own slots J p) 0
+own-obeys slots J p note live =
+    let same : eqb p p ≡ true = eq-eqb p p refl in
+    own-more slots J (Obeys p note) p (rw same) ∙ step-live (own slots J p) live
+
+-- every other program stays
+pub own-others : (slots : List Slot) (J : List Entry) (p q : ℕ) (note : Note) → p ≢ q → own slots (added J (Obeys p note)) q ≡ own slots J q
+own-others slots J p q note differ = let other : eqb p q ≡ false = ne_eqb p q differ in own-same slots J (Obeys p note) q (rw other)
