@@ -1,4 +1,4 @@
-ghost use Rattle.std.specs.Prelude.{◌≡◌, ◌↔◌, IsTrue, Contains, vec_items};
+ghost use Rattle.std.specs.Prelude.{◌≡◌, ◌↔◌, IsTrue, Contains};
 ghost use Rattle.kdf_io.specs.Counts.{one_more};
 
 /// The calls of a source or a sink over memory: which are to fail, and how many were made.

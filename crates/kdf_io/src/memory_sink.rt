@@ -1,4 +1,4 @@
-ghost use Rattle.std.specs.Prelude.{◌≡◌, ◌≤◌, [], Some, IfOk, vec_items, vec_len, vec_capacity};
+ghost use Rattle.std.specs.Prelude.{◌≡◌, ◌≤◌, [], Some, IfOk, vec_len, vec_capacity};
 
 use crate::calls::Calls;
 use crate::faults::Faults;
@@ -66,7 +66,7 @@ impl MemorySink {
 }
 
 impl Sink for MemorySink {
-    ghost use Rattle.std.specs.Prelude.{◌≡◌, ◌+◌, ◌-◌, ◌<◌, ◌⊎◌, ◌↔◌, ◌++◌, Some, min, length, take, Contains, IsErr, IfOk, OnErr};
+    ghost use Rattle.std.specs.Prelude.{◌≡◌, ◌-◌, ◌<◌, ◌⊎◌, ◌↔◌, ◌++◌, Some, min, length, take, Contains, IsErr, IfOk, OnErr};
     ghost use Rattle.kdf_io.specs.Counts.{one_more};
     ghost use Rattle.kdf_io.specs.Memory.{output_of, sure_room};
 

@@ -1,4 +1,4 @@
-ghost use Rattle.std.specs.Prelude.{◌≡◌, ◌≤◌, [], Some, vec_items, vec_len};
+ghost use Rattle.std.specs.Prelude.{◌≡◌, ◌≤◌, [], Some, vec_len};
 
 use crate::calls::Calls;
 use crate::faults::Faults;
@@ -45,7 +45,7 @@ impl MemorySource {
 }
 
 impl Source for MemorySource {
-    ghost use Rattle.std.specs.Prelude.{◌≡◌, ◌+◌, ◌<◌, ◌↔◌, [], ◌++◌, Some, min, length, take, drop, Contains, IsErr, IfOk, OnErr};
+    ghost use Rattle.std.specs.Prelude.{◌≡◌, ◌<◌, ◌↔◌, [], ◌++◌, Some, min, length, take, drop, Contains, IsErr, IfOk, OnErr};
     ghost use Rattle.kdf_io.specs.Counts.{one_more};
     ghost use Rattle.kdf_io.specs.Memory.{input_of};
 

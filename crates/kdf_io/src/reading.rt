@@ -1,10 +1,11 @@
-ghost use Rattle.std.specs.Prelude.{◌≡◌, ◌≢◌, ℕ, ◌+◌, ◌≤◌, Err, List, length, take, IfOk, IfErr, IfSome, OnOk, IsErrOf};
+ghost use Rattle.std.specs.Prelude.{◌≡◌, ◌≢◌, ◌≤◌, Err, length, take, IfOk, IfErr, IfSome, OnOk, IsErrOf};
 ghost use Rattle.kdf_io.specs.Outside.{HasRisen, Took, NothingLeft};
 ghost use Rattle.kdf_io.specs.Reading.{TookBefore};
 
 use crate::{ReadEnd, Source};
 use std::alloc::Global;
 
+// Bytes asked for at a read.
 const PIECE: usize = 4096;
 
 /// Reads all bytes that are left, if they are at most `limit`.

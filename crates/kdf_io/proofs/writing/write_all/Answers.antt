@@ -1,4 +1,4 @@
-use Rattle.std.proofs.Common.{arith, rules}
+use Rattle.std.proofs.Common.{arith}
 use Rattle.std.proofs.lemmas.Grind.{common_steps}
 use Rattle.kdf_io.proofs.Passing.{Added-more}
 use Rattle.kdf_io.proofs.writing.write_all.Goals as goal
