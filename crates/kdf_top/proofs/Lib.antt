@@ -7,3 +7,6 @@ pub mod Owns
 pub mod LegalFacts
 pub mod Courses
 pub mod Schedules
+pub mod Agreement
+pub mod OneOrder
+pub mod Calls

@@ -14,3 +14,7 @@ pub mod Shown
 pub mod Kept
 pub mod Course
 pub mod Schedule
+pub mod Store
+pub mod Loaded
+pub mod Took
+pub mod Agrees

@@ -4,9 +4,14 @@
 mod deck;
 mod job;
 mod journal;
+mod machine;
+mod port;
+mod schedule;
 mod status;
 
 pub use deck::{Deck, Image, Piece};
 pub use job::{Event, Job, JobError, JobFault, SlotJob};
 pub use journal::{Entry, Journal};
+pub use machine::{Machine, Progress};
+pub use schedule::follow;
 pub use status::Status;
