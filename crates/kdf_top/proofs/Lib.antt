@@ -10,3 +10,4 @@ pub mod Schedules
 pub mod Agreement
 pub mod OneOrder
 pub mod Calls
+pub mod OneJournal

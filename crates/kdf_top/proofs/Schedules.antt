@@ -52,5 +52,6 @@ module _ (slots0 : List Slot) (es : List Event) (i : ℕ) where
         ap calls_made (take_more es i d lt) ∙ (calls_made-append (take i es) (get_or es i d ∷ []) ∙ ap (λ (cs : List Call). calls_made (take i es) ++ cs) (calls_made-one (get_or es i d))) in
         k ∙ rw (same, taken, next, course-append) refl
 
-  pub order_count-drop : (d : Event) → i < length es → order_count (drop i es) ≡ orders_in (get_or es i d) + order_count (drop (i + 1) es)
-  order_count-drop d lt = rw (add-one i, drop-cons es i d lt) refl
+-- the orders of an event and of those behind it
+pub order_count-drop : (es : List Event) (i : ℕ) (d : Event) → i < length es → order_count (drop i es) ≡ orders_in (get_or es i d) + order_count (drop (i + 1) es)
+order_count-drop es i d lt = rw (add-one i, drop-cons es i d lt) refl

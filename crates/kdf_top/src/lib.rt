@@ -4,6 +4,7 @@
 mod deck;
 mod job;
 mod journal;
+pub mod laws;
 mod machine;
 mod port;
 mod schedule;

@@ -104,6 +104,7 @@ impl Machine {
     /// The registers of program `p`; None where there is no such slot.
     pub fn seen(&self, p: u8) -> Option<&Registers>
         ensures registers { option_copied result ≡ option_map (λ state. state.registers) (state_of self.now p) }
+        ensures legal { IsLegal self.now.slots self.now.journal }
         ensures lone { ShowsLone self.now }
     {
         if p == SLOT {
@@ -134,6 +135,7 @@ impl Machine {
     pub fn close(self) {}
 }
 
+// Whether a program runs.
 fn is_on(life: Life) -> bool
     ensures { result ≡ is_live life }
 {
@@ -167,3 +169,6 @@ fn write(journal: &mut Journal, step: Step)
         Step::Ends => journal.push(Entry::Ended { p: SLOT }),
     }
 }
+
+#[cfg(test)]
+mod tests;

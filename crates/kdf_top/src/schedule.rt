@@ -16,7 +16,7 @@ use std::alloc::AllocError;
 pub fn follow(machine: &mut Machine, events: &[Event]) -> Result<(), AllocError>
     requires fresh { machine.old.journal ≡ [] }
     requires few { order_count events.now ≤ 20000000 }
-    ensures slots { OnOk result (machine.new.slots ≡ machine.old.slots) }
+    ensures slots { machine.new.slots ≡ machine.old.slots }
     ensures journal { OnOk result (IsJournal machine.new.slots events.now machine.new.journal) }
     ensures lone { OnOk result (ShowsLone machine.new) }
 {
@@ -35,7 +35,7 @@ fn make_calls(machine: &mut Machine, event: Event) -> Result<(), AllocError>
     requires { calls machine.old.journal + orders_in event ≤ 20000000 }
     ensures steps { OnOk result (steps machine.new.journal ≡ course machine.old.slots (steps machine.old.journal) (calls_of event)) }
     ensures calls { OnOk result (calls machine.new.journal ≤ calls machine.old.journal + orders_in event) }
-    ensures slots { OnOk result (machine.new.slots ≡ machine.old.slots) }
+    ensures slots { machine.new.slots ≡ machine.old.slots }
 {
     match event {
         Event::Orders(n) => obey_orders(machine, n),
@@ -47,7 +47,7 @@ fn obey_orders(machine: &mut Machine, n: u32) -> Result<(), AllocError>
     requires { calls machine.old.journal + n ≤ 20000000 }
     ensures steps { OnOk result (steps machine.new.journal ≡ course machine.old.slots (steps machine.old.journal) (replicate n AnOrder)) }
     ensures calls { OnOk result (calls machine.new.journal ≤ calls machine.old.journal + n) }
-    ensures slots { OnOk result (machine.new.slots ≡ machine.old.slots) }
+    ensures slots { machine.new.slots ≡ machine.old.slots }
 {
     for _i in 0..n {
         if !machine.is_any_live() {

@@ -27,6 +27,6 @@ loop-event-preserved c =
       taken =
         one_more c.args.machine.now.slots c.args.events.now c.loop-event.event-index c.loop-event.machine.slots c.loop-event.machine.journal
         c.if-not-is_any_live.ensures.legal c.loop-event.invariant.same_slots c.loop-event.invariant.taken c.make_calls.new.machine.journal (Orders 0) lt c.in_ok-make_calls.ensures.steps;
-      few = omega (arith, c.loop-event.invariant.few, c.in_ok-make_calls.ensures.calls, order_count-drop c.args.machine.now.slots c.args.events.now c.loop-event.event-index (Orders 0) lt);
+      few = omega (arith, c.loop-event.invariant.few, c.in_ok-make_calls.ensures.calls, order_count-drop c.args.events.now c.loop-event.event-index (Orders 0) lt);
       same_slots = c.in_ok-make_calls.ensures.slots ∙ c.loop-event.invariant.same_slots;
     }
