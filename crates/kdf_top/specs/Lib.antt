@@ -18,3 +18,4 @@ pub mod Store
 pub mod Loaded
 pub mod Took
 pub mod Agrees
+pub mod Answers

@@ -1,0 +1,57 @@
+-- What `run` answers to its words and to the bytes of its source, and what it writes.
+use Rattle.std.specs.Prelude.{◌≡◌, ℕ, ◌<◌, List, [], ◌∷◌, length, nat_lt, Bool, true, false, Option, Some, None, if◌then◌else◌}
+use Rattle.kdf_top.specs.declared.journal.Entry.{Entry}
+use Rattle.kdf_top.specs.declared.job.JobFault.{JobFault}
+use Rattle.kdf_top.specs.declared.status.Status.{Status}
+use Rattle.kdf_top.specs.declared.status.Status.TheVariants as status
+use Rattle.kdf_top.specs.Commands.{is_command}
+use Rattle.kdf_top.specs.Job.{job, job_fault}
+use Rattle.kdf_top.specs.Next.{own}
+use Rattle.kdf_top.specs.Follows.{IsJournal}
+use Rattle.kdf_top.specs.Shown.{Shown, ShowsLone, slots_of}
+use Rattle.kdf_top.specs.Text.{text, report_lines, usage_line, large_line, job_fault_line, job_limit}
+
+-- the answer that a job calls for
+abbrev pub status_of_fault : Option (JobFault × ℕ) → Status
+status_of_fault None = status.Done
+status_of_fault (Some found) = status.Job found.0 found.1
+
+abbrev pub status_of_bytes : List ℕ → Status
+status_of_bytes bytes = if nat_lt job_limit (length bytes) then status.Large else status_of_fault (job_fault bytes)
+
+-- the answer that the words and the bytes call for
+unfoldable pub called_for : List (List ℕ) → List ℕ → Status
+called_for words bytes = if is_command words then status_of_bytes bytes else status.Usage
+
+-- the answer is the one that is called for; or reading failed, or writing, or there was no memory
+abbrev pub Answers : (wanted given : Status) (read_failed write_failed : Type 0) → Type 0
+Answers wanted status.ReadFault read_failed write_failed = read_failed
+Answers wanted status.WriteFault read_failed write_failed = write_failed
+Answers wanted status.Memory read_failed write_failed = Unit {0}
+Answers wanted given read_failed write_failed = given ≡ wanted
+
+-- the lines that say why there is no report
+abbrev pub refusal_lines : Status → List (List ℕ)
+refusal_lines status.Usage = usage_line ∷ []
+refusal_lines (status.Job fault line) = job_fault_line fault line ∷ []
+refusal_lines status.Large = large_line ∷ []
+refusal_lines _ = []
+
+-- the report of a job whose journal is J: the state of each program is that of its lone run
+abbrev pub report_of : List ℕ → List Entry → List ℕ
+report_of bytes J = text (report_lines (job bytes) J (own (slots_of (job bytes)) J))
+
+-- the text that is due where this answer is called for: a report of the job's journal, or the reason why there is none
+abbrev pub IsDue : Status → List ℕ → List ℕ → Type 0
+IsDue status.Done bytes due = (J : List Entry) × IsJournal (slots_of (job bytes)) (job bytes).events J × (due ≡ report_of bytes J)
+IsDue called bytes due = due ≡ text (refusal_lines called)
+
+-- the machine is that of the job of these bytes: its journal is legal and whole, and what it shows are the lone runs
+pub record IsMachineOf (bytes : List ℕ) (m : Shown) : Type 0 where
+  pub slots : m.slots ≡ slots_of (job bytes)
+  pub journal : IsJournal m.slots (job bytes).events m.journal
+  pub lone : ShowsLone m
+
+abbrev pub is_done : Status → Bool
+is_done status.Done = true
+is_done _ = false
