@@ -10,7 +10,7 @@ use Rattle.kdf_top.specs.Counts.{over}
 use Rattle.kdf_top.specs.Next.{Slot, slot_of, own, lives, next, priorities}
 use Rattle.kdf_top.specs.Legal.{Note, Quiet, Failed, Finished, Step, Obeys, added, written, steps, note_of, Meets, EachMeets, IsLegal}
 use Rattle.kdf_top.proofs.Added.{ends_by, over-added}
-use Rattle.kdf_top.proofs.LoneRuns.{goes_on, life_row}
+use Rattle.kdf_top.proofs.LoneRuns.{goes_on, live_row}
 use Rattle.kdf_top.proofs.Owns.{own-nil, live-start, own-obeys, own-others}
 use Rattle.kdf_top.proofs.Steps.{steps-added}
 
@@ -52,7 +52,7 @@ alive-obeys slots J p n alive q =
     let live : is_live (own slots J p).registers.state ≡ true = alive p ∙ on in
     let note : Note = note_of (own slots J p) in
     elim (cases_eq p q) [
-      | inl same ↦ rw (← same, own-obeys slots J p note live, over-added p J (Obeys p note)) (life_row (own slots J p) live ∙ ends p note (over p J) on)
+      | inl same ↦ rw (← same, own-obeys slots J p note live, over-added p J (Obeys p note)) (live_row (own slots J p) live ∙ ends p note (over p J) on)
       | inr differ ↦ rw (own-others slots J p q note differ, over-added q J (Obeys p note), ends_not p q note (ne_eqb p q differ)) (alive q)
     ]
 

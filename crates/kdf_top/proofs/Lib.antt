@@ -9,3 +9,7 @@ pub mod Owns
 pub mod LegalFacts
 pub mod Courses
 pub mod Schedules
+pub mod Agreement
+pub mod OneOrder
+pub mod Calls
+pub mod OneJournal

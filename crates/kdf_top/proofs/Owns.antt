@@ -1,15 +1,16 @@
 -- What one step makes of each program's own state.
-use Rattle.std.proofs.Common.{◌≡◌, ◌≢◌, ℕ, List, [], ◌∷◌, Option, Some, None, true, false, eqb, refl, ◌∙◌, ap, add-zero}
+use Rattle.std.proofs.Common.{◌≡◌, ◌≢◌, ℕ, arith, List, [], ◌∷◌, Option, Some, None, true, false, eqb, refl, ◌∙◌, ap, add-zero}
 use Rattle.std.proofs.lemmas.Bool.{eq-eqb, ne_eqb}
 use Rattle.kdf_processor.specs.Lone.{is_live, lone_step, lone}
 use Rattle.kdf_processor.specs.Row.{row}
+use Rattle.kdf_processor.proofs.RowFacts.{live_step, ran_live}
 use Rattle.kdf_processor.specs.State.{State}
 use Rattle.kdf_top.specs.declared.journal.Entry.{Entry}
 use Rattle.kdf_top.specs.Counts.{ran}
 use Rattle.kdf_top.specs.Next.{Slot, slot_of, start_of, start, own}
 use Rattle.kdf_top.specs.Legal.{Note, Step, Obeys, added}
 use Rattle.kdf_top.proofs.Added.{ran_by, ran-added}
-use Rattle.kdf_top.proofs.LoneRuns.{step-live, lone-more, lone-ran}
+use Rattle.kdf_top.proofs.LoneRuns.{lone-more}
 
 pub own-nil : (slots : List Slot) (p : ℕ) → own slots [] p ≡ start slots p
 unfolding own
@@ -30,7 +31,7 @@ none_ran (Some s) = refl
 -- a live program has obeyed as many orders as the journal counts
 pub own-ran : (slots : List Slot) (J : List Entry) (p : ℕ) → is_live (own slots J p).registers.state ≡ true → (own slots J p).registers.ran ≡ ran p J
 unfolding own
-own-ran slots J p live = lone-ran (start slots p) (ran p J) (none_ran (slot_of slots p)) live
+own-ran slots J p live = ran_live (start slots p) [] (ran p J) live ∙ rw (none_ran (slot_of slots p)) (omega arith)
 
 own-same : (slots : List Slot) (J : List Entry) (s : Step) (q : ℕ) → ran_by q s ≡ 0 → own slots (added J s) q ≡ own slots J q
 unfolding own
@@ -44,7 +45,7 @@ own-more slots J s q r = rw (ran-added q J s, r) (lone-more (start slots q) (ran
 pub own-obeys : (slots : List Slot) (J : List Entry) (p : ℕ) (note : Note) → is_live (own slots J p).registers.state ≡ true → own slots (added J (Obeys p note)) p ≡ row (own slots J p) 0
 own-obeys slots J p note live =
     let same : eqb p p ≡ true = eq-eqb p p refl in
-    own-more slots J (Obeys p note) p (rw same) ∙ step-live (own slots J p) live
+    own-more slots J (Obeys p note) p (rw same) ∙ live_step [] (own slots J p) live
 
 -- every other program stays
 pub own-others : (slots : List Slot) (J : List Entry) (p q : ℕ) (note : Note) → p ≢ q → own slots (added J (Obeys p note)) q ≡ own slots J q

@@ -34,17 +34,17 @@ journal-course slots es J l e = record { legal = l; whole = whole-course slots (
 module _ (slots0 : List Slot) (es : List Event) (i : ℕ) where
   module _ (slots : List Slot) (J : List Entry) (l : IsLegal slots J) (same : slots ≡ slots0) (taken : steps J ≡ course slots0 [] (calls_made (take i es))) where
     -- the events are over before their end, where no program is live
-    pub ended_early : any_live slots J ≡ false → IsJournal slots0 es J
+    pub ended_early : any_live slots J ≡ false → IsJournal slots es J
     ended_early dead =
         let none : any_live slots0 (written (course slots0 [] (calls_made (take i es)))) ≡ false = rw (← taken, l.in_form, ← same) dead in
         let all : calls_made (take i es) ++ calls_made (drop i es) ≡ calls_made es = sym (calls_made-append (take i es) (drop i es)) ∙ ap calls_made (take-append-drop i es) in
         let reached : steps J ≡ course slots0 [] (calls_made es) =
         taken ∙ (sym (course_dead slots0 (course slots0 [] (calls_made (take i es))) (calls_made (drop i es)) none)
         ∙ (sym (course-append slots0 [] (calls_made (take i es)) (calls_made (drop i es))) ∙ ap (course slots0 []) all)) in
-        journal-course slots0 es J (rw same at l) reached
+        journal-course slots es J l (rw same reached)
 
-    pub ended_late : length es ≤ i → IsJournal slots0 es J
-    ended_late le = journal-course slots0 es J (rw same at l) (taken ∙ ap (λ (fs : List Event). course slots0 [] (calls_made fs)) (take_all i es le))
+    pub ended_late : length es ≤ i → IsJournal slots es J
+    ended_late le = journal-course slots es J l (rw same (taken ∙ ap (λ (fs : List Event). course slots0 [] (calls_made fs)) (take_all i es le)))
 
     pub one_more : (K : List Entry) (d : Event) → i < length es → steps K ≡ course slots (steps J) (calls_of (get_or es i d)) → steps K ≡ course slots0 [] (calls_made (take (i + 1) es))
     one_more K d lt k =
@@ -52,5 +52,6 @@ module _ (slots0 : List Slot) (es : List Event) (i : ℕ) where
         ap calls_made (take_more es i d lt) ∙ (calls_made-append (take i es) (get_or es i d ∷ []) ∙ ap (λ (cs : List Call). calls_made (take i es) ++ cs) (calls_made-one (get_or es i d))) in
         k ∙ rw (same, taken, next, course-append) refl
 
-  pub order_count-drop : (d : Event) → i < length es → order_count (drop i es) ≡ orders_in (get_or es i d) + order_count (drop (i + 1) es)
-  order_count-drop d lt = rw (add-one i, drop-cons es i d lt) refl
+-- the orders of an event and of those behind it
+pub order_count-drop : (es : List Event) (i : ℕ) (d : Event) → i < length es → order_count (drop i es) ≡ orders_in (get_or es i d) + order_count (drop (i + 1) es)
+order_count-drop es i d lt = rw (add-one i, drop-cons es i d lt) refl

@@ -16,3 +16,7 @@ pub mod Codes
 pub mod Kept
 pub mod Course
 pub mod Schedule
+pub mod Store
+pub mod Loaded
+pub mod Took
+pub mod Agrees

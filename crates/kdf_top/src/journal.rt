@@ -149,3 +149,6 @@ fn sum_calls(entries: &[Entry]) -> u32
 {
     entries.iter().map(calls_of).sum()
 }
+
+#[cfg(test)]
+mod tests;

@@ -9,6 +9,10 @@ mod journal;
 mod octal;
 mod refusal;
 mod registers_text;
+pub mod laws;
+mod machine;
+mod port;
+mod schedule;
 mod status;
 
 pub use deck::{Deck, Image, Piece};
@@ -18,4 +22,6 @@ pub use command::{Command, command_of};
 pub use registers_text::write_registers;
 pub use refusal::refusal_text;
 pub use journal::{Entry, Journal};
+pub use machine::{Machine, Progress};
+pub use schedule::follow;
 pub use status::Status;

@@ -1,0 +1,93 @@
+-- The one slot of a machine, whose fields agree with it and with the journal.
+use Rattle.std.proofs.Common.{◌≡◌, ℕ, ◌+◌, ◌<◌, ◌≤◌, List, [], ◌∷◌, Some, None, Bool, true, false, cond, ◌||◌, not, refl, sym, ◌∙◌, ap, arith}
+use Rattle.kdf_processor.specs.declared.registers.Registers.{Registers}
+use Rattle.kdf_processor.specs.declared.step.Step.{Step as Ending}
+use Rattle.kdf_processor.specs.Lone.{is_live}
+use Rattle.kdf_processor.specs.Row.{row, next_of}
+use Rattle.kdf_processor.specs.State.{State, Stock, begin, new_registers}
+use Rattle.kdf_top.specs.declared.journal.Entry.{Entry}
+use Rattle.kdf_top.specs.declared.port.Store.{Store}
+use Rattle.kdf_top.specs.Agrees.{Agrees}
+use Rattle.kdf_top.specs.Counts.{ran, calls, over}
+use Rattle.kdf_top.specs.Legal.{Note, Obeys, added, note_for, note_of}
+use Rattle.kdf_top.specs.Next.{Slot, own, lives, next, any_live}
+use Rattle.kdf_top.specs.Shown.{Shown}
+use Rattle.kdf_top.specs.Store.{stock_of, state_with}
+use Rattle.kdf_top.specs.Took.{Obeyed}
+use Rattle.kdf_top.proofs.Added.{calls-added}
+use Rattle.kdf_top.proofs.CallBounds.{ran-le-calls}
+use Rattle.kdf_top.proofs.LegalFacts.{legal_alive, legal-nil, legal-added}
+use Rattle.kdf_top.proofs.Owns.{own-nil, own-ran, own-obeys}
+
+-- slot 0 with this program
+abbrev pub zeroth : ℕ → List ℕ → Slot
+zeroth size words = record { p = 0; size = size; words = words }
+
+abbrev pub viewed : ℕ → List ℕ → State → List Entry → Shown
+viewed size words s J = record { slots = zeroth size words ∷ []; states = s ∷ []; journal = J }
+
+or_nothing : (b : Bool) → (b || false) ≡ b
+or_nothing true = refl
+or_nothing false = refl
+
+only_live : (size : ℕ) (words : List ℕ) (J : List Entry) → any_live (zeroth size words ∷ []) J ≡ not (over 0 J)
+unfolding any_live lives
+only_live size words J = or_nothing (not (over 0 J))
+
+only_next : (size : ℕ) (words : List ℕ) (J : List Entry) → not (over 0 J) ≡ true → next (zeroth size words ∷ []) J ≡ Some 0
+unfolding next lives
+only_next size words J on = rw on refl
+
+-- a program that is loaded agrees with a journal without entries
+pub agrees-loaded : (r : Registers) (store : Store) (size : ℕ) (front words : List ℕ) (J : List Entry) → r ≡ new_registers → stock_of store ≡ (begin size front).stock → front ≡ words → J ≡ [] → Agrees (zeroth store.size words) (state_with r store) J
+agrees-loaded r store size front words J fresh filled same none =
+    let sizes : store.size ≡ size = ap (λ (k : Stock). k.claims.size) filled in
+    let begun : state_with r store ≡ begin size front =
+    ap (λ (k : Stock). let s : State = record { registers = r; stock = k } in s) filled ∙ ap (λ (x : Registers). let s : State = record { registers = x; stock = (begin size front).stock } in s) fresh in
+    let there : begin size front ≡ begin store.size words = ap (λ (n : ℕ). begin n front) (sym sizes) ∙ ap (begin store.size) same in
+    rw none (record {
+      legal = legal-nil (zeroth store.size words ∷ []);
+      alone = begun ∙ (there ∙ sym (own-nil (zeroth store.size words ∷ []) 0));
+      few_calls = omega arith;
+    })
+
+module _ (size : ℕ) (words : List ℕ) (s : State) (J : List Entry) (a : Agrees (zeroth size words) s J) where
+  alive : is_live s.registers.state ≡ not (over 0 J)
+  alive = ap (λ (t : State). is_live t.registers.state) a.alone ∙ legal_alive (zeroth size words ∷ []) J a.legal 0
+
+  pub live-same : is_live s.registers.state ≡ any_live (zeroth size words ∷ []) J
+  live-same = alive ∙ sym (only_live size words J)
+
+  module _ (live : is_live s.registers.state ≡ true) where
+    pub next_is : next (zeroth size words ∷ []) J ≡ Some 0
+    next_is = only_next size words J (sym alive ∙ live)
+
+    own_live : is_live (own (zeroth size words ∷ []) J 0).registers.state ≡ true
+    own_live = ap (λ (t : State). is_live t.registers.state) (sym a.alone) ∙ live
+
+    pub few_ran : calls J < 20000000 → s.registers.ran < 4294967295
+    few_ran few = omega (arith, ap (λ (t : State). t.registers.ran) a.alone, own-ran (zeroth size words ∷ []) J 0 own_live, ran-le-calls 0 J)
+
+    module _ (step : Ending) (went : step ≡ (next_of s 0).step) (t : State) (after : t ≡ row s 0) (K : List Entry) (k : K ≡ added J (Obeys 0 (note_for step))) where
+      noted : K ≡ added J (Obeys 0 (note_of s))
+      noted = k ∙ ap (λ (e : Ending). added J (Obeys 0 (note_for e))) went
+
+      as_own : note_for step ≡ note_of (own (zeroth size words ∷ []) J 0)
+      as_own = ap note_for went ∙ ap note_of a.alone
+
+      few_more : calls J < 20000000 → calls K ≤ 20000000
+      few_more few = omega (arith, ap calls k, calls-added J (Obeys 0 (note_for step)))
+
+      -- the program that obeys agrees with the journal that tells so
+      obeys : calls J < 20000000 → Agrees (zeroth size words) t K
+      obeys few = record {
+        legal = rw k (legal-added (zeroth size words ∷ []) J (Obeys 0 (note_for step)) a.legal (next_is, as_own));
+        alone = rw k (after ∙ (ap (λ (u : State). row u 0) a.alone ∙ sym (own-obeys (zeroth size words ∷ []) J 0 (note_for step) own_live)));
+        few_calls = few_more few;
+      }
+
+      pub agrees-obeys : calls J < 20000000 → (n : ℕ) → n ≡ size → Agrees (zeroth n words) t K
+      agrees-obeys few n same = rw same (obeys few)
+
+      pub obeyed : (old : Shown) → viewed size words s J ≡ old → (n : ℕ) → Obeyed old (viewed n words t K) 0
+      obeyed old e n = rw (← e) (record { was_next = next_is; states = ap (λ (u : State). u ∷ []) after; journal = noted })

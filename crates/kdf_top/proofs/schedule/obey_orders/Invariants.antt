@@ -1,0 +1,14 @@
+use Rattle.std.proofs.Common.{◌≡◌, ◌+◌, ◌≤◌}
+use Rattle.std.specs.Prelude.{replicate}
+use Rattle.kdf_top.specs.Counts.{calls}
+use Rattle.kdf_top.specs.Legal.{steps}
+use Rattle.kdf_top.specs.Follows.{AnOrder}
+use Rattle.kdf_top.specs.Course.{course}
+use Rattle.kdf_top.proofs.schedule.obey_orders.Given as goal
+
+abbrev pub invariant-loop-i : goal.invariant-loop-i
+invariant-loop-i l = record {
+  taken : steps l.machine.journal ≡ course l.fn.machine.slots (steps l.fn.machine.journal) (replicate l._i AnOrder);
+  few : calls l.machine.journal ≤ calls l.fn.machine.journal + l._i;
+  same_slots : l.machine.slots ≡ l.fn.machine.slots;
+}

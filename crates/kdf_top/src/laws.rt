@@ -1,0 +1,16 @@
+//! Laws of the definitions, each the contract of a function that does nothing.
+ghost use Rattle.std.specs.Prelude.{◌≡◌, List};
+ghost use Rattle.kdf_top.specs.declared.journal.Entry.{Entry};
+ghost use Rattle.kdf_top.specs.declared.job.Event.{Event};
+ghost use Rattle.kdf_top.specs.Follows.{IsJournal};
+ghost use Rattle.kdf_top.specs.Next.{Slot};
+
+/// Slots have at most one journal under a schedule.
+pub fn one_journal()
+    ensures { (slots : List Slot) (events : List Event) (J K : List Entry) → IsJournal slots events J → IsJournal slots events K → J ≡ K }
+{}
+
+/// Slots have a journal under each schedule.
+pub fn a_journal()
+    ensures { (slots : List Slot) (events : List Event) → (J : List Entry) × IsJournal slots events J }
+{}

@@ -1,0 +1,174 @@
+//! The machine: a program in its slot, and the journal of its orders.
+ghost use Rattle.std.specs.Prelude.{◌≡◌, ◌+◌, ◌<◌, ◌≤◌, [], ◌∷◌, OnOk, IfOk, OnErr, map, IsSomeAnd, true};
+ghost use Rattle.std.specs.Option.{option_copied, option_map};
+ghost use Rattle.kdf_processor.specs.State.{begin, word_at};
+ghost use Rattle.kdf_processor.specs.Lone.{is_live};
+ghost use Rattle.kdf_processor.specs.Row.{row, next_of};
+ghost use Rattle.kdf_top.specs.Counts.{calls};
+ghost use Rattle.kdf_top.specs.Next.{slot_of, any_live};
+ghost use Rattle.kdf_top.specs.Legal.{noted, note_for, added, Obeys, IsLegal};
+ghost use Rattle.kdf_top.specs.Loaded.{loaded, IsLoadable};
+ghost use Rattle.kdf_top.specs.Shown.{state_of, ShowsLone};
+ghost use Rattle.kdf_top.specs.Store.{state_with};
+ghost use Rattle.kdf_top.specs.Took.{Took};
+
+use crate::port::Store;
+use crate::{Entry, Image, Job, Journal};
+use kdf_processor::{Life, Registers, Step, obey};
+use kdf_word::Word;
+use std::alloc::{AllocError, Global};
+use std::marker::Model;
+
+/// The number of the slot.
+const SLOT: u8 = 0;
+
+/// What a call of a machine did.
+#[derive(Clone, Copy, Debug, PartialEq, Eq)]
+pub enum Progress {
+    /// The program of this slot obeyed an order.
+    Ran(u8),
+    /// No program is live.
+    AllEnded,
+}
+
+/// The program in slot 0 of a job. Contracts see the slot as it was loaded, the program's state, and the journal.
+#[derive(Drop)]
+pub struct Machine {
+    image: Vec<Word>,
+    registers: Registers,
+    store: Store,
+    journal: Journal,
+}
+
+impl Model for Machine {
+    ghost use Rattle.kdf_top.specs.Shown.{Shown};
+
+    ghost Value = { Shown };
+
+    ghost use Rattle.std.specs.Prelude.{[], ◌∷◌};
+    ghost use Rattle.kdf_top.specs.Agrees.{Agrees};
+    ghost use Rattle.kdf_top.specs.Store.{state_with};
+
+    ghost view = { λ m. record {
+        slots = record { p = 0; size = m.store.size; words = m.image.items } ∷ [];
+        states = state_with m.registers m.store ∷ [];
+        journal = m.journal.entries;
+    } };
+
+    ghost invariant = { λ m. Agrees (record { p = 0; size = m.store.size; words = m.image.items }) (state_with m.registers m.store) m.journal.entries };
+}
+
+impl Machine {
+    /// A machine before its first order: the job has slot 0 alone, and its image fits the store.
+    pub fn load(alloc: Global, job: &Job, images: &[Image]) -> Result<Machine, AllocError>
+        requires { IsLoadable job.now.slots.items images.now }
+        ensures slots { IfOk result (λ m. m.slots ≡ loaded job.now.slots.items images.now) }
+        ensures states { IfOk result (λ m. m.states ≡ map (λ slot. begin slot.size slot.words) m.slots) }
+        ensures journal { IfOk result (λ m. m.journal ≡ []) }
+    {
+        let image = Vec::from_slice(alloc, &images[0].words)?;
+        let store = Store::new(alloc, job.slots[0].size, &image)?;
+        Ok(Machine {
+            image,
+            registers: Registers::new(),
+            store,
+            journal: Journal::new(alloc),
+        })
+    }
+
+    /// The live program of highest priority obeys its next order; where no program is live, nothing changes.
+    pub fn order(&mut self) -> Result<Progress, AllocError>
+        requires { calls self.old.journal < 20000000 }
+        ensures took { IfOk result (Took self.old self.new) }
+        ensures slots { self.new.slots ≡ self.old.slots }
+        ensures err { OnErr result (self.new ≡ self.old) }
+    {
+        self.journal.reserve(2)?;
+        if !is_on(self.registers.state) {
+            return Ok(Progress::AllEnded);
+        }
+        let step = obey_next(&mut self.registers, &mut self.store);
+        write(&mut self.journal, step);
+        Ok(Progress::Ran(SLOT))
+    }
+
+    /// A program is live.
+    pub fn is_any_live(&self) -> bool
+        ensures live { result ≡ any_live self.now.slots self.now.journal }
+        ensures legal { IsLegal self.now.slots self.now.journal }
+        ensures lone { ShowsLone self.now }
+    {
+        is_on(self.registers.state)
+    }
+
+    /// The registers of program `p`; None where there is no such slot.
+    pub fn seen(&self, p: u8) -> Option<&Registers>
+        ensures registers { option_copied result ≡ option_map (λ state. state.registers) (state_of self.now p) }
+        ensures legal { IsLegal self.now.slots self.now.journal }
+        ensures lone { ShowsLone self.now }
+    {
+        if p == SLOT {
+            Some(&self.registers)
+        } else {
+            None
+        }
+    }
+
+    /// The word of program `p` at an address of its store.
+    pub fn word(&self, p: u8, address: u16) -> Word
+        requires { IsSomeAnd (slot_of self.now.slots p) (λ slot. address < slot.size) }
+        ensures { IsSomeAnd (state_of self.now p) (λ state. result ≡ word_at state address) }
+    {
+        self.store.word(address)
+    }
+
+    /// What happened so far.
+    pub fn journal(&self) -> &Journal
+        ensures entries { result.now.entries ≡ self.now.journal }
+        ensures legal { IsLegal self.now.slots self.now.journal }
+        ensures lone { ShowsLone self.now }
+    {
+        &self.journal
+    }
+
+    /// Gives up the machine.
+    pub fn close(self) {}
+}
+
+// Whether a program runs.
+fn is_on(life: Life) -> bool
+    ensures { result ≡ is_live life }
+{
+    match life {
+        Life::Live => true,
+        Life::Ended | Life::Failed(_) => false,
+    }
+}
+
+// The next order of a live program by itself, which nothing holds up.
+fn obey_next(registers: &mut Registers, store: &mut Store) -> Step
+    requires live { is_live registers.old.state ≡ true }
+    requires ran { registers.old.ran < 4294967295 }
+    ensures state { state_with registers.new store.new ≡ row (state_with registers.old store.old) 0 }
+    ensures step { result ≡ (next_of (state_with registers.old store.old) 0).step }
+    ensures size { store.new.size ≡ store.old.size }
+{
+    obey(registers, store)
+}
+
+// Counts an order that came out so, with its note.
+fn write(journal: &mut Journal, step: Step)
+    requires room { 2 ≤ journal.old.spare }
+    requires few { calls journal.old.entries < 20000000 }
+    ensures { journal.new.entries ≡ added journal.old.entries (Obeys SLOT (note_for step)) }
+{
+    journal.push(Entry::Ran { p: SLOT, n: 1 });
+    match step {
+        Step::Done | Step::Held(_) => {}
+        Step::Fails(kind) => journal.push(Entry::Fail { p: SLOT, kind }),
+        Step::Ends => journal.push(Entry::Ended { p: SLOT }),
+    }
+}
+
+#[cfg(test)]
+mod tests;
