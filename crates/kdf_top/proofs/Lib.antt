@@ -13,3 +13,6 @@ pub mod Agreement
 pub mod OneOrder
 pub mod Calls
 pub mod OneJournal
+pub mod States
+pub mod Sections
+pub mod Answering

@@ -1,6 +1,8 @@
 -- The text of lines, part by part.
-use Rattle.std.proofs.Common.{◌≡◌, ℕ, List, ◌++◌, sym, ◌∙◌, ap, append_assoc}
+use Rattle.std.proofs.Common.{◌≡◌, ℕ, ◌+◌, ◌-◌, ◌≤◌, List, [], ◌∷◌, ◌++◌, map, sym, ◌∙◌, ap, arith, append_assoc}
 use Rattle.std.proofs.lemmas.List.Concat.{flat_map-append}
+use Rattle.std.proofs.lemmas.List.FromFn.{map-range_with_len_more}
+use Rattle.std.specs.List.{range_with_len}
 use Rattle.kdf_top.specs.Text.{text}
 
 pub text-append : (xs ys : List (List ℕ)) → text (xs ++ ys) ≡ text xs ++ text ys
@@ -11,3 +13,10 @@ text-append xs ys = flat_map-append _ xs ys
 pub text_more : (old mid new : List ℕ) (xs ys : List (List ℕ)) → mid ≡ old ++ text xs → new ≡ mid ++ text ys → new ≡ old ++ text (xs ++ ys)
 text_more old mid new xs ys first then =
     then ∙ ap (λ bs. bs ++ text ys) first ∙ append_assoc old (text xs) (text ys) ∙ ap (λ bs. old ++ bs) (sym (text-append xs ys))
+
+-- one line more of a run of numbers
+pub text_range_more : (f : ℕ → List ℕ) (a i : ℕ) (old mid new : List ℕ) → a ≤ i → mid ≡ old ++ text (map f (range_with_len a (i - a)))
+    → new ≡ mid ++ text (f i ∷ []) → new ≡ old ++ text (map f (range_with_len a (i + 1 - a)))
+text_range_more f a i old mid new from first then =
+    let e : i + 1 - a ≡ i - a + 1 = omega arith in
+    rw (e, map-range_with_len_more f a (i - a) i (omega arith)) (text_more old mid new _ _ first then)

@@ -4,6 +4,7 @@ use Rattle.kdf_top.specs.declared.journal.Entry.{Entry}
 use Rattle.kdf_top.specs.declared.job.JobFault.{JobFault}
 use Rattle.kdf_top.specs.declared.status.Status.{Status}
 use Rattle.kdf_top.specs.declared.status.Status.TheVariants as status
+use Rattle.kdf_io.specs.Outside.{Added, AddedFront}
 use Rattle.kdf_top.specs.Commands.{is_command}
 use Rattle.kdf_top.specs.Job.{job, job_fault}
 use Rattle.kdf_top.specs.Next.{own}
@@ -55,3 +56,19 @@ pub record IsMachineOf (bytes : List ℕ) (m : Shown) : Type 0 where
 abbrev pub is_done : Status → Bool
 is_done status.Done = true
 is_done _ = false
+
+-- the bytes are a job without a fault, the machine is that of the job, and its report was written
+pub record IsReported (bytes : List ℕ) (m : Shown) (before after : Option (List ℕ)) : Type 0 where
+  pub faultless : job_fault bytes ≡ None
+  pub machine : IsMachineOf bytes m
+  pub report : Added before (report_of bytes m.journal) after
+
+-- what was written where there is no report: the reason, if it is one that is told, and else nothing
+abbrev pub Wrote : Status → (before after : Option (List ℕ)) → Type 0
+Wrote status.Done before after = Unit {0}
+Wrote status.WriteFault before after = Unit {0}
+Wrote given before after = Added before (text (refusal_lines given)) after
+
+-- a front of the due text was written, but not all of it
+abbrev pub WroteFront : Status → List ℕ → (before after : Option (List ℕ)) → Type 0
+WroteFront called bytes before after = (due : List ℕ) × IsDue called bytes due × AddedFront before due after

@@ -20,3 +20,6 @@ pub mod Store
 pub mod Loaded
 pub mod Took
 pub mod Agrees
+pub mod Shows
+pub mod Report
+pub mod Answered

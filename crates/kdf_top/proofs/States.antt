@@ -1,0 +1,28 @@
+-- The states that a machine shows.
+use Rattle.std.proofs.Common.{◌≡◌, ℕ, Bool, true, false, cond, List, [], ◌∷◌, map, Option, Some, None, IsSome, IsSomeAnd, unwrap_or, find, refl, ap, sym, ◌∙◌, subst, eqb}
+use Rattle.std.specs.Option.{option_map}
+use Rattle.kdf_processor.specs.declared.registers.Registers.{Registers}
+use Rattle.kdf_processor.specs.State.{State, begin}
+use Rattle.kdf_top.specs.Next.{Slot, own, slot_of}
+use Rattle.kdf_top.specs.Report.{state_at}
+use Rattle.kdf_top.specs.Shown.{Shown, ShowsLone, state_in, state_of}
+
+at_first : (f : Slot → State) (slot : Slot) (rest : Option State) (found : Option Slot) (b : Bool) → rest ≡ option_map f found
+    → cond b (Some (f slot)) rest ≡ option_map f (cond b (Some slot) found)
+at_first f slot rest found true e = refl
+at_first f slot rest found false e = e
+
+-- the state of a slot is found where the slot is
+state_in-map : (f : Slot → State) (slots : List Slot) (p : ℕ) → state_in slots (map f slots) p ≡ option_map f (slot_of slots p)
+state_in-map f [] p = refl
+state_in-map f (slot ∷ slots) p = at_first f slot _ _ (eqb slot.p p) (state_in-map f slots p)
+
+pub state_of-lone : (m : Shown) (p : ℕ) → ShowsLone m → state_of m p ≡ option_map (λ (s : Slot). own m.slots m.journal s.p) (slot_of m.slots p)
+state_of-lone m p lone = ap (λ states. state_in m.slots states p) lone ∙ state_in-map _ m.slots p
+
+-- the registers that are seen are those of the state
+pub registers_at : (m : Shown) (p : ℕ) (r : Registers) → Some r ≡ option_map (λ (s : State). s.registers) (state_of m p) → r ≡ (state_at m p).registers
+registers_at m p r e = of_state (state_of m p) e where
+  of_state : (o : Option State) → Some r ≡ option_map (λ (s : State). s.registers) o → r ≡ (unwrap_or o (begin 0 [])).registers
+  of_state None e = cc
+  of_state (Some s) e = cc

@@ -1,0 +1,42 @@
+-- What a call came to, from its answer and from what its source and its sink told before and after it.
+use Rattle.std.specs.Prelude.{◌≡◌, ◌≢◌, ℕ, ◌≤◌, List, length, Bool, true, false, Option, is_some, IfSome}
+use Rattle.kdf_io.specs.Outside.{HasRisen, Took}
+use Rattle.kdf_top.specs.declared.status.Status.{Status}
+use Rattle.kdf_top.specs.declared.status.Status.TheVariants as status
+use Rattle.kdf_top.specs.Shown.{Shown}
+use Rattle.kdf_top.specs.Commands.{is_command}
+use Rattle.kdf_top.specs.Answers.{Answers, IsDue, IsReported, Wrote, WroteFront, called_for, is_done}
+
+-- what a source tells: the bytes that are left, and its count of faults
+pub record Inlet : Type 0 where
+  pub left : Option (List ℕ)
+  pub faults : ℕ
+
+-- what a sink tells: the bytes that were written, its count of faults, and its room
+pub record Outlet : Type 0 where
+  pub written : Option (List ℕ)
+  pub faults : ℕ
+  pub room : ℕ
+
+abbrev pub inlet : Option (List ℕ) → ℕ → Inlet
+inlet left faults = record { left = left; faults = faults }
+
+abbrev pub outlet : Option (List ℕ) → ℕ → ℕ → Outlet
+outlet written faults room = record { written = written; faults = faults; room = room }
+
+-- an answer that is given where this one is called for over the bytes of a job
+pub record IsGiven (called : Status) (bytes : List ℕ) (given : Status) (kept : Option Shown) (old new : Outlet) : Type 0 where
+  pub answer : Answers called given ⊥ (HasRisen old.faults new.faults)
+  pub wrote : Wrote given old.written new.written
+  pub machine : is_some kept ≡ is_done given
+  pub done : IfSome kept (λ m. IsReported bytes m old.written new.written)
+  pub front : given ≡ status.WriteFault → WroteFront called bytes old.written new.written
+  pub room : (due : List ℕ) → IsDue called bytes due → length due ≤ old.room → new.faults ≡ old.faults
+  pub never_falls : old.faults ≤ new.faults
+
+-- an answer that has a line of its own in place of a report
+abbrev pub IsRefusal : Status → Type 0
+IsRefusal status.Usage = Unit {0}
+IsRefusal (status.Job fault line) = Unit {0}
+IsRefusal status.Large = Unit {0}
+IsRefusal _ = ⊥
