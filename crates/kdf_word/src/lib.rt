@@ -4,6 +4,6 @@
 pub mod laws;
 #[cfg(test)]
 mod tests;
-mod words;
+mod word;
 
-pub use words::Word;
+pub use word::Word;

@@ -1,0 +1,31 @@
+-- A program by itself is never held up, so the outcome of its next order is its row; and what a port shows of a program's state.
+use Rattle.std.proofs.Common.{◌≡◌, ℕ, Bool, None, List, [], ◌∷◌, refl, ap}
+use Rattle.kdf_processor.specs.declared.step.Need.{Need}
+use Rattle.kdf_processor.specs.declared.step.Need.TheVariants.{Group}
+use Rattle.kdf_processor.specs.declared.registers.Registers.{Registers}
+use Rattle.kdf_processor.specs.Needs.{needs, needs_at}
+use Rattle.kdf_processor.specs.Outcome.{outcome, held_or}
+use Rattle.kdf_processor.specs.Row.{next_of}
+use Rattle.kdf_processor.specs.State.{Stock, State}
+use Rattle.kdf_processor.specs.View.{View, first_pending, by_itself}
+
+abbrev pub state : Registers → Stock → State
+state r k = record { registers = r; stock = k }
+
+-- nothing is pending
+pub first_pending_alone : (k : Stock) (ns : List Need) → first_pending (by_itself k) ns ≡ None
+first_pending_alone k [] = refl
+first_pending_alone k (Group g ∷ ns) = first_pending_alone k ns
+
+-- so the next order is never held
+pub outcome_alone : (k : Stock) (a : ℕ) (r : Registers) → outcome (by_itself k) r ≡ next_of (state r k) a
+outcome_alone k a r =
+    ap (λ n. held_or r n (next_of (state r k) a)) (first_pending_alone k (needs_at k.claims (by_itself k).word r))
+
+-- what a port shows that shows this stock, some of it out
+abbrev pub among : Stock → (ℕ → Bool) → View
+among k out = record (by_itself k) { is_out = out }
+
+-- over such a port the next order is held by the first pending need of the state, or does what it does by itself
+pub outcome_among : (k : Stock) (out : ℕ → Bool) (a : ℕ) (r : Registers) → outcome (among k out) r ≡ held_or r (first_pending (among k out) (needs (state r k))) (next_of (state r k) a)
+outcome_among k out a r = refl

@@ -1,0 +1,204 @@
+-- An order sees and changes only what it needs.
+use Rattle.std.proofs.Common.{◌≡◌, ℕ, zero, suc, ◌+◌, ◌/◌, ◌%◌, ◌≢◌, ltb, Bool, true, false, List, [], ◌∷◌, ◌++◌, length, get_or, set, Option, Some, None, refl, sym, ap, ap₂, ◌∙◌, subst, ⊎_elim, cond}
+use Rattle.std.specs.Prelude.{find}
+use Rattle.std.specs.Option.{option_map}
+use Rattle.std.specs.List.{list_any}
+use Rattle.std.proofs.lemmas.Bool.{or_parts, cases_Bool, false_from_ne_true, true_from_ne_false, false≢true}
+use Rattle.std.proofs.lemmas.List.{get_or-set_other, length-set}
+use Rattle.std.proofs.lemmas.List.Folds.{list_any-append}
+use Rattle.kdf_processor.specs.Spelling.{size_of_first, syllable}
+use Rattle.kdf_processor.specs.declared.registers.Life.TheVariants.{Ended, Failed}
+use Rattle.kdf_processor.specs.declared.step.Need.{Need}
+use Rattle.kdf_processor.specs.declared.step.Need.TheVariants.{Group}
+use Rattle.kdf_processor.specs.declared.registers.Registers.{Registers}
+use Rattle.kdf_processor.specs.State.{State, Claims, word_at}
+use Rattle.kdf_processor.specs.Effect.{Effect, Failing, Ending, Changing, Fetching, Keeping}
+use Rattle.kdf_processor.specs.Table.{on}
+use Rattle.kdf_processor.specs.Needs.{group_of, decoded_or_none, effect_or_liv, syllable_at, syllables, syllable_needs, count_at, fetch_needs, effect_at, effect_needs, next_effect, needs}
+use Rattle.kdf_processor.specs.Outcome.{counted}
+use Rattle.kdf_processor.specs.Row.{perform, row}
+use Rattle.kdf_processor.specs.Frame.{Agrees, Leaves, HidesNone}
+
+-- one write in two lists that agree at an index
+pub set_agree : {X : Type 0} (xs ys : List X) (a : ℕ) (w d : X) (x : ℕ) → length xs ≡ length ys → get_or xs x d ≡ get_or ys x d → get_or (set xs a w) x d ≡ get_or (set ys a w) x d
+set_agree [] [] a w d x e h = refl
+set_agree [] (y ∷ ys) a w d x e h = cc
+set_agree (x' ∷ xs) [] a w d x e h = cc
+set_agree (x' ∷ xs) (y ∷ ys) zero w d zero e h = refl
+set_agree (x' ∷ xs) (y ∷ ys) zero w d (suc x) e h = h
+set_agree (x' ∷ xs) (y ∷ ys) (suc a) w d zero e h = h
+set_agree (x' ∷ xs) (y ∷ ys) (suc a) w d (suc x) e h = set_agree xs ys a w d x (cc) h
+
+-- an effect leaves states that agree such, if nothing that it needs is hidden
+pub perform_agree : (hidden : Need → Bool) (answer : ℕ) (e : Effect) (s t : State) → Agrees hidden s t → HidesNone hidden (effect_needs e) → Agrees hidden (perform answer e s) (perform answer e t)
+perform_agree hidden answer (Failing kind) s t h none =
+    record { registers = ap (λ (r : Registers). counted r (Failed kind) r) h.registers; claims = h.claims; asked = h.asked; size = h.size; words = h.words }
+perform_agree hidden answer (Ending after) s t h none =
+    record { registers = ap (λ (r : Registers). counted r Ended after) h.registers; claims = h.claims; asked = h.asked; size = h.size; words = h.words }
+perform_agree hidden answer (Fetching a after) s t h none =
+    record { registers = ap₂ (λ (r : Registers) w. counted r r.state (after w)) h.registers (h.words a (or_parts _ _ none).0); claims = h.claims; asked = h.asked; size = h.size; words = h.words }
+perform_agree hidden answer (Keeping a w after) s t h none =
+    let same : w (word_at s a) ≡ w (word_at t a) = ap w (h.words a (or_parts _ _ none).0) in
+    record {
+      registers = ap (λ (r : Registers). counted r r.state after) h.registers;
+      claims = h.claims;
+      asked = h.asked;
+      size = simp (length-set, h.size);
+      words = λ x free. rw same (set_agree s.stock.store t.stock.store a (w (word_at t a)) 0 x h.size (h.words x free));
+    }
+perform_agree hidden answer (Changing after) s t h none =
+    record { registers = ap (λ (r : Registers). counted r r.state after) h.registers; claims = h.claims; asked = h.asked; size = h.size; words = h.words }
+
+-- an effect leaves what is hidden as it was, if nothing that it needs is hidden
+pub perform_leaves : (hidden : Need → Bool) (answer : ℕ) (e : Effect) (s : State) → HidesNone hidden (effect_needs e) → Leaves hidden s (perform answer e s)
+perform_leaves hidden answer (Keeping a w after) s none =
+    record {
+      size = sym (length-set s.stock.store a (w (word_at s a)));
+      words = λ x is. get_or-set_other s.stock.store a x (w (word_at s a)) 0 (λ e. false≢true (sym (or_parts _ _ none).0 ∙ (ap (λ y. hidden (Group (group_of y))) (sym e) ∙ is)));
+    }
+perform_leaves hidden answer e s none = record { size = refl; words = λ a is. refl }
+
+-- the same syllables are read in two stores, if no group of theirs is hidden
+module _ (hidden : Need → Bool) (s t : State) (h : Agrees hidden s t) where
+  pub syllables_agree : (n size at : ℕ) → list_any hidden (syllable_needs n size at) ≡ false → syllables n size (word_at s) at ≡ syllables n size (word_at t) at
+  syllables_agree zero size at none = refl
+  syllables_agree (suc n) size at none =
+      ⊎_elim
+      (λ (inside : ltb (at / 6) size ≡ true).
+      let parts = or_parts _ _ (subst (λ b. list_any hidden (cond b (Group (group_of (at / 6)) ∷ syllable_needs n size (on at 1)) []) ≡ false) inside none) in
+      ap (λ b. cond b (option_map (λ rest. syllable_at (word_at s) at ∷ rest) (syllables n size (word_at s) (on at 1))) None) inside
+      ∙ ap₂ (λ w rest. option_map (λ more. syllable w (at % 6) ∷ more) rest) (h.words (at / 6) parts.0) (syllables_agree n size (on at 1) parts.1)
+      ∙ sym (ap (λ b. cond b (option_map (λ rest. syllable_at (word_at t) at ∷ rest) (syllables n size (word_at t) (on at 1))) None) inside))
+      (λ (outside : ltb (at / 6) size ≡ false).
+      ap (λ b. cond b (option_map (λ rest. syllable_at (word_at s) at ∷ rest) (syllables n size (word_at s) (on at 1))) None) outside
+      ∙ sym (ap (λ b. cond b (option_map (λ rest. syllable_at (word_at t) at ∷ rest) (syllables n size (word_at t) (on at 1))) None) outside))
+      (cases_Bool (ltb (at / 6) size))
+
+  -- the same number of syllables
+  pub count_agree : (size at : ℕ) → (ltb (at / 6) size ≡ true → hidden (Group (group_of (at / 6))) ≡ false) → count_at size (word_at s) at ≡ count_at size (word_at t) at
+  count_agree size at free =
+      ⊎_elim
+      (λ (inside : ltb (at / 6) size ≡ true).
+      ap (λ w. cond (ltb (at / 6) size) (size_of_first (syllable w (at % 6))) 1) (h.words (at / 6) (free inside)))
+      (λ (outside : ltb (at / 6) size ≡ false).
+      ap (λ b. cond b (size_of_first (syllable_at (word_at s) at)) 1) outside ∙ sym (ap (λ b. cond b (size_of_first (syllable_at (word_at t) at)) 1) outside))
+      (cases_Bool (ltb (at / 6) size))
+
+-- an order has a syllable
+size_more : (x y : Bool) → (n : ℕ) × (cond x 1 (cond y 2 3) ≡ suc n)
+size_more true y = (0, refl)
+size_more false true = (1, refl)
+size_more false false = (2, refl)
+
+-- how many syllables an order inside the store has, less one
+count_more : (size : ℕ) (word : ℕ → ℕ) (at : ℕ) → ltb (at / 6) size ≡ true → (n : ℕ) × (count_at size word at ≡ suc n)
+count_more size word at inside =
+    let n = size_more (ltb (syllable_at word at) 64) (ltb (syllable_at word at) 128) in
+    (n.0, ap (λ b. cond b (size_of_first (syllable_at word at)) 1) inside ∙ n.1)
+
+-- the group of the first syllable is among those of the order
+first_apart : (hidden : Need → Bool) (size : ℕ) (word : ℕ → ℕ) (at : ℕ) → ltb (at / 6) size ≡ true → HidesNone hidden (fetch_needs size word at) → hidden (Group (group_of (at / 6))) ≡ false
+first_apart hidden size word at inside none =
+    let n = count_more size word at inside in
+    let by_count = subst (λ k. HidesNone hidden (syllable_needs k size at)) n.1 none in
+    (or_parts _ _ (subst (λ b. HidesNone hidden (cond b (Group (group_of (at / 6)) ∷ syllable_needs n.0 size (on at 1)) [])) inside by_count)).0
+
+-- the next orders of two states that agree have the same syllables, and do the same
+module _ (hidden : Need → Bool) (s t : State) (h : Agrees hidden s t) (none : HidesNone hidden (fetch_needs s.stock.claims.size (word_at s) s.registers.at)) where
+  counts_agree : count_at s.stock.claims.size (word_at s) s.registers.at ≡ count_at s.stock.claims.size (word_at t) s.registers.at
+  counts_agree = count_agree hidden s t h s.stock.claims.size s.registers.at (λ inside. first_apart hidden s.stock.claims.size (word_at s) s.registers.at inside none)
+
+  bytes_agree : syllables (count_at s.stock.claims.size (word_at s) s.registers.at) s.stock.claims.size (word_at s) s.registers.at ≡ syllables (count_at s.stock.claims.size (word_at t) s.registers.at) s.stock.claims.size (word_at t) s.registers.at
+  bytes_agree =
+      syllables_agree hidden s t h (count_at s.stock.claims.size (word_at s) s.registers.at) s.stock.claims.size s.registers.at none
+      ∙ ap (λ n. syllables n s.stock.claims.size (word_at t) s.registers.at) counts_agree
+
+  pub effect_agree : next_effect s ≡ next_effect t
+  effect_agree =
+      ap (λ spelt. effect_or_liv s.stock.claims s.registers (decoded_or_none spelt)) bytes_agree
+      ∙ ap₂ (λ (c : Claims) (r : Registers). effect_at c (word_at t) r) h.claims h.registers
+
+  pub fetch_agree : fetch_needs s.stock.claims.size (word_at s) s.registers.at ≡ fetch_needs t.stock.claims.size (word_at t) t.registers.at
+  fetch_agree =
+      ap (λ n. syllable_needs n s.stock.claims.size s.registers.at) counts_agree
+      ∙ ap₂ (λ (c : Claims) (r : Registers). fetch_needs c.size (word_at t) r.at) h.claims h.registers
+
+abbrev fetch_of : State → List Need
+fetch_of s = fetch_needs s.stock.claims.size (word_at s) s.registers.at
+
+-- the first part of the law
+module _ (hidden : Need → Bool) (answer : ℕ) (s t : State) (h : Agrees hidden s t) (none : HidesNone hidden (needs s)) where
+  parts : HidesNone hidden (fetch_of s) × HidesNone hidden (effect_needs (next_effect s))
+  parts = or_parts _ _ (sym (list_any-append hidden (fetch_of s) (effect_needs (next_effect s))) ∙ none)
+
+  same_effect : next_effect s ≡ next_effect t
+  same_effect = effect_agree hidden s t h parts.0
+
+  pub needs_agree : needs t ≡ needs s
+  needs_agree = sym (ap₂ (λ xs e. xs ++ effect_needs e) (fetch_agree hidden s t h parts.0) same_effect)
+
+  pub row_agree : Agrees hidden (row s answer) (row t answer)
+  row_agree = subst (λ e. Agrees hidden (row s answer) (perform answer e t)) same_effect (perform_agree hidden answer (next_effect s) s t h parts.1)
+
+pub row_leaves : (hidden : Need → Bool) (answer : ℕ) (s : State) → HidesNone hidden (needs s) → Leaves hidden s (row s answer)
+row_leaves hidden answer s none =
+    perform_leaves hidden answer (next_effect s) s (or_parts _ _ (sym (list_any-append hidden (fetch_of s) (effect_needs (next_effect s))) ∙ none)).1
+
+-- hiding less is agreeing in more
+pub agree_under : (hidden wanted : Need → Bool) (s t : State) → ((n : Need) → hidden n ≡ true → wanted n ≡ true) → Agrees hidden s t → Agrees wanted s t
+agree_under hidden wanted s t more h =
+    record {
+      registers = h.registers;
+      claims = h.claims;
+      asked = h.asked;
+      size = h.size;
+      words = λ a free. h.words a (false_from_ne_true _ (λ is. false≢true (sym free ∙ more (Group (group_of a)) is)));
+    }
+
+-- what is found in a list is found in a longer one
+find_front : {X : Type 0} (p : X → Bool) (xs ys zs : List X) → list_any p xs ≡ true → find p (xs ++ ys) ≡ find p (xs ++ zs)
+find_front p [] ys zs any = cc
+find_front p (x ∷ xs) ys zs any =
+    ⊎_elim
+    (λ (is : p x ≡ true). rw is refl)
+    (λ (not : p x ≡ false). let later : list_any p xs ≡ true = rw not at any in rw not (find_front p xs ys zs later))
+    (cases_Bool (p x))
+
+-- the first syllable's group comes first
+found_first : (wanted : Need → Bool) (size : ℕ) (word : ℕ → ℕ) (at : ℕ) (rest : List Need) → ltb (at / 6) size ≡ true → wanted (Group (group_of (at / 6))) ≡ true → find wanted (fetch_needs size word at ++ rest) ≡ Some (Group (group_of (at / 6)))
+found_first wanted size word at rest inside is =
+    let n = count_more size word at inside in
+    ap (λ k. find wanted (syllable_needs k size at ++ rest)) n.1
+    ∙ ap (λ b. find wanted (cond b (Group (group_of (at / 6)) ∷ syllable_needs n.0 size (on at 1)) [] ++ rest)) inside
+    ∙ ap (λ b. cond b (Some (Group (group_of (at / 6)))) (find wanted (syllable_needs n.0 size (on at 1) ++ rest))) is
+
+none_outside : (wanted : Need → Bool) (size : ℕ) (word : ℕ → ℕ) (at : ℕ) → ltb (at / 6) size ≡ false → list_any wanted (fetch_needs size word at) ≡ false
+none_outside wanted size word at outside =
+    ap (λ b. list_any wanted (syllable_needs (cond b (size_of_first (syllable_at word at)) 1) size at)) outside
+    ∙ ap (λ b. list_any wanted (cond b (Group (group_of (at / 6)) ∷ []) [])) outside
+
+-- the second part of the law
+pub first_agree : (wanted : Need → Bool) (s t : State) → Agrees wanted s t → find wanted (needs s) ≡ find wanted (needs t)
+first_agree wanted s t h =
+    ⊎_elim
+    (λ (is : list_any wanted (fetch_of s) ≡ true). first_among is)
+    (λ (none : list_any wanted (fetch_of s) ≡ false).
+    ap₂ (λ xs e. find wanted (xs ++ effect_needs e)) (fetch_agree wanted s t h none) (effect_agree wanted s t h none))
+    (cases_Bool (list_any wanted (fetch_of s)))
+  where
+    first_among : list_any wanted (fetch_of s) ≡ true → find wanted (needs s) ≡ find wanted (needs t)
+    first_among is =
+        ⊎_elim
+        (λ (locked : wanted (Group (group_of (s.registers.at / 6))) ≡ true).
+        let inside : ltb (s.registers.at / 6) s.stock.claims.size ≡ true =
+        true_from_ne_false _ (λ outside. false≢true (sym (none_outside wanted s.stock.claims.size (word_at s) s.registers.at outside) ∙ is)) in
+        found_first wanted s.stock.claims.size (word_at s) s.registers.at (effect_needs (next_effect s)) inside locked
+        ∙ sym (found_first wanted s.stock.claims.size (word_at t) s.registers.at (effect_needs (next_effect t)) inside locked)
+        ∙ ap₂ (λ (c : Claims) (r : Registers). find wanted (fetch_needs c.size (word_at t) r.at ++ effect_needs (next_effect t))) h.claims h.registers)
+        (λ (free : wanted (Group (group_of (s.registers.at / 6))) ≡ false).
+        let counts = count_agree wanted s t h s.stock.claims.size s.registers.at (λ _. free) in
+        let same : fetch_of s ≡ fetch_of t = ap (λ n. syllable_needs n s.stock.claims.size s.registers.at) counts
+        ∙ ap₂ (λ (c : Claims) (r : Registers). fetch_needs c.size (word_at t) r.at) h.claims h.registers in
+        find_front wanted (fetch_of s) (effect_needs (next_effect s)) (effect_needs (next_effect t)) is
+        ∙ ap (λ xs. find wanted (xs ++ effect_needs (next_effect t))) same)
+        (cases_Bool (wanted (Group (group_of (s.registers.at / 6)))))

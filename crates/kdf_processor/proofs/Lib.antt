@@ -1,0 +1,6 @@
+pub mod SpellingLemmas
+pub mod FrameLemmas
+pub mod LoneLemmas
+pub mod RowFacts
+pub mod ByItself
+pub mod Syllables

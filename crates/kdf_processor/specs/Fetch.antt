@@ -1,0 +1,37 @@
+-- What the fetch of an order answers.
+use Rattle.std.specs.Prelude.{◌≡◌, ℕ, ◌/◌, Option, Some, None, if◌then◌else◌, nat_lt}
+use Rattle.kdf_processor.specs.declared.spelling.order.Order.{Order}
+use Rattle.kdf_processor.specs.declared.step.Need.{Need}
+use Rattle.kdf_processor.specs.declared.step.Need.TheVariants.{Group}
+use Rattle.kdf_processor.specs.declared.fetch.Fetched.{Fetched}
+use Rattle.kdf_processor.specs.declared.fetch.Fetched.TheVariants as fetched
+use Rattle.kdf_processor.specs.declared.fetch.Syllable.{Syllable}
+use Rattle.kdf_processor.specs.declared.fetch.Syllable.TheVariants as read
+use Rattle.kdf_processor.specs.Spelling.{IsOrder}
+use Rattle.kdf_processor.specs.View.{View}
+use Rattle.kdf_processor.specs.Needs.{group_of, syllable_at}
+
+-- the need that holds the fetch up
+abbrev pub held_of : Fetched → Option Need
+held_of (fetched.Order o) = None
+held_of fetched.Bad = None
+held_of (fetched.Held g) = Some (Group g)
+
+-- the order, if it wasn't held up
+abbrev pub IsFetched : Option Order → Fetched → Type 0
+IsFetched order (fetched.Order o) = order ≡ Some o
+IsFetched order fetched.Bad = order ≡ None
+IsFetched order (fetched.Held g) = Unit {0}
+
+-- the order's fields are in their ranges
+abbrev pub IsLegal : Fetched → Type 0
+IsLegal (fetched.Order o) = IsOrder o
+IsLegal fetched.Bad = Unit {0}
+IsLegal (fetched.Held g) = Unit {0}
+
+-- a syllable of the store
+abbrev pub syllable_read : View → ℕ → Syllable
+syllable_read v n =
+    if nat_lt (n / 6) v.claims.size
+    then (if v.is_out (group_of (n / 6)) then read.Held (group_of (n / 6)) else read.Byte (syllable_at v.word n))
+    else read.Outside

@@ -1,0 +1,24 @@
+-- States that agree in everything but what is hidden.
+use Rattle.std.specs.Prelude.{◌≡◌, ℕ, Bool, true, false, List, length}
+use Rattle.std.specs.List.{list_any}
+use Rattle.kdf_processor.specs.declared.step.Need.{Need}
+use Rattle.kdf_processor.specs.declared.step.Need.TheVariants.{Group}
+use Rattle.kdf_processor.specs.State.{State, word_at}
+use Rattle.kdf_processor.specs.Needs.{group_of}
+
+-- the states agree in everything but the words of the hidden groups
+pub record Agrees (hidden : Need → Bool) (s t : State) : Type 0 where
+  pub registers : s.registers ≡ t.registers
+  pub claims : s.stock.claims ≡ t.stock.claims
+  pub asked : s.stock.asked ≡ t.stock.asked
+  pub size : length s.stock.store ≡ length t.stock.store
+  pub words : (a : ℕ) → hidden (Group (group_of a)) ≡ false → word_at s a ≡ word_at t a
+
+-- what is hidden is as it was
+pub record Leaves (hidden : Need → Bool) (old new : State) : Type 0 where
+  pub size : length old.stock.store ≡ length new.stock.store
+  pub words : (a : ℕ) → hidden (Group (group_of a)) ≡ true → word_at new a ≡ word_at old a
+
+-- none of the needs is hidden
+abbrev pub HidesNone : (Need → Bool) → List Need → Type 0
+HidesNone hidden ns = list_any hidden ns ≡ false

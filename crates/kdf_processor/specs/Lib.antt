@@ -1,0 +1,14 @@
+pub mod Spelling
+pub mod Failures
+pub mod State
+pub mod Arith
+pub mod Effect
+pub mod Table
+pub mod Needs
+pub mod View
+pub mod Outcome
+pub mod Row
+pub mod Lone
+pub mod Frame
+pub mod Fetch
+pub mod Plan

@@ -1,0 +1,74 @@
+-- What the next order is, and what it needs first.
+use Rattle.std.specs.Prelude.{ℕ, ◌/◌, ◌%◌, List, [], ◌∷◌, ◌++◌, Option, Some, None, if◌then◌else◌, nat_lt}
+use Rattle.std.specs.Option.{option_map}
+use Rattle.std.proofs.Common.{zero, suc}
+use Rattle.kdf_processor.specs.declared.spelling.order.Order.{Order}
+use Rattle.kdf_processor.specs.declared.failure.Failure.TheVariants.{Liv}
+use Rattle.kdf_processor.specs.declared.step.Need.{Need}
+use Rattle.kdf_processor.specs.declared.step.Need.TheVariants.{Group}
+use Rattle.kdf_processor.specs.declared.registers.Registers.{Registers}
+use Rattle.kdf_processor.specs.Spelling.{size_of_first, decoded, syllable}
+use Rattle.kdf_processor.specs.State.{Claims, State, word_at}
+use Rattle.kdf_processor.specs.Effect.{Effect, Failing, Ending, Changing, Fetching, Keeping}
+use Rattle.kdf_processor.specs.Table.{on, effect}
+
+-- the group of an address
+abbrev pub group_of : ℕ → ℕ
+group_of a = a / 32
+
+-- syllable number n of a store, given by its words
+abbrev pub syllable_at : (ℕ → ℕ) → ℕ → ℕ
+syllable_at word n = syllable (word (n / 6)) (n % 6)
+
+-- the n syllables from this one on, or none where one of them is outside
+abbrev pub syllables : ℕ → ℕ → (ℕ → ℕ) → ℕ → Option (List ℕ)
+syllables zero size word at = Some []
+syllables (suc n) size word at =
+    if nat_lt (at / 6) size then option_map (λ rest. syllable_at word at ∷ rest) (syllables n size word (on at 1)) else None
+
+-- their groups, ending before one that is outside
+abbrev pub syllable_needs : ℕ → ℕ → ℕ → List Need
+syllable_needs zero size at = []
+syllable_needs (suc n) size at = if nat_lt (at / 6) size then Group (group_of (at / 6)) ∷ syllable_needs n size (on at 1) else []
+
+-- how many syllables the order at a place has
+abbrev pub count_at : ℕ → (ℕ → ℕ) → ℕ → ℕ
+count_at size word at = if nat_lt (at / 6) size then size_of_first (syllable_at word at) else 1
+
+abbrev pub fetch_needs : ℕ → (ℕ → ℕ) → ℕ → List Need
+fetch_needs size word at = syllable_needs (count_at size word at) size at
+
+abbrev pub decoded_or_none : Option (List ℕ) → Option Order
+decoded_or_none None = None
+decoded_or_none (Some spelt) = decoded spelt
+
+-- the order at a place, or none where it isn't in the store or has no such spelling
+abbrev pub order_at : ℕ → (ℕ → ℕ) → ℕ → Option Order
+order_at size word at = decoded_or_none (syllables (count_at size word at) size word at)
+
+abbrev pub effect_or_liv : Claims → Registers → Option Order → Effect
+effect_or_liv c r None = Failing Liv
+effect_or_liv c r (Some o) = effect c r o
+
+-- what the next order does
+abbrev pub effect_at : Claims → (ℕ → ℕ) → Registers → Effect
+effect_at c word r = effect_or_liv c r (order_at c.size word r.at)
+
+-- what an effect needs
+abbrev pub effect_needs : Effect → List Need
+effect_needs (Failing kind) = []
+effect_needs (Ending after) = []
+effect_needs (Changing after) = []
+effect_needs (Fetching a after) = Group (group_of a) ∷ []
+effect_needs (Keeping a w after) = Group (group_of a) ∷ []
+
+abbrev pub needs_at : Claims → (ℕ → ℕ) → Registers → List Need
+needs_at c word r = fetch_needs c.size word r.at ++ effect_needs (effect_at c word r)
+
+-- of a state by itself
+abbrev pub next_effect : State → Effect
+next_effect s = effect_at s.stock.claims (word_at s) s.registers
+
+-- the needs of the next order: the groups of its syllables, and then what its effect needs
+abbrev pub needs : State → List Need
+needs s = needs_at s.stock.claims (word_at s) s.registers

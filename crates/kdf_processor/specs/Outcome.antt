@@ -1,0 +1,45 @@
+-- What obeying the next order comes to, over any port.
+use Rattle.std.specs.Prelude.{ℕ, ◌+◌, Option, Some, None}
+use Rattle.kdf_processor.specs.declared.registers.Life.{Life}
+use Rattle.kdf_processor.specs.declared.registers.Life.TheVariants.{Ended, Failed}
+use Rattle.kdf_processor.specs.declared.registers.Registers.{Registers}
+use Rattle.kdf_processor.specs.declared.step.Need.{Need}
+use Rattle.kdf_processor.specs.declared.step.Step.{Step}
+use Rattle.kdf_processor.specs.declared.step.Step.TheVariants.{Done, Held, Fails, Ends}
+use Rattle.kdf_processor.specs.Effect.{Act, Nothing, Writes, Effect, Failing, Ending, Changing, Fetching, Keeping}
+use Rattle.kdf_processor.specs.Needs.{effect_needs, effect_at, needs_at}
+use Rattle.kdf_processor.specs.View.{View, first_pending}
+
+-- how it ends, the registers after it, and the acting call that it makes
+pub record Outcome : Type 0 where
+  pub step : Step
+  pub registers : Registers
+  pub act : Act
+
+-- registers after one order more: the count and the life are set here alone
+abbrev pub counted : Registers → Life → Registers → Registers
+counted r life after = record after { ran = r.ran + 1; state = life }
+
+abbrev pub went : Registers → Registers → Act → Outcome
+went r after act = record { step = Done; registers = counted r r.state after; act = act }
+
+-- an effect, none of its needs being pending
+abbrev pub done : View → Registers → Effect → Outcome
+done v r (Failing kind) = record { step = Fails kind; registers = counted r (Failed kind) r; act = Nothing }
+done v r (Ending after) = record { step = Ends; registers = counted r Ended after; act = Nothing }
+done v r (Changing after) = went r after Nothing
+done v r (Fetching a after) = went r (after (v.word a)) Nothing
+done v r (Keeping a w after) = went r after (Writes a (w (v.word a)))
+
+-- held up by the first need that is pending, or else the outcome
+abbrev pub held_or : Registers → Option Need → Outcome → Outcome
+held_or r (Some need) o = record { step = Held need; registers = r; act = Nothing }
+held_or r None o = o
+
+-- the next order
+abbrev pub outcome : View → Registers → Outcome
+outcome v r = held_or r (first_pending v (needs_at v.claims v.word r)) (done v r (effect_at v.claims v.word r))
+
+-- one effect, behind the fetch
+abbrev pub try_effect : View → Registers → Effect → Outcome
+try_effect v r e = held_or r (first_pending v (effect_needs e)) (done v r e)

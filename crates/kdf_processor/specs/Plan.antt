@@ -1,0 +1,47 @@
+-- What a plan stands for.
+use Rattle.std.specs.Prelude.{◌≢◌, ℕ, ◌<◌, List, [], ◌∷◌, length}
+use Rattle.kdf_processor.specs.declared.spelling.order.Order.{Order}
+use Rattle.kdf_processor.specs.declared.spelling.order.Order.TheVariants as order
+use Rattle.kdf_processor.specs.declared.plan.Plan.{Plan}
+use Rattle.kdf_processor.specs.declared.plan.Plan.TheVariants.{Fail, End, Fetch, Keep}
+use Rattle.kdf_processor.specs.declared.registers.Registers.{Registers}
+use Rattle.kdf_processor.specs.State.{Claims}
+use Rattle.kdf_processor.specs.Effect.{Effect, Failing, Ending, Fetching, Keeping}
+use Rattle.kdf_processor.specs.Table.{with_nest}
+
+-- the top, and the words below it
+abbrev pub top : List ℕ → ℕ
+top [] = 0
+top (n1 ∷ below) = n1
+
+abbrev pub below_top : List ℕ → List ℕ
+below_top [] = []
+below_top (n1 ∷ below) = below
+
+-- the effect that it is a plan of
+abbrev pub planned : Plan → Registers → Effect
+planned (Fail kind) r = Failing kind
+planned End r = Ending (with_nest 1 (below_top r.nest) r)
+planned (Fetch a) r = Fetching a (λ w. with_nest 3 (w ∷ r.nest) r)
+planned (Keep a) r = Keeping a (λ old. top r.nest) (with_nest 3 (below_top r.nest) r)
+
+-- its address is in the store
+abbrev pub IsSound : Claims → Plan → Type 0
+IsSound c (Fail kind) = Unit {0}
+IsSound c End = Unit {0}
+IsSound c (Fetch a) = a < c.size
+IsSound c (Keep a) = a < c.size
+
+-- the nest has its operands, or room for its result
+abbrev pub HasOperands : List ℕ → Plan → Type 0
+HasOperands nest (Fail kind) = Unit {0}
+HasOperands nest End = 0 < length nest
+HasOperands nest (Fetch a) = length nest < 16
+HasOperands nest (Keep a) = 0 < length nest
+
+-- an order that changes registers alone
+abbrev pub IsChange : Order → Type 0
+IsChange (order.Plain code) = code ≢ 0x21
+IsChange (order.Jump c target) = Unit {0}
+IsChange (order.Set constant) = Unit {0}
+IsChange _ = ⊥

@@ -1,0 +1,22 @@
+-- What a port shows of one program.
+use Rattle.std.specs.Prelude.{ℕ, Bool, false, Option, List, find}
+use Rattle.kdf_processor.specs.declared.step.Need.{Need}
+use Rattle.kdf_processor.specs.declared.step.Need.TheVariants.{Group}
+use Rattle.kdf_processor.specs.State.{Claims, Stock, word_in}
+
+pub record View : Type 0 where
+  pub claims : Claims
+  -- the word at an address, also where its group is out
+  pub word : ℕ → ℕ
+  -- a group is locked out
+  pub is_out : ℕ → Bool
+
+abbrev pub is_pending : View → Need → Bool
+is_pending v (Group g) = v.is_out g
+
+abbrev pub first_pending : View → List Need → Option Need
+first_pending v ns = find (is_pending v) ns
+
+-- a program by itself: nothing is out
+abbrev pub by_itself : Stock → View
+by_itself k = record { claims = k.claims; word = word_in k; is_out = λ _. false }

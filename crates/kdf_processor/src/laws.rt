@@ -1,0 +1,28 @@
+//! Laws of the definitions, each the contract of a function that does nothing.
+ghost use Rattle.std.specs.Prelude.{◌≡◌, ℕ, ◌≤◌, ◌++◌, List, length, Bool, true, false, find};
+ghost use Rattle.kdf_processor.specs.declared.step.Need.{Need};
+ghost use Rattle.kdf_processor.specs.Frame.{Agrees, Leaves, HidesNone};
+ghost use Rattle.kdf_processor.specs.Lone.{lone};
+ghost use Rattle.kdf_processor.specs.Needs.{needs};
+ghost use Rattle.kdf_processor.specs.Row.{row};
+ghost use Rattle.kdf_processor.specs.State.{State};
+
+/// Of two states that agree in all but what is hidden, and where nothing that is needed is hidden,
+/// the needs are the same, and the rows agree likewise and leave what is hidden as it was.
+/// Of any needs, among them all that is hidden, the first is the same in both states.
+pub fn frame()
+    ensures same_needs { (hidden : Need → Bool) (s t : State) →
+        Agrees hidden s t → HidesNone hidden (needs s) → needs t ≡ needs s }
+    ensures same_row { (hidden : Need → Bool) (answer : ℕ) (s t : State) →
+        Agrees hidden s t → HidesNone hidden (needs s) → Agrees hidden (row s answer) (row t answer) }
+    ensures left { (hidden : Need → Bool) (answer : ℕ) (s t : State) →
+        Agrees hidden s t → HidesNone hidden (needs s) → Leaves hidden s (row s answer) × Leaves hidden t (row t answer) }
+    ensures same_first { (hidden wanted : Need → Bool) (s t : State) →
+        Agrees hidden s t → ((n : Need) → hidden n ≡ true → wanted n ≡ true) → find wanted (needs s) ≡ find wanted (needs t) }
+{}
+
+/// With as many answers as are taken, more of them change no state up to there.
+pub fn longer_answers()
+    ensures { (start : State) (xs ys : List ℕ) (n : ℕ) → (lone start xs n).stock.asked ≤ length xs →
+        (k : ℕ) → k ≤ n → lone start (xs ++ ys) k ≡ lone start xs k }
+{}

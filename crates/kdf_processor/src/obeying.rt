@@ -1,0 +1,152 @@
+//! Obeying one order over any port.
+ghost use Rattle.std.specs.Prelude.{◌≡◌, ◌<◌, None, ◌∷◌, length};
+ghost use Rattle.kdf_processor.specs.Spelling.{IsOrder};
+ghost use Rattle.kdf_processor.specs.Effect.{Nothing, of_change};
+ghost use Rattle.kdf_processor.specs.Needs.{effect_needs};
+ghost use Rattle.kdf_processor.specs.Outcome.{done, try_effect, outcome, counted};
+ghost use Rattle.kdf_processor.specs.Plan.{planned, IsSound, IsChange, HasOperands, below_top, top};
+ghost use Rattle.kdf_processor.specs.Table.{effect, change_of, with_nest};
+ghost use Rattle.kdf_processor.specs.View.{first_pending};
+
+use crate::change::change;
+use crate::fetch::{Fetched, behind, fetch};
+use crate::plan::{Plan, first_need, plan_of};
+use crate::spelling::Order;
+use crate::{Failure, Life, Need, Port, Registers, Step};
+use kdf_word::Word;
+
+/// Counts an order.
+fn count(registers: &mut Registers)
+    requires { registers.old.ran < 4294967295 }
+    ensures { registers.new ≡ counted registers.old registers.old.state registers.old }
+{
+    registers.ran += 1;
+}
+
+/// Pushes a word that was fetched.
+fn push_fetched(registers: &mut Registers, word: Word)
+    requires { length registers.old.nest < 16 }
+    ensures { registers.new ≡ with_nest 3 (word ∷ registers.old.nest) registers.old }
+{
+    registers.nest.push(word);
+    registers.at = behind(registers.at, 3);
+}
+
+/// Takes the word that is to be kept.
+fn pop_kept(registers: &mut Registers) -> Word
+    requires { 0 < length registers.old.nest }
+    ensures top { result ≡ top registers.old.nest }
+    ensures registers { registers.new ≡ with_nest 3 (below_top registers.old.nest) registers.old }
+{
+    let word = registers.nest.pop();
+    registers.at = behind(registers.at, 3);
+    word
+}
+
+/// Carries out a plan none of whose needs is pending.
+fn carry_out<P: Port>(registers: &mut Registers, port: &mut P, plan: Plan) -> Step
+    requires ran { registers.old.ran < 4294967295 }
+    requires sound { IsSound (P.shows port.old).claims plan }
+    requires operands { HasOperands registers.old.nest plan }
+    requires free { first_pending (P.shows port.old) (effect_needs (planned plan registers.old)) ≡ None }
+    requires room { P.room port.old (done (P.shows port.old) registers.old (planned plan registers.old)).act }
+    ensures step { result ≡ (done (P.shows port.old) registers.old (planned plan registers.old)).step }
+    ensures registers { registers.new ≡ (done (P.shows port.old) registers.old (planned plan registers.old)).registers }
+    ensures acted { P.acts port.old (done (P.shows port.old) registers.old (planned plan registers.old)).act port.new }
+    ensures unchanged { (done (P.shows port.old) registers.old (planned plan registers.old)).act ≡ Nothing → port.new ≡ port.old }
+{
+    match plan {
+        Plan::Fail(kind) => {
+            registers.state = Life::Failed(kind);
+            count(registers);
+            return Step::Fails(kind);
+        }
+        Plan::End => {
+            registers.nest.pop();
+            registers.at = behind(registers.at, 1);
+            registers.state = Life::Ended;
+            count(registers);
+            return Step::Ends;
+        }
+        Plan::Fetch { address } => match port.read(address) {
+            Ok(word) => push_fetched(registers, word),
+            Err(_) => unreachable!(),
+        },
+        Plan::Keep { address } => {
+            let word = pop_kept(registers);
+            let _ = port.write(address, word);
+        }
+    }
+    count(registers);
+    Step::Done
+}
+
+/// Holds the program up, or carries the plan out.
+fn obey_plan<P: Port>(registers: &mut Registers, port: &mut P, plan: Plan) -> Step
+    requires ran { registers.old.ran < 4294967295 }
+    requires sound { IsSound (P.shows port.old).claims plan }
+    requires operands { HasOperands registers.old.nest plan }
+    requires room { P.room port.old (try_effect (P.shows port.old) registers.old (planned plan registers.old)).act }
+    ensures step { result ≡ (try_effect (P.shows port.old) registers.old (planned plan registers.old)).step }
+    ensures registers { registers.new ≡ (try_effect (P.shows port.old) registers.old (planned plan registers.old)).registers }
+    ensures acted { P.acts port.old (try_effect (P.shows port.old) registers.old (planned plan registers.old)).act port.new }
+    ensures unchanged { (try_effect (P.shows port.old) registers.old (planned plan registers.old)).act ≡ Nothing → port.new ≡ port.old }
+{
+    match first_need(registers, port, plan) {
+        Some(need) => Step::Held(need),
+        None => carry_out(registers, port, plan),
+    }
+}
+
+/// Obeys an order that changes registers alone.
+fn obey_change<P: Port>(registers: &mut Registers, port: &mut P, order: Order) -> Step
+    requires ran { registers.old.ran < 4294967295 }
+    requires order { IsOrder order }
+    requires change { IsChange order }
+    requires room { P.room port.old (try_effect (P.shows port.old) registers.old (of_change (change_of registers.old order))).act }
+    ensures step { result ≡ (try_effect (P.shows port.old) registers.old (of_change (change_of registers.old order))).step }
+    ensures registers { registers.new ≡ (try_effect (P.shows port.old) registers.old (of_change (change_of registers.old order))).registers }
+    ensures acted { P.acts port.old (try_effect (P.shows port.old) registers.old (of_change (change_of registers.old order))).act port.new }
+    ensures unchanged { (try_effect (P.shows port.old) registers.old (of_change (change_of registers.old order))).act ≡ Nothing → port.new ≡ port.old }
+{
+    match change(registers, order) {
+        Ok(()) => {
+            count(registers);
+            Step::Done
+        }
+        Err(kind) => obey_plan(registers, port, Plan::Fail(kind)),
+    }
+}
+
+/// Obeys an order that was fetched.
+fn obey_order<P: Port>(registers: &mut Registers, port: &mut P, order: Order) -> Step
+    requires ran { registers.old.ran < 4294967295 }
+    requires order { IsOrder order }
+    requires room { P.room port.old (try_effect (P.shows port.old) registers.old (effect (P.shows port.old).claims registers.old order)).act }
+    ensures step { result ≡ (try_effect (P.shows port.old) registers.old (effect (P.shows port.old).claims registers.old order)).step }
+    ensures registers { registers.new ≡ (try_effect (P.shows port.old) registers.old (effect (P.shows port.old).claims registers.old order)).registers }
+    ensures acted { P.acts port.old (try_effect (P.shows port.old) registers.old (effect (P.shows port.old).claims registers.old order)).act port.new }
+    ensures unchanged { (try_effect (P.shows port.old) registers.old (effect (P.shows port.old).claims registers.old order)).act ≡ Nothing → port.new ≡ port.old }
+{
+    match plan_of(registers, port, order) {
+        Some(plan) => obey_plan(registers, port, plan),
+        None => obey_change(registers, port, order),
+    }
+}
+
+/// Obeys the next order of a live program, or answers what holds it up and changes nothing.
+pub fn obey<P: Port>(registers: &mut Registers, port: &mut P) -> Step
+    requires live { registers.old.state ≡ Life.Live }
+    requires ran { registers.old.ran < 4294967295 }
+    requires room { P.room port.old (outcome (P.shows port.old) registers.old).act }
+    ensures step { result ≡ (outcome (P.shows port.old) registers.old).step }
+    ensures registers { registers.new ≡ (outcome (P.shows port.old) registers.old).registers }
+    ensures acted { P.acts port.old (outcome (P.shows port.old) registers.old).act port.new }
+    ensures unchanged { (outcome (P.shows port.old) registers.old).act ≡ Nothing → port.new ≡ port.old }
+{
+    match fetch(port, registers.at) {
+        Fetched::Held(group) => Step::Held(Need::Group(group)),
+        Fetched::Bad => obey_plan(registers, port, Plan::Fail(Failure::Liv)),
+        Fetched::Order(order) => obey_order(registers, port, order),
+    }
+}

@@ -1,0 +1,22 @@
+//! What an order waits for, and how a try to obey it goes.
+use crate::Failure;
+
+/// What an order may have to wait for.
+#[derive(Clone, Copy, Debug, PartialEq, Eq)]
+pub enum Need {
+    /// A group of 32 words of the program's store, by its number.
+    Group(u16),
+}
+
+/// How a try to obey an order went.
+#[derive(Clone, Copy, Debug, PartialEq, Eq)]
+pub enum Step {
+    /// The order was obeyed, and the program goes on.
+    Done,
+    /// The order waits for this, and nothing was changed.
+    Held(Need),
+    /// The order failed, and so the program has.
+    Fails(Failure),
+    /// The order ended the program.
+    Ends,
+}
