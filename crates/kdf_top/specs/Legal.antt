@@ -1,8 +1,8 @@
 -- What makes a journal legal. It is read as steps, newest first: one order with its note.
 use Rattle.std.specs.Prelude.{◌≡◌, ℕ, List, [], ◌∷◌, ◌++◌, Option, Some, fold, replicate}
-use Rattle.kdf_processor.specs.declared.registers.Failure.{Failure}
-use Rattle.kdf_processor.specs.declared.registers.Step.{Step as Ending}
-use Rattle.kdf_processor.specs.declared.registers.Step.TheVariants as ending
+use Rattle.kdf_processor.specs.declared.failure.Failure.{Failure}
+use Rattle.kdf_processor.specs.declared.step.Step.{Step as Ending}
+use Rattle.kdf_processor.specs.declared.step.Step.TheVariants as ending
 use Rattle.kdf_processor.specs.State.{State}
 use Rattle.kdf_processor.specs.Row.{next_of}
 use Rattle.kdf_top.specs.declared.journal.Entry.{Entry}

@@ -1,8 +1,8 @@
 -- Where the orders and stores of a deck stand, and the words of its image.
 use Rattle.std.specs.Prelude.{ℕ, ◌+◌, ◌*◌, ◌/◌, List, [], ◌∷◌, ◌++◌, length, replicate, true, false, Option, Some, None}
 use Rattle.std.specs.List.{flat_map}
-use Rattle.kdf_processor.specs.declared.spelling.Order.{Order}
-use Rattle.kdf_processor.specs.declared.spelling.Order.TheVariants.{Plain, Jump, Direct, Set as Constant}
+use Rattle.kdf_processor.specs.declared.spelling.order.Order.{Order}
+use Rattle.kdf_processor.specs.declared.spelling.order.Order.TheVariants.{Plain, Jump, Direct, Set as Constant}
 use Rattle.kdf_processor.specs.Spelling.{spelling, pack}
 use Rattle.kdf_top.specs.declared.deck.Piece.{Piece}
 use Rattle.kdf_top.specs.declared.deck.Piece.TheVariants.{Fetches, Keeps, Sets, Adds, Zeros, Outs}
@@ -24,12 +24,12 @@ syllables_of base ps = flat_map (λ p. spelling (order_of base p)) ps
 -- six syllables to a word; a word that is begun is filled with DUMMY
 unfoldable pub packed : List ℕ → List ℕ
 packed [] = []
-packed (a ∷ []) = pack a 1 1 1 1 1 ∷ []
-packed (a ∷ b ∷ []) = pack a b 1 1 1 1 ∷ []
-packed (a ∷ b ∷ c ∷ []) = pack a b c 1 1 1 ∷ []
-packed (a ∷ b ∷ c ∷ d ∷ []) = pack a b c d 1 1 ∷ []
-packed (a ∷ b ∷ c ∷ d ∷ e ∷ []) = pack a b c d e 1 ∷ []
-packed (a ∷ b ∷ c ∷ d ∷ e ∷ f ∷ rest) = pack a b c d e f ∷ packed rest
+packed (a ∷ []) = pack (a ∷ 1 ∷ 1 ∷ 1 ∷ 1 ∷ 1 ∷ []) ∷ []
+packed (a ∷ b ∷ []) = pack (a ∷ b ∷ 1 ∷ 1 ∷ 1 ∷ 1 ∷ []) ∷ []
+packed (a ∷ b ∷ c ∷ []) = pack (a ∷ b ∷ c ∷ 1 ∷ 1 ∷ 1 ∷ []) ∷ []
+packed (a ∷ b ∷ c ∷ d ∷ []) = pack (a ∷ b ∷ c ∷ d ∷ 1 ∷ 1 ∷ []) ∷ []
+packed (a ∷ b ∷ c ∷ d ∷ e ∷ []) = pack (a ∷ b ∷ c ∷ d ∷ e ∷ 1 ∷ []) ∷ []
+packed (a ∷ b ∷ c ∷ d ∷ e ∷ f ∷ rest) = pack (a ∷ b ∷ c ∷ d ∷ e ∷ f ∷ []) ∷ packed rest
 
 -- the words that so many syllables fill or begin
 abbrev pub words_for : ℕ → ℕ

@@ -1,8 +1,8 @@
 -- The texts that are written. A text is a list of lines, each without the byte 10 behind it.
 use Rattle.std.specs.Prelude.{ℕ, ◌+◌, ◌-◌, ◌/◌, ◌%◌, ◌^◌, List, [], ◌∷◌, ◌++◌, map, length, Bool, if◌then◌else◌, codes, decimal}
 use Rattle.std.specs.List.{flat_map, range_with_len}
-use Rattle.kdf_processor.specs.declared.registers.Failure.{Failure}
-use Rattle.kdf_processor.specs.declared.registers.Failure.TheVariants.{Liv, Nouv, Out, Reset, Claim}
+use Rattle.kdf_processor.specs.declared.failure.Failure.{Failure}
+use Rattle.kdf_processor.specs.declared.failure.Failure.TheVariants.{Liv, Nouv, Out, Reset, Claim}
 use Rattle.kdf_processor.specs.declared.registers.Life.{Life}
 use Rattle.kdf_processor.specs.declared.registers.Life.TheVariants as life
 use Rattle.kdf_processor.specs.State.{State, word_at}
