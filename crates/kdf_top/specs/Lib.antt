@@ -12,3 +12,4 @@ pub mod Text
 pub mod Commands
 pub mod Shown
 pub mod Answers
+pub mod Worked

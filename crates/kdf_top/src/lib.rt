@@ -1,12 +1,17 @@
 //! The top call: reads a job, runs it, writes the report.
 #![tactic(auto)]
 
+mod cuts;
 mod deck;
 mod job;
 mod journal;
+pub mod laws;
+mod numbers;
 mod status;
 
+pub use cuts::cut;
 pub use deck::{Deck, Image, Piece};
 pub use job::{Event, Job, JobError, JobFault, SlotJob};
 pub use journal::Entry;
+pub use numbers::{number_in, up_to};
 pub use status::Status;
