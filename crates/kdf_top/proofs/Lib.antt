@@ -1,2 +1,4 @@
+pub mod Cutting
 pub mod Digits
+pub mod WordLemmas
 pub mod WorkedLemmas

@@ -13,3 +13,4 @@ pub mod Commands
 pub mod Shown
 pub mod Answers
 pub mod Worked
+pub mod Reading

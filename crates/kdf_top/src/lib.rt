@@ -3,15 +3,19 @@
 
 mod cuts;
 mod deck;
+mod forms;
 mod job;
 mod journal;
 pub mod laws;
+mod lines;
 mod numbers;
 mod status;
 
 pub use cuts::cut;
 pub use deck::{Deck, Image, Piece};
+pub use forms::{order_count, show_range, store_size};
 pub use job::{Event, Job, JobError, JobFault, SlotJob};
 pub use journal::Entry;
+pub use lines::{Line, Lines};
 pub use numbers::{number_in, up_to};
 pub use status::Status;

@@ -1,6 +1,6 @@
 //! Numbers in a text, of any length.
 
-ghost use Rattle.std.specs.Prelude.{◌≡◌, ◌≤◌, ◌-◌, Some, None, if◌then◌else◌};
+ghost use Rattle.std.specs.Prelude.{◌≡◌, ◌≤◌, ◌-◌, Some, None, IfSome, if◌then◌else◌};
 ghost use Rattle.kdf_top.specs.Deck.{up_to};
 ghost use Rattle.kdf_top.specs.Lines.{is_digit, number_in};
 
@@ -17,7 +17,8 @@ fn digit(byte: u8) -> Option<u32>
 /// the limit, which is at most `MOST`.
 pub fn up_to(limit: u32, digits: &[u8]) -> Option<u32>
     requires { limit ≤ MOST }
-    ensures { result ≡ up_to limit digits.now }
+    ensures value { result ≡ up_to limit digits.now }
+    ensures within { IfSome result (λ n. n ≤ limit) }
 {
     if digits.is_empty() {
         return None;
@@ -36,7 +37,8 @@ pub fn up_to(limit: u32, digits: &[u8]) -> Option<u32>
 /// which ends at most at `MOST`.
 pub fn number_in(low: u32, high: u32, word: &[u8]) -> Option<u32>
     requires { high ≤ MOST }
-    ensures { result ≡ number_in low high word.now }
+    ensures value { result ≡ number_in low high word.now }
+    ensures within { IfSome result (λ n. (low ≤ n) × (n ≤ high)) }
 {
     if word.len() > 1 && word[0] == b'0' {
         return None;
