@@ -1,7 +1,7 @@
 -- Lines, words and statements of texts that are cut at a byte.
-use Rattle.std.proofs.Common.{◌≡◌, ℕ, ◌<◌, Bool, true, false, cond, ◌||◌, eqb, List, [], ◌∷◌, ◌++◌, length, drop, arith, refl, sym, ap, ◌∙◌}
+use Rattle.std.proofs.Common.{◌≡◌, ℕ, ◌<◌, Bool, true, false, cond, ◌||◌, eqb, List, [], ◌∷◌, ◌++◌, length, drop, arith, ⊎_elim, refl, sym, ap, ◌∙◌}
 use Rattle.std.specs.List.{list_any}
-use Rattle.std.proofs.lemmas.Bool.{or_parts, ne_eqb}
+use Rattle.std.proofs.lemmas.Bool.{or_parts, cases_Bool, eq-eqb, ne_eqb}
 use Rattle.kdf_top.specs.Lines.{lines, line, line_byte, words, word_byte, in_first}
 use Rattle.kdf_top.specs.Deck.{statements, statement_byte}
 
@@ -48,30 +48,66 @@ pub left-length : (text : List ℕ) → 0 < length (left text) → eqb (length t
 left-length [] lt = absurd (omega arith)
 left-length (b ∷ text) lt = ne_eqb (length (b ∷ text)) 0 (λ e. omega arith)
 
-pub words-cut : (front rest : List ℕ) → has 32 front ≡ false → words (front ++ 32 ∷ rest) ≡ front ∷ words rest
+-- a text that is cut at each such byte: the words of a line, and the statements of a deck
+abbrev pub parts : ℕ → List ℕ → List (List ℕ)
+parts at [] = [] ∷ []
+parts at (b ∷ text) = cond (eqb b at) ([] ∷ parts at text) (in_first b (parts at text))
+
+pub words-parts : (text : List ℕ) → words text ≡ parts 32 text
 unfolding words
-words-cut [] rest none = refl
-words-cut (b ∷ front) rest none =
-    let parts = or_parts (eqb b 32) (has 32 front) none in
-    ap (word_byte b) (words-cut front rest parts.1) ∙ rw parts.0 refl
+words-parts [] = refl
+words-parts (b ∷ text) = ap (word_byte b) (words-parts text)
 
-pub words-whole : (text : List ℕ) → has 32 text ≡ false → words text ≡ text ∷ []
-unfolding words
-words-whole [] none = refl
-words-whole (b ∷ text) none =
-    let parts = or_parts (eqb b 32) (has 32 text) none in
-    ap (word_byte b) (words-whole text parts.1) ∙ rw parts.0 refl
-
-pub statements-cut : (front rest : List ℕ) → has 59 front ≡ false → statements (front ++ 59 ∷ rest) ≡ front ∷ statements rest
+pub statements-parts : (text : List ℕ) → statements text ≡ parts 59 text
 unfolding statements
-statements-cut [] rest none = refl
-statements-cut (b ∷ front) rest none =
-    let parts = or_parts (eqb b 59) (has 59 front) none in
-    ap (statement_byte b) (statements-cut front rest parts.1) ∙ rw parts.0 refl
+statements-parts [] = refl
+statements-parts (b ∷ text) = ap (statement_byte b) (statements-parts text)
 
-pub statements-whole : (text : List ℕ) → has 59 text ≡ false → statements text ≡ text ∷ []
-unfolding statements
-statements-whole [] none = refl
-statements-whole (b ∷ text) none =
-    let parts = or_parts (eqb b 59) (has 59 text) none in
-    ap (statement_byte b) (statements-whole text parts.1) ∙ rw parts.0 refl
+parts-cut : (at : ℕ) (front rest : List ℕ) → has at front ≡ false → parts at (front ++ at ∷ rest) ≡ front ∷ parts at rest
+parts-cut at [] rest none = rw (eq-eqb at at refl) refl
+parts-cut at (b ∷ front) rest none =
+    let tests = or_parts (eqb b at) (has at front) none in
+    rw (tests.0, parts-cut at front rest tests.1) refl
+
+pub parts-whole : (at : ℕ) (text : List ℕ) → has at text ≡ false → parts at text ≡ text ∷ []
+parts-whole at [] none = refl
+parts-whole at (b ∷ text) none =
+    let tests = or_parts (eqb b at) (has at text) none in
+    rw (tests.0, parts-whole at text tests.1) refl
+
+-- two parts at least
+pub record Many (ws : List (List ℕ)) : Type 0 where
+  pub first : List ℕ
+  pub second : List ℕ
+  pub others : List (List ℕ)
+  pub is : ws ≡ first ∷ second ∷ others
+
+record One (ws : List (List ℕ)) : Type 0 where
+  first : List ℕ
+  others : List (List ℕ)
+  is : ws ≡ first ∷ others
+
+in_first-one : (b : ℕ) (ws : List (List ℕ)) → One (in_first b ws)
+in_first-one b [] = record { first = b ∷ []; others = []; is = refl }
+in_first-one b (w ∷ ws) = record { first = b ∷ w; others = ws; is = refl }
+
+parts-one : (at : ℕ) (text : List ℕ) → One (parts at text)
+parts-one at [] = record { first = []; others = []; is = refl }
+parts-one at (b ∷ text) =
+    elim (eqb b at) as (λ x. One (cond x ([] ∷ parts at text) (in_first b (parts at text))))
+    [ true ↦ record { first = []; others = parts at text; is = refl } | false ↦ in_first-one b (parts at text) ]
+
+in_first-many : (b : ℕ) (ws : List (List ℕ)) → Many ws → Many (in_first b ws)
+in_first-many b ws m = record { first = b ∷ m.first; second = m.second; others = m.others; is = ap (in_first b) m.is }
+
+pub parts-many : (at : ℕ) (text : List ℕ) → has at text ≡ true → Many (parts at text)
+parts-many at [] h = absurd cc
+parts-many at (b ∷ text) h =
+    let rest = parts-one at text in
+    ⊎_elim
+    (λ (here : eqb b at ≡ true). rw here (record { first = []; second = rest.first; others = rest.others; is = ap (λ (ws : List (List ℕ)). [] ∷ ws) rest.is }))
+    (λ (later : eqb b at ≡ false). rw later (in_first-many b (parts at text) (parts-many at text (rw later at h))))
+    (cases_Bool (eqb b at))
+
+pub parts-at : (at : ℕ) (text front rest : List ℕ) → text ≡ front ++ at ∷ rest → has at front ≡ false → parts at text ≡ front ∷ parts at rest
+parts-at at text front rest e none = ap (parts at) e ∙ parts-cut at front rest none

@@ -1,4 +1,5 @@
 pub mod Cutting
+pub mod DeckLemmas
 pub mod Digits
 pub mod WordLemmas
 pub mod WorkedLemmas

@@ -5,7 +5,7 @@ use Rattle.std.proofs.lemmas.Bool.{or_parts, or_cases, cases_Bool, eqb-true, and
 use Rattle.kdf_top.specs.Options.{◌>>=◌}
 use Rattle.kdf_top.specs.Lines.{words, word_byte, in_first, is_text, is_digit, is_digits, is_number, number_in, value}
 use Rattle.kdf_top.specs.Job.{number_of_words, show_of_words, addresses, if_shown}
-use Rattle.kdf_top.proofs.Cutting.{has, words-cut, words-whole}
+use Rattle.kdf_top.proofs.Cutting.{has, Many, words-parts, parts-whole, parts-many, parts-at}
 
 cond-same : {A : Type 0} (b : Bool) → cond {A = Option A} b None None ≡ None
 cond-same true = refl
@@ -25,40 +25,15 @@ no-number low high text h =
     let none : is_digits text ≡ false = and_right (not (eqb (length text) 0)) (list_all is_digit text) (digits-apart text h) in
     rw none refl
 
--- a text with a space has two words at least
-pub record Many (ws : List (List ℕ)) : Type 0 where
-  pub first : List ℕ
-  pub second : List ℕ
-  pub others : List (List ℕ)
-  pub is : ws ≡ first ∷ second ∷ others
-
-pub record One (ws : List (List ℕ)) : Type 0 where
-  pub first : List ℕ
-  pub others : List (List ℕ)
-  pub is : ws ≡ first ∷ others
-
-in_first-one : (b : ℕ) (ws : List (List ℕ)) → One (in_first b ws)
-in_first-one b [] = record { first = b ∷ []; others = []; is = refl }
-in_first-one b (w ∷ ws) = record { first = b ∷ w; others = ws; is = refl }
-
-words-one : (text : List ℕ) → One (words text)
-unfolding words
-words-one [] = record { first = []; others = []; is = refl }
-words-one (b ∷ text) =
-    elim (eqb b 32) as (λ x. One (cond x ([] ∷ words text) (in_first b (words text)))) [ true ↦ record { first = []; others = words text; is = refl } | false ↦ in_first-one b (words text) ]
-
-in_first-many : (b : ℕ) (ws : List (List ℕ)) → Many ws → Many (in_first b ws)
-in_first-many b ws m = record { first = b ∷ m.first; second = m.second; others = m.others; is = ap (in_first b) m.is }
+words-whole : (text : List ℕ) → has 32 text ≡ false → words text ≡ text ∷ []
+words-whole text whole = words-parts text ∙ parts-whole 32 text whole
 
 words-many : (text : List ℕ) → has 32 text ≡ true → Many (words text)
-unfolding words
-words-many [] h = absurd cc
-words-many (b ∷ text) h =
-    let rest = words-one text in
-    ⊎_elim
-    (λ (space : eqb b 32 ≡ true). rw space (record { first = []; second = rest.first; others = rest.others; is = ap (λ (ws : List (List ℕ)). [] ∷ ws) rest.is }))
-    (λ (other : eqb b 32 ≡ false). rw other (in_first-many b (words text) (words-many text (rw other at h))))
-    (cases_Bool (eqb b 32))
+words-many text h = rw (words-parts text) (parts-many 32 text h)
+
+words-at : (line front rest : List ℕ) → line ≡ front ++ 32 ∷ rest → has 32 front ≡ false → words line ≡ front ∷ words rest
+words-at line front rest e apart =
+    words-parts line ∙ parts-at 32 line front rest e apart ∙ ap (λ (ws : List (List ℕ)). front ∷ ws) (sym (words-parts rest))
 
 -- a name, and what stands behind the space
 number-cut : (name front rest : List ℕ) (low high : ℕ)
@@ -74,7 +49,7 @@ number-cut name front rest low high =
 pub number-at : (name line front rest : List ℕ) (low high : ℕ) → line ≡ front ++ 32 ∷ rest → has 32 front ≡ false
     → number_of_words name low high (words line) ≡ cond (is_text name front) (number_in low high rest) None
 number-at name line front rest low high e apart =
-    ap (number_of_words name low high) (ap words e ∙ words-cut front rest apart) ∙ number-cut name front rest low high
+    ap (number_of_words name low high) (words-at line front rest e apart) ∙ number-cut name front rest low high
 
 pub number-nowhere : (name line : List ℕ) (low high : ℕ) → has 32 line ≡ false → number_of_words name low high (words line) ≡ None
 number-nowhere name line low high whole = ap (number_of_words name low high) (words-whole line whole)
@@ -97,7 +72,7 @@ pub show-at : (size : ℕ) (line name behind first last : List ℕ) → line ≡
     → behind ≡ first ++ 32 ∷ last → has 32 first ≡ false
     → show_of_words size (words line) ≡ cond (is_text (codes "SHOW") name) (addresses size first last) None
 show-at size line name behind first last e apart e' apart' =
-    ap (show_of_words size) (ap words e ∙ words-cut name behind apart ∙ ap (λ (ws : List (List ℕ)). name ∷ ws) (ap words e' ∙ words-cut first last apart'))
+    ap (show_of_words size) (words-at line name behind e apart ∙ ap (λ (ws : List (List ℕ)). name ∷ ws) (words-at behind first last e' apart'))
     ∙ show-cut size name first last
 
 pub show-nowhere : (size : ℕ) (line : List ℕ) → has 32 line ≡ false → show_of_words size (words line) ≡ None
@@ -105,4 +80,4 @@ show-nowhere size line whole = ap (show_of_words size) (words-whole line whole)
 
 pub show-one : (size : ℕ) (line name behind : List ℕ) → line ≡ name ++ 32 ∷ behind → has 32 name ≡ false → has 32 behind ≡ false → show_of_words size (words line) ≡ None
 show-one size line name behind e apart whole =
-    ap (show_of_words size) (ap words e ∙ words-cut name behind apart ∙ ap (λ (ws : List (List ℕ)). name ∷ ws) (words-whole behind whole))
+    ap (show_of_words size) (words-at line name behind e apart ∙ ap (λ (ws : List (List ℕ)). name ∷ ws) (words-whole behind whole))

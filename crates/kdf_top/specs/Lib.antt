@@ -14,3 +14,5 @@ pub mod Shown
 pub mod Answers
 pub mod Worked
 pub mod Reading
+pub mod Shows
+pub mod WellFormed

@@ -9,6 +9,7 @@ mod journal;
 pub mod laws;
 mod lines;
 mod numbers;
+mod read_deck;
 mod status;
 
 pub use cuts::cut;
