@@ -20,7 +20,7 @@ row_answers xs ys s =
     (λ asks.
     let more = asks (get_or xs s.stock.asked 0) in
     (omega arith, λ enough. ap (row s) (get_or_append_left xs ys 0 s.stock.asked (omega arith))))
-    (λ none. (omega (arith, none.0 (get_or xs s.stock.asked 0)), λ enough. none.1 _ _))
+    (λ none. (omega (arith, none.0 (get_or xs s.stock.asked 0)), λ enough. none.1 (get_or (xs ++ ys) s.stock.asked 0) (get_or xs s.stock.asked 0)))
     (asks_or_not (next_effect s) s)
 
 step_answers : (xs ys : List ℕ) (s : State) → (s.stock.asked ≤ (lone_step xs s).stock.asked) × ((lone_step xs s).stock.asked ≤ length xs → lone_step (xs ++ ys) s ≡ lone_step xs s)

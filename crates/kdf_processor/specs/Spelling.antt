@@ -58,9 +58,10 @@ decoded (a ∷ b ∷ c ∷ []) =
     else (if nat_lt a 0xC0 then decoded_jump (a - 0x80) (b * 2 ^ 8 + c) else decoded_direct ((a - 0xC0) * 2 ^ 16 + b * 2 ^ 8 + c))
 decoded _ = None
 
--- the order that begins three syllables, if it is built
-abbrev pub first_decoded : ℕ → ℕ → ℕ → Option Order
-first_decoded a b c = decoded (take (size_of_first a) (a ∷ b ∷ c ∷ []))
+-- the order whose spelling begins the syllables, if it is built
+abbrev pub first_decoded : List ℕ → Option Order
+first_decoded [] = None
+first_decoded (a ∷ rest) = decoded (take (size_of_first a) (a ∷ rest))
 
 -- six syllables as a word: its digits to base 256, the first highest
 abbrev pub pack : List ℕ → ℕ

@@ -1,5 +1,5 @@
 //! The fetch of an order, syllable by syllable.
-ghost use Rattle.std.specs.Prelude.{◌≡◌, ◌≤◌, None, Some};
+ghost use Rattle.std.specs.Prelude.{◌≡◌, ◌≤◌, [], ◌∷◌, None, IfOk};
 ghost use Rattle.kdf_processor.specs.Spelling.{first_decoded};
 ghost use Rattle.kdf_processor.specs.Fetch.{held_of, IsFetched, IsLegal, syllable_read};
 ghost use Rattle.kdf_processor.specs.Needs.{fetch_needs, order_at};
@@ -86,7 +86,7 @@ pub fn fetch<P: Port>(port: &P, at: u16) -> Fetched
 
 /// The order that these syllables spell.
 fn decode_fetched(first: u8, second: u8, third: u8) -> Fetched
-    ensures order { IsFetched (first_decoded first second third) result }
+    ensures order { IsFetched (first_decoded (first ∷ second ∷ third ∷ [])) result }
     ensures held { held_of result ≡ None }
     ensures legal { IsLegal result }
 {

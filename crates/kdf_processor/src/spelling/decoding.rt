@@ -1,5 +1,5 @@
 //! From syllables to orders.
-ghost use Rattle.std.specs.Prelude.{◌≡◌, ℕ, ◌+◌, ◌*◌, ◌<◌, ◌≤◌, ◌^◌, ◌↔◌, Some, None, OnErr, slice_index};
+ghost use Rattle.std.specs.Prelude.{◌≡◌, ◌<◌, ◌^◌, ◌↔◌, [], ◌∷◌, OnErr};
 ghost use Rattle.std.specs.Result.{result_ok};
 ghost use Rattle.kdf_processor.specs.Spelling.{IsOrder, BeginsWith, spelling, first_decoded, decoded_one, decoded_jump, decoded_direct};
 ghost use Rattle.kdf_processor.specs.declared.spelling.order.Order.{Order};
@@ -12,11 +12,19 @@ pub struct BadCode;
 
 /// The order whose spelling begins the bytes, or `BadCode` where there is none.
 pub fn decode(bytes: &[u8; 3]) -> Result<Order, BadCode>
-    ensures decoded { result_ok result ≡ first_decoded (slice_index bytes.now 0) (slice_index bytes.now 1) (slice_index bytes.now 2) }
+    ensures decoded { result_ok result ≡ first_decoded bytes.now }
     ensures ok { (o : Order) → (result ≡ Ok o) ↔ (IsOrder o × BeginsWith bytes.now (spelling o)) }
     ensures bad { OnErr result ((o : Order) → IsOrder o → BeginsWith bytes.now (spelling o) → ⊥) }
 {
     let [first, second, third] = *bytes;
+    by_first(first, second, third)
+}
+
+/// The order that three syllables begin with.
+#[tactic(auto, unfolding(crate::specs::Spelling::decoded))]
+fn by_first(first: u8, second: u8, third: u8) -> Result<Order, BadCode>
+    ensures { result_ok result ≡ first_decoded (first ∷ second ∷ third ∷ []) }
+{
     let rest = u16::from_be_bytes([second, third]);
     match first {
         0x00..=0x3f => plain(first),
