@@ -2,10 +2,11 @@
 use Rattle.std.proofs.Common.{◌≡◌, ◌≢◌, ℕ, ◌<◌, ◌≤◌, List, [], ◌++◌, length, Option, Some, None, refl, sym, ◌∙◌, ap, subst, arith, false}
 use Rattle.std.proofs.lemmas.List.{append-nil}
 use Rattle.kdf_io.specs.Outside.{HasRisen, Added, AddedFront}
+use Rattle.kdf_top.specs.declared.job.JobFault.{JobFault}
 use Rattle.kdf_top.specs.declared.status.Status.{Status}
 use Rattle.kdf_top.specs.declared.status.Status.TheVariants as status
 use Rattle.kdf_top.specs.Answered.{Outlet, IsGiven, IsRefusal}
-use Rattle.kdf_top.specs.Answers.{Answers, IsDue, IsMachineOf, Wrote, is_done, refusal_lines, report_of}
+use Rattle.kdf_top.specs.Answers.{Answers, IsDue, IsMachineOf, Wrote, is_done, refusal_lines, report_of, status_of_fault}
 use Rattle.kdf_top.specs.Follows.{IsJournal}
 use Rattle.kdf_top.specs.Job.{job, job_fault}
 use Rattle.kdf_top.specs.Shown.{Shown, slots_of}
@@ -36,7 +37,8 @@ given_memory called bytes o = record {
   machine = refl;
   done = tt;
   front = λ e. absurd (cc);
-  room = λ due d h. refl;
+  room_writes = λ due d h. λ e. absurd (cc);
+  room_count = λ due d h. refl;
   never_falls = omega arith;
 }
 
@@ -86,34 +88,36 @@ refusal_whole status.ReadFault is e = absurd is
 refusal_whole status.WriteFault is e = absurd is
 refusal_whole status.Memory is e = absurd is
 
--- where there is room for the due text, the count of faults stays
-fits_due : (called : Status) (bytes t : List ℕ) (o n : Outlet) → IsDue called bytes t → (length t ≤ o.room → n.faults ≡ o.faults)
-    → (due : List ℕ) → IsDue called bytes due → length due ≤ o.room → n.faults ≡ o.faults
-fits_due called bytes t o n is fits due is_due h = fits (subst (λ x. length x ≤ o.room) (one_due called bytes due t is_due is) h)
+-- what holds where there is room for a due text holds where there is room for the text that is due
+at_due : (called : Status) (bytes t : List ℕ) (room : ℕ) (P : Type 0) → IsDue called bytes t → (length t ≤ room → P)
+    → (due : List ℕ) → IsDue called bytes due → length due ≤ room → P
+at_due called bytes t room P is fits due is_due h = fits (subst (λ x. length x ≤ room) (one_due called bytes due t is_due is) h)
 
 -- the reason why there is no report went out whole
 pub given_refusal : (called : Status) (bytes t : List ℕ) (o n : Outlet) → IsRefusal called → t ≡ text (refusal_lines called)
     → Added o.written t n.written → (length t ≤ o.room → n.faults ≡ o.faults) → o.faults ≤ n.faults → IsGiven called bytes called None o n
-given_refusal called bytes t o n is e added fits falls = record {
+given_refusal called bytes t o n is e added stays falls = record {
   answer = refusal_answers called _ is;
   wrote = wrote_refusal called t _ _ is e added;
   machine = refusal_undone called is;
   done = tt;
   front = λ w. absurd (refusal_whole called is w);
-  room = fits_due called bytes t o n (refusal_due called bytes t is e) fits;
+  room_writes = λ due d h. refusal_whole called is;
+  room_count = at_due called bytes t o.room _ (refusal_due called bytes t is e) stays;
   never_falls = falls;
 }
 
 -- a due text didn't go out whole
 pub given_write_fault : (called : Status) (bytes t : List ℕ) (o n : Outlet) → IsDue called bytes t → HasRisen o.faults n.faults
-    → AddedFront o.written t n.written → (length t ≤ o.room → n.faults ≡ o.faults) → o.faults ≤ n.faults → IsGiven called bytes status.WriteFault None o n
-given_write_fault called bytes t o n is rose front fits falls = record {
+    → AddedFront o.written t n.written → ¬ (length t ≤ o.room) → o.faults ≤ n.faults → IsGiven called bytes status.WriteFault None o n
+given_write_fault called bytes t o n is rose front long falls = record {
   answer = rose;
   wrote = tt;
   machine = refl;
   done = tt;
   front = λ _. (t, is, front);
-  room = fits_due called bytes t o n is fits;
+  room_writes = at_due called bytes t o.room _ is (λ h. absurd (long h));
+  room_count = at_due called bytes t o.room _ is (λ h. absurd (long h));
   never_falls = falls;
 }
 
@@ -124,12 +128,18 @@ report_due bytes t m is e = (m.journal, subst (λ slots. IsJournal slots (job by
 pub given_report : (bytes t : List ℕ) (m : Shown) (o n : Outlet) → job_fault bytes ≡ None → IsMachineOf bytes m → t ≡ report_of bytes m.journal
     → Added o.written t n.written → (length t ≤ o.room → n.faults ≡ o.faults) → o.faults ≤ n.faults
     → IsGiven status.Done bytes status.Done (Some m) o n
-given_report bytes t m o n faultless is e added fits falls = record {
+given_report bytes t m o n faultless is e added stays falls = record {
   answer = refl;
   wrote = tt;
   machine = refl;
   done = record { faultless = faultless; machine = is; report = subst (λ x. Added o.written x n.written) e added };
   front = λ w. absurd (cc);
-  room = fits_due status.Done bytes t o n (report_due bytes t m is e) fits;
+  room_writes = λ due d h. λ w. absurd (cc);
+  room_count = at_due status.Done bytes t o.room _ (report_due bytes t m is e) stays;
   never_falls = falls;
 }
+
+-- what is called for goes by the fault of the job
+pub given_by_fault : (bytes : List ℕ) (fault : Option (JobFault × ℕ)) (given : Status) (kept : Option Shown) (o n : Outlet) → job_fault bytes ≡ fault
+    → IsGiven (status_of_fault fault) bytes given kept o n → IsGiven (status_of_fault (job_fault bytes)) bytes given kept o n
+given_by_fault bytes fault given kept o n e h = subst (λ x. IsGiven (status_of_fault x) bytes given kept o n) (sym e) h

@@ -15,4 +15,10 @@ pub mod Calls
 pub mod OneJournal
 pub mod States
 pub mod Sections
+pub mod Reported
 pub mod Answering
+pub mod Cutting
+pub mod DeckLemmas
+pub mod Digits
+pub mod WordLemmas
+pub mod WorkedLemmas

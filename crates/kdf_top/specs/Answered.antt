@@ -1,6 +1,6 @@
 -- What a call came to, from its answer and from what its source and its sink told before and after it.
 use Rattle.std.specs.Prelude.{◌≡◌, ◌≢◌, ℕ, ◌≤◌, List, length, Bool, true, false, Option, is_some, IfSome}
-use Rattle.kdf_io.specs.Outside.{HasRisen, Took}
+use Rattle.kdf_io.specs.Outside.{HasRisen, Took, NothingLeft}
 use Rattle.kdf_top.specs.declared.status.Status.{Status}
 use Rattle.kdf_top.specs.declared.status.Status.TheVariants as status
 use Rattle.kdf_top.specs.Shown.{Shown}
@@ -31,7 +31,8 @@ pub record IsGiven (called : Status) (bytes : List ℕ) (given : Status) (kept :
   pub machine : is_some kept ≡ is_done given
   pub done : IfSome kept (λ m. IsReported bytes m old.written new.written)
   pub front : given ≡ status.WriteFault → WroteFront called bytes old.written new.written
-  pub room : (due : List ℕ) → IsDue called bytes due → length due ≤ old.room → new.faults ≡ old.faults
+  pub room_writes : (due : List ℕ) → IsDue called bytes due → length due ≤ old.room → given ≢ status.WriteFault
+  pub room_count : (due : List ℕ) → IsDue called bytes due → length due ≤ old.room → new.faults ≡ old.faults
   pub never_falls : old.faults ≤ new.faults
 
 -- an answer that has a line of its own in place of a report
@@ -40,3 +41,21 @@ IsRefusal status.Usage = Unit {0}
 IsRefusal (status.Job fault line) = Unit {0}
 IsRefusal status.Large = Unit {0}
 IsRefusal _ = ⊥
+
+-- an answer to words, over a source and a sink
+pub record IsRun (words : List (List ℕ)) (given : Status) (kept : Option Shown) (source source' : Inlet) (sink sink' : Outlet) : Type 0 where
+  pub answer : IfSome source.left (λ bytes. Answers (called_for words bytes) given (HasRisen source.faults source'.faults) (HasRisen sink.faults sink'.faults))
+  pub usage : is_command words ≡ false → Answers status.Usage given ⊥ (HasRisen sink.faults sink'.faults)
+  pub command : is_command words ≡ true → given ≢ status.Usage
+  pub read_fault : given ≡ status.ReadFault → HasRisen source.faults source'.faults
+  pub write_fault : given ≡ status.WriteFault → HasRisen sink.faults sink'.faults
+  pub wrote : Wrote given sink.written sink'.written
+  pub machine : is_some kept ≡ is_done given
+  pub ended : IfSome kept (λ m. NothingLeft source'.left)
+  pub done : IfSome kept (λ m. (bytes : List ℕ) × Took source.left bytes source'.left × IsReported bytes m sink.written sink'.written)
+  pub told : IfSome kept (λ m. IfSome source.left (λ bytes. IsReported bytes m sink.written sink'.written))
+  pub front : given ≡ status.WriteFault → IfSome source.left (λ bytes. WroteFront (called_for words bytes) bytes sink.written sink'.written)
+  pub room_writes : IfSome source.left (λ bytes. (due : List ℕ) → IsDue (called_for words bytes) bytes due → length due ≤ sink.room → given ≢ status.WriteFault)
+  pub room_count : IfSome source.left (λ bytes. (due : List ℕ) → IsDue (called_for words bytes) bytes due → length due ≤ sink.room → sink'.faults ≡ sink.faults)
+  pub source_counts : source.faults ≤ source'.faults
+  pub sink_counts : sink.faults ≤ sink'.faults

@@ -38,15 +38,27 @@ named name x text = if is_text name text then Some x else None
 abbrev pub store_in : ℕ → List ℕ → Option ℕ
 store_in stores digits = up_to 32767 digits >>= (λ n. if nat_lt n stores then Some n else None)
 
+-- `SET n`
+abbrev pub sets : List ℕ → Option Piece
+sets statement = strip (codes "SET") statement >>= up_to 32767 >>= (λ n. Some (Sets n))
+
+-- `Yn`
+abbrev pub fetches : ℕ → List ℕ → Option Piece
+fetches stores statement = strip (codes "Y") statement >>= store_in stores >>= (λ n. Some (Fetches n))
+
+-- `=Yn`
+abbrev pub keeps : ℕ → List ℕ → Option Piece
+keeps stores statement = strip (codes "=Y") statement >>= store_in stores >>= (λ n. Some (Keeps n))
+
 -- what a statement orders, where so many words are declared
 unfoldable pub piece : ℕ → List ℕ → Option Piece
 piece stores statement =
     named (codes "+") Adds statement
     or named (codes "ZERO") Zeros statement
     or named (codes "OUT") Outs statement
-    or (strip (codes "SET") statement >>= up_to 32767 >>= (λ n. Some (Sets n)))
-    or (strip (codes "Y") statement >>= store_in stores >>= (λ n. Some (Fetches n)))
-    or (strip (codes "=Y") statement >>= store_in stores >>= (λ n. Some (Keeps n)))
+    or sets statement
+    or fetches stores statement
+    or keeps stores statement
 
 -- FINISH, with nothing behind its `;`
 abbrev pub is_finish : List (List ℕ) → Bool
@@ -63,10 +75,12 @@ pieces stores (statement ∷ rest) =
     if is_finish (statement ∷ rest) then Some [] else with_piece (piece stores statement) (pieces stores rest)
 
 -- PROGRAM, and the orders behind it
+abbrev pub with_orders : ℕ → List (List ℕ) → Option Deck
+with_orders stores rest = pieces stores rest >>= (λ ps. Some (record { stores = stores; pieces = ps }))
+
 abbrev pub program : ℕ → List (List ℕ) → Option Deck
 program stores [] = None
-program stores (statement ∷ rest) =
-    if is_text (codes "PROGRAM") statement then pieces stores rest >>= (λ ps. Some (record { stores = stores; pieces = ps })) else None
+program stores (statement ∷ rest) = if is_text (codes "PROGRAM") statement then with_orders stores rest else None
 
 -- the declaration `Yn`, as how many words it declares
 abbrev pub declared : List ℕ → Option ℕ

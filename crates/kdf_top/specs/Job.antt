@@ -40,9 +40,11 @@ order_count l = number_of_words (codes "ORDERS") 1 20000000 (words l)
 abbrev pub if_shown : ℕ → ℕ → ℕ → Option (ℕ × ℕ)
 if_shown size a b = if nat_le a b && nat_lt b size then Some (a, b) else None
 
+abbrev pub addresses : ℕ → List ℕ → List ℕ → Option (ℕ × ℕ)
+addresses size a b = number_in 0 8191 a >>= (λ x. number_in 0 8191 b >>= if_shown size x)
+
 abbrev pub show_of_words : ℕ → List (List ℕ) → Option (ℕ × ℕ)
-show_of_words size (first ∷ a ∷ b ∷ []) =
-    if is_text (codes "SHOW") first then number_in 0 8191 a >>= (λ x. number_in 0 8191 b >>= if_shown size x) else None
+show_of_words size (first ∷ a ∷ b ∷ []) = if is_text (codes "SHOW") first then addresses size a b else None
 show_of_words size _ = None
 
 abbrev pub show_range : ℕ → List ℕ → Option (ℕ × ℕ)

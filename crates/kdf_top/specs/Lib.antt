@@ -23,3 +23,7 @@ pub mod Agrees
 pub mod Shows
 pub mod Report
 pub mod Answered
+pub mod Worked
+pub mod Reading
+pub mod WellFormed
+pub mod JobErrors

@@ -5,6 +5,12 @@ ghost use Rattle.kdf_top.specs.declared.job.Event.{Event};
 ghost use Rattle.kdf_top.specs.Follows.{IsJournal};
 ghost use Rattle.kdf_top.specs.Next.{Slot};
 
+mod worked;
+
+pub use worked::{
+    adds_5_and_7, ends_nowhere, faulty_jobs, job_of_adding, pushes_17_zeros, stops_after_4_orders,
+};
+
 /// Slots have at most one journal under a schedule.
 pub fn one_journal()
     ensures { (slots : List Slot) (events : List Event) (J K : List Entry) → IsJournal slots events J → IsJournal slots events K → J ≡ K }

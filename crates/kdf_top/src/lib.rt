@@ -2,25 +2,39 @@
 #![tactic(auto)]
 
 mod command;
+mod cuts;
 mod deck;
 mod entry_text;
+mod forms;
 mod job;
 mod journal;
 pub mod laws;
+mod lines;
 mod machine;
+mod numbers;
 mod octal;
+mod outcome;
+mod place;
 mod port;
+mod read_deck;
+mod read_job;
 mod refusal;
 mod registers_text;
 mod report;
 mod schedule;
 mod status;
+mod top_call;
 
 pub use command::{Command, command_of};
+pub use cuts::cut;
 pub use deck::{Deck, Image, Piece};
+pub use forms::{order_count, show_range, store_size};
 pub use job::{Event, Job, JobError, JobFault, SlotJob};
 pub use journal::{Entry, Journal};
+pub use lines::{Line, Lines};
 pub use machine::{Machine, Progress};
-pub use refusal::refusal_text;
+pub use numbers::{number_in, up_to};
+pub use outcome::Outcome;
 pub use schedule::follow;
 pub use status::Status;
+pub use top_call::run;

@@ -1,0 +1,64 @@
+//! The lines of a job that have numbers in them.
+
+ghost use Rattle.std.specs.Prelude.{◌≡◌, ◌%◌, ◌<◌, ◌≤◌, codes, IfSome};
+ghost use Rattle.kdf_top.specs.Job.{number_of_words, store_size, order_count, show_range, addresses};
+ghost use Rattle.kdf_top.specs.Lines.{words};
+
+use crate::cuts::cut;
+use crate::numbers::{MOST, number_in};
+
+/// The number in a line of a name and a number of this range, which ends at most at `MOST`.
+fn number_behind(name: &[u8], low: u32, high: u32, line: &[u8]) -> Option<u32>
+    requires { high ≤ MOST }
+    ensures value { result ≡ number_of_words name.now low high (words line.now) }
+    ensures within { IfSome result (λ n. (low ≤ n) × (n ≤ high)) }
+{
+    let (first, number) = cut(line, b' ')?;
+    if first == name {
+        number_in(low, high, number)
+    } else {
+        None
+    }
+}
+
+/// The number of words in `STORE n`: 32 to 8,192, a multiple of 32.
+pub fn store_size(line: &[u8]) -> Option<u16>
+    ensures value { result ≡ store_size line.now }
+    ensures within { IfSome result (λ n. (32 ≤ n) × (n ≤ 8192)) }
+    ensures groups { IfSome result (λ n. n % 32 ≡ 0) }
+{
+    let size = number_behind(b"STORE", 32, 8192, line)?;
+    (size % 32 == 0).then_some(size as u16)
+}
+
+/// The number of calls in `ORDERS n`: 1 to 20,000,000.
+pub fn order_count(line: &[u8]) -> Option<u32>
+    ensures value { result ≡ order_count line.now }
+    ensures within { IfSome result (λ n. (1 ≤ n) × (n ≤ 20000000)) }
+{
+    number_behind(b"ORDERS", 1, MOST, line)
+}
+
+/// The first and the last address, which these words spell.
+fn addresses(size: u16, first: &[u8], last: &[u8]) -> Option<(u16, u16)>
+    ensures value { result ≡ addresses size first.now last.now }
+    ensures within { IfSome result (λ x. (x.0 ≤ x.1) × (x.1 < size)) }
+{
+    let first = number_in(0, 8191, first)? as u16;
+    let last = number_in(0, 8191, last)? as u16;
+    (first <= last && last < size).then_some((first, last))
+}
+
+/// The first and the last address in `SHOW a b`, which don't fall and are below the size of the store.
+pub fn show_range(size: u16, line: &[u8]) -> Option<(u16, u16)>
+    ensures value { result ≡ show_range size line.now }
+    ensures within { IfSome result (λ x. (x.0 ≤ x.1) × (x.1 < size)) }
+{
+    let (name, behind) = cut(line, b' ')?;
+    let (first, last) = cut(behind, b' ')?;
+    if name == b"SHOW".as_slice() {
+        addresses(size, first, last)
+    } else {
+        None
+    }
+}

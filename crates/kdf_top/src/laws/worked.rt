@@ -1,0 +1,48 @@
+//! What the definitions come to for a few programs and jobs, from their bytes on.
+
+ghost use Rattle.std.specs.Prelude.{◌≡◌, ◌++◌, [], ◌∷◌, true, false, None, Some, codes, replicate};
+ghost use Rattle.kdf_processor.specs.declared.failure.Failure.TheVariants.{Liv, Nouv};
+ghost use Rattle.kdf_processor.specs.declared.registers.Life.TheVariants.{Live, Ended, Failed};
+ghost use Rattle.kdf_top.specs.Job.{job, job_fault};
+ghost use Rattle.kdf_top.specs.Worked.{adding, seventeen_zeros, nothing, alone, looked, job_text};
+ghost use Rattle.kdf_top.specs.declared.job.Event.TheVariants.{Orders};
+ghost use Rattle.kdf_top.specs.declared.job.JobFault.TheVariants.{Header, NotYet};
+
+/// The program that adds 5 and 7 keeps 12 in word 3 and ends at its seventh order, at syllable 0 of word 3.
+pub fn adds_5_and_7()
+    ensures { looked 3 (alone adding 7) ≡ record { life = Ended; ran = 7; at = 18; nest = []; v = false; word = 12 } }
+{}
+
+/// After four orders the sum is on its nest, and not yet in its store; the next order is at syllable 1 of word 2.
+pub fn stops_after_4_orders()
+    ensures { looked 3 (alone adding 4) ≡ record { life = Live; ran = 4; at = 13; nest = 12 ∷ []; v = false; word = 0 } }
+{}
+
+/// The seventeenth ZERO finds a nest of sixteen words and fails; it counts, and is the next order still, at syllable 4 of word 3.
+pub fn pushes_17_zeros()
+    ensures { looked 31 (alone seventeen_zeros 18)
+        ≡ record { life = Failed Nouv; ran = 18; at = 22; nest = replicate 16 0; v = false; word = 0 } }
+{}
+
+/// A program without orders comes to a word of zeros, which is no order.
+pub fn ends_nowhere()
+    ensures { looked 0 (alone nothing 2)
+        ≡ record { life = Failed Liv; ran = 2; at = 6; nest = []; v = false; word = 0o5000000100200401 } }
+{}
+
+/// The job that adds 5 and 7 has no fault, and means what it says.
+pub fn job_of_adding()
+    ensures fault { job_fault (job_text (codes "STORE 32") adding (codes "SHOW 3 3") (codes "ORDERS 10")) ≡ None }
+    ensures job { job (job_text (codes "STORE 32") adding (codes "SHOW 3 3") (codes "ORDERS 10"))
+        ≡ record {
+          slots = record { p = 0; size = 32; deck = adding; shows = (3, 3) ∷ [] } ∷ [];
+          events = Orders 10 ∷ [];
+        } }
+{}
+
+/// Jobs with a fault: none at all, a size that isn't of whole groups, and words shown that aren't in the store.
+pub fn faulty_jobs()
+    ensures empty { job_fault [] ≡ Some (Header, 1) }
+    ensures size { job_fault (job_text (codes "STORE 33") adding (codes "SHOW 3 3") (codes "ORDERS 10")) ≡ Some (NotYet, 3) }
+    ensures show { job_fault (job_text (codes "STORE 32") adding (codes "SHOW 3 32") (codes "ORDERS 10")) ≡ Some (NotYet, 7) }
+{}

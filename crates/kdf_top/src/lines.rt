@@ -1,0 +1,67 @@
+//! The lines of a text, one after the other.
+
+ghost use Rattle.std.specs.Prelude.{◌≡◌, ◌+◌, ◌<◌, ◌^◌, drop, length};
+ghost use Rattle.kdf_top.specs.Lines.{line, lines};
+
+use crate::cuts::cut;
+
+/// A line of a text, without the byte 10 that ends it.
+#[derive(Clone, Copy)]
+pub struct Line<'a> {
+    /// The number of the line, counted from 1.
+    pub number: u32,
+    pub text: &'a [u8],
+}
+
+/// What of a text is still to be read.
+#[derive(Drop)]
+pub struct Lines<'a> {
+    /// The bytes from the next line on.
+    pub rest: &'a [u8],
+    /// The number of the next line, counted from 1.
+    pub number: u32,
+    ghost in_range: { number + length rest.now < 2 ^ 32 },
+}
+
+impl<'a> Lines<'a> {
+    ghost use Rattle.kdf_top.specs.Reading.{ahead};
+
+    /// All lines of a text, of fewer than 2^32 - 1 bytes.
+    pub fn new(text: &'a [u8]) -> Lines<'a>
+        requires { length text.now + 1 < 2 ^ 32 }
+        ensures rest { result.rest.now ≡ text.now }
+        ensures number { result.number ≡ 1 }
+    {
+        Lines {
+            rest: text,
+            number: 1,
+        }
+    }
+
+    /// The next line. At the end it is an empty one, whose number is one past that of the last.
+    pub fn take_line(&mut self) -> Line<'a>
+        ensures text { result.text.now ≡ line (ahead self.old) 1 }
+        ensures number { result.number ≡ self.old.number }
+        ensures rest { ahead self.new ≡ drop 1 (ahead self.old) }
+        ensures next { 0 < length (ahead self.old) → self.new.number ≡ self.old.number + 1 }
+    {
+        let number = self.number;
+        let text = self.rest;
+        match cut(text, b'\n') {
+            Some((text, rest)) => {
+                *self = Lines {
+                    rest,
+                    number: number + 1,
+                };
+                Line { number, text }
+            }
+            None => {
+                *self = Lines {
+                    rest: &[],
+                    number: if text.is_empty() { number } else { number + 1 },
+                };
+                Line { number, text }
+            }
+        }
+    }
+}
