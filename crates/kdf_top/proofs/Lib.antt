@@ -17,6 +17,7 @@ pub mod States
 pub mod Sections
 pub mod Reported
 pub mod Answering
+pub mod Runs
 pub mod Cutting
 pub mod DeckLemmas
 pub mod Digits

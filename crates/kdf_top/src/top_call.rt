@@ -1,7 +1,7 @@
 //! The call that reads a job, runs it, and writes its report or why there is none.
 ghost use Rattle.std.specs.Prelude.{◌≡◌, ◌≢◌, ℕ, ◌+◌, ◌<◌, ◌≤◌, ◌⊎◌, List, None, length, true, false, All, OnOk, IfOk, IfSome, is_some, map, string_bytes};
 ghost use Rattle.kdf_io.specs.Outside.{HasRisen, Took, NothingLeft};
-ghost use Rattle.kdf_top.specs.Answered.{outlet, IsGiven, IsRefusal};
+ghost use Rattle.kdf_top.specs.Answered.{inlet, outlet, IsGiven, IsRefusal, IsRun};
 ghost use Rattle.kdf_top.specs.Answers.{Answers, IsDue, IsReported, Wrote, WroteFront, called_for, is_done, status_of_fault};
 ghost use Rattle.kdf_top.specs.Commands.{is_command};
 ghost use Rattle.kdf_top.specs.Follows.{IsJournal};
@@ -22,7 +22,75 @@ use kdf_io::{ReadEnd, Sink, Source, read_all, write_all};
 use std::alloc::{AllocError, Global};
 
 /// Reads a job from the source, runs it, and writes its report to the sink, or why there is none.
-pub fn run<S: Source, K: Sink>(alloc: Global, words: &[String], source: &mut S, sink: &mut K) -> Outcome
+///
+/// The words are those behind the program's name. The text is made whole before its first byte is written.
+pub fn run<S: Source, K: Sink>(
+    alloc: Global,
+    words: &[String],
+    source: &mut S,
+    sink: &mut K,
+) -> Outcome
+    // The answer is the one that the words and the bytes call for, unless reading or writing failed, or memory.
+    ensures answer { let read_failed = HasRisen (S.faults source.old) (S.faults source.new) in
+        let write_failed = HasRisen (K.faults sink.old) (K.faults sink.new) in
+        IfSome (S.left source.old) (λ bytes. Answers (called_for (map string_bytes words.now) bytes) result.status read_failed write_failed) }
+
+    // Where nothing fails, a job without a fault is done, and other words are told how to use the program; or there was no memory.
+    ensures complete { is_command (map string_bytes words.now) ≡ true
+        → IfSome (S.left source.old) (λ bytes. length bytes ≤ job_limit → job_fault bytes ≡ None
+            → ¬ (HasRisen (S.faults source.old) (S.faults source.new)) → ¬ (HasRisen (K.faults sink.old) (K.faults sink.new))
+            → (result.status ≡ Status.Done) ⊎ (result.status ≡ Status.Memory)) }
+    ensures complete_usage { is_command (map string_bytes words.now) ≡ false → ¬ (HasRisen (K.faults sink.old) (K.faults sink.new))
+        → (result.status ≡ Status.Usage) ⊎ (result.status ≡ Status.Memory) }
+
+    // Causes that hold also where the source tells nothing. Words that are no command read nothing.
+    ensures usage { is_command (map string_bytes words.now) ≡ false
+        → Answers Status.Usage result.status ⊥ (HasRisen (K.faults sink.old) (K.faults sink.new)) }
+    ensures unread { is_command (map string_bytes words.now) ≡ false → source.new ≡ source.old }
+    ensures command { is_command (map string_bytes words.now) ≡ true → result.status ≢ Status.Usage }
+    ensures read_fault { result.status ≡ Status.ReadFault → HasRisen (S.faults source.old) (S.faults source.new) }
+    ensures write_fault { result.status ≡ Status.WriteFault → HasRisen (K.faults sink.old) (K.faults sink.new) }
+
+    // The machine at Done: its journal is legal and whole, what it shows are the lone runs, and the sink took the report of them.
+    ensures machine { is_some result.machine ≡ is_done result.status }
+    ensures ended { IfSome result.machine (λ m. NothingLeft (S.left source.new)) }
+    ensures done { IfSome result.machine (λ m. IfSome (S.left source.old)
+        (λ bytes. IsReported bytes m (K.written sink.old) (K.written sink.new))) }
+    ensures done_untold { IfSome result.machine (λ m. (bytes : List ℕ) × Took (S.left source.old) bytes (S.left source.new)
+        × IsReported bytes m (K.written sink.old) (K.written sink.new)) }
+
+    // What is written at the other answers.
+    ensures wrote { Wrote result.status (K.written sink.old) (K.written sink.new) }
+    ensures front { result.status ≡ Status.WriteFault → IfSome (S.left source.old)
+        (λ bytes. WroteFront (called_for (map string_bytes words.now) bytes) bytes (K.written sink.old) (K.written sink.new)) }
+
+    // A steady source, and a sink with room for the text that is due, don't fail.
+    ensures steady_reads { S.steady source.old → result.status ≢ Status.ReadFault }
+    ensures steady_count { S.steady source.old → S.faults source.new ≡ S.faults source.old }
+    ensures room_writes { IfSome (S.left source.old) (λ bytes. (due : List ℕ) → IsDue (called_for (map string_bytes words.now) bytes) bytes due
+        → length due ≤ K.room sink.old → result.status ≢ Status.WriteFault) }
+    ensures room_count { IfSome (S.left source.old) (λ bytes. (due : List ℕ) → IsDue (called_for (map string_bytes words.now) bytes) bytes due
+        → length due ≤ K.room sink.old → K.faults sink.new ≡ K.faults sink.old) }
+    ensures source_counts { S.faults source.old ≤ S.faults source.new }
+    ensures sink_counts { K.faults sink.old ≤ K.faults sink.new }
+{
+    answer_words(alloc, words, source, sink)
+}
+
+// Reads what the words ask for, and answers it.
+fn answer_words<S: Source, K: Sink>(
+    alloc: Global,
+    words: &[String],
+    source: &mut S,
+    sink: &mut K,
+) -> Outcome
+    ensures run { IsRun (map string_bytes words.now) result.status result.machine
+        (inlet (S.left source.old) (S.faults source.old)) (inlet (S.left source.new) (S.faults source.new))
+        (outlet (K.written sink.old) (K.faults sink.old) (K.room sink.old))
+        (outlet (K.written sink.new) (K.faults sink.new) (K.room sink.new)) }
+    ensures unread { is_command (map string_bytes words.now) ≡ false → source.new ≡ source.old }
+    ensures steady_reads { S.steady source.old → result.status ≢ Status.ReadFault }
+    ensures steady_count { S.steady source.old → S.faults source.new ≡ S.faults source.old }
 {
     let Some(command) = command_of(words) else {
         return refuse(alloc, Status::Usage, sink);
