@@ -26,4 +26,3 @@ pub mod Answered
 pub mod Worked
 pub mod Reading
 pub mod WellFormed
-pub mod JobErrors

@@ -1,4 +1,0 @@
-use Rattle.kdf_top.proofs.place.assemble.Goals as goal
-
-pub returns : goal.returns
-returns c = ?
