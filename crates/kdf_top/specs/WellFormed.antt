@@ -4,9 +4,10 @@ use Rattle.kdf_top.specs.declared.deck.Piece.{Piece}
 use Rattle.kdf_top.specs.declared.deck.Piece.TheVariants.{Fetches, Keeps, Sets, Adds, Zeros, Outs}
 use Rattle.kdf_top.specs.declared.job.Event.{Event}
 use Rattle.kdf_top.specs.declared.job.Event.TheVariants.{Orders}
-use Rattle.kdf_top.specs.Deck.{Deck, deck}
+use Rattle.kdf_top.specs.declared.job.Job.{Job}
+use Rattle.kdf_top.specs.declared.job.SlotJob.{SlotJob}
+use Rattle.kdf_top.specs.Deck.{deck}
 use Rattle.kdf_top.specs.Placement.{image}
-use Rattle.kdf_top.specs.Job.{Job, SlotJob}
 
 -- the piece names one of so many stores, or a constant of 15 bits
 abbrev pub IsPiece : ℕ → Piece → Type 0
@@ -30,15 +31,15 @@ pub record IsSlot (s : SlotJob) : Type 0 where
   pub least : 32 ≤ s.size
   pub most : s.size ≤ 8192
   pub groups : s.size % 32 ≡ 0
-  pub image : HasImage s.size s.deck
-  pub shows : All (IsShow s.size) s.shows
+  pub image : HasImage s.size s.deck.items
+  pub shows : All (IsShow s.size) s.shows.items
 
 -- the job is well formed: one slot, and a schedule of one line, of 1 to 20,000,000 calls
 pub record IsJob (j : Job) : Type 0 where
   pub slot : SlotJob
-  pub only : j.slots ≡ slot ∷ []
+  pub only : j.slots.items ≡ slot ∷ []
   pub is_slot : IsSlot slot
   pub calls : ℕ
-  pub schedule : j.events ≡ Orders calls ∷ []
+  pub schedule : j.events.items ≡ Orders calls ∷ []
   pub least : 1 ≤ calls
   pub most : calls ≤ 20000000
