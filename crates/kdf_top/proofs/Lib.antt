@@ -1,6 +1,9 @@
 pub mod Cutting
 pub mod DeckLemmas
 pub mod Digits
+pub mod PassLemmas
 pub mod PlaceLemmas
+pub mod TextLemmas
+pub mod WholeJob
 pub mod WordLemmas
 pub mod WorkedLemmas
