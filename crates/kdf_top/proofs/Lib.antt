@@ -21,5 +21,9 @@ pub mod Runs
 pub mod Cutting
 pub mod DeckLemmas
 pub mod Digits
+pub mod PassLemmas
+pub mod PlaceLemmas
+pub mod TextLemmas
+pub mod WholeJob
 pub mod WordLemmas
 pub mod WorkedLemmas

@@ -67,16 +67,21 @@ abbrev pub show_in : List (List ℕ) → Option (ℕ × ℕ)
 show_in ls = show_range (size_in ls) (line ls 7)
 
 -- the forms that the lines of a job have, in order
+abbrev pub head_forms : List (List ℕ → Bool)
+head_forms = is_text (codes "KDF9 JOB 1") ∷ is_text (codes "SLOT 0") ∷ (λ l. is_some (store_size l)) ∷ is_text (codes "DECK") ∷ []
+
+abbrev pub deck_forms : ℕ → List (List ℕ → Bool)
+deck_forms size = is_deck size ∷ is_text (codes "ENDDECK") ∷ []
+
 abbrev pub show_forms : ℕ → Option (ℕ × ℕ) → List (List ℕ → Bool)
 show_forms size None = []
 show_forms size (Some x) = (λ l. is_some (show_range size l)) ∷ []
 
+abbrev pub schedule_forms : List (List ℕ → Bool)
+schedule_forms = is_text (codes "SCHEDULE") ∷ (λ l. is_some (order_count l)) ∷ is_text (codes "ENDJOB") ∷ []
+
 unfoldable pub forms : List (List ℕ) → List (List ℕ → Bool)
-forms ls =
-    (is_text (codes "KDF9 JOB 1") ∷ is_text (codes "SLOT 0") ∷ (λ l. is_some (store_size l)) ∷ is_text (codes "DECK") ∷ is_deck (size_in ls)
-    ∷ is_text (codes "ENDDECK") ∷ [])
-    ++ show_forms (size_in ls) (show_in ls)
-    ++ (is_text (codes "SCHEDULE") ∷ (λ l. is_some (order_count l)) ∷ is_text (codes "ENDJOB") ∷ [])
+forms ls = head_forms ++ deck_forms (size_in ls) ++ show_forms (size_in ls) (show_in ls) ++ schedule_forms
 
 -- the first line, from number n on, that hasn't its form: the end of the text counts as a line more, that has none
 abbrev pub first_off : ℕ → List (List ℕ → Bool) → List (List ℕ) → Option ℕ

@@ -1,7 +1,10 @@
 //! A job: one program with its deck, and the schedule under which it runs.
 
 ghost use Rattle.std.specs.Prelude.{◌≡◌};
+ghost use Rattle.kdf_top.specs.Text.{fault_name};
+ghost use Rattle.kdf_top.specs.declared.job.JobError.TheVariants.{Memory};
 
+use std::alloc::{AllocError, AllocFailed};
 use thiserror::Error;
 
 /// A job, as it was read.
@@ -42,6 +45,18 @@ pub enum JobFault {
     NotYet,
 }
 
+impl JobFault {
+    /// The name of the fault, as it is printed.
+    pub fn name(&self) -> &'static str
+        ensures { result.now ≡ fault_name self.now }
+    {
+        match self {
+            JobFault::Header => "Header",
+            JobFault::NotYet => "NotYet",
+        }
+    }
+}
+
 /// Why there is no job.
 #[derive(Debug, Error, Drop)]
 pub enum JobError {
@@ -53,16 +68,18 @@ pub enum JobError {
     Memory,
 }
 
-impl JobFault {
-    ghost use Rattle.kdf_top.specs.Text.{fault_name};
+impl From<AllocError> for JobError {
+    ghost from_gives = { λ _ e. e ≡ Memory };
 
-    /// Its name, as it is printed.
-    pub fn name(&self) -> &'static str
-        ensures { result.now ≡ fault_name self.now }
-    {
-        match self {
-            JobFault::Header => "Header",
-            JobFault::NotYet => "NotYet",
-        }
+    fn from(_error: AllocError) -> JobError {
+        JobError::Memory
+    }
+}
+
+impl<T: Drop> From<AllocFailed<T>> for JobError {
+    ghost from_gives = { λ _ e. e ≡ Memory };
+
+    fn from(_error: AllocFailed<T>) -> JobError {
+        JobError::Memory
     }
 }

@@ -14,7 +14,7 @@ pub struct Line<'a> {
 }
 
 /// What of a text is still to be read.
-#[derive(Drop)]
+#[derive(Clone, Copy)]
 pub struct Lines<'a> {
     /// The bytes from the next line on.
     pub rest: &'a [u8],
