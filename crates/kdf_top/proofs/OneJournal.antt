@@ -44,12 +44,14 @@ course-meets slots P (c ∷ cs) m = go (any_live slots (written P)) refl (λ liv
 pub a_journal_lem : (slots : List Slot) (events : List Event) → (J : List Entry) × IsJournal slots events J
 a_journal_lem slots events =
     let P : List Step = course slots [] (calls_made events) in
-    let r : Reaches slots [] (calls_made events) P = reaches slots [] (calls_made events) tt in
-    (written P, record {
-      legal = record { in_form = ap written (steps-written P); each = rw (steps-written P) (course-meets slots [] (calls_made events) tt) };
-      whole = record {
-        left = r.left;
-        follows = record { in_order = rw (steps-written P) r.in_order; lived = rw (steps-written P) r.lived };
-        at_end = r.at_end;
-      };
-    })
+    let r : Reaches slots [] (calls_made events) P = reaches slots [] (calls_made events) tt in (
+      written P,
+      record {
+        legal = record { in_form = ap written (steps-written P); each = rw (steps-written P) (course-meets slots [] (calls_made events) tt) };
+        whole = record {
+          left = r.left;
+          follows = record { in_order = rw (steps-written P) r.in_order; lived = rw (steps-written P) r.lived };
+          at_end = r.at_end;
+        };
+      },
+    )

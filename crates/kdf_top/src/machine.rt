@@ -50,9 +50,9 @@ impl Model for Machine {
     ghost use Rattle.kdf_top.specs.Store.{state_with};
 
     ghost view = { λ m. record {
-        slots = record { p = 0; size = m.store.size; words = m.image.items } ∷ [];
-        states = state_with m.registers m.store ∷ [];
-        journal = m.journal.entries;
+      slots = record { p = 0; size = m.store.size; words = m.image.items } ∷ [];
+      states = state_with m.registers m.store ∷ [];
+      journal = m.journal.entries;
     } };
 
     ghost invariant = { λ m. Agrees (record { p = 0; size = m.store.size; words = m.image.items }) (state_with m.registers m.store) m.journal.entries };
