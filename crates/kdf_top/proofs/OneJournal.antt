@@ -1,12 +1,12 @@
 -- Under a schedule, the slots have one journal.
-use Rattle.std.proofs.Common.{◌≡◌, ℕ, List, [], ◌∷◌, ◌++◌, Some, Bool, true, false, cond, ◌||◌, refl, sym, ◌∙◌, ap}
+use Rattle.std.proofs.Common.{◌≡◌, ℕ, List, [], ◌∷◌, Some, Bool, true, false, cond, ◌||◌, refl, sym, ◌∙◌, ap}
 use Rattle.std.specs.Prelude.{find, unwrap_or}
 use Rattle.std.specs.List.{list_any}
 use Rattle.kdf_top.specs.declared.journal.Entry.{Entry}
 use Rattle.kdf_top.specs.declared.job.Event.{Event}
 use Rattle.kdf_top.specs.Course.{step_at, course}
 use Rattle.kdf_top.specs.Follows.{Call, AnOrder, calls_made, IsJournal}
-use Rattle.kdf_top.specs.Legal.{Step, written, steps, Meets, EachMeets}
+use Rattle.kdf_top.specs.Legal.{Step, written, Meets, EachMeets}
 use Rattle.kdf_top.specs.Next.{Slot, lives, next, any_live, priorities}
 use Rattle.kdf_top.proofs.Courses.{Reaches, reaches, course-whole}
 use Rattle.kdf_top.proofs.Steps.{steps-written}

@@ -1,5 +1,5 @@
 -- A program by itself is never held up, so what its next order comes to is its row.
-use Rattle.std.proofs.Common.{◌≡◌, ℕ, true, refl, sym, ◌∙◌, ap}
+use Rattle.std.proofs.Common.{◌≡◌, true, refl, ◌∙◌, ap}
 use Rattle.kdf_processor.specs.declared.registers.Life.{Life}
 use Rattle.kdf_processor.specs.declared.registers.Life.TheVariants.{Live, Ended, Failed}
 use Rattle.kdf_processor.specs.declared.registers.Registers.{Registers}

@@ -1,4 +1,4 @@
-use Rattle.std.proofs.Common.{◌≡◌, ◌<◌, refl, sym, ◌∙◌, arith, length, get_or}
+use Rattle.std.proofs.Common.{◌<◌, refl, sym, ◌∙◌, arith, length}
 use Rattle.kdf_top.specs.declared.job.Event.TheVariants.{Orders}
 use Rattle.kdf_top.proofs.Schedules.{begun, ended_early, ended_late, one_more, order_count-drop}
 use Rattle.kdf_top.proofs.schedule.follow.Goals as goal

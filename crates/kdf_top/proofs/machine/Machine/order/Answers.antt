@@ -1,6 +1,4 @@
-use Rattle.std.proofs.Common.{◌≡◌, ◌<◌, true, sym, ap, ◌∙◌}
-use Rattle.kdf_processor.specs.Lone.{is_live}
-use Rattle.kdf_top.specs.Counts.{calls}
+use Rattle.std.proofs.Common.{sym, ap, ◌∙◌}
 use Rattle.kdf_top.specs.Next.{any_live}
 use Rattle.kdf_top.specs.Shown.{Shown}
 use Rattle.kdf_top.specs.Store.{state_with}
