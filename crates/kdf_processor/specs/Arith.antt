@@ -1,5 +1,5 @@
 -- The rows of arithmetic: the nest and V after an order, or none where operands are missing.
-use Rattle.std.specs.Prelude.{ℕ, List, [], ◌∷◌, Bool, ◌||◌, not, Option, Some, None, if◌then◌else◌, ◌==◌, ℤ, ◌+ℤ◌}
+use Rattle.std.specs.Prelude.{ℕ, List, ◌∷◌, Bool, ◌||◌, not, Option, Some, None, if◌then◌else◌, ◌==◌, ℤ, ◌+ℤ◌}
 use Rattle.kdf_word.specs.Words.{signed, word_of, fits}
 
 -- the nest, the top first, and V after an order of arithmetic

@@ -1,5 +1,5 @@
 -- What obeying the next order comes to, over any port.
-use Rattle.std.specs.Prelude.{ℕ, ◌+◌, Option, Some, None}
+use Rattle.std.specs.Prelude.{◌+◌, Option, Some, None}
 use Rattle.kdf_processor.specs.declared.registers.Life.{Life}
 use Rattle.kdf_processor.specs.declared.registers.Life.TheVariants.{Ended, Failed}
 use Rattle.kdf_processor.specs.declared.registers.Registers.{Registers}
