@@ -20,6 +20,7 @@ pub record Outcome : Type 0 where
 abbrev pub counted : Registers → Life → Registers → Registers
 counted r life after = record after { ran = r.ran + 1; state = life }
 
+-- an order that was obeyed, and the program goes on
 abbrev pub went : Registers → Registers → Act → Outcome
 went r after act = record { step = Done; registers = counted r r.state after; act = act }
 

@@ -14,11 +14,12 @@ use Rattle.kdf_processor.specs.Outcome.{Outcome, done, try_effect}
 use Rattle.kdf_processor.specs.View.{View}
 use Rattle.kdf_processor.specs.Table.{with_nest, effect, change_of}
 
--- the top, and the words below it
+-- the top of a nest
 abbrev pub top : List ℕ → ℕ
 top [] = 0
 top (n1 ∷ below) = n1
 
+-- the words below it
 abbrev pub below_top : List ℕ → List ℕ
 below_top [] = []
 below_top (n1 ∷ below) = below
@@ -51,17 +52,19 @@ HasOperands nest End = 0 < length nest
 HasOperands nest (Fetch a) = length nest < 16
 HasOperands nest (Keep a) = 0 < length nest
 
--- what comes of it where none of its needs is pending, and where one may be
+-- what comes of it where none of its needs is pending
 abbrev pub done_plan : View → Registers → Plan → Outcome
 done_plan v r plan = done v r (planned plan r)
 
+-- what comes of it where one may be
 abbrev pub try_plan : View → Registers → Plan → Outcome
 try_plan v r plan = try_effect v r (planned plan r)
 
--- what comes of an order that was fetched, and of one that changes registers alone
+-- what comes of an order that was fetched
 abbrev pub try_order : View → Registers → Order → Outcome
 try_order v r o = try_effect v r (effect v.claims r o)
 
+-- and of one that changes registers alone
 abbrev pub try_change : View → Registers → Order → Outcome
 try_change v r o = try_effect v r (of_change (change_of r o))
 

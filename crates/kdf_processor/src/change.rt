@@ -7,6 +7,7 @@ ghost use Rattle.kdf_processor.specs.Plan.{IsChange};
 ghost use Rattle.kdf_processor.specs.Table.{change_of, plain_row, jump_row, pushes};
 
 use crate::fetch::behind;
+use crate::nest::DEPTH;
 use crate::spelling::Order;
 use crate::{Failure, Registers};
 use kdf_word::Word;
@@ -20,7 +21,7 @@ fn push(registers: &mut Registers, size: u16, word: Word) -> Result<(), Failure>
     ensures ran { registers.new.ran ≡ registers.old.ran }
     ensures state { registers.new.state ≡ registers.old.state }
 {
-    if registers.nest.depth() == 16 {
+    if registers.nest.depth() == DEPTH {
         return Err(Failure::Nouv);
     }
     registers.nest.push(word);

@@ -17,7 +17,7 @@ use kdf_word::Word;
 
 /// Counts an order.
 fn count(registers: &mut Registers)
-    requires { registers.old.ran < 4294967295 }
+    requires { registers.old.ran < u32.MAX }
     ensures { registers.new ≡ counted registers.old registers.old.state registers.old }
 {
     registers.ran += 1;
@@ -45,7 +45,7 @@ fn pop_kept(registers: &mut Registers) -> Word
 
 /// Carries out a plan none of whose needs is pending.
 fn carry_out<P: Port>(registers: &mut Registers, port: &mut P, plan: Plan) -> Step
-    requires ran { registers.old.ran < 4294967295 }
+    requires ran { registers.old.ran < u32.MAX }
     requires sound { IsSound (P.shows port.old).claims plan }
     requires operands { HasOperands registers.old.nest plan }
     requires free { first_pending (P.shows port.old) (plan_needs plan) ≡ None }
@@ -83,7 +83,7 @@ fn carry_out<P: Port>(registers: &mut Registers, port: &mut P, plan: Plan) -> St
 
 /// Holds the program up, or carries the plan out.
 fn obey_plan<P: Port>(registers: &mut Registers, port: &mut P, plan: Plan) -> Step
-    requires ran { registers.old.ran < 4294967295 }
+    requires ran { registers.old.ran < u32.MAX }
     requires sound { IsSound (P.shows port.old).claims plan }
     requires operands { HasOperands registers.old.nest plan }
     requires room { P.room port.old (try_plan (P.shows port.old) registers.old plan).act }
@@ -100,7 +100,7 @@ fn obey_plan<P: Port>(registers: &mut Registers, port: &mut P, plan: Plan) -> St
 
 /// Obeys an order that changes registers alone.
 fn obey_change<P: Port>(registers: &mut Registers, port: &mut P, order: Order) -> Step
-    requires ran { registers.old.ran < 4294967295 }
+    requires ran { registers.old.ran < u32.MAX }
     requires order { IsOrder order }
     requires change { IsChange order }
     requires room { P.room port.old (try_change (P.shows port.old) registers.old order).act }
@@ -120,7 +120,7 @@ fn obey_change<P: Port>(registers: &mut Registers, port: &mut P, order: Order) -
 
 /// Obeys an order that was fetched.
 fn obey_order<P: Port>(registers: &mut Registers, port: &mut P, order: Order) -> Step
-    requires ran { registers.old.ran < 4294967295 }
+    requires ran { registers.old.ran < u32.MAX }
     requires order { IsOrder order }
     requires room { P.room port.old (try_order (P.shows port.old) registers.old order).act }
     ensures step { result ≡ (try_order (P.shows port.old) registers.old order).step }
@@ -137,7 +137,7 @@ fn obey_order<P: Port>(registers: &mut Registers, port: &mut P, order: Order) ->
 /// Obeys the next order of a live program, or answers what holds it up and changes nothing.
 pub fn obey<P: Port>(registers: &mut Registers, port: &mut P) -> Step
     requires live { registers.old.state ≡ Life.Live }
-    requires ran { registers.old.ran < 4294967295 }
+    requires ran { registers.old.ran < u32.MAX }
     requires room { P.room port.old (outcome (P.shows port.old) registers.old).act }
     ensures step { result ≡ (outcome (P.shows port.old) registers.old).step }
     ensures registers { registers.new ≡ (outcome (P.shows port.old) registers.old).registers }

@@ -6,6 +6,7 @@ ghost use Rattle.kdf_processor.specs.Plan.{planned, plan_needs, IsSound, IsChang
 ghost use Rattle.kdf_processor.specs.Table.{effect, change_of};
 ghost use Rattle.kdf_processor.specs.View.{first_pending};
 
+use crate::nest::DEPTH;
 use crate::spelling::Order;
 use crate::{Failure, Need, Port, Registers};
 
@@ -47,7 +48,7 @@ fn plan_direct<P: Port>(registers: &Registers, port: &P, t: bool, address: u16) 
     ensures operands { HasOperands registers.now.nest result }
 {
     let depth = registers.nest.depth();
-    if t && depth == 0 || !t && depth == 16 {
+    if t && depth == 0 || !t && depth == DEPTH {
         return Plan::Fail(Failure::Nouv);
     }
     if address >= port.size() {
