@@ -1,1 +1,469 @@
-//! Tests
+//! Small programs over a store of which a group may be out.
+ghost use Rattle.std.specs.Prelude.{◌≤◌, vec_len};
+
+use crate::spelling::{BadCode, Order, decode, encode, pack, size, syllable};
+use crate::{Failure, Life, Need, Port, Registers, Step, obey};
+use kdf_word::Word;
+use std::alloc::{AllocError, Global};
+use std::process::Abort;
+use std::test::Fail;
+
+/// The number of no group.
+const NONE: u16 = 256;
+
+/// A store of which one group is out.
+#[derive(Drop)]
+struct Bench {
+    words: Vec<Word>,
+    out: u16,
+    ghost small: { vec_len words ≤ 8192 },
+}
+
+impl Port for Bench {
+    ghost use Rattle.std.specs.Prelude.{◌≡◌, ◌==◌, vec_len, slice_index, refl};
+    ghost use Rattle.kdf_processor.specs.Row.{at_once};
+
+    ghost shows = { λ b. record { claims = record { size = vec_len b.words }; word = slice_index b.words.items; is_out = λ g. g == b.out } };
+
+    ghost acts = { λ b act c. (at_once act (record { claims = record { size = 0 }; asked = 0; store = b.words.items }) ≡ record { claims = record { size = 0 }; asked = 0; store = c.words.items }) × (c.out ≡ b.out) };
+
+    ghost room = { λ b act. Unit {0} };
+
+    fn size(&self) -> u16 {
+        self.words.len() as u16
+    }
+
+    fn read(&self, address: u16) -> Result<Word, u16> {
+        let group = address / 32;
+        if group == self.out {
+            return Err(group);
+        }
+        Ok(self.words[usize::from(address)])
+    }
+
+    fn write(&mut self, address: u16, word: Word) -> Result<(), u16> {
+        let group = address / 32;
+        if group == self.out {
+            return Err(group);
+        }
+        self.words[usize::from(address)] = word;
+        Ok(())
+    }
+
+    ghost stays = { λ b. (refl, refl) };
+}
+
+/// A store of so many words that begins with an image.
+fn filled(alloc: Global, size: usize, image: &[u64], out: u16) -> Result<Bench, AllocError>
+    requires { size ≤ 8192 }
+{
+    let mut words = Vec::new(alloc);
+    for place in 0..size {
+        let bits = if place < image.len() { image[place] } else { 0 };
+        words.push(Word::new(bits % (1 << 48)))?;
+    }
+    Ok(Bench { words, out })
+}
+
+/// Obeys an order, if the program is live.
+fn step(registers: &mut Registers, bench: &mut Bench) -> Option<Step> {
+    if registers.state != Life::Live || registers.ran == u32::MAX {
+        return None;
+    }
+    Some(obey(registers, bench))
+}
+
+/// Runs a program for at most so many orders, and tells how the last of them went.
+fn run(registers: &mut Registers, bench: &mut Bench, orders: u32) -> Step {
+    let mut last = Step::Done;
+    for _ in 0..orders {
+        if let Some(went) = step(registers, bench) {
+            last = went;
+        }
+    }
+    last
+}
+
+/// A program that runs for at most so many orders, and what is seen of it then.
+#[derive(Drop)]
+struct Case {
+    name: &'static str,
+    /// The words that its store begins with.
+    image: &'static [u64],
+    size: usize,
+    orders: u32,
+    state: Life,
+    ran: u32,
+    /// Word and syllable of the next order.
+    at: (u16, u16),
+    v: bool,
+    nest: &'static [u64],
+    /// An address, and the word there.
+    word: (u16, u64),
+}
+
+/// Runs a program, and compares.
+fn check(rt: &impl Abort, alloc: Global, case: Case) -> Result<(), AllocError> {
+    assert!(rt; case.size <= 8192);
+    let mut bench = filled(alloc, case.size, case.image, NONE)?;
+    let mut registers = Registers::new();
+    run(&mut registers, &mut bench, case.orders);
+    let name = case.name;
+    assert_eq!(rt; registers.state, case.state, "{name}");
+    assert_eq!(rt; registers.ran, case.ran, "{name}");
+    assert_eq!(rt; (registers.at / 6, registers.at % 6), case.at, "{name}");
+    assert_eq!(rt; registers.flags.v, case.v, "{name}");
+    assert!(rt; !registers.flags.tr, "{name}");
+    assert_eq!(rt; registers.nest.depth(), case.nest.len(), "{name}");
+    for (i, word) in case.nest.iter().enumerate() {
+        assert!(rt; i < registers.nest.depth());
+        assert_eq!(rt; registers.nest.peek(i).bits(), *word, "{name}");
+    }
+    let (address, word) = case.word;
+    assert!(rt; usize::from(address) < bench.words.len());
+    assert_eq!(rt; bench.words[usize::from(address)].bits(), word, "{name}");
+    Ok(())
+}
+
+/// SET 5; SET 7; +; =E3; ZERO; OUT behind the jump to word 1.
+const SUM: [u64; 3] = [0o5000000100200401, 0o7000000570000007, 0o0435000000604441];
+
+#[test]
+fn programs(rt: HostRuntime) -> Result<(), Fail> {
+    let cases = [
+        Case {
+            name: "a sum is kept, and the program ends",
+            image: &SUM,
+            size: 32,
+            orders: 10,
+            state: Life::Ended,
+            ran: 7,
+            at: (3, 0),
+            v: false,
+            nest: &[],
+            word: (3, 0o14),
+        },
+        Case {
+            name: "the same after four orders",
+            image: &SUM,
+            size: 32,
+            orders: 4,
+            state: Life::Live,
+            ran: 4,
+            at: (2, 1),
+            v: false,
+            nest: &[0o14],
+            word: (3, 0),
+        },
+        Case {
+            name: "no order has the code 00",
+            image: &[0xa000_0101_0101],
+            size: 32,
+            orders: 5,
+            state: Life::Failed(Failure::Liv),
+            ran: 2,
+            at: (1, 0),
+            v: false,
+            nest: &[],
+            word: (1, 0),
+        },
+        Case {
+            name: "the seventeenth ZERO",
+            image: &[
+                0xa000_0101_0101,
+                0x0909_0909_0909,
+                0x0909_0909_0909,
+                0x0909_0909_0901,
+            ],
+            size: 32,
+            orders: 30,
+            state: Life::Failed(Failure::Nouv),
+            ran: 18,
+            at: (3, 4),
+            v: false,
+            nest: &[0; 16],
+            word: (1, 0x0909_0909_0909),
+        },
+        Case {
+            name: "a sum that doesn't fit: E1; SET 1; +; ZERO; OUT",
+            image: &[
+                0xa000_0201_0101,
+                0o3777777777777777,
+                0xc000_01e0_0001,
+                0x1109_2101_0101,
+            ],
+            size: 32,
+            orders: 30,
+            state: Life::Ended,
+            ran: 6,
+            at: (3, 3),
+            v: true,
+            nest: &[0o4000000000000000],
+            word: (1, 0o3777777777777777),
+        },
+        Case {
+            name: "E31 is in the store, and E32 isn't",
+            image: &[0xa000_0101_0101, 0xc000_1fc0_0020],
+            size: 32,
+            orders: 30,
+            state: Life::Failed(Failure::Liv),
+            ran: 3,
+            at: (1, 3),
+            v: false,
+            nest: &[0],
+            word: (31, 0),
+        },
+        Case {
+            name: "ZERO; =E32",
+            image: &[0xa000_0101_0101, 0x09d0_0020_0101],
+            size: 32,
+            orders: 30,
+            state: Life::Failed(Failure::Liv),
+            ran: 3,
+            at: (1, 1),
+            v: false,
+            nest: &[0],
+            word: (31, 0),
+        },
+        Case {
+            name: "SET -5; OUT",
+            image: &[0xa000_0101_0101, 0xe0ff_fb21_0101],
+            size: 32,
+            orders: 30,
+            state: Life::Failed(Failure::Out),
+            ran: 3,
+            at: (1, 3),
+            v: false,
+            nest: &[0xffff_ffff_fffb],
+            word: (0, 0xa000_0101_0101),
+        },
+        Case {
+            name: "OUT without a word",
+            image: &[0xa000_0101_0101, 0x2101_0101_0101],
+            size: 32,
+            orders: 30,
+            state: Life::Failed(Failure::Nouv),
+            ran: 2,
+            at: (1, 0),
+            v: false,
+            nest: &[],
+            word: (0, 0xa000_0101_0101),
+        },
+        Case {
+            name: "DUMMY; ZERO; + with one word",
+            image: &[0xa000_0101_0101, 0x0109_1101_0101],
+            size: 32,
+            orders: 30,
+            state: Life::Failed(Failure::Nouv),
+            ran: 4,
+            at: (1, 2),
+            v: false,
+            nest: &[0],
+            word: (0, 0xa000_0101_0101),
+        },
+        Case {
+            name: "a jump to syllable 3 of word 1, and from there to itself",
+            image: &[0xa060_0101_0101, 0x0000_00a0_6001],
+            size: 32,
+            orders: 1000,
+            state: Life::Live,
+            ran: 1000,
+            at: (1, 3),
+            v: false,
+            nest: &[],
+            word: (0, 0xa060_0101_0101),
+        },
+        Case {
+            name: "SET 9; =E8191; a jump to syllable 5 of word 8191, which is ZERO, and on to word 0",
+            image: &[0xa000_0101_0101, 0xe000_09d0_1fff, 0xa0bf_ff01_0101],
+            size: 8192,
+            orders: 5,
+            state: Life::Live,
+            ran: 5,
+            at: (0, 0),
+            v: false,
+            nest: &[0],
+            word: (8191, 9),
+        },
+        Case {
+            name: "SET -8192; =E31; a jump to syllable 4 of word 31, of which the third syllable is outside",
+            image: &[0xa000_0101_0101, 0xe0e0_00d0_001f, 0xa080_1f01_0101],
+            size: 32,
+            orders: 30,
+            state: Life::Failed(Failure::Liv),
+            ran: 5,
+            at: (31, 4),
+            v: false,
+            nest: &[],
+            word: (31, 0xffff_ffff_e000),
+        },
+    ];
+    for case in cases {
+        check(&rt, rt.alloc(), case)?;
+    }
+    Ok(())
+}
+
+#[test]
+fn holds(rt: HostRuntime) -> Result<(), Fail> {
+    // an image, the orders before the last, the group that is out, and how the last order goes until and when it is back
+    let cases: [(&[u64], u32, u16, Step, Step); 6] = [
+        // the first order
+        (
+            &[0xa000_0101_0101],
+            0,
+            0,
+            Step::Held(Need::Group(0)),
+            Step::Done,
+        ),
+        // E32
+        (
+            &[0xa000_0101_0101, 0xc000_2001_0101],
+            1,
+            1,
+            Step::Held(Need::Group(1)),
+            Step::Done,
+        ),
+        // ZERO; =E40
+        (
+            &[0xa000_0101_0101, 0x09d0_0028_0101],
+            2,
+            1,
+            Step::Held(Need::Group(1)),
+            Step::Done,
+        ),
+        // SET 192; =E31; a jump to syllable 5 of word 31, behind which word 32 is
+        (
+            &[0xa000_0101_0101, 0xe000_c0d0_001f, 0xa0a0_1f01_0101],
+            4,
+            1,
+            Step::Held(Need::Group(1)),
+            Step::Done,
+        ),
+        // E64 is outside, and E1 is in another group
+        (
+            &[0xa000_0101_0101, 0xc000_4001_0101],
+            1,
+            1,
+            Step::Fails(Failure::Liv),
+            Step::Fails(Failure::Liv),
+        ),
+        (
+            &[0xa000_0101_0101, 0xc000_0101_0101],
+            1,
+            1,
+            Step::Done,
+            Step::Done,
+        ),
+    ];
+    for (image, before, out, until, then) in cases {
+        let mut registers = Registers::new();
+        let mut bench = filled(rt.alloc(), 64, image, NONE)?;
+        run(&mut registers, &mut bench, before);
+        let (at, depth) = (registers.at, registers.nest.depth());
+        bench.out = out;
+        assert_eq!(rt; run(&mut registers, &mut bench, 1), until);
+        if let Step::Held(_) = until {
+            assert_eq!(rt; registers.at, at);
+            assert_eq!(rt; registers.ran, before);
+            assert_eq!(rt; registers.nest.depth(), depth);
+            bench.out = NONE;
+            assert_eq!(rt; run(&mut registers, &mut bench, 1), then);
+        }
+        assert_eq!(rt; registers.ran, before + 1);
+    }
+    Ok(())
+}
+
+#[test]
+fn spellings(rt: HostRuntime) -> Result<(), Fail> {
+    for (bytes, length, order) in [
+        ([0x01, 0, 0], 1, Order::Plain { code: 0x01 }),
+        ([0x09, 0, 0], 1, Order::Plain { code: 0x09 }),
+        ([0x11, 0, 0], 1, Order::Plain { code: 0x11 }),
+        ([0x21, 0, 0], 1, Order::Plain { code: 0x21 }),
+        ([0xa0, 0x00, 0x01], 3, Order::Jump { c: 0x20, target: 1 }),
+        (
+            [0xa0, 0xbf, 0xff],
+            3,
+            Order::Jump {
+                c: 0x20,
+                target: 49_151,
+            },
+        ),
+        (
+            [0xc0, 0x00, 0x03],
+            3,
+            Order::Direct {
+                t: false,
+                u: false,
+                q: 0,
+                a: 3,
+            },
+        ),
+        (
+            [0xd0, 0x7f, 0xff],
+            3,
+            Order::Direct {
+                t: true,
+                u: false,
+                q: 0,
+                a: 32_767,
+            },
+        ),
+        ([0xe0, 0x00, 0x07], 3, Order::Set { constant: 7 }),
+        ([0xe0, 0xff, 0xff], 3, Order::Set { constant: 65_535 }),
+    ] {
+        match decode(&bytes) {
+            Ok(decoded) => {
+                assert_eq!(rt; decoded, order);
+                assert_eq!(rt; size(&decoded), length);
+                assert_eq!(rt; encode(&decoded).bytes, bytes);
+                assert_eq!(rt; encode(&decoded).size, length);
+            }
+            Err(BadCode) => assert!(rt; false, "{order:?}"),
+        }
+    }
+    for bytes in [
+        [0x00, 0x01, 0x01],
+        [0x13, 0x01, 0x01],
+        [0x3f, 0x01, 0x01],
+        [0x7f, 0x00, 0x01],
+        [0xa0, 0xc0, 0x00],
+        [0xbf, 0x00, 0x01],
+        [0xe1, 0x00, 0x00],
+        [0xff, 0xff, 0xff],
+    ] {
+        assert_eq!(rt; decode(&bytes), Err(BadCode), "{bytes:?}");
+    }
+    Ok(())
+}
+
+#[test]
+fn packed_words(rt: HostRuntime) {
+    for (bytes, word) in [
+        ([0xa0, 0x00, 0x01, 0x01, 0x01, 0x01], 0o5000000100200401),
+        ([0xe0, 0x00, 0x05, 0xe0, 0x00, 0x07], 0o7000000570000007),
+        ([0x11, 0xd0, 0x00, 0x03, 0x09, 0x21], 0o0435000000604441),
+    ] {
+        let packed = pack(&bytes);
+        assert_eq!(rt; packed.bits(), word);
+        for (i, byte) in [0, 1, 2, 3, 4, 5].into_iter().zip(bytes) {
+            assert!(rt; i < 6);
+            assert_eq!(rt; syllable(packed, i), byte);
+        }
+    }
+}
+
+#[test]
+fn names(rt: HostRuntime) {
+    for (failure, name) in [
+        (Failure::Liv, "LIV"),
+        (Failure::Nouv, "NOUV"),
+        (Failure::Out, "OUT"),
+        (Failure::Reset, "RESET"),
+        (Failure::Claim, "CLAIM"),
+    ] {
+        assert_eq!(rt; failure.name(), name);
+    }
+}
