@@ -59,7 +59,7 @@ impl Model for Machine {
 }
 
 impl Machine {
-    /// A machine before its first order: the job has slot 0 alone, and its image fits the store.
+    /// A machine before its first order. The job has slot 0 alone, and its image fits the store.
     pub fn load(alloc: Global, job: &Job, images: &[Image]) -> Result<Machine, AllocError>
         requires { IsLoadable job.now.slots.items images.now }
         ensures slots { IfOk result (λ m. m.slots ≡ loaded job.now.slots.items images.now) }
@@ -148,7 +148,7 @@ fn is_on(life: Life) -> bool
 // The next order of a live program by itself, which nothing holds up.
 fn obey_next(registers: &mut Registers, store: &mut Store) -> Step
     requires live { is_live registers.old.state ≡ true }
-    requires ran { registers.old.ran < 4294967295 }
+    requires ran { registers.old.ran < u32.MAX }
     ensures state { state_with registers.new store.new ≡ row (state_with registers.old store.old) 0 }
     ensures step { result ≡ (next_of (state_with registers.old store.old) 0).step }
     ensures size { store.new.size ≡ store.old.size }
