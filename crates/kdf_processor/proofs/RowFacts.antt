@@ -7,7 +7,7 @@ use Rattle.kdf_processor.specs.declared.registers.Life.TheVariants.{Ended, Faile
 use Rattle.kdf_processor.specs.declared.step.Step.{Step}
 use Rattle.kdf_processor.specs.declared.step.Step.TheVariants.{Done, Held, Fails, Ends}
 use Rattle.kdf_processor.specs.State.{State}
-use Rattle.kdf_processor.specs.Effect.{Effect, Failing, Ending, Changing, Fetching, Keeping}
+use Rattle.kdf_processor.specs.Effect.{Effect, Failing, Ending, Keeping}
 use Rattle.kdf_processor.specs.Needs.{next_effect}
 use Rattle.kdf_processor.specs.Row.{perform, done_by, next_of, row}
 use Rattle.kdf_processor.specs.Lone.{is_live, lone_step, lone}

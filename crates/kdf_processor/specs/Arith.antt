@@ -1,5 +1,5 @@
 -- The rows of arithmetic: the nest and V after an order, or none where operands are missing.
-use Rattle.std.specs.Prelude.{ℕ, List, [], ◌∷◌, Bool, ◌||◌, not, Option, Some, None, if◌then◌else◌, ◌==◌, ℤ, ◌+ℤ◌}
+use Rattle.std.specs.Prelude.{ℕ, List, ◌∷◌, Bool, ◌||◌, not, Option, Some, None, if◌then◌else◌, ◌==◌, ℤ, ◌+ℤ◌}
 use Rattle.kdf_word.specs.Words.{signed, word_of, fits}
 
 -- the nest, the top first, and V after an order of arithmetic
@@ -7,6 +7,7 @@ pub record Arith : Type 0 where
   pub nest : List ℕ
   pub v : Bool
 
+-- a nest, and V
 abbrev pub kept : List ℕ → Bool → Option Arith
 kept nest v = Some (record { nest = nest; v = v })
 
@@ -19,6 +20,7 @@ abbrev pub with_two : List ℕ → (ℕ → ℕ → List ℕ → Option Arith) �
 with_two (n1 ∷ n2 ∷ below) f = f n1 n2 below
 with_two _ f = None
 
+-- The rows, by their codes.
 unfoldable pub arith_row : ℕ → List ℕ → Bool → Option Arith
 arith_row code nest v =
     -- ZERO

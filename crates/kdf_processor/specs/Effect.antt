@@ -18,6 +18,7 @@ pub data Effect : Type 0 where
   -- the word that is kept, from the one that was there
   Keeping : (address : ℕ) (word : ℕ → ℕ) (after : Registers) → Effect
 
+-- such a change as an effect
 abbrev pub of_change : Change → Effect
 of_change (Refused kind) = Failing kind
 of_change (Going after) = Changing after

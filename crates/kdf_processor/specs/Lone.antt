@@ -6,6 +6,7 @@ use Rattle.kdf_processor.specs.declared.registers.Life.TheVariants.{Live, Ended,
 use Rattle.kdf_processor.specs.State.{State}
 use Rattle.kdf_processor.specs.Row.{row}
 
+-- a program runs
 abbrev pub is_live : Life → Bool
 is_live Live = true
 is_live Ended = false

@@ -35,9 +35,11 @@ syllable_needs (suc n) size at = if nat_lt (at / 6) size then Group (group_of (a
 abbrev pub count_at : ℕ → (ℕ → ℕ) → ℕ → ℕ
 count_at size word at = if nat_lt (at / 6) size then size_of_first (syllable_at word at) else 1
 
+-- the needs of its fetch
 abbrev pub fetch_needs : ℕ → (ℕ → ℕ) → ℕ → List Need
 fetch_needs size word at = syllable_needs (count_at size word at) size at
 
+-- the order of syllables, where they are there
 abbrev pub decoded_or_none : Option (List ℕ) → Option Order
 decoded_or_none None = None
 decoded_or_none (Some spelt) = decoded spelt
@@ -46,6 +48,7 @@ decoded_or_none (Some spelt) = decoded spelt
 abbrev pub order_at : ℕ → (ℕ → ℕ) → ℕ → Option Order
 order_at size word at = decoded_or_none (syllables (count_at size word at) size word at)
 
+-- where there is no order, the next order fails
 abbrev pub effect_or_liv : Claims → Registers → Option Order → Effect
 effect_or_liv c r None = Failing Liv
 effect_or_liv c r (Some o) = effect c r o
@@ -62,13 +65,14 @@ effect_needs (Changing after) = []
 effect_needs (Fetching a after) = Group (group_of a) ∷ []
 effect_needs (Keeping a w after) = Group (group_of a) ∷ []
 
+-- the groups of the next order's syllables, and then what its effect needs
 abbrev pub needs_at : Claims → (ℕ → ℕ) → Registers → List Need
 needs_at c word r = fetch_needs c.size word r.at ++ effect_needs (effect_at c word r)
 
--- of a state by itself
+-- what the next order of a state does
 abbrev pub next_effect : State → Effect
 next_effect s = effect_at s.stock.claims (word_at s) s.registers
 
--- the needs of the next order: the groups of its syllables, and then what its effect needs
+-- what the next order of a state needs
 abbrev pub needs : State → List Need
 needs s = needs_at s.stock.claims (word_at s) s.registers

@@ -1,5 +1,5 @@
 -- What obeying the next order comes to, over any port.
-use Rattle.std.specs.Prelude.{ℕ, ◌+◌, Option, Some, None}
+use Rattle.std.specs.Prelude.{◌+◌, Option, Some, None}
 use Rattle.kdf_processor.specs.declared.registers.Life.{Life}
 use Rattle.kdf_processor.specs.declared.registers.Life.TheVariants.{Ended, Failed}
 use Rattle.kdf_processor.specs.declared.registers.Registers.{Registers}
@@ -20,6 +20,7 @@ pub record Outcome : Type 0 where
 abbrev pub counted : Registers → Life → Registers → Registers
 counted r life after = record after { ran = r.ran + 1; state = life }
 
+-- an order that was obeyed, and the program goes on
 abbrev pub went : Registers → Registers → Act → Outcome
 went r after act = record { step = Done; registers = counted r r.state after; act = act }
 

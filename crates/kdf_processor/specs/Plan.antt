@@ -5,15 +5,21 @@ use Rattle.kdf_processor.specs.declared.spelling.order.Order.TheVariants as orde
 use Rattle.kdf_processor.specs.declared.plan.Plan.{Plan}
 use Rattle.kdf_processor.specs.declared.plan.Plan.TheVariants.{Fail, End, Fetch, Keep}
 use Rattle.kdf_processor.specs.declared.registers.Registers.{Registers}
+use Rattle.kdf_processor.specs.declared.step.Need.{Need}
+use Rattle.kdf_processor.specs.declared.step.Need.TheVariants.{Group}
 use Rattle.kdf_processor.specs.State.{Claims}
-use Rattle.kdf_processor.specs.Effect.{Effect, Failing, Ending, Fetching, Keeping}
-use Rattle.kdf_processor.specs.Table.{with_nest}
+use Rattle.kdf_processor.specs.Effect.{Effect, Failing, Ending, Fetching, Keeping, of_change}
+use Rattle.kdf_processor.specs.Needs.{group_of}
+use Rattle.kdf_processor.specs.Outcome.{Outcome, done, try_effect}
+use Rattle.kdf_processor.specs.View.{View}
+use Rattle.kdf_processor.specs.Table.{with_nest, effect, change_of}
 
--- the top, and the words below it
+-- the top of a nest
 abbrev pub top : List ℕ → ℕ
 top [] = 0
 top (n1 ∷ below) = n1
 
+-- the words below it
 abbrev pub below_top : List ℕ → List ℕ
 below_top [] = []
 below_top (n1 ∷ below) = below
@@ -24,6 +30,13 @@ planned (Fail kind) r = Failing kind
 planned End r = Ending (with_nest 1 (below_top r.nest) r)
 planned (Fetch a) r = Fetching a (λ w. with_nest 3 (w ∷ r.nest) r)
 planned (Keep a) r = Keeping a (λ old. top r.nest) (with_nest 3 (below_top r.nest) r)
+
+-- what it needs
+abbrev pub plan_needs : Plan → List Need
+plan_needs (Fail kind) = []
+plan_needs End = []
+plan_needs (Fetch a) = Group (group_of a) ∷ []
+plan_needs (Keep a) = Group (group_of a) ∷ []
 
 -- its address is in the store
 abbrev pub IsSound : Claims → Plan → Type 0
@@ -38,6 +51,22 @@ HasOperands nest (Fail kind) = Unit {0}
 HasOperands nest End = 0 < length nest
 HasOperands nest (Fetch a) = length nest < 16
 HasOperands nest (Keep a) = 0 < length nest
+
+-- what comes of it where none of its needs is pending
+abbrev pub done_plan : View → Registers → Plan → Outcome
+done_plan v r plan = done v r (planned plan r)
+
+-- what comes of it where one may be
+abbrev pub try_plan : View → Registers → Plan → Outcome
+try_plan v r plan = try_effect v r (planned plan r)
+
+-- what comes of an order that was fetched
+abbrev pub try_order : View → Registers → Order → Outcome
+try_order v r o = try_effect v r (effect v.claims r o)
+
+-- and of one that changes registers alone
+abbrev pub try_change : View → Registers → Order → Outcome
+try_change v r o = try_effect v r (of_change (change_of r o))
 
 -- an order that changes registers alone
 abbrev pub IsChange : Order → Type 0

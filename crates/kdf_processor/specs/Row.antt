@@ -6,11 +6,12 @@ use Rattle.kdf_processor.specs.Needs.{next_effect}
 use Rattle.kdf_processor.specs.View.{by_itself}
 use Rattle.kdf_processor.specs.Outcome.{Outcome, done}
 
--- an acting call
+-- an acting call, done to what a program has
 abbrev pub at_once : Act → Stock → Stock
 at_once Nothing k = k
 at_once (Writes a w) k = record k { store = slice_set k.store a w }
 
+-- an outcome on a state
 abbrev pub taken : Outcome → State → State
 taken o s = record { registers = o.registers; stock = at_once o.act s.stock }
 
@@ -18,6 +19,7 @@ taken o s = record { registers = o.registers; stock = at_once o.act s.stock }
 abbrev pub done_by : ℕ → Effect → State → Outcome
 done_by a e s = done (by_itself s.stock) s.registers e
 
+-- and the state that it leaves
 abbrev pub perform : ℕ → Effect → State → State
 perform a e s = taken (done_by a e s) s
 

@@ -14,6 +14,7 @@ IsOrder (Jump c target) = (c ≡ 0x20) × (target / 8192 < 6)
 IsOrder (Direct t u q a) = (u ≡ false) × (q ≡ 0) × (a < 2 ^ 15)
 IsOrder (Constant constant) = constant < 2 ^ 16
 
+-- a truth value as a bit
 abbrev pub bit : Bool → ℕ
 bit b = if b then 1 else 0
 
@@ -36,15 +37,15 @@ BeginsWith syllables s = take (length s) syllables ≡ s
 abbrev pub size_of_first : ℕ → ℕ
 size_of_first a = if nat_lt a 0x40 then 1 else (if nat_lt a 0x80 then 2 else 3)
 
--- one syllable
+-- the order of one syllable
 abbrev pub decoded_one : ℕ → Option Order
 decoded_one a = if is_plain a then Some (Plain a) else None
 
--- the jumps
+-- a jump, of its code and its target
 abbrev pub decoded_jump : ℕ → ℕ → Option Order
 decoded_jump c target = if c == 0x20 && nat_lt (target / 8192) 6 then Some (Jump c target) else None
 
--- the store orders, without a Q-store and its suffix, and SET
+-- a store order, without a Q-store and its suffix, or SET, of the 22 bits behind the first two
 abbrev pub decoded_direct : ℕ → Option Order
 decoded_direct w =
     if nat_lt w (2 ^ 21) then (if w / 2 ^ 15 % 2 ^ 5 == 0 then Some (Direct (w / 2 ^ 20 == 1) false 0 (w % 2 ^ 15)) else None)

@@ -15,10 +15,12 @@ pub record Stock : Type 0 where
   -- the words, which a transfer may hide
   pub store : List ℕ
 
+-- a program by itself
 pub record State : Type 0 where
   pub registers : Registers
   pub stock : Stock
 
+-- the word at an address
 abbrev pub word_in : Stock → ℕ → ℕ
 word_in k a = slice_index k.store a
 

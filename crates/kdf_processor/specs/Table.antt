@@ -17,6 +17,7 @@ on at n = (at + n) % 49152
 abbrev pub with_nest : ℕ → List ℕ → Registers → Registers
 with_nest n nest r = record r { nest = nest; at = on r.at n }
 
+-- with V so
 abbrev pub with_v : Bool → Registers → Registers
 with_v v r = record r { flags = record r.flags { v = v } }
 
@@ -63,10 +64,11 @@ jump_row r c target =
     if c == 0x20 then Going (goes r true target)
     else Refused Liv
 
--- an order of n syllables that fetches a word, or keeps one
+-- an order of n syllables that fetches the word at an address
 abbrev pub fetches : Registers → ℕ → ℕ → Effect
 fetches r n address = room (Failing Nouv) r.nest (Fetching address (λ w. with_nest n (w ∷ r.nest) r))
 
+-- an order of n syllables that keeps the top at an address
 abbrev pub keeps : Registers → ℕ → ℕ → Effect
 keeps r n address = on_top (Failing Nouv) r.nest (λ n1 below. Keeping address (λ old. n1) (with_nest n below r))
 
@@ -80,7 +82,7 @@ guarded c (Fetching a after) = if nat_lt a c.size then Fetching a after else Fai
 guarded c (Keeping a w after) = if nat_lt a c.size then Keeping a w after else Failing Liv
 guarded c e = e
 
--- the orders that read and change registers alone
+-- what an order does that reads and changes registers alone
 abbrev pub change_of : Registers → Order → Change
 change_of r (order.Plain code) = plain_row r code
 change_of r (order.Jump c target) = jump_row r c target
@@ -88,7 +90,7 @@ change_of r (order.Jump c target) = jump_row r c target
 change_of r (order.Set constant) = pushes r 3 (word_of (signed_16 constant))
 change_of r _ = Refused Liv
 
--- what an order does
+-- what any order does
 abbrev pub effect : Claims → Registers → Order → Effect
 effect c r (order.Plain code) = if code == 0x21 then guarded c (on_top (Failing Nouv) r.nest (out_effect r)) else of_change (plain_row r code)
 effect c r (order.Direct t u q a) = guarded c (direct_effect r t a)

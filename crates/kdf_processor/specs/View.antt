@@ -4,6 +4,7 @@ use Rattle.kdf_processor.specs.declared.step.Need.{Need}
 use Rattle.kdf_processor.specs.declared.step.Need.TheVariants.{Group}
 use Rattle.kdf_processor.specs.State.{Claims, Stock, word_in}
 
+-- a program's size, its words, and which of them are out of its reach
 pub record View : Type 0 where
   pub claims : Claims
   -- the word at an address, also where its group is out
@@ -11,9 +12,11 @@ pub record View : Type 0 where
   -- a group is locked out
   pub is_out : ℕ → Bool
 
+-- a need is pending
 abbrev pub is_pending : View → Need → Bool
 is_pending v (Group g) = v.is_out g
 
+-- the first need of a list that is pending
 abbrev pub first_pending : View → List Need → Option Need
 first_pending v ns = find (is_pending v) ns
 

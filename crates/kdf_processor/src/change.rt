@@ -2,12 +2,12 @@
 ghost use Rattle.std.specs.Prelude.{◌≡◌, ◌≢◌, ◌+◌, ◌/◌, ◌<◌, ◌≤◌, OnOk, IfErr, OnErr, true};
 ghost use Rattle.kdf_word.specs.Words.{word_of, signed_16};
 ghost use Rattle.kdf_processor.specs.Spelling.{IsOrder, is_plain};
-ghost use Rattle.kdf_processor.specs.Arith.{arith_row};
 ghost use Rattle.kdf_processor.specs.Effect.{Going, Refused};
 ghost use Rattle.kdf_processor.specs.Plan.{IsChange};
-ghost use Rattle.kdf_processor.specs.Table.{change_of, plain_row, jump_row, pushes, arith_changes};
+ghost use Rattle.kdf_processor.specs.Table.{change_of, plain_row, jump_row, pushes};
 
 use crate::fetch::behind;
+use crate::nest::DEPTH;
 use crate::spelling::Order;
 use crate::{Failure, Registers};
 use kdf_word::Word;
@@ -21,7 +21,7 @@ fn push(registers: &mut Registers, size: u16, word: Word) -> Result<(), Failure>
     ensures ran { registers.new.ran ≡ registers.old.ran }
     ensures state { registers.new.state ≡ registers.old.state }
 {
-    if registers.nest.depth() == 16 {
+    if registers.nest.depth() == DEPTH {
         return Err(Failure::Nouv);
     }
     registers.nest.push(word);
@@ -30,10 +30,10 @@ fn push(registers: &mut Registers, size: u16, word: Word) -> Result<(), Failure>
 }
 
 /// ZERO.
-#[tactic(auto, unfolding(crate::specs::Arith::arith_row))]
+#[tactic(auto, unfolding(crate::specs::Table::plain_row, crate::specs::Arith::arith_row))]
 fn zero(registers: &mut Registers) -> Result<(), Failure>
-    ensures ok { OnOk result (arith_changes 1 registers.old (arith_row 0x09 registers.old.nest registers.old.flags.v) ≡ Going registers.new) }
-    ensures err { IfErr result (λ f. arith_changes 1 registers.old (arith_row 0x09 registers.old.nest registers.old.flags.v) ≡ Refused f) }
+    ensures ok { OnOk result (plain_row registers.old 0x09 ≡ Going registers.new) }
+    ensures err { IfErr result (λ f. plain_row registers.old 0x09 ≡ Refused f) }
     ensures same { OnErr result (registers.new ≡ registers.old) }
     ensures ran { registers.new.ran ≡ registers.old.ran }
     ensures state { registers.new.state ≡ registers.old.state }
@@ -42,10 +42,10 @@ fn zero(registers: &mut Registers) -> Result<(), Failure>
 }
 
 /// +.
-#[tactic(auto, unfolding(crate::specs::Arith::arith_row))]
+#[tactic(auto, unfolding(crate::specs::Table::plain_row, crate::specs::Arith::arith_row))]
 fn add(registers: &mut Registers) -> Result<(), Failure>
-    ensures ok { OnOk result (arith_changes 1 registers.old (arith_row 0x11 registers.old.nest registers.old.flags.v) ≡ Going registers.new) }
-    ensures err { IfErr result (λ f. arith_changes 1 registers.old (arith_row 0x11 registers.old.nest registers.old.flags.v) ≡ Refused f) }
+    ensures ok { OnOk result (plain_row registers.old 0x11 ≡ Going registers.new) }
+    ensures err { IfErr result (λ f. plain_row registers.old 0x11 ≡ Refused f) }
     ensures same { OnErr result (registers.new ≡ registers.old) }
     ensures ran { registers.new.ran ≡ registers.old.ran }
     ensures state { registers.new.state ≡ registers.old.state }

@@ -55,7 +55,8 @@ fn read_syllable<P: Port>(port: &P, n: u16) -> Syllable
 
 /// The order at a syllable of the program's store.
 pub fn fetch<P: Port>(port: &P, at: u16) -> Fetched
-    ensures held { held_of result ≡ first_pending (P.shows port.now) (fetch_needs (P.shows port.now).claims.size (P.shows port.now).word at) }
+    ensures held { held_of result
+        ≡ first_pending (P.shows port.now) (fetch_needs (P.shows port.now).claims.size (P.shows port.now).word at) }
     ensures order { IsFetched (order_at (P.shows port.now).claims.size (P.shows port.now).word at) result }
     ensures legal { IsLegal result }
 {

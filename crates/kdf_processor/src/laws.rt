@@ -25,7 +25,8 @@ pub fn packing()
 
 /// The store of a program has as many words as its size says, at its start and after each order.
 pub fn store_size()
-    ensures start { (size : ℕ) (image : List ℕ) → length image ≤ size → length (begin size image).stock.store ≡ size }
+    ensures start { (size : ℕ) (image : List ℕ) →
+        length image ≤ size → length (begin size image).stock.store ≡ size }
     ensures kept { (start : State) (answers : List ℕ) (n : ℕ) →
         length start.stock.store ≡ start.stock.claims.size →
         length (lone start answers n).stock.store ≡ (lone start answers n).stock.claims.size }
@@ -40,9 +41,11 @@ pub fn frame()
     ensures same_row { (hidden : Need → Bool) (answer : ℕ) (s t : State) →
         Agrees hidden s t → HidesNone hidden (needs s) → Agrees hidden (row s answer) (row t answer) }
     ensures left { (hidden : Need → Bool) (answer : ℕ) (s t : State) →
-        Agrees hidden s t → HidesNone hidden (needs s) → Leaves hidden s (row s answer) × Leaves hidden t (row t answer) }
+        Agrees hidden s t → HidesNone hidden (needs s) →
+        Leaves hidden s (row s answer) × Leaves hidden t (row t answer) }
     ensures same_first { (hidden wanted : Need → Bool) (s t : State) →
-        Agrees hidden s t → ((n : Need) → hidden n ≡ true → wanted n ≡ true) → find wanted (needs s) ≡ find wanted (needs t) }
+        Agrees hidden s t → ((n : Need) → hidden n ≡ true → wanted n ≡ true) →
+        find wanted (needs s) ≡ find wanted (needs t) }
 {}
 
 /// With as many answers as are taken, more of them change no state up to there.

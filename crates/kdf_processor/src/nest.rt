@@ -6,7 +6,7 @@ use kdf_word::Word;
 use std::marker::Model;
 
 /// How many words a nest holds at most.
-const DEPTH: usize = 16;
+pub const DEPTH: usize = 16;
 
 /// A nest of at most sixteen words, which contracts see as a list with the top first.
 #[derive(Drop)]

@@ -1,11 +1,11 @@
 //! Obeying one order over any port.
 ghost use Rattle.std.specs.Prelude.{◌≡◌, ◌<◌, None, ◌∷◌, length};
 ghost use Rattle.kdf_processor.specs.Spelling.{IsOrder};
-ghost use Rattle.kdf_processor.specs.Effect.{Nothing, of_change};
-ghost use Rattle.kdf_processor.specs.Needs.{effect_needs};
-ghost use Rattle.kdf_processor.specs.Outcome.{done, try_effect, outcome, counted};
-ghost use Rattle.kdf_processor.specs.Plan.{planned, IsSound, IsChange, HasOperands, below_top, top};
-ghost use Rattle.kdf_processor.specs.Table.{effect, change_of, with_nest};
+ghost use Rattle.kdf_processor.specs.Effect.{Nothing};
+ghost use Rattle.kdf_processor.specs.Outcome.{outcome, counted};
+ghost use Rattle.kdf_processor.specs.Plan.{plan_needs, done_plan, try_plan, try_change, try_order};
+ghost use Rattle.kdf_processor.specs.Plan.{IsSound, IsChange, HasOperands, below_top, top};
+ghost use Rattle.kdf_processor.specs.Table.{with_nest};
 ghost use Rattle.kdf_processor.specs.View.{first_pending};
 
 use crate::change::change;
@@ -17,7 +17,7 @@ use kdf_word::Word;
 
 /// Counts an order.
 fn count(registers: &mut Registers)
-    requires { registers.old.ran < 4294967295 }
+    requires { registers.old.ran < u32.MAX }
     ensures { registers.new ≡ counted registers.old registers.old.state registers.old }
 {
     registers.ran += 1;
@@ -45,15 +45,15 @@ fn pop_kept(registers: &mut Registers) -> Word
 
 /// Carries out a plan none of whose needs is pending.
 fn carry_out<P: Port>(registers: &mut Registers, port: &mut P, plan: Plan) -> Step
-    requires ran { registers.old.ran < 4294967295 }
+    requires ran { registers.old.ran < u32.MAX }
     requires sound { IsSound (P.shows port.old).claims plan }
     requires operands { HasOperands registers.old.nest plan }
-    requires free { first_pending (P.shows port.old) (effect_needs (planned plan registers.old)) ≡ None }
-    requires room { P.room port.old (done (P.shows port.old) registers.old (planned plan registers.old)).act }
-    ensures step { result ≡ (done (P.shows port.old) registers.old (planned plan registers.old)).step }
-    ensures registers { registers.new ≡ (done (P.shows port.old) registers.old (planned plan registers.old)).registers }
-    ensures acted { P.acts port.old (done (P.shows port.old) registers.old (planned plan registers.old)).act port.new }
-    ensures unchanged { (done (P.shows port.old) registers.old (planned plan registers.old)).act ≡ Nothing → port.new ≡ port.old }
+    requires free { first_pending (P.shows port.old) (plan_needs plan) ≡ None }
+    requires room { P.room port.old (done_plan (P.shows port.old) registers.old plan).act }
+    ensures step { result ≡ (done_plan (P.shows port.old) registers.old plan).step }
+    ensures registers { registers.new ≡ (done_plan (P.shows port.old) registers.old plan).registers }
+    ensures acted { P.acts port.old (done_plan (P.shows port.old) registers.old plan).act port.new }
+    ensures unchanged { (done_plan (P.shows port.old) registers.old plan).act ≡ Nothing → port.new ≡ port.old }
 {
     match plan {
         Plan::Fail(kind) => {
@@ -83,16 +83,16 @@ fn carry_out<P: Port>(registers: &mut Registers, port: &mut P, plan: Plan) -> St
 
 /// Holds the program up, or carries the plan out.
 fn obey_plan<P: Port>(registers: &mut Registers, port: &mut P, plan: Plan) -> Step
-    requires ran { registers.old.ran < 4294967295 }
+    requires ran { registers.old.ran < u32.MAX }
     requires sound { IsSound (P.shows port.old).claims plan }
     requires operands { HasOperands registers.old.nest plan }
-    requires room { P.room port.old (try_effect (P.shows port.old) registers.old (planned plan registers.old)).act }
-    ensures step { result ≡ (try_effect (P.shows port.old) registers.old (planned plan registers.old)).step }
-    ensures registers { registers.new ≡ (try_effect (P.shows port.old) registers.old (planned plan registers.old)).registers }
-    ensures acted { P.acts port.old (try_effect (P.shows port.old) registers.old (planned plan registers.old)).act port.new }
-    ensures unchanged { (try_effect (P.shows port.old) registers.old (planned plan registers.old)).act ≡ Nothing → port.new ≡ port.old }
+    requires room { P.room port.old (try_plan (P.shows port.old) registers.old plan).act }
+    ensures step { result ≡ (try_plan (P.shows port.old) registers.old plan).step }
+    ensures registers { registers.new ≡ (try_plan (P.shows port.old) registers.old plan).registers }
+    ensures acted { P.acts port.old (try_plan (P.shows port.old) registers.old plan).act port.new }
+    ensures unchanged { (try_plan (P.shows port.old) registers.old plan).act ≡ Nothing → port.new ≡ port.old }
 {
-    match first_need(registers, port, plan) {
+    match first_need(port, plan) {
         Some(need) => Step::Held(need),
         None => carry_out(registers, port, plan),
     }
@@ -100,14 +100,14 @@ fn obey_plan<P: Port>(registers: &mut Registers, port: &mut P, plan: Plan) -> St
 
 /// Obeys an order that changes registers alone.
 fn obey_change<P: Port>(registers: &mut Registers, port: &mut P, order: Order) -> Step
-    requires ran { registers.old.ran < 4294967295 }
+    requires ran { registers.old.ran < u32.MAX }
     requires order { IsOrder order }
     requires change { IsChange order }
-    requires room { P.room port.old (try_effect (P.shows port.old) registers.old (of_change (change_of registers.old order))).act }
-    ensures step { result ≡ (try_effect (P.shows port.old) registers.old (of_change (change_of registers.old order))).step }
-    ensures registers { registers.new ≡ (try_effect (P.shows port.old) registers.old (of_change (change_of registers.old order))).registers }
-    ensures acted { P.acts port.old (try_effect (P.shows port.old) registers.old (of_change (change_of registers.old order))).act port.new }
-    ensures unchanged { (try_effect (P.shows port.old) registers.old (of_change (change_of registers.old order))).act ≡ Nothing → port.new ≡ port.old }
+    requires room { P.room port.old (try_change (P.shows port.old) registers.old order).act }
+    ensures step { result ≡ (try_change (P.shows port.old) registers.old order).step }
+    ensures registers { registers.new ≡ (try_change (P.shows port.old) registers.old order).registers }
+    ensures acted { P.acts port.old (try_change (P.shows port.old) registers.old order).act port.new }
+    ensures unchanged { (try_change (P.shows port.old) registers.old order).act ≡ Nothing → port.new ≡ port.old }
 {
     match change(registers, order) {
         Ok(()) => {
@@ -120,13 +120,13 @@ fn obey_change<P: Port>(registers: &mut Registers, port: &mut P, order: Order) -
 
 /// Obeys an order that was fetched.
 fn obey_order<P: Port>(registers: &mut Registers, port: &mut P, order: Order) -> Step
-    requires ran { registers.old.ran < 4294967295 }
+    requires ran { registers.old.ran < u32.MAX }
     requires order { IsOrder order }
-    requires room { P.room port.old (try_effect (P.shows port.old) registers.old (effect (P.shows port.old).claims registers.old order)).act }
-    ensures step { result ≡ (try_effect (P.shows port.old) registers.old (effect (P.shows port.old).claims registers.old order)).step }
-    ensures registers { registers.new ≡ (try_effect (P.shows port.old) registers.old (effect (P.shows port.old).claims registers.old order)).registers }
-    ensures acted { P.acts port.old (try_effect (P.shows port.old) registers.old (effect (P.shows port.old).claims registers.old order)).act port.new }
-    ensures unchanged { (try_effect (P.shows port.old) registers.old (effect (P.shows port.old).claims registers.old order)).act ≡ Nothing → port.new ≡ port.old }
+    requires room { P.room port.old (try_order (P.shows port.old) registers.old order).act }
+    ensures step { result ≡ (try_order (P.shows port.old) registers.old order).step }
+    ensures registers { registers.new ≡ (try_order (P.shows port.old) registers.old order).registers }
+    ensures acted { P.acts port.old (try_order (P.shows port.old) registers.old order).act port.new }
+    ensures unchanged { (try_order (P.shows port.old) registers.old order).act ≡ Nothing → port.new ≡ port.old }
 {
     match plan_of(registers, port, order) {
         Some(plan) => obey_plan(registers, port, plan),
@@ -137,7 +137,7 @@ fn obey_order<P: Port>(registers: &mut Registers, port: &mut P, order: Order) ->
 /// Obeys the next order of a live program, or answers what holds it up and changes nothing.
 pub fn obey<P: Port>(registers: &mut Registers, port: &mut P) -> Step
     requires live { registers.old.state ≡ Life.Live }
-    requires ran { registers.old.ran < 4294967295 }
+    requires ran { registers.old.ran < u32.MAX }
     requires room { P.room port.old (outcome (P.shows port.old) registers.old).act }
     ensures step { result ≡ (outcome (P.shows port.old) registers.old).step }
     ensures registers { registers.new ≡ (outcome (P.shows port.old) registers.old).registers }

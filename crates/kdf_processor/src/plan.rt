@@ -1,13 +1,12 @@
 //! What an order would do, found without doing it, and what that waits for.
-ghost use Rattle.std.specs.Prelude.{◌≡◌, ◌<◌, IfSome, IfNone, length};
-ghost use Rattle.kdf_processor.specs.declared.failure.Failure.TheVariants.{Nouv};
+ghost use Rattle.std.specs.Prelude.{◌≡◌, IfSome, IfNone, false};
 ghost use Rattle.kdf_processor.specs.Spelling.{IsOrder};
-ghost use Rattle.kdf_processor.specs.Effect.{Failing, of_change};
-ghost use Rattle.kdf_processor.specs.Needs.{effect_needs};
-ghost use Rattle.kdf_processor.specs.Plan.{planned, IsSound, IsChange, HasOperands};
-ghost use Rattle.kdf_processor.specs.Table.{effect, change_of, guarded, on_top, out_effect, direct_effect};
+ghost use Rattle.kdf_processor.specs.Effect.{of_change};
+ghost use Rattle.kdf_processor.specs.Plan.{planned, plan_needs, IsSound, IsChange, HasOperands};
+ghost use Rattle.kdf_processor.specs.Table.{effect, change_of};
 ghost use Rattle.kdf_processor.specs.View.{first_pending};
 
+use crate::nest::DEPTH;
 use crate::spelling::Order;
 use crate::{Failure, Need, Port, Registers};
 
@@ -27,7 +26,7 @@ pub enum Plan {
 /// OUT.
 #[tactic(auto, unfolding(crate::specs::Table::out_effect, crate::specs::Table::guarded))]
 fn plan_out<P: Port>(registers: &Registers, port: &P) -> Plan
-    ensures effect { guarded (P.shows port.now).claims (on_top (Failing Nouv) registers.now.nest (out_effect registers.now)) ≡ planned result registers.now }
+    ensures effect { effect (P.shows port.now).claims registers.now (Order.Plain 0x21) ≡ planned result registers.now }
     ensures sound { IsSound (P.shows port.now).claims result }
     ensures operands { HasOperands registers.now.nest result }
 {
@@ -43,12 +42,13 @@ fn plan_out<P: Port>(registers: &Registers, port: &P) -> Plan
 /// A store order.
 #[tactic(auto, unfolding(crate::specs::Table::direct_effect, crate::specs::Table::guarded))]
 fn plan_direct<P: Port>(registers: &Registers, port: &P, t: bool, address: u16) -> Plan
-    ensures effect { guarded (P.shows port.now).claims (direct_effect registers.now t address) ≡ planned result registers.now }
+    ensures effect { effect (P.shows port.now).claims registers.now (Order.Direct t false 0 address)
+        ≡ planned result registers.now }
     ensures sound { IsSound (P.shows port.now).claims result }
     ensures operands { HasOperands registers.now.nest result }
 {
     let depth = registers.nest.depth();
-    if t && depth == 0 || !t && depth == 16 {
+    if t && depth == 0 || !t && depth == DEPTH {
         return Plan::Fail(Failure::Nouv);
     }
     if address >= port.size() {
@@ -64,10 +64,12 @@ fn plan_direct<P: Port>(registers: &Registers, port: &P, t: bool, address: u16) 
 /// The plan of an order, or none where it changes registers alone.
 pub fn plan_of<P: Port>(registers: &Registers, port: &P, order: Order) -> Option<Plan>
     requires { IsOrder order }
-    ensures effect { IfSome result (λ plan. effect (P.shows port.now).claims registers.now order ≡ planned plan registers.now) }
+    ensures effect { IfSome result (λ plan.
+        effect (P.shows port.now).claims registers.now order ≡ planned plan registers.now) }
     ensures sound { IfSome result (λ plan. IsSound (P.shows port.now).claims plan) }
     ensures operands { IfSome result (λ plan. HasOperands registers.now.nest plan) }
-    ensures change { IfNone result (effect (P.shows port.now).claims registers.now order ≡ of_change (change_of registers.now order)) }
+    ensures change { IfNone result (
+        effect (P.shows port.now).claims registers.now order ≡ of_change (change_of registers.now order)) }
     ensures quiet { IfNone result (IsChange order) }
 {
     match order {
@@ -78,9 +80,9 @@ pub fn plan_of<P: Port>(registers: &Registers, port: &P, order: Order) -> Option
 }
 
 /// The first need of a plan that is pending.
-pub fn first_need<P: Port>(registers: &Registers, port: &P, plan: Plan) -> Option<Need>
+pub fn first_need<P: Port>(port: &P, plan: Plan) -> Option<Need>
     requires { IsSound (P.shows port.now).claims plan }
-    ensures { result ≡ first_pending (P.shows port.now) (effect_needs (planned plan registers.now)) }
+    ensures { result ≡ first_pending (P.shows port.now) (plan_needs plan) }
 {
     match plan {
         Plan::Fail(_) | Plan::End => None,

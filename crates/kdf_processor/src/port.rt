@@ -24,7 +24,8 @@ pub trait Port {
     /// The word at an address, or the address's group where that is out.
     fn read(&self, address: u16) -> Result<Word, u16>
         requires { address < (shows self.now).claims.size }
-        ensures { result ≡ (if (shows self.now).is_out (group_of address) then Err (group_of address) else Ok ((shows self.now).word address)) };
+        ensures { result ≡ (if (shows self.now).is_out (group_of address)
+            then Err (group_of address) else Ok ((shows self.now).word address)) };
 
     /// Writes a word to an address, or answers the address's group where that is out.
     fn write(&mut self, address: u16, word: Word) -> Result<(), u16>
@@ -32,7 +33,8 @@ pub trait Port {
         requires room { room self.old (Writes address word) }
         ensures ok { OnOk result (acts self.old (Writes address word) self.new) }
         ensures err { OnErr result (acts self.old Nothing self.new) }
-        ensures result { result ≡ (if (shows self.old).is_out (group_of address) then Err (group_of address) else Ok tt) };
+        ensures result { result ≡ (if (shows self.old).is_out (group_of address)
+            then Err (group_of address) else Ok tt) };
 
     /// A port that nothing was done to stays.
     ghost stays: { (p : Self) → acts p Nothing p };

@@ -1,5 +1,4 @@
-use Rattle.std.proofs.Common.{◌≡◌, sym, ap, ◌∙◌}
-use Rattle.std.specs.Result.{result_ok}
+use Rattle.std.proofs.Common.{sym, ap, ◌∙◌}
 use Rattle.kdf_processor.specs.Spelling.{first_decoded}
 use Rattle.kdf_processor.proofs.SpellingLemmas.{ok-exactly, bad-exactly, of_three, are_bytes}
 use Rattle.kdf_processor.proofs.spelling.decoding.decode.Goals as goal
