@@ -1,5 +1,5 @@
 -- The one slot of a machine, whose fields agree with it and with the journal.
-use Rattle.std.proofs.Common.{◌≡◌, ℕ, ◌+◌, ◌<◌, ◌≤◌, List, [], ◌∷◌, Some, None, Bool, true, false, cond, ◌||◌, not, refl, sym, ◌∙◌, ap, arith}
+use Rattle.std.proofs.Common.{◌≡◌, ℕ, ◌<◌, ◌≤◌, List, [], ◌∷◌, Some, Bool, true, false, ◌||◌, not, refl, sym, ◌∙◌, ap, arith}
 use Rattle.kdf_processor.specs.declared.registers.Registers.{Registers}
 use Rattle.kdf_processor.specs.declared.step.Step.{Step as Ending}
 use Rattle.kdf_processor.specs.Lone.{is_live}
@@ -8,8 +8,8 @@ use Rattle.kdf_processor.specs.State.{State, Stock, begin, new_registers}
 use Rattle.kdf_top.specs.declared.journal.Entry.{Entry}
 use Rattle.kdf_top.specs.declared.port.Store.{Store}
 use Rattle.kdf_top.specs.Agrees.{Agrees}
-use Rattle.kdf_top.specs.Counts.{ran, calls, over}
-use Rattle.kdf_top.specs.Legal.{Note, Obeys, added, note_for, note_of}
+use Rattle.kdf_top.specs.Counts.{calls, over}
+use Rattle.kdf_top.specs.Legal.{Obeys, added, note_for, note_of}
 use Rattle.kdf_top.specs.Next.{Slot, own, lives, next, any_live}
 use Rattle.kdf_top.specs.Shown.{Shown}
 use Rattle.kdf_top.specs.Store.{stock_of, state_with}

@@ -1,11 +1,11 @@
 -- Runs of calls take the course of the programs, and a legal and whole journal is that course.
-use Rattle.std.proofs.Common.{◌≡◌, ℕ, ◌+◌, ◌-◌, ◌≤◌, List, [], ◌∷◌, ◌++◌, Option, Some, None, Bool, true, false, cond, ◌⊎◌, inl, inr, refl, sym, ◌∙◌, ap, arith, append_assoc}
+use Rattle.std.proofs.Common.{◌≡◌, ℕ, ◌+◌, ◌-◌, ◌≤◌, List, [], ◌∷◌, ◌++◌, Some, Bool, true, false, cond, ◌⊎◌, inl, inr, refl, sym, ◌∙◌, ap, arith, append_assoc}
 use Rattle.std.specs.Prelude.{replicate}
 use Rattle.std.proofs.lemmas.Grind.{replicate_next}
 use Rattle.std.proofs.lemmas.List.{replicate-append-replicate}
 use Rattle.kdf_top.specs.declared.journal.Entry.{Entry}
-use Rattle.kdf_top.specs.Next.{Slot, own, next, any_live}
-use Rattle.kdf_top.specs.Legal.{Note, Step, Obeys, added, written, steps, note_of, Meets, EachMeets, IsLegal}
+use Rattle.kdf_top.specs.Next.{Slot, next, any_live}
+use Rattle.kdf_top.specs.Legal.{Note, Step, Obeys, added, written, steps, Meets, EachMeets, IsLegal}
 use Rattle.kdf_top.specs.Follows.{Call, AnOrder, call_of, answered, EachLive, IsWhole}
 use Rattle.kdf_top.specs.Course.{turn, step_at, course}
 use Rattle.kdf_top.proofs.Steps.{steps-added}

@@ -1,10 +1,8 @@
 -- What a legal journal says of each program's own state.
-use Rattle.std.proofs.Common.{◌≡◌, ℕ, List, [], ◌∷◌, Some, Bool, true, false, cond, ◌||◌, not, eqb, inl, inr, refl, sym, ◌∙◌, ap}
+use Rattle.std.proofs.Common.{◌≡◌, ℕ, List, [], ◌∷◌, Some, Bool, true, false, cond, ◌||◌, not, eqb, inl, inr, refl, sym, ◌∙◌}
 use Rattle.std.specs.Prelude.{find, is_some}
 use Rattle.std.proofs.lemmas.Bool.{cases_eq, eq-eqb, ne_eqb, and_parts}
 use Rattle.kdf_processor.specs.Lone.{is_live}
-use Rattle.kdf_processor.specs.Row.{row}
-use Rattle.kdf_processor.specs.State.{State}
 use Rattle.kdf_top.specs.declared.journal.Entry.{Entry}
 use Rattle.kdf_top.specs.Counts.{over}
 use Rattle.kdf_top.specs.Next.{Slot, slot_of, own, lives, next, priorities}

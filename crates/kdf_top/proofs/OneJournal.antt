@@ -1,12 +1,12 @@
 -- Under a schedule, the slots have one journal.
-use Rattle.std.proofs.Common.{◌≡◌, ℕ, List, [], ◌∷◌, ◌++◌, Some, Bool, true, false, cond, ◌||◌, refl, sym, ◌∙◌, ap}
+use Rattle.std.proofs.Common.{◌≡◌, ℕ, List, [], ◌∷◌, Some, Bool, true, false, cond, ◌||◌, refl, sym, ◌∙◌, ap}
 use Rattle.std.specs.Prelude.{find, unwrap_or}
 use Rattle.std.specs.List.{list_any}
 use Rattle.kdf_top.specs.declared.journal.Entry.{Entry}
 use Rattle.kdf_top.specs.declared.job.Event.{Event}
 use Rattle.kdf_top.specs.Course.{step_at, course}
 use Rattle.kdf_top.specs.Follows.{Call, AnOrder, calls_made, IsJournal}
-use Rattle.kdf_top.specs.Legal.{Step, written, steps, Meets, EachMeets}
+use Rattle.kdf_top.specs.Legal.{Step, written, Meets, EachMeets}
 use Rattle.kdf_top.specs.Next.{Slot, lives, next, any_live, priorities}
 use Rattle.kdf_top.proofs.Courses.{Reaches, reaches, course-whole}
 use Rattle.kdf_top.proofs.Steps.{steps-written}
@@ -44,12 +44,14 @@ course-meets slots P (c ∷ cs) m = go (any_live slots (written P)) refl (λ liv
 pub a_journal_lem : (slots : List Slot) (events : List Event) → (J : List Entry) × IsJournal slots events J
 a_journal_lem slots events =
     let P : List Step = course slots [] (calls_made events) in
-    let r : Reaches slots [] (calls_made events) P = reaches slots [] (calls_made events) tt in
-    (written P, record {
-      legal = record { in_form = ap written (steps-written P); each = rw (steps-written P) (course-meets slots [] (calls_made events) tt) };
-      whole = record {
-        left = r.left;
-        follows = record { in_order = rw (steps-written P) r.in_order; lived = rw (steps-written P) r.lived };
-        at_end = r.at_end;
-      };
-    })
+    let r : Reaches slots [] (calls_made events) P = reaches slots [] (calls_made events) tt in (
+      written P,
+      record {
+        legal = record { in_form = ap written (steps-written P); each = rw (steps-written P) (course-meets slots [] (calls_made events) tt) };
+        whole = record {
+          left = r.left;
+          follows = record { in_order = rw (steps-written P) r.in_order; lived = rw (steps-written P) r.lived };
+          at_end = r.at_end;
+        };
+      },
+    )

@@ -1,11 +1,11 @@
 -- A program by itself is never held up, so what its next order comes to is its row.
-use Rattle.std.proofs.Common.{◌≡◌, ℕ, true, refl, sym, ◌∙◌, ap}
+use Rattle.std.proofs.Common.{◌≡◌, true, refl, ◌∙◌, ap}
 use Rattle.kdf_processor.specs.declared.registers.Life.{Life}
 use Rattle.kdf_processor.specs.declared.registers.Life.TheVariants.{Live, Ended, Failed}
 use Rattle.kdf_processor.specs.declared.registers.Registers.{Registers}
 use Rattle.kdf_processor.specs.Lone.{is_live}
 use Rattle.kdf_processor.specs.Outcome.{Outcome, outcome}
-use Rattle.kdf_processor.specs.Row.{at_once, row, next_of}
+use Rattle.kdf_processor.specs.Row.{row, next_of}
 use Rattle.kdf_processor.specs.State.{Stock, State}
 use Rattle.kdf_processor.specs.View.{by_itself}
 use Rattle.kdf_processor.proofs.ByItself.{state, outcome_alone}
@@ -18,12 +18,6 @@ live_is (Failed kind) live = cc
 
 pub step_next : (k : Stock) (r : Registers) → (outcome (by_itself k) r).step ≡ (next_of (state r k) 0).step
 step_next k r = ap (λ (o : Outcome). o.step) (outcome_alone k 0 r)
-
-pub row_next : (k l : Stock) (r q : Registers) → q ≡ (outcome (by_itself k) r).registers → l ≡ at_once (outcome (by_itself k) r).act k → state q l ≡ row (state r k) 0
-row_next k l r q registers acted =
-    let o : outcome (by_itself k) r ≡ next_of (state r k) 0 = outcome_alone k 0 r in
-    ap (λ (x : Registers). state x l) (registers ∙ ap (λ (x : Outcome). x.registers) o)
-    ∙ ap (λ (x : Stock). state (next_of (state r k) 0).registers x) (acted ∙ ap (λ (x : Outcome). at_once x.act k) o)
 
 -- the size of the store stays
 pub size_next : (k l : Stock) (r q : Registers) → state q l ≡ row (state r k) 0 → l.claims.size ≡ k.claims.size

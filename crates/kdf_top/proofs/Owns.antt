@@ -1,10 +1,9 @@
 -- What one step makes of each program's own state.
-use Rattle.std.proofs.Common.{◌≡◌, ◌≢◌, ℕ, arith, List, [], ◌∷◌, Option, Some, None, true, false, eqb, refl, ◌∙◌, ap, add-zero}
+use Rattle.std.proofs.Common.{◌≡◌, ◌≢◌, ℕ, arith, List, [], Option, Some, None, true, false, eqb, refl, ◌∙◌, add-zero}
 use Rattle.std.proofs.lemmas.Bool.{eq-eqb, ne_eqb}
-use Rattle.kdf_processor.specs.Lone.{is_live, lone_step, lone}
+use Rattle.kdf_processor.specs.Lone.{is_live, lone_step}
 use Rattle.kdf_processor.specs.Row.{row}
 use Rattle.kdf_processor.proofs.RowFacts.{live_step, ran_live}
-use Rattle.kdf_processor.specs.State.{State}
 use Rattle.kdf_top.specs.declared.journal.Entry.{Entry}
 use Rattle.kdf_top.specs.Counts.{ran}
 use Rattle.kdf_top.specs.Next.{Slot, slot_of, start_of, start, own}

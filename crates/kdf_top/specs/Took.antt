@@ -1,5 +1,5 @@
 -- What one call of a machine does.
-use Rattle.std.specs.Prelude.{◌≡◌, ℕ, ◌==◌, List, [], ◌∷◌, Some, false, IsSomeAnd, if◌then◌else◌}
+use Rattle.std.specs.Prelude.{◌≡◌, ℕ, ◌==◌, List, ◌∷◌, Some, false, IsSomeAnd, if◌then◌else◌}
 use Rattle.kdf_processor.specs.Row.{row}
 use Rattle.kdf_processor.specs.State.{State}
 use Rattle.kdf_top.specs.declared.machine.Progress.{Progress}

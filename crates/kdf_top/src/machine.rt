@@ -50,16 +50,16 @@ impl Model for Machine {
     ghost use Rattle.kdf_top.specs.Store.{state_with};
 
     ghost view = { λ m. record {
-        slots = record { p = 0; size = m.store.size; words = m.image.items } ∷ [];
-        states = state_with m.registers m.store ∷ [];
-        journal = m.journal.entries;
+      slots = record { p = 0; size = m.store.size; words = m.image.items } ∷ [];
+      states = state_with m.registers m.store ∷ [];
+      journal = m.journal.entries;
     } };
 
     ghost invariant = { λ m. Agrees (record { p = 0; size = m.store.size; words = m.image.items }) (state_with m.registers m.store) m.journal.entries };
 }
 
 impl Machine {
-    /// A machine before its first order: the job has slot 0 alone, and its image fits the store.
+    /// A machine before its first order. The job has slot 0 alone, and its image fits the store.
     pub fn load(alloc: Global, job: &Job, images: &[Image]) -> Result<Machine, AllocError>
         requires { IsLoadable job.now.slots.items images.now }
         ensures slots { IfOk result (λ m. m.slots ≡ loaded job.now.slots.items images.now) }
@@ -148,7 +148,7 @@ fn is_on(life: Life) -> bool
 // The next order of a live program by itself, which nothing holds up.
 fn obey_next(registers: &mut Registers, store: &mut Store) -> Step
     requires live { is_live registers.old.state ≡ true }
-    requires ran { registers.old.ran < 4294967295 }
+    requires ran { registers.old.ran < u32.MAX }
     ensures state { state_with registers.new store.new ≡ row (state_with registers.old store.old) 0 }
     ensures step { result ≡ (next_of (state_with registers.old store.old) 0).step }
     ensures size { store.new.size ≡ store.old.size }

@@ -1,4 +1,7 @@
 //! Programs that add, that fail, and that never end.
+ghost use Rattle.std.specs.Prelude.{◌≡◌, [], IfOk, IsSomeAnd};
+ghost use Rattle.kdf_top.specs.Next.{slot_of};
+
 use super::*;
 use crate::{Event, SlotJob, follow};
 use kdf_processor::Failure;
@@ -12,59 +15,70 @@ const JUMP: u64 = 0xa000_0101_0101;
 const ADDS: [u64; 4] = [JUMP, 0xe000_05e0_0007, 0x11d0_0003_0921, 0];
 
 /// A machine with a store of 32 words.
-fn load(rt: &impl Abort, alloc: Global, image: &[u64]) -> Result<Machine, AllocError> {
+fn load(rt: &impl Abort, alloc: Global, image: &[u64]) -> Result<Machine, AllocError>
+    ensures journal { IfOk result (λ m. m.journal ≡ []) }
+    ensures size { IfOk result (λ m. IsSomeAnd (slot_of m.slots 0) (λ slot. slot.size ≡ 32)) }
+{
     let mut words = Vec::new(alloc);
     for bits in image {
         assert!(rt; *bits < 1 << 48);
         words.push(Word::new(*bits))?;
     }
     assert!(rt; words.len() <= 32);
+    let slots = Vec::from_array(
+        alloc,
+        [SlotJob {
+            p: 0,
+            size: 32,
+            deck: Vec::new(alloc),
+            shows: Vec::new(alloc),
+        }],
+    )?;
     let job = Job {
-        slots: Vec::from_array(
-            alloc,
-            [SlotJob {
-                p: 0,
-                size: 32,
-                deck: Vec::new(alloc),
-                shows: Vec::new(alloc),
-            }],
-        )?,
+        slots,
         events: Vec::new(alloc),
     };
-    let images = [Image { words }];
-    Machine::load(alloc, &job, &images)
+    Machine::load(alloc, &job, &[Image { words }])
+}
+
+/// One order more, after which the next is at this place and the nest has so many words.
+fn obeys(rt: &impl Abort, machine: &mut Machine, at: u16, depth: usize) -> Result<(), Fail> {
+    assert!(rt; machine.journal().calls() < 100);
+    assert_eq!(rt; machine.order()?, Progress::Ran(0));
+    let registers = machine.seen(0).ok_or("no slot")?;
+    assert_eq!(rt; registers.at, at);
+    assert_eq!(rt; registers.nest.depth(), depth);
+    Ok(())
 }
 
 #[test]
 fn adds_order_by_order(rt: HostRuntime) -> Result<(), Fail> {
     let mut machine = load(&rt, rt.alloc(), &ADDS)?;
-    assert!(rt; machine.journal().entries().is_empty());
-    // where the next order is, and how many words the nest has
-    for (at, depth) in [(6, 0), (9, 1), (12, 2), (13, 1), (16, 0), (17, 1)] {
-        assert!(rt; machine.journal().calls() < 100);
-        assert_eq!(rt; machine.order()?, Progress::Ran(0));
+    for (at, depth) in [(6, 0), (9, 1), (12, 2), (13, 1), (16, 0), (17, 1), (18, 0)] {
         assert!(rt; machine.is_any_live());
-        let registers = machine.seen(0).ok_or("no slot")?;
-        assert_eq!(rt; registers.at, at);
-        assert_eq!(rt; registers.nest.depth(), depth);
+        obeys(&rt, &mut machine, at, depth)?;
     }
-    assert_eq!(rt; machine.journal().entries(), [Entry::Ran { p: 0, n: 6 }].as_slice());
     assert!(rt; machine.journal().calls() < 100);
-    assert_eq!(rt; machine.order()?, Progress::Ran(0));
-    for _ in 0..2 {
-        assert!(rt; machine.journal().calls() < 100);
-        assert_eq!(rt; machine.order()?, Progress::AllEnded);
-        assert!(rt; !machine.is_any_live());
-        assert_eq!(rt; machine.journal().entries(), [Entry::Ran { p: 0, n: 7 }, Entry::Ended { p: 0 }].as_slice());
-    }
-    let registers = machine.seen(0).ok_or("no slot")?;
-    assert_eq!(rt; registers.state, Life::Ended);
-    assert_eq!(rt; registers.ran, 7);
+    assert_eq!(rt; machine.order()?, Progress::AllEnded);
+    assert_eq!(rt;
+        machine.journal().entries(),
+        [Entry::Ran { p: 0, n: 7 }, Entry::Ended { p: 0 }].as_slice()
+    );
+    assert!(rt; machine.seen(1).is_none());
+    machine.close();
+    Ok(())
+}
+
+#[test]
+fn keeps_the_sum(rt: HostRuntime) -> Result<(), Fail> {
+    let mut machine = load(&rt, rt.alloc(), &ADDS)?;
+    follow(
+        &mut machine,
+        &[Event::Orders(3), Event::Orders(5), Event::Orders(5)],
+    )?;
     assert_eq!(rt; machine.word(0, 1).bits(), 0xe000_05e0_0007);
     assert_eq!(rt; machine.word(0, 3).bits(), 12);
     assert_eq!(rt; machine.word(0, 31).bits(), 0);
-    assert!(rt; machine.seen(1).is_none());
-    machine.close();
     Ok(())
 }
 
@@ -73,18 +87,17 @@ fn fails_once(rt: HostRuntime) -> Result<(), Fail> {
     // the code 00 is in no table
     let mut machine = load(&rt, rt.alloc(), &[JUMP, 0])?;
     follow(&mut machine, &[Event::Orders(2), Event::Orders(10)])?;
-    let entries = [
-        Entry::Ran { p: 0, n: 2 },
-        Entry::Fail {
-            p: 0,
-            kind: Failure::Liv,
-        },
-    ];
-    assert_eq!(rt; machine.journal().entries(), entries.as_slice());
+    let failed = Entry::Fail {
+        p: 0,
+        kind: Failure::Liv,
+    };
+    assert_eq!(rt;
+        machine.journal().entries(),
+        [Entry::Ran { p: 0, n: 2 }, failed].as_slice()
+    );
     let registers = machine.seen(0).ok_or("no slot")?;
     assert_eq!(rt; registers.state, Life::Failed(Failure::Liv));
     assert_eq!(rt; registers.at, 6);
-    machine.close();
     Ok(())
 }
 
@@ -92,9 +105,10 @@ fn fails_once(rt: HostRuntime) -> Result<(), Fail> {
 fn jumps_a_million_times(rt: HostRuntime) -> Result<(), Fail> {
     let mut machine = load(&rt, rt.alloc(), &[JUMP, JUMP])?;
     follow(&mut machine, &[Event::Orders(1_000_000)])?;
-    assert_eq!(rt; machine.journal().entries(), [Entry::Ran { p: 0, n: 1_000_000 }].as_slice());
+    assert_eq!(rt;
+        machine.journal().entries(),
+        [Entry::Ran { p: 0, n: 1_000_000 }].as_slice()
+    );
     assert!(rt; machine.is_any_live());
-    assert_eq!(rt; machine.journal().ran(0), 1_000_000);
-    machine.close();
     Ok(())
 }

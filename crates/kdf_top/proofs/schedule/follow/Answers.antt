@@ -1,4 +1,4 @@
-use Rattle.std.proofs.Common.{◌≡◌, ◌<◌, refl, sym, ◌∙◌, arith, length, get_or}
+use Rattle.std.proofs.Common.{◌<◌, refl, sym, ◌∙◌, arith, length}
 use Rattle.kdf_top.specs.declared.job.Event.TheVariants.{Orders}
 use Rattle.kdf_top.proofs.Schedules.{begun, ended_early, ended_late, one_more, order_count-drop}
 use Rattle.kdf_top.proofs.schedule.follow.Goals as goal
@@ -25,8 +25,8 @@ loop-event-preserved c =
     let lt : c.loop-event.event-index < length c.args.events.now = omega arith in
     record {
       taken =
-        one_more c.args.machine.now.slots c.args.events.now c.loop-event.event-index c.loop-event.machine.slots c.loop-event.machine.journal
-        c.if-not-is_any_live.ensures.legal c.loop-event.invariant.same_slots c.loop-event.invariant.taken c.make_calls.new.machine.journal (Orders 0) lt c.in_ok-make_calls.ensures.steps;
+          one_more c.args.machine.now.slots c.args.events.now c.loop-event.event-index c.loop-event.machine.slots c.loop-event.machine.journal
+          c.if-not-is_any_live.ensures.legal c.loop-event.invariant.same_slots c.loop-event.invariant.taken c.make_calls.new.machine.journal (Orders 0) lt c.in_ok-make_calls.ensures.steps;
       few = omega (arith, c.loop-event.invariant.few, c.in_ok-make_calls.ensures.calls, order_count-drop c.args.events.now c.loop-event.event-index (Orders 0) lt);
       same_slots = c.in_ok-make_calls.ensures.slots ∙ c.loop-event.invariant.same_slots;
     }

@@ -14,8 +14,8 @@ loop-i-preserved c =
     let took = c.in_ok-order.ensures.took in
     record {
       taken =
-        took_on c.args.machine.now.slots (steps c.args.machine.now.journal) c.loop-i._i c.loop-i.machine c.order.new.self c.in_ok-order.field-0
-        c.if-not-is_any_live.ensures.legal c.if-not-is_any_live.ensures.lone c.loop-i.invariant.same_slots c.loop-i.invariant.taken (sym c.if-not-is_any_live.ensures.live) took;
+          took_on c.args.machine.now.slots (steps c.args.machine.now.journal) c.loop-i._i c.loop-i.machine c.order.new.self c.in_ok-order.field-0
+          c.if-not-is_any_live.ensures.legal c.if-not-is_any_live.ensures.lone c.loop-i.invariant.same_slots c.loop-i.invariant.taken (sym c.if-not-is_any_live.ensures.live) took;
       few = omega (arith, c.loop-i.invariant.few, calls-took c.loop-i.machine c.order.new.self c.in_ok-order.field-0 c.if-not-is_any_live.ensures.lone took);
       same_slots = c.order.ensures.slots ∙ c.loop-i.invariant.same_slots;
     }

@@ -1,4 +1,3 @@
-use Rattle.std.proofs.Common.{◌∙◌}
 use Rattle.kdf_top.proofs.Agreement.{agrees-loaded}
 use Rattle.kdf_top.proofs.machine.Machine.load.Goals as goal
 

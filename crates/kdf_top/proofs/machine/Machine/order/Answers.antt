@@ -1,6 +1,4 @@
-use Rattle.std.proofs.Common.{◌≡◌, ◌<◌, true, sym, ap, ◌∙◌}
-use Rattle.kdf_processor.specs.Lone.{is_live}
-use Rattle.kdf_top.specs.Counts.{calls}
+use Rattle.std.proofs.Common.{sym, ap, ◌∙◌}
 use Rattle.kdf_top.specs.Next.{any_live}
 use Rattle.kdf_top.specs.Shown.{Shown}
 use Rattle.kdf_top.specs.Store.{state_with}
@@ -10,8 +8,8 @@ use Rattle.kdf_top.proofs.machine.Machine.order.Goals as goal
 pub returns-then-not-is_on-clause-took : goal.returns-then-not-is_on-clause-took
 returns-then-not-is_on-clause-took c = (
   sym (ap (λ (m : Shown). any_live m.slots m.journal) c.self.view_is)
-  ∙ (sym (live-same c.self.inside.store.size c.self.inside.image.items (state_with c.self.inside.registers c.self.inside.store) c.self.inside.journal.entries c.self.invariant)
-  ∙ sym c.if-not-is_on.ensures),
+      ∙ (sym (live-same c.self.inside.store.size c.self.inside.image.items (state_with c.self.inside.registers c.self.inside.store) c.self.inside.journal.entries c.self.invariant)
+      ∙ sym c.if-not-is_on.ensures),
   rw c.reserve.ensures.entries c.self.view_is,
 )
 
