@@ -32,11 +32,11 @@ impl<R: Read> Source for ReadFrom<R> {
     ghost use Rattle.std.specs.Prelude.{◌≤◌, None, length, IfOk};
     ghost use Rattle.std.specs.Io.KnownBytes.{ReadConsumes};
     ghost use Rattle.kdf_io.specs.Counts.{CountsFault};
-    ghost use Rattle.kdf_io.specs.Streams.{reader_of};
+    ghost use Rattle.kdf_io.specs.Streams.{reader_of, reader_faults};
 
     ghost left = { λ _. None };
 
-    ghost faults = { λ s. s.faults.count };
+    ghost faults = { reader_faults };
 
     ghost bounded = { λ s. s.faults.bounded };
 
@@ -44,8 +44,7 @@ impl<R: Read> Source for ReadFrom<R> {
         ensures fits { IfOk result (λ n. n ≤ length into.new) }
         ensures reader { ReadConsumes (R.remaining (reader_of self.old)) (R.remaining (reader_of self.new))
             result into.new }
-        ensures counts { CountsFault (⟦<ReadFrom<R> as Source>⟧.faults self.old) result
-            (⟦<ReadFrom<R> as Source>⟧.faults self.new) }
+        ensures counts { CountsFault (reader_faults self.old) result (reader_faults self.new) }
     {
         match self.reader.read(into) {
             Ok(given) => Ok(given),

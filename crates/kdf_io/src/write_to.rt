@@ -33,11 +33,11 @@ impl<W: Write> Sink for WriteTo<W> {
     ghost use Rattle.std.specs.Prelude.{◌≤◌, ◌<◌, None, length, IfOk};
     ghost use Rattle.std.specs.Io.KnownBytes.{WriteAppends};
     ghost use Rattle.kdf_io.specs.Counts.{CountsFault};
-    ghost use Rattle.kdf_io.specs.Streams.{writer_of};
+    ghost use Rattle.kdf_io.specs.Streams.{writer_of, writer_faults};
 
     ghost written = { λ _. None };
 
-    ghost faults = { λ s. s.faults.count };
+    ghost faults = { writer_faults };
 
     ghost bounded = { λ s. s.faults.bounded };
 
@@ -46,8 +46,7 @@ impl<W: Write> Sink for WriteTo<W> {
         ensures some { IfOk result (λ n. 0 < length piece.now → 0 < n) }
         ensures writer { WriteAppends (W.contents (writer_of self.old)) (W.contents (writer_of self.new))
             result piece.now }
-        ensures counts { CountsFault (⟦<WriteTo<W> as Sink>⟧.faults self.old) result
-            (⟦<WriteTo<W> as Sink>⟧.faults self.new) }
+        ensures counts { CountsFault (writer_faults self.old) result (writer_faults self.new) }
     {
         match self.writer.write(piece) {
             Ok(taken) if taken > 0 || piece.is_empty() => Ok(taken),
