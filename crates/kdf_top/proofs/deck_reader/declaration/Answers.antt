@@ -1,7 +1,7 @@
 use Rattle.std.proofs.Common.{◌≡◌, rules, false, sym, ◌∙◌}
 use Rattle.kdf_top.proofs.Cutting.{has}
 use Rattle.kdf_top.proofs.DeckLemmas.{from-nowhere, from-declared, from-undeclared}
-use Rattle.kdf_top.proofs.read_deck.declaration.Goals as goal
+use Rattle.kdf_top.proofs.deck_reader.declaration.Goals as goal
 
 pub returns-in_default : goal.returns-in_default
 returns-in_default c = let whole : has 59 c.args.text.now ≡ false = search rules in from-nowhere c.args.text.now whole

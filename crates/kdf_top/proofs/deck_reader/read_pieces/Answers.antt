@@ -3,7 +3,7 @@ use Rattle.std.proofs.lemmas.Grind.{common_steps}
 use Rattle.kdf_top.specs.Deck.{pieces, statements, piece}
 use Rattle.kdf_top.proofs.Cutting.{has}
 use Rattle.kdf_top.proofs.DeckLemmas.{pieces-end, pieces-finish, pieces-none, pieces-more}
-use Rattle.kdf_top.proofs.read_deck.read_pieces.Goals as goal
+use Rattle.kdf_top.proofs.deck_reader.read_pieces.Goals as goal
 
 pub returns-then-is_finish-clause-value : goal.returns-then-is_finish-clause-value
 returns-then-is_finish-clause-value c =

@@ -3,7 +3,7 @@ use Rattle.std.proofs.lemmas.Bool.{cond-true, cond-false}
 use Rattle.kdf_top.specs.Lines.{is_text}
 use Rattle.kdf_top.specs.Deck.{statements, with_orders}
 use Rattle.kdf_top.proofs.DeckLemmas.{program-nowhere, program-at}
-use Rattle.kdf_top.proofs.read_deck.orders.Goals as goal
+use Rattle.kdf_top.proofs.deck_reader.orders.Goals as goal
 
 pub returns-in_err-first : goal.returns-in_err-first
 returns-in_err-first c stores = rw (program-nowhere stores c.args.text.now c.in_err-first.ensures.none) (search rules)

@@ -1,7 +1,7 @@
 use Rattle.std.proofs.Common.{◌≡◌, ◌++◌, length, option_map, All}
 use Rattle.kdf_top.specs.Deck.{pieces, statements}
 use Rattle.kdf_top.specs.WellFormed.{IsPiece}
-use Rattle.kdf_top.proofs.read_deck.read_pieces.Given as goal
+use Rattle.kdf_top.proofs.deck_reader.read_pieces.Given as goal
 
 abbrev pub invariant-loop-statement : goal.invariant-loop-statement
 invariant-loop-statement l = record {
