@@ -13,8 +13,8 @@ ghost use Rattle.kdf_top.specs.Text.{job_limit};
 ghost use Rattle.kdf_top.specs.WellFormed.{IsJob, HasImage};
 
 use crate::command::command_of;
+use crate::job_reader::read_job;
 use crate::place::assemble;
-use crate::read_job::read_job;
 use crate::refusal::refusal_text;
 use crate::report::report;
 use crate::{Image, Job, JobError, Machine, Outcome, SlotJob, Status, follow};

@@ -19,4 +19,4 @@ returns-in-Err-Memory g c =
 
 pub returns-in-Ok : goal.returns-in-Ok
 returns-in-Ok g c =
-    given_by_fault c.args.bytes.now None _ _ _ _ c.in-Ok.ensures.faultless (c.report_job.ensures c.args.bytes.now c.in-Ok.ensures.faultless c.in-Ok.ensures.shown)
+    given_by_fault c.args.bytes.now None _ _ _ _ c.in-Ok.ensures.ok (c.report_job.ensures c.args.bytes.now c.in-Ok.ensures.ok c.in-Ok.ensures.shown)
