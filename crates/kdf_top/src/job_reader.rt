@@ -7,10 +7,13 @@ ghost use Rattle.kdf_top.specs.Reading.{ahead, fault_from, Passes, Says, Stops};
 ghost use Rattle.kdf_top.specs.Shows.{shown_job};
 ghost use Rattle.kdf_top.specs.WellFormed.{HasImage, IsShow, IsJob};
 
+#[cfg(test)]
+mod tests;
+
 use crate::deck_reader::read_deck;
 use crate::forms::{order_count, show_range, store_size};
 use crate::job::{Event, Job, JobError, JobFault, SlotJob};
-use crate::lines::{Line, Lines};
+use crate::lines::Lines;
 use crate::place::image_length;
 use std::alloc::{AllocError, Global};
 
