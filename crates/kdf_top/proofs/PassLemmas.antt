@@ -8,7 +8,7 @@ use Rattle.kdf_top.specs.declared.lines.Lines.{Lines}
 use Rattle.kdf_top.specs.Options.{◌>>=◌}
 use Rattle.kdf_top.specs.Lines.{line, lines, words, in_first, is_text}
 use Rattle.kdf_top.specs.Deck.{deck, kept, statements, pieces}
-use Rattle.kdf_top.specs.Job.{first_off, fault_at, store_size, order_count, show_range, is_deck}
+use Rattle.kdf_top.specs.Job.{first_off, fault_at, is_deck, has_size, has_show, has_calls}
 use Rattle.kdf_top.specs.Reading.{ahead, fault_from, Passes, Says, Stops}
 
 off-passed : (form : List ℕ → Bool) (left : List (List ℕ → Bool)) (ls ls' : List (List ℕ)) (n n' : ℕ) → form [] ≡ false → form (line ls 1) ≡ true → ls' ≡ drop 1 ls → (0 < length ls → n' ≡ n + 1)
@@ -26,15 +26,15 @@ pub pass-one : (form : List ℕ → Bool) (old new : Lines) → form [] ≡ fals
 pass-one form old new empty is rest next left =
     ap (λ (o : Option ℕ). o >>= (λ n. Some (fault_at n))) (off-passed form left (ahead old) (ahead new) old.number new.number empty is rest next)
 
-pub no-size : is_some (store_size []) ≡ false
+pub no-size : has_size [] ≡ false
 unfolding words
 no-size = refl
 
-pub no-count : is_some (order_count []) ≡ false
+pub no-count : has_calls [] ≡ false
 unfolding words
 no-count = refl
 
-pub no-show : (size : ℕ) → is_some (show_range size []) ≡ false
+pub no-show : (size : ℕ) → has_show size [] ≡ false
 unfolding words
 no-show size = refl
 
@@ -71,27 +71,6 @@ pass-stop form more old mid e first rest left = subst (λ (found : Option (JobFa
 
 pub stop-first : (form : Form) (more : List Form) (old : Lines) (e : JobError) → Stops (form ∷ []) old e → Stops (form ∷ more) old e
 stop-first form more old e first left = first (more ++ left)
-
-abbrev pub line_1 : Form
-line_1 = is_text (codes "KDF9 JOB 1")
-
-abbrev pub line_2 : Form
-line_2 = is_text (codes "SLOT 0")
-
-abbrev pub line_3 : Form
-line_3 l = is_some (store_size l)
-
-abbrev pub line_4 : Form
-line_4 = is_text (codes "DECK")
-
-abbrev pub line_8 : Form
-line_8 = is_text (codes "SCHEDULE")
-
-abbrev pub line_9 : Form
-line_9 l = is_some (order_count l)
-
-abbrev pub line_10 : Form
-line_10 = is_text (codes "ENDJOB")
 
 -- a line of those that are left
 pub line-behind_two : (ls ls' ls'' : List (List ℕ)) → ls' ≡ drop 1 ls → ls'' ≡ drop 1 ls' → line ls'' 1 ≡ line ls 3

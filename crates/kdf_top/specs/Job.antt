@@ -66,19 +66,29 @@ size_in ls = unwrap_or (store_size (line ls 3)) 0
 abbrev pub show_in : List (List ℕ) → Option (ℕ × ℕ)
 show_in ls = show_range (size_in ls) (line ls 7)
 
+-- the forms of lines with a size, with addresses to show, and with a number of calls
+abbrev pub has_size : List ℕ → Bool
+has_size l = is_some (store_size l)
+
+abbrev pub has_show : ℕ → List ℕ → Bool
+has_show size l = is_some (show_range size l)
+
+abbrev pub has_calls : List ℕ → Bool
+has_calls l = is_some (order_count l)
+
 -- the forms that the lines of a job have, in order
 abbrev pub head_forms : List (List ℕ → Bool)
-head_forms = is_text (codes "KDF9 JOB 1") ∷ is_text (codes "SLOT 0") ∷ (λ l. is_some (store_size l)) ∷ is_text (codes "DECK") ∷ []
+head_forms = is_text (codes "KDF9 JOB 1") ∷ is_text (codes "SLOT 0") ∷ has_size ∷ is_text (codes "DECK") ∷ []
 
 abbrev pub deck_forms : ℕ → List (List ℕ → Bool)
 deck_forms size = is_deck size ∷ is_text (codes "ENDDECK") ∷ []
 
 abbrev pub show_forms : ℕ → Option (ℕ × ℕ) → List (List ℕ → Bool)
 show_forms size None = []
-show_forms size (Some x) = (λ l. is_some (show_range size l)) ∷ []
+show_forms size (Some x) = has_show size ∷ []
 
 abbrev pub schedule_forms : List (List ℕ → Bool)
-schedule_forms = is_text (codes "SCHEDULE") ∷ (λ l. is_some (order_count l)) ∷ is_text (codes "ENDJOB") ∷ []
+schedule_forms = is_text (codes "SCHEDULE") ∷ has_calls ∷ is_text (codes "ENDJOB") ∷ []
 
 unfoldable pub forms : List (List ℕ) → List (List ℕ → Bool)
 forms ls = head_forms ++ deck_forms (size_in ls) ++ show_forms (size_in ls) (show_in ls) ++ schedule_forms

@@ -7,6 +7,9 @@ ghost use Rattle.kdf_top.specs.Lines.{is_text};
 ghost use Rattle.kdf_top.specs.Shows.{shown_deck};
 ghost use Rattle.kdf_top.specs.WellFormed.{IsPiece};
 
+#[cfg(test)]
+mod tests;
+
 use crate::cuts::cut;
 use crate::deck::{Deck, Piece};
 use crate::numbers::up_to;

@@ -1,16 +1,19 @@
 //! Reading a job: once over its lines, in their order.
 
-ghost use Rattle.std.specs.Prelude.{◌≡◌, [], ◌∷◌, ◌++◌, ◌%◌, ◌<◌, ◌≤◌, All, IfOk, OnOk, IfErr, IfSome, Some, None, is_some, drop, length};
-ghost use Rattle.kdf_top.specs.Job.{store_size, show_range, order_count, is_deck, shows_of, fault_at, head_forms, deck_forms, show_forms, schedule_forms, job, job_fault};
+ghost use Rattle.std.specs.Prelude.{◌≡◌, [], ◌∷◌, ◌++◌, ◌%◌, ◌<◌, ◌≤◌, All, IfOk, OnOk, IfErr, IfSome, Some, None, drop, length};
+ghost use Rattle.kdf_top.specs.Job.{store_size, show_range, order_count, is_deck, has_size, has_calls, shows_of, fault_at, head_forms, deck_forms, show_forms, schedule_forms, job, job_fault};
 ghost use Rattle.kdf_top.specs.Lines.{line, is_text};
 ghost use Rattle.kdf_top.specs.Reading.{ahead, fault_from, Passes, Says, Stops};
 ghost use Rattle.kdf_top.specs.Shows.{shown_job};
 ghost use Rattle.kdf_top.specs.WellFormed.{HasImage, IsShow, IsJob};
 
+#[cfg(test)]
+mod tests;
+
 use crate::deck_reader::read_deck;
 use crate::forms::{order_count, show_range, store_size};
 use crate::job::{Event, Job, JobError, JobFault, SlotJob};
-use crate::lines::{Line, Lines};
+use crate::lines::Lines;
 use crate::place::image_length;
 use std::alloc::{AllocError, Global};
 
@@ -59,8 +62,8 @@ fn read_head(lines: &mut Lines) -> Result<u16, JobError>
 
 /// The size in `STORE n`.
 fn read_size(lines: &mut Lines) -> Result<u16, JobError>
-    ensures pass { OnOk result (Passes ((λ l. is_some (store_size l)) ∷ []) lines.old lines.new) }
-    ensures stop { IfErr result (Stops ((λ l. is_some (store_size l)) ∷ []) lines.old) }
+    ensures pass { OnOk result (Passes (has_size ∷ []) lines.old lines.new) }
+    ensures stop { IfErr result (Stops (has_size ∷ []) lines.old) }
     ensures rest { OnOk result (ahead lines.new ≡ drop 1 (ahead lines.old)) }
     ensures size { IfOk result (λ n. store_size (line (ahead lines.old) 1) ≡ Some n) }
     ensures within { IfOk result (λ n. (32 ≤ n) × (n ≤ 8192)) }
@@ -75,8 +78,8 @@ fn read_size(lines: &mut Lines) -> Result<u16, JobError>
 
 /// The number of calls in `ORDERS n`.
 fn read_calls(lines: &mut Lines) -> Result<u32, JobError>
-    ensures pass { OnOk result (Passes ((λ l. is_some (order_count l)) ∷ []) lines.old lines.new) }
-    ensures stop { IfErr result (Stops ((λ l. is_some (order_count l)) ∷ []) lines.old) }
+    ensures pass { OnOk result (Passes (has_calls ∷ []) lines.old lines.new) }
+    ensures stop { IfErr result (Stops (has_calls ∷ []) lines.old) }
     ensures rest { OnOk result (ahead lines.new ≡ drop 1 (ahead lines.old)) }
     ensures calls { IfOk result (λ n. order_count (line (ahead lines.old) 1) ≡ Some n) }
     ensures within { IfOk result (λ n. (1 ≤ n) × (n ≤ 20000000)) }

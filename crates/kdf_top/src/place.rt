@@ -6,6 +6,9 @@ ghost use Rattle.kdf_top.specs.Placement.{order_of, syllables_of, packed, words_
 ghost use Rattle.kdf_top.specs.Shows.{shown_deck};
 ghost use Rattle.kdf_top.specs.WellFormed.{IsPiece, HasImage};
 
+#[cfg(test)]
+mod tests;
+
 use crate::deck::{Deck, Image, Piece};
 use crate::deck_reader::read_deck;
 use kdf_processor::spelling::{Order, encode, pack};

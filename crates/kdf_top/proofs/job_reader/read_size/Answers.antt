@@ -1,5 +1,5 @@
 use Rattle.std.proofs.Common.{◌≡◌, Some, is_some, ap, rules}
-use Rattle.kdf_top.specs.Job.{store_size}
+use Rattle.kdf_top.specs.Job.{store_size, has_size}
 use Rattle.kdf_top.specs.Lines.{line}
 use Rattle.kdf_top.specs.Reading.{ahead}
 use Rattle.kdf_top.proofs.PassLemmas.{pass-one, no-size}
@@ -9,4 +9,4 @@ pub returns-in-Some-clause-pass : goal.returns-in-Some-clause-pass
 returns-in-Some-clause-pass c =
     let lines = c.args.lines.now in
     let found : store_size (line (ahead lines) 1) ≡ Some c.in-Some.size = search rules in
-    pass-one (λ l. is_some (store_size l)) lines c.take_line-line.new.self no-size (ap is_some found) c.take_line-line.ensures.rest c.take_line-line.ensures.next
+    pass-one has_size lines c.take_line-line.new.self no-size (ap is_some found) c.take_line-line.ensures.rest c.take_line-line.ensures.next
