@@ -61,9 +61,9 @@ all_of_one P slot h (suc k) d l = absurd (omega arith)
 pub has_slots : (j : ReadJob) (m : Shown) → IsJob j → m.slots ≡ slots_of (shown_job j) → All (λ slot. HasSlot m (shown_slot slot)) j.slots.items
 has_slots j m well loaded =
     let slots : m.slots ≡ slot_of_job (shown_slot well.slot) ∷ [] =
-        loaded ∙ ap (λ (xs : List ReadSlot). slots_of (record { slots = map shown_slot xs; events = j.events.items })) well.only in
+    loaded ∙ ap (λ (xs : List ReadSlot). slots_of (record { slots = map shown_slot xs; events = j.events.items })) well.only in
     subst (λ (xs : List ReadSlot). All (λ slot. HasSlot m (shown_slot slot)) xs) (sym well.only)
-        (all_of_one (λ slot. HasSlot m (shown_slot slot)) well.slot (has_slot well.slot m well.is_slot slots))
+    (all_of_one (λ slot. HasSlot m (shown_slot slot)) well.slot (has_slot well.slot m well.is_slot slots))
 
 pub shown_slots : (j : ReadJob) (m : Shown) → IsJob j → m.slots ≡ slots_of (shown_job j) → All (HasSlot m) (shown_job j).slots
 shown_slots j m well loaded = All-map (HasSlot m) shown_slot j.slots.items (has_slots j m well loaded)
@@ -81,7 +81,7 @@ unfolding report_lines
 report_own bytes j m t is_job loaded lone has e =
     let sections = sections_own m lone j.slots has in
     let own_report : t ≡ text (report_lines j m.journal (own m.slots m.journal)) =
-        e ∙ ap (λ xs. text ((codes "KDF9 REPORT 1" ∷ map entry_line m.journal) ++ xs ++ (codes "ENDREPORT" ∷ []))) sections in
+    e ∙ ap (λ xs. text ((codes "KDF9 REPORT 1" ∷ map entry_line m.journal) ++ xs ++ (codes "ENDREPORT" ∷ []))) sections in
     let of_job : t ≡ text (report_lines j m.journal (own (slots_of j) m.journal)) =
-        own_report ∙ ap (λ slots. text (report_lines j m.journal (own slots m.journal))) loaded in
+    own_report ∙ ap (λ slots. text (report_lines j m.journal (own slots m.journal))) loaded in
     subst (λ x. t ≡ text (report_lines x m.journal (own (slots_of x) m.journal))) is_job of_job

@@ -109,7 +109,7 @@ pub run_usage : (words : List (List ℕ)) (given : Status) (kept : Option Shown)
     → ((bytes : List ℕ) → IsGiven status.Usage bytes given kept o n) → IsRun words given kept source source o n
 run_usage words given kept source o n unasked none given_usage =
     let all : IfSome source.left (λ bytes. IsGiven (called_for words bytes) bytes given kept o n) =
-        all_some _ source.left (λ bytes. as_called status.Usage _ bytes given kept o n (called_usage words bytes unasked) (given_usage bytes)) in
+    all_some _ source.left (λ bytes. as_called status.Usage _ bytes given kept o n (called_usage words bytes unasked) (given_usage bytes)) in
     let one = given_usage [] in
     record {
       answer = map_some _ _ source.left (λ bytes h. answers_weaker (called_for words bytes) given (HasRisen source.faults source.faults) (HasRisen o.faults n.faults) h.answer) all;
@@ -136,9 +136,9 @@ pub run_read : (words : List (List ℕ)) (read : List ℕ) (given : Status) (kep
     → IsGiven (status_of_fault (job_fault read)) read given kept o n → IsRun words given kept source source' o n
 run_read words read given kept source source' o n asked short took ended whole falls one =
     run_command words (status_of_fault (job_fault read)) read given kept source source' o n asked (fault_no_usage (job_fault read)) one
-        (map_some _ _ source.left (λ bytes e. subst (λ x. IsGiven (called_for words x) x given kept o n) e
-            (as_called _ _ read given kept o n (called_fault words read asked short) one)) whole)
-        (all_some _ kept (λ m. ended)) (all_some _ kept (λ m. took)) falls
+    (map_some _ _ source.left (λ bytes e. subst (λ x. IsGiven (called_for words x) x given kept o n) e
+    (as_called _ _ read given kept o n (called_fault words read asked short) one)) whole)
+    (all_some _ kept (λ m. ended)) (all_some _ kept (λ m. took)) falls
 
 -- more bytes came than a job may have
 pub run_large : (words : List (List ℕ)) (given : Status) (kept : Option Shown) (source source' : Inlet) (o n : Outlet)
@@ -146,8 +146,8 @@ pub run_large : (words : List (List ℕ)) (given : Status) (kept : Option Shown)
     → ((bytes : List ℕ) → IsGiven status.Large bytes given kept o n) → IsRun words given kept source source' o n
 run_large words given kept source source' o n asked none long falls given_large =
     run_command words status.Large [] given kept source source' o n asked (λ e. absurd (cc)) (given_large [])
-        (map_some _ _ source.left (λ bytes h. as_called _ _ bytes given kept o n (called_large words bytes asked h) (given_large bytes)) long)
-        (nothing_kept kept _ none) (nothing_kept kept _ none) falls
+    (map_some _ _ source.left (λ bytes h. as_called _ _ bytes given kept o n (called_large words bytes asked h) (given_large bytes)) long)
+    (nothing_kept kept _ none) (nothing_kept kept _ none) falls
 
 -- as many bytes came, so more are told than a job may have
 pub large_told : (limit : ℕ) (before after : Option (List ℕ)) → limit ≡ job_limit → TookBefore Large limit before after → IfSome before (λ bytes. job_limit < length bytes)
@@ -162,7 +162,7 @@ pub run_no_memory : (words : List (List ℕ)) (source source' : Inlet) (o : Outl
     → IsRun words status.Memory None source source' o o
 run_no_memory words source source' o asked falls =
     run_command words status.Large [] status.Memory None source source' o o asked (λ e. absurd (cc)) (given_memory status.Large [] o)
-        (all_some _ source.left (λ bytes. given_memory (called_for words bytes) bytes o)) (tt {0}) (tt {0}) falls
+    (all_some _ source.left (λ bytes. given_memory (called_for words bytes) bytes o)) (tt {0}) (tt {0}) falls
 
 -- the source failed
 pub run_read_fault : (words : List (List ℕ)) (source source' : Inlet) (o : Outlet) → is_command words ≡ true → HasRisen source.faults source'.faults
@@ -203,4 +203,4 @@ pub complete : (words : List (List ℕ)) (given : Status) (left : Option (List �
     → IfSome left (λ bytes. length bytes ≤ job_limit → job_fault bytes ≡ None → ¬ read_failed → ¬ rose → (given ≡ status.Done) ⊎ (given ≡ status.Memory))
 complete words given left read_failed rose asked answers =
     map_some _ _ left (λ bytes h short faultless f g.
-        only_memory status.Done given read_failed rose (subst (λ x. Answers x given read_failed rose) (called_done words bytes asked short faultless) h) f g) answers
+    only_memory status.Done given read_failed rose (subst (λ x. Answers x given read_failed rose) (called_done words bytes asked short faultless) h) f g) answers

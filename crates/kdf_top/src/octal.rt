@@ -2,7 +2,6 @@
 ghost use Rattle.std.specs.Prelude.{◌≡◌, ◌++◌, OnOk, string_bytes};
 ghost use Rattle.kdf_top.specs.Text.{octal};
 
-
 use kdf_word::Word;
 use std::alloc::AllocError;
 use std::fmt::Write;

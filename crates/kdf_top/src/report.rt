@@ -74,7 +74,12 @@ fn write_slot(out: &mut String, p: u8) -> Result<(), AllocError>
 
 // The words of program `p` between each two addresses.
 #[tactic(auto, unfolding(crate::specs::Text::text))]
-fn write_shows(out: &mut String, shows: &[(u16, u16)], machine: &Machine, p: u8) -> Result<(), AllocError>
+fn write_shows(
+    out: &mut String,
+    shows: &[(u16, u16)],
+    machine: &Machine,
+    p: u8,
+) -> Result<(), AllocError>
     requires { IsSomeAnd (slot_of machine.now.slots p) (λ kept. All (λ show. show.1 < kept.size) shows.now) }
     ensures { OnOk result (string_bytes out.new
         ≡ string_bytes out.old ++ text (flat_map (show_lines (state_at machine.now p)) shows.now)) }
@@ -87,7 +92,13 @@ fn write_shows(out: &mut String, shows: &[(u16, u16)], machine: &Machine, p: u8)
 
 // The words of program `p` from the first to the last address.
 #[tactic(auto, unfolding(crate::specs::Text::text))]
-fn write_show(out: &mut String, first: u16, last: u16, machine: &Machine, p: u8) -> Result<(), AllocError>
+fn write_show(
+    out: &mut String,
+    first: u16,
+    last: u16,
+    machine: &Machine,
+    p: u8,
+) -> Result<(), AllocError>
     requires { IsSomeAnd (slot_of machine.now.slots p) (λ kept. last < kept.size) }
     ensures { OnOk result (string_bytes out.new
         ≡ string_bytes out.old ++ text (show_lines (state_at machine.now p) (first, last))) }

@@ -38,8 +38,8 @@ pub fn run<S: Source, K: Sink>(
     // Where nothing fails, a job without a fault is done, and other words are told how to use the program; or there was no memory.
     ensures complete { is_command (map string_bytes words.now) ≡ true
         → IfSome (S.left source.old) (λ bytes. length bytes ≤ job_limit → job_fault bytes ≡ None
-            → ¬ (HasRisen (S.faults source.old) (S.faults source.new)) → ¬ (HasRisen (K.faults sink.old) (K.faults sink.new))
-            → (result.status ≡ Status.Done) ⊎ (result.status ≡ Status.Memory)) }
+        → ¬ (HasRisen (S.faults source.old) (S.faults source.new)) → ¬ (HasRisen (K.faults sink.old) (K.faults sink.new))
+        → (result.status ≡ Status.Done) ⊎ (result.status ≡ Status.Memory)) }
     ensures complete_usage { is_command (map string_bytes words.now) ≡ false → ¬ (HasRisen (K.faults sink.old) (K.faults sink.new))
         → (result.status ≡ Status.Usage) ⊎ (result.status ≡ Status.Memory) }
 
@@ -190,3 +190,6 @@ fn assemble_all(alloc: Global, slots: &[SlotJob]) -> Result<Vec<Image>, AllocErr
     }
     Ok(images)
 }
+
+#[cfg(test)]
+mod tests;

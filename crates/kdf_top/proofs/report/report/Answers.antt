@@ -8,6 +8,6 @@ pub returns : goal.returns
 returns c =
     let m = c.args.machine.now in
     report_text (shown_job c.args.job.now) m.journal (state_at m) _ _ _ _ _ _ _ c.new-out.ensures.bytes
-        (c.entries.ensures ∙ c.journal.ensures.entries) (ap (map shown_slot) c.deref.ensures.value)
-        c.in_ok-write_head.ensures c.in_ok-write_entries.ensures c.in_ok-write_sections.ensures
-        (ap vec_items c.into_bytes.ensures.value ∙ c.in_ok-write_end.ensures)
+    (c.entries.ensures ∙ c.journal.ensures.entries) (ap (map shown_slot) c.deref.ensures.value)
+    c.in_ok-write_head.ensures c.in_ok-write_entries.ensures c.in_ok-write_sections.ensures
+    (ap vec_items c.into_bytes.ensures.value ∙ c.in_ok-write_end.ensures)

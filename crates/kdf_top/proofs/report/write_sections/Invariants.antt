@@ -8,4 +8,4 @@ use Rattle.kdf_top.proofs.report.write_sections.Given as goal
 abbrev pub invariant-loop-slot : goal.invariant-loop-slot
 invariant-loop-slot l =
     string_bytes l.out ≡ string_bytes l.initial.out
-        ++ text (flat_map (λ slot. section slot (state_at l.machine slot.p)) (map shown_slot (take l.slot-index l.slots)))
+    ++ text (flat_map (λ slot. section slot (state_at l.machine slot.p)) (map shown_slot (take l.slot-index l.slots)))

@@ -24,5 +24,5 @@ pub returns-in_ok-write_word : goal.returns-in_ok-write_word
 returns-in_ok-write_word c =
     let last : c.loop-address.address ≡ c.args.last = omega arith in
     let all = text_range_more (word_line (state_at c.args.machine.now c.args.p)) c.args.first c.loop-address.address _ _ _ (omega arith)
-        c.loop-address.invariant.written c.in_ok-write_word.ensures in
+    c.loop-address.invariant.written c.in_ok-write_word.ensures in
     rw last at all

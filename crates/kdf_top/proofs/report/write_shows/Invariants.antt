@@ -7,4 +7,4 @@ use Rattle.kdf_top.proofs.report.write_shows.Given as goal
 abbrev pub invariant-loop-first : goal.invariant-loop-first
 invariant-loop-first l =
     string_bytes l.out ≡ string_bytes l.initial.out
-        ++ text (flat_map (show_lines (state_at l.machine l.p)) (take l.first-index l.shows))
+    ++ text (flat_map (show_lines (state_at l.machine l.p)) (take l.first-index l.shows))

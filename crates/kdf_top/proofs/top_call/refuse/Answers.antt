@@ -12,6 +12,6 @@ pub returns-in-Ok-write_all : goal.returns-in-Ok-write_all
 returns-in-Ok-write_all g c = record {
   given = λ bytes. rw (c.without_machine-in-Ok-write_all.ensures.status, c.without_machine-in-Ok-write_all.ensures.machine)
       (given_refusal c.args.status bytes _ _ _ c.requires (c.deref.ensures.value ∙ c.in-Ok.ensures)
-          c.in-Ok-write_all.ensures.all c.write_all.ensures.room_count c.write_all.ensures.never_falls);
+      c.in-Ok-write_all.ensures.all c.write_all.ensures.room_count c.write_all.ensures.never_falls);
   machine = c.without_machine-in-Ok-write_all.ensures.machine;
 }

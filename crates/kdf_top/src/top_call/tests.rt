@@ -1,0 +1,205 @@
+//! Whole calls over memory: each answer, and what is written at it.
+ghost use Rattle.std.specs.Prelude.{◌≤◌};
+
+use super::run;
+use crate::{JobFault, Status};
+use kdf_io::{MemorySink, MemorySource};
+use std::alloc::{AllocError, Global};
+use std::process::Abort;
+use std::test::Fail;
+
+/// Adds 5 and 7, and shows the sum.
+const JOB: &[u8] =
+    b"KDF9 JOB 1\nSLOT 0\nSTORE 32\nDECK\nY0; PROGRAM; SET 5; SET 7; +; =Y0; ZERO; OUT; FINISH;\nENDDECK\nSHOW 3 3\nSCHEDULE\nORDERS 10\nENDJOB\n";
+
+const REPORT: &[u8] =
+    b"KDF9 REPORT 1\nRAN 0 7\nENDED 0\nSLOT 0\nSTATE ENDED\nORDERS 7\nAT 3 0\nFLAGS 0 0\nNEST 0\nLINKS 0\nWORD 3 0000000000000014\nENDREPORT\n";
+
+/// The same stopped after four orders: the sum is in the nest, and not yet in the store.
+const STOPPED: &[u8] =
+    b"KDF9 JOB 1\nSLOT 0\nSTORE 32\nDECK\nY0; PROGRAM; SET 5; SET 7; +; =Y0; ZERO; OUT; FINISH;\nENDDECK\nSHOW 2 3\nSCHEDULE\nORDERS 4\nENDJOB\n";
+
+const STOPPED_REPORT: &[u8] =
+    b"KDF9 REPORT 1\nRAN 0 4\nSLOT 0\nSTATE LIVE\nORDERS 4\nAT 2 1\nFLAGS 0 0\nNEST 1 0000000000000014\nLINKS 0\nWORD 2 0435000000604441\nWORD 3 0000000000000000\nENDREPORT\n";
+
+const USAGE: &[u8] = b"USAGE kdf9 run, alone K, asm K, make N\n";
+
+/// Words, and a source and a sink: how many bytes it gives a read, which reads fail, and for how many bytes there is room.
+#[derive(Clone, Copy)]
+struct Call<'a> {
+    words: &'a [&'a str],
+    job: &'a [u8],
+    most: usize,
+    fail: &'a [u32],
+    room: usize,
+}
+
+/// A call over a source and a sink that don't fail.
+fn whole<'a>(words: &'a [&'a str], job: &'a [u8]) -> Call<'a> {
+    Call {
+        words,
+        job,
+        most: 1000,
+        fail: &[],
+        room: 1000,
+    }
+}
+
+/// What a call answers, and what it writes, by pieces of 5 bytes.
+fn answer(rt: &impl Abort, alloc: Global, call: &Call) -> Result<(Status, Vec<u8>), AllocError> {
+    let mut words = Vec::new(alloc);
+    for word in call.words {
+        words.push(String::from_str(alloc, word)?)?;
+    }
+    assert!(rt; call.most >= 1);
+    let bytes = Vec::from_slice(alloc, call.job)?;
+    let mut source = MemorySource::new(bytes, call.most, Vec::from_slice(alloc, call.fail)?);
+    let mut sink = MemorySink::new(alloc, call.room, 5, Vec::new(alloc))?;
+    let outcome = run(alloc, &words, &mut source, &mut sink);
+    let status = outcome.status;
+    assert_eq!(rt; outcome.machine.is_some(), status == Status::Done);
+    outcome.close();
+    Ok((status, Vec::from_slice(alloc, sink.bytes())?))
+}
+
+fn expect(
+    rt: &impl Abort,
+    alloc: Global,
+    call: &Call,
+    status: Status,
+    written: &[u8],
+) -> Result<(), AllocError> {
+    let (given, bytes) = answer(rt, alloc, call)?;
+    assert_eq!(rt; given, status);
+    assert_eq!(rt; bytes.as_slice(), written);
+    Ok(())
+}
+
+fn expect_usage(rt: &impl Abort, alloc: Global, words: &[&str]) -> Result<(), AllocError> {
+    expect(rt, alloc, &whole(words, JOB), Status::Usage, USAGE)
+}
+
+#[test]
+fn jobs_have_their_reports(rt: HostRuntime) -> Result<(), Fail> {
+    let alloc = rt.alloc();
+    expect(&rt, alloc, &whole(&["run"], JOB), Status::Done, REPORT)?;
+    expect(
+        &rt,
+        alloc,
+        &whole(&["run"], STOPPED),
+        Status::Done,
+        STOPPED_REPORT,
+    )?;
+    Ok(())
+}
+
+#[test]
+fn refusals_have_their_lines(rt: HostRuntime) -> Result<(), Fail> {
+    let alloc = rt.alloc();
+    for words in [[].as_slice(), &["run", "extra"], &["Run"], &[""], &["-h"]] {
+        expect_usage(&rt, alloc, words)?;
+    }
+    let header = Status::Job {
+        fault: JobFault::Header,
+        line: 1,
+    };
+    expect(&rt, alloc, &whole(&["run"], b""), header, b"JOB Header 1\n")?;
+    let size = Status::Job {
+        fault: JobFault::NotYet,
+        line: 3,
+    };
+    expect(
+        &rt,
+        alloc,
+        &whole(&["run"], b"KDF9 JOB 1\nSLOT 0\nSTORE 33\n"),
+        size,
+        b"JOB NotYet 3\n",
+    )?;
+    Ok(())
+}
+
+#[test]
+fn a_job_has_a_limit(rt: HostRuntime) -> Result<(), Fail> {
+    let alloc = rt.alloc();
+    let header = Status::Job {
+        fault: JobFault::Header,
+        line: 1,
+    };
+    let bytes = vec![in alloc; 0u8; 4_194_305]?;
+    let large = Call {
+        words: &["run"],
+        job: &bytes,
+        most: 5000,
+        fail: &[],
+        room: 1000,
+    };
+    expect(&rt, alloc, &large, Status::Large, b"LARGE 4194304\n")?;
+    let fits = Call {
+        words: &["run"],
+        job: &bytes[1..],
+        most: 5000,
+        fail: &[],
+        room: 1000,
+    };
+    expect(&rt, alloc, &fits, header, b"JOB Header 1\n")?;
+    Ok(())
+}
+
+#[test]
+fn failures_of_the_outside_are_answered(rt: HostRuntime) -> Result<(), Fail> {
+    let alloc = rt.alloc();
+    let read_fails = Call {
+        words: &["run"],
+        job: JOB,
+        most: 1,
+        fail: &[2],
+        room: 1000,
+    };
+    expect(&rt, alloc, &read_fails, Status::ReadFault, b"")?;
+    let unread = Call {
+        words: &["ran"],
+        job: JOB,
+        most: 1,
+        fail: &[1],
+        room: 1000,
+    };
+    expect(&rt, alloc, &unread, Status::Usage, USAGE)?;
+    let write_fails = Call {
+        words: &["run"],
+        job: JOB,
+        most: 1000,
+        fail: &[],
+        room: 7,
+    };
+    expect(&rt, alloc, &write_fails, Status::WriteFault, b"KDF9 RE")?;
+    let usage_fails = Call {
+        words: &[],
+        job: JOB,
+        most: 1000,
+        fail: &[],
+        room: 7,
+    };
+    expect(&rt, alloc, &usage_fails, Status::WriteFault, b"USAGE k")?;
+    Ok(())
+}
+
+#[test]
+fn statuses_have_their_numbers(rt: HostRuntime) {
+    let job = Status::Job {
+        fault: JobFault::NotYet,
+        line: 5,
+    };
+    let all = [
+        Status::Done,
+        Status::Usage,
+        job,
+        Status::Large,
+        Status::ReadFault,
+        Status::WriteFault,
+        Status::Memory,
+    ];
+    let codes = [0, 1, 2, 4, 5, 6, 7];
+    for (status, code) in all.iter().zip(codes) {
+        assert_eq!(rt; status.code(), code);
+    }
+}
