@@ -44,9 +44,11 @@ unfolding lines
 left-rest [] = refl
 left-rest (b ∷ text) = refl
 
-pub left-length : (text : List ℕ) → 0 < length (left text) → eqb (length text) 0 ≡ false
-left-length [] lt = absurd (omega arith)
-left-length (b ∷ text) lt = ne_eqb (length (b ∷ text)) 0 (λ e. omega arith)
+-- where there is a line there is a byte
+pub lines-some : (text : List ℕ) → 0 < length (lines text) → eqb (length text) 0 ≡ false
+unfolding lines
+lines-some [] lt = absurd (omega arith)
+lines-some (b ∷ text) lt = ne_eqb (length (b ∷ text)) 0 (λ e. omega arith)
 
 -- a text that is cut at each such byte: the words of a line, and the statements of a deck
 abbrev pub parts : ℕ → List ℕ → List (List ℕ)
