@@ -1,5 +1,5 @@
 use Rattle.std.proofs.Common.{ℕ, List, drop, sym, ap, ◌∙◌}
-use Rattle.kdf_top.specs.Lines.{line, lines}
+use Rattle.kdf_top.specs.Lines.{line}
 use Rattle.kdf_top.proofs.Cutting.{lines-at, lines-left, left-first, left-rest}
 use Rattle.kdf_top.proofs.lines.first_line.Goals as goal
 
