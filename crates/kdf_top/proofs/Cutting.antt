@@ -1,5 +1,5 @@
 -- Lines, words and statements of texts that are cut at a byte.
-use Rattle.std.proofs.Common.{◌≡◌, ℕ, ◌<◌, Bool, true, false, cond, ◌||◌, eqb, List, [], ◌∷◌, ◌++◌, length, drop, arith, ⊎_elim, refl, sym, ap, ◌∙◌}
+use Rattle.std.proofs.Common.{◌≡◌, ℕ, ◌<◌, Bool, true, false, cond, eqb, List, [], ◌∷◌, ◌++◌, length, drop, arith, ⊎_elim, refl, ap, ◌∙◌}
 use Rattle.std.specs.List.{list_any}
 use Rattle.std.proofs.lemmas.Bool.{or_parts, cases_Bool, eq-eqb, ne_eqb}
 use Rattle.kdf_top.specs.Lines.{lines, line, line_byte, words, word_byte, in_first}
@@ -44,9 +44,11 @@ unfolding lines
 left-rest [] = refl
 left-rest (b ∷ text) = refl
 
-pub left-length : (text : List ℕ) → 0 < length (left text) → eqb (length text) 0 ≡ false
-left-length [] lt = absurd (omega arith)
-left-length (b ∷ text) lt = ne_eqb (length (b ∷ text)) 0 (λ e. omega arith)
+-- where there is a line there is a byte
+pub lines-some : (text : List ℕ) → 0 < length (lines text) → eqb (length text) 0 ≡ false
+unfolding lines
+lines-some [] lt = absurd (omega arith)
+lines-some (b ∷ text) lt = ne_eqb (length (b ∷ text)) 0 (λ e. omega arith)
 
 -- a text that is cut at each such byte: the words of a line, and the statements of a deck
 abbrev pub parts : ℕ → List ℕ → List (List ℕ)

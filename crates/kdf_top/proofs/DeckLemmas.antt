@@ -3,7 +3,6 @@ use Rattle.std.proofs.Common.{◌≡◌, ℕ, Bool, true, false, cond, ◌&&◌,
 use Rattle.std.proofs.lemmas.Bool.{cases_Bool, and_right, ne_eqb}
 use Rattle.std.proofs.lemmas.List.{append-nil}
 use Rattle.kdf_top.specs.declared.deck.Piece.{Piece}
-use Rattle.kdf_top.specs.Options.{◌>>=◌}
 use Rattle.kdf_top.specs.Lines.{is_text}
 use Rattle.kdf_top.specs.Deck.{Deck, statements, piece, pieces, with_piece, is_finish, program, with_orders, declared, behind, from_statements}
 use Rattle.kdf_top.proofs.Cutting.{has, Many, statements-parts, parts-whole, parts-many, parts-at}

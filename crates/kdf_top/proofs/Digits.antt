@@ -1,9 +1,9 @@
 -- Numbers that are read digit by digit, up to a limit.
-use Rattle.std.proofs.Common.{◌≡◌, ℕ, ◌+◌, ◌*◌, ◌-◌, ◌<◌, ◌≤◌, Bool, true, false, cond, ◌&&◌, not, eqb, leb, List, [], ◌∷◌, length, get_or, drop, fold, Option, Some, None, refl, sym, ap, ◌∙◌, ⊎_elim, arith}
+use Rattle.std.proofs.Common.{◌≡◌, ℕ, ◌+◌, ◌*◌, ◌-◌, ◌<◌, ◌≤◌, true, false, cond, ◌&&◌, eqb, leb, List, [], ◌∷◌, length, get_or, drop, fold, Option, Some, None, refl, sym, ◌∙◌, ⊎_elim, arith}
 use Rattle.std.specs.List.{list_all}
 use Rattle.std.proofs.lemmas.Bool.{cases_Bool, le-leb, lt-leb, leb-true, leb-false, and_right}
 use Rattle.std.proofs.lemmas.List.{at_drop_more}
-use Rattle.kdf_top.specs.Lines.{is_digit, is_digits, value}
+use Rattle.kdf_top.specs.Lines.{is_digit, value}
 use Rattle.kdf_top.specs.Deck.{up_to}
 
 -- what the digits from here make, where those before make n

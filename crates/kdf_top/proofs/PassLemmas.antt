@@ -1,12 +1,12 @@
 -- One line that has its form, or hasn't.
-use Rattle.std.proofs.Common.{◌≡◌, ℕ, ◌+◌, ◌<◌, Bool, true, false, cond, List, [], ◌∷◌, ◌++◌, length, drop, Option, Some, None, is_some, eqb, codes, subst, refl, sym, ap, ◌∙◌, arith}
+use Rattle.std.proofs.Common.{◌≡◌, ℕ, ◌+◌, ◌<◌, Bool, true, false, cond, List, [], ◌∷◌, ◌++◌, length, drop, Option, Some, None, eqb, subst, refl, sym, ap, ◌∙◌, arith}
 use Rattle.std.proofs.lemmas.Bool.{true≢false, cond-true, cond-false}
 use Rattle.std.proofs.lemmas.List.{nil_from_length}
 use Rattle.kdf_top.specs.declared.job.JobError.{JobError}
 use Rattle.kdf_top.specs.declared.job.JobFault.{JobFault}
 use Rattle.kdf_top.specs.declared.lines.Lines.{Lines}
 use Rattle.kdf_top.specs.Options.{◌>>=◌}
-use Rattle.kdf_top.specs.Lines.{line, lines, words, in_first, is_text}
+use Rattle.kdf_top.specs.Lines.{line, lines, words, in_first}
 use Rattle.kdf_top.specs.Deck.{deck, kept, statements, pieces}
 use Rattle.kdf_top.specs.Job.{first_off, fault_at, is_deck, has_size, has_show, has_calls}
 use Rattle.kdf_top.specs.Reading.{ahead, fault_from, Passes, Says, Stops}

@@ -5,9 +5,8 @@ use Rattle.kdf_top.specs.declared.job.JobError.{JobError}
 use Rattle.kdf_top.specs.declared.job.JobFault.{JobFault}
 use Rattle.kdf_top.specs.declared.job.Event.TheVariants.{Orders}
 use Rattle.kdf_top.specs.declared.lines.Lines.{Lines}
-use Rattle.kdf_top.specs.Options.{◌>>=◌}
 use Rattle.kdf_top.specs.Lines.{line, lines}
-use Rattle.kdf_top.specs.Job.{Job, store_size, order_count, show_range, size_in, show_in, shows_of, orders_in, forms, head_forms, deck_forms, show_forms, schedule_forms, first_off, fault_at, job, job_fault, job_of_lines}
+use Rattle.kdf_top.specs.Job.{Job, store_size, order_count, show_range, size_in, show_in, shows_of, orders_in, forms, head_forms, deck_forms, show_forms, schedule_forms, job, job_fault}
 use Rattle.kdf_top.specs.WellFormed.{IsShow}
 use Rattle.kdf_top.specs.Reading.{ahead, fault_from, Passes, Says, Stops}
 

@@ -1,9 +1,9 @@
 -- Lines of a name and numbers, which are cut at each space.
-use Rattle.std.proofs.Common.{◌≡◌, ℕ, ◌≤◌, Bool, true, false, cond, ◌&&◌, ◌||◌, not, eqb, leb, List, [], ◌∷◌, ◌++◌, Option, Some, None, length, refl, sym, ap, ◌∙◌, ⊎_elim, arith, codes}
-use Rattle.std.specs.List.{list_any, list_all}
-use Rattle.std.proofs.lemmas.Bool.{or_parts, or_cases, cases_Bool, eqb-true, and_left, and_right}
+use Rattle.std.proofs.Common.{◌≡◌, ℕ, Bool, true, false, cond, not, eqb, List, [], ◌∷◌, ◌++◌, Option, Some, None, length, refl, sym, ap, ◌∙◌, ⊎_elim, codes}
+use Rattle.std.specs.List.{list_all}
+use Rattle.std.proofs.lemmas.Bool.{or_cases, cases_Bool, eqb-true, and_right}
 use Rattle.kdf_top.specs.Options.{◌>>=◌}
-use Rattle.kdf_top.specs.Lines.{words, word_byte, in_first, is_text, is_digit, is_digits, is_number, number_in, value}
+use Rattle.kdf_top.specs.Lines.{words, is_text, is_digit, is_digits, number_in}
 use Rattle.kdf_top.specs.Job.{number_of_words, show_of_words, addresses, if_shown}
 use Rattle.kdf_top.proofs.Cutting.{has, Many, words-parts, parts-whole, parts-many, parts-at}
 

@@ -1,5 +1,5 @@
 -- Programs and jobs, worked out by computation.
-use Rattle.std.proofs.Common.{◌≡◌, List, [], ◌∷◌, Option, true, false, None, Some, codes, replicate, refl}
+use Rattle.std.proofs.Common.{◌≡◌, [], ◌∷◌, false, None, Some, codes, replicate, refl}
 use Rattle.kdf_processor.specs.declared.failure.Failure.TheVariants.{Liv, Nouv}
 use Rattle.kdf_processor.specs.declared.registers.Life.TheVariants.{Live, Ended, Failed}
 use Rattle.kdf_processor.specs.Arith.{arith_row}
@@ -11,7 +11,6 @@ use Rattle.kdf_top.specs.Placement.{packed, image_of, image}
 use Rattle.kdf_top.specs.Job.{forms, job, job_fault}
 use Rattle.kdf_top.specs.Worked.{adding, seventeen_zeros, nothing, alone, looked, job_text}
 use Rattle.kdf_top.specs.declared.job.Event.TheVariants.{Orders}
-use Rattle.kdf_top.specs.declared.job.JobFault.{JobFault}
 use Rattle.kdf_top.specs.declared.job.JobFault.TheVariants.{Header, NotYet}
 
 pub adding_ends : looked 3 (alone adding 7) ≡ record { life = Ended; ran = 7; at = 18; nest = []; v = false; word = 12 }

@@ -1,5 +1,5 @@
 -- The jobs that are read today: which lines they have, the first line that is wrong, and what a job means.
-use Rattle.std.specs.Prelude.{ℕ, ◌+◌, ◌%◌, ◌==◌, ◌&&◌, nat_le, nat_lt, Bool, false, true, List, [], ◌∷◌, ◌++◌, length, Option, Some, None, unwrap_or, is_some, if◌then◌else◌, codes}
+use Rattle.std.specs.Prelude.{ℕ, ◌+◌, ◌%◌, ◌==◌, ◌&&◌, nat_le, nat_lt, Bool, false, List, [], ◌∷◌, ◌++◌, length, Option, Some, None, unwrap_or, is_some, if◌then◌else◌, codes}
 use Rattle.kdf_top.specs.declared.job.Event.{Event}
 use Rattle.kdf_top.specs.declared.job.Event.TheVariants.{Orders}
 use Rattle.kdf_top.specs.declared.job.JobFault.{JobFault}

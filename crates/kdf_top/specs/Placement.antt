@@ -1,5 +1,5 @@
 -- Where the orders and stores of a deck stand, and the words of its image.
-use Rattle.std.specs.Prelude.{ℕ, ◌+◌, ◌*◌, ◌/◌, List, [], ◌∷◌, ◌++◌, length, replicate, true, false, Option, Some, None}
+use Rattle.std.specs.Prelude.{ℕ, ◌+◌, ◌/◌, List, [], ◌∷◌, ◌++◌, length, replicate, true, false, Option, Some, None}
 use Rattle.std.specs.List.{flat_map}
 use Rattle.kdf_processor.specs.declared.spelling.order.Order.{Order}
 use Rattle.kdf_processor.specs.declared.spelling.order.Order.TheVariants.{Plain, Jump, Direct, Set as Constant}

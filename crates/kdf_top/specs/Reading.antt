@@ -1,5 +1,5 @@
 -- How a job is read: what is ahead, and what is said of lines that have their forms or haven't.
-use Rattle.std.specs.Prelude.{◌≡◌, ℕ, Bool, List, ◌++◌, Option, Some, None}
+use Rattle.std.specs.Prelude.{◌≡◌, ℕ, Bool, List, ◌++◌, Option, Some}
 use Rattle.kdf_top.specs.declared.job.JobError.{JobError}
 use Rattle.kdf_top.specs.declared.job.JobError.TheVariants.{Fault, Memory}
 use Rattle.kdf_top.specs.declared.job.JobFault.{JobFault}

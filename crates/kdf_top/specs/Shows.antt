@@ -1,5 +1,5 @@
 -- What the types of the code show: the definitions' records, with lists in place of vectors.
-use Rattle.std.specs.Prelude.{ℕ, List, map}
+use Rattle.std.specs.Prelude.{map}
 use Rattle.kdf_top.specs.declared.deck.Deck.{Deck as ReadDeck}
 use Rattle.kdf_top.specs.declared.job.Job.{Job as ReadJob}
 use Rattle.kdf_top.specs.declared.job.SlotJob.{SlotJob as ReadSlot}

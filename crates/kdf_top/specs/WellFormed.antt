@@ -1,8 +1,7 @@
 -- What holds of every deck and every job that is read.
 use Rattle.std.specs.Prelude.{◌≡◌, ℕ, ◌%◌, ◌^◌, ◌<◌, ◌≤◌, List, [], ◌∷◌, length, All, IsSome}
 use Rattle.kdf_top.specs.declared.deck.Piece.{Piece}
-use Rattle.kdf_top.specs.declared.deck.Piece.TheVariants.{Fetches, Keeps, Sets, Adds, Zeros, Outs}
-use Rattle.kdf_top.specs.declared.job.Event.{Event}
+use Rattle.kdf_top.specs.declared.deck.Piece.TheVariants.{Fetches, Keeps, Sets}
 use Rattle.kdf_top.specs.declared.job.Event.TheVariants.{Orders}
 use Rattle.kdf_top.specs.declared.job.Job.{Job}
 use Rattle.kdf_top.specs.declared.job.SlotJob.{SlotJob}

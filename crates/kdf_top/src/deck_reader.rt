@@ -1,6 +1,6 @@
 //! Reading a deck.
 
-ghost use Rattle.std.specs.Prelude.{◌≡◌, ℕ, ◌≤◌, ◌<◌, ◌==◌, ◌&&◌, length, codes, All, IfOk, IfSome, option_map, option_and_then};
+ghost use Rattle.std.specs.Prelude.{◌≡◌, ℕ, ◌<◌, ◌==◌, ◌&&◌, length, codes, All, IfOk, IfSome, option_map, option_and_then};
 ghost use Rattle.std.specs.Option.{option_copied};
 ghost use Rattle.kdf_top.specs.Deck.{kept, strip, statements, store_in, sets, fetches, keeps, piece, pieces, declared, program, with_orders, from_statements, deck};
 ghost use Rattle.kdf_top.specs.Lines.{is_text};

@@ -1,6 +1,6 @@
 //! The lines of a job that have numbers in them.
 
-ghost use Rattle.std.specs.Prelude.{◌≡◌, ◌%◌, ◌<◌, ◌≤◌, codes, IfSome};
+ghost use Rattle.std.specs.Prelude.{◌≡◌, ◌%◌, ◌<◌, ◌≤◌, IfSome};
 ghost use Rattle.kdf_top.specs.Job.{number_of_words, store_size, order_count, show_range, addresses};
 ghost use Rattle.kdf_top.specs.Lines.{words};
 

@@ -1,6 +1,6 @@
 //! The lines of a text, one after the other.
 
-ghost use Rattle.std.specs.Prelude.{◌≡◌, ◌+◌, ◌<◌, ◌^◌, drop, length};
+ghost use Rattle.std.specs.Prelude.{◌≡◌, ◌==◌, ◌+◌, ◌<◌, ◌≤◌, ◌^◌, drop, length, if◌then◌else◌};
 ghost use Rattle.kdf_top.specs.Lines.{line, lines};
 
 use crate::cuts::cut;
@@ -46,22 +46,28 @@ impl<'a> Lines<'a> {
         ensures next { 0 < length (ahead self.old) → self.new.number ≡ self.old.number + 1 }
     {
         let number = self.number;
-        let text = self.rest;
-        match cut(text, b'\n') {
-            Some((text, rest)) => {
-                *self = Lines {
-                    rest,
-                    number: number + 1,
-                };
-                Line { number, text }
-            }
-            None => {
-                *self = Lines {
-                    rest: &[],
-                    number: if text.is_empty() { number } else { number + 1 },
-                };
-                Line { number, text }
-            }
-        }
+        let behind = if self.rest.is_empty() {
+            number
+        } else {
+            number + 1
+        };
+        let (text, rest) = first_line(self.rest);
+        *self = Lines {
+            rest,
+            number: behind,
+        };
+        Line { number, text }
+    }
+}
+
+/// The first line of a text, or an empty one where it has none, and what stands behind it.
+fn first_line(text: &[u8]) -> (&[u8], &[u8])
+    ensures first { result.0.now ≡ line (lines text.now) 1 }
+    ensures rest { lines result.1.now ≡ drop 1 (lines text.now) }
+    ensures shorter { length result.1.now + (if length text.now == 0 then 0 else 1) ≤ length text.now }
+{
+    match cut(text, b'\n') {
+        Some((line, rest)) => (line, rest),
+        None => (text, &[]),
     }
 }

@@ -2,7 +2,7 @@
 
 ghost use Rattle.std.specs.Prelude.{◌≡◌, ℕ, ◌-◌, ◌+◌, ◌*◌, ◌≤◌, ◌++◌, false, All, IfOk, OnOk, length, replicate};
 ghost use Rattle.kdf_processor.specs.Spelling.{IsOrder, spelling};
-ghost use Rattle.kdf_top.specs.Placement.{order_of, syllables_of, packed, words_for, base_of, image_of, image};
+ghost use Rattle.kdf_top.specs.Placement.{order_of, syllables_of, packed, base_of, image_of, image};
 ghost use Rattle.kdf_top.specs.Shows.{shown_deck};
 ghost use Rattle.kdf_top.specs.WellFormed.{IsPiece, HasImage};
 

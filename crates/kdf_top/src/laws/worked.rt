@@ -1,6 +1,6 @@
 //! What the definitions come to for a few programs and jobs, from their bytes on.
 
-ghost use Rattle.std.specs.Prelude.{◌≡◌, ◌++◌, [], ◌∷◌, true, false, None, Some, codes, replicate};
+ghost use Rattle.std.specs.Prelude.{◌≡◌, [], ◌∷◌, false, None, Some, codes, replicate};
 ghost use Rattle.kdf_processor.specs.declared.failure.Failure.TheVariants.{Liv, Nouv};
 ghost use Rattle.kdf_processor.specs.declared.registers.Life.TheVariants.{Live, Ended, Failed};
 ghost use Rattle.kdf_top.specs.Job.{job, job_fault};

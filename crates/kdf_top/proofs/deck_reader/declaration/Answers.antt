@@ -1,4 +1,4 @@
-use Rattle.std.proofs.Common.{◌≡◌, rules, false, sym, ◌∙◌}
+use Rattle.std.proofs.Common.{◌≡◌, rules, false}
 use Rattle.kdf_top.proofs.Cutting.{has}
 use Rattle.kdf_top.proofs.DeckLemmas.{from-nowhere, from-declared, from-undeclared}
 use Rattle.kdf_top.proofs.deck_reader.declaration.Goals as goal

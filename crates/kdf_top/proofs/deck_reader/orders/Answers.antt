@@ -1,4 +1,4 @@
-use Rattle.std.proofs.Common.{◌≡◌, rules, true, false, None, codes, sym, ◌∙◌}
+use Rattle.std.proofs.Common.{◌≡◌, rules, true, false, None, codes, ◌∙◌}
 use Rattle.std.proofs.lemmas.Bool.{cond-true, cond-false}
 use Rattle.kdf_top.specs.Lines.{is_text}
 use Rattle.kdf_top.specs.Deck.{statements, with_orders}

@@ -1,4 +1,4 @@
-use Rattle.std.proofs.Common.{◌≡◌, ◌++◌, ◌∷◌, [], rules, true, false, Some, None, arith}
+use Rattle.std.proofs.Common.{◌≡◌, ◌++◌, ◌∷◌, [], rules, false, None, arith}
 use Rattle.std.proofs.lemmas.Grind.{common_steps}
 use Rattle.kdf_top.specs.Deck.{pieces, statements, piece}
 use Rattle.kdf_top.proofs.Cutting.{has}

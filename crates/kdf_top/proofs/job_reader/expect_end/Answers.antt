@@ -1,4 +1,4 @@
-use Rattle.std.proofs.Common.{◌≡◌, length, sym, ◌∙◌, rules, arith, true}
+use Rattle.std.proofs.Common.{length, sym, ◌∙◌}
 use Rattle.std.proofs.lemmas.Bool.{eqb-true, eqb-false}
 use Rattle.kdf_top.proofs.PassLemmas.{end-passed, end-stopped}
 use Rattle.kdf_top.proofs.job_reader.expect_end.Goals as goal

@@ -1,4 +1,4 @@
-use Rattle.std.proofs.Common.{◌≡◌, ℕ, Some, Option, is_some, ap, rules}
+use Rattle.std.proofs.Common.{ℕ, Some, Option, is_some, ap, rules}
 use Rattle.kdf_top.specs.Job.{show_range, has_show}
 use Rattle.kdf_top.specs.Lines.{line}
 use Rattle.kdf_top.specs.Reading.{ahead}

@@ -1,4 +1,4 @@
-use Rattle.std.proofs.Common.{◌≡◌, ◌++◌, ◌∷◌, [], rules, ◌∙◌}
+use Rattle.std.proofs.Common.{◌≡◌, ◌++◌, ◌∷◌, [], rules}
 use Rattle.std.specs.Slice.Iter.{chunks_rest, chunks_size}
 use Rattle.kdf_top.specs.Placement.{packed}
 use Rattle.kdf_top.proofs.PlaceLemmas.{packed-more, packed-done}

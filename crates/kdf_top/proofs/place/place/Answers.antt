@@ -1,4 +1,4 @@
-use Rattle.std.proofs.Common.{◌≡◌, ◌+◌, ◌++◌, ◌≤◌, length, slice_index_or, arith, rules}
+use Rattle.std.proofs.Common.{◌≡◌, ◌+◌, ◌++◌, ◌≤◌, slice_index_or, arith, rules}
 use Rattle.kdf_top.specs.Shows.{shown_deck}
 use Rattle.kdf_processor.specs.Spelling.{spelling}
 use Rattle.kdf_processor.specs.declared.spelling.order.Order.TheVariants.{Jump}
