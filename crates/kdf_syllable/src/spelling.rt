@@ -1,5 +1,6 @@
 //! How orders are spelt.
-ghost use Rattle.std.specs.Prelude.{◌≡◌, ◌-◌, ◌≤◌, length, take, drop, replicate};
+ghost use Rattle.std.specs.Prelude.{◌≡◌, ◌-◌, length, take, drop, replicate};
+ghost use Rattle.std.specs.Int.{IsInRange};
 ghost use Rattle.kdf_syllable.specs.Spelling.{IsOrder, spelling, size_of_first};
 
 use crate::order::Order;
@@ -25,6 +26,7 @@ const SET: u32 = 0xe0_0000;
 pub fn encode(order: &Order) -> Syllables
     requires { IsOrder order.now }
     ensures size { result.size ≡ length (spelling order.now) }
+    ensures within { IsInRange 1 3 result.size }
     ensures spelling { take result.size result.bytes ≡ spelling order.now }
     ensures rest { drop result.size result.bytes ≡ replicate (3 - result.size) 0 }
 {
@@ -55,8 +57,7 @@ pub fn encode(order: &Order) -> Syllables
 #[tactic(auto, unfolding(crate::specs::Spelling::spelling))]
 pub fn size(order: &Order) -> u8
     ensures value { result ≡ length (spelling order.now) }
-    ensures some { 1 ≤ result }
-    ensures few { result ≤ 3 }
+    ensures within { IsInRange 1 3 result }
 {
     match order {
         Order::Plain { .. } => 1,
@@ -73,8 +74,7 @@ pub fn size(order: &Order) -> u8
 /// How many syllables an order has that begins with this one, as the two highest bits say.
 pub fn size_of_first(byte: u8) -> u8
     ensures value { result ≡ size_of_first byte }
-    ensures some { 1 ≤ result }
-    ensures few { result ≤ 3 }
+    ensures within { IsInRange 1 3 result }
 {
     match byte {
         0..64 => 1,
