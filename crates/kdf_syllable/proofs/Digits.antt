@@ -1,7 +1,7 @@
 -- Digits to base 256, the highest first.
-use Rattle.std.proofs.Common.{◌≡◌, ℕ, zero, suc, ◌+◌, ◌-◌, ◌*◌, ◌/◌, ◌%◌, ◌^◌, ◌<◌, List, [], ◌∷◌, length, get_or, fold, refl, sym, ap, ◌∙◌, arith}
+use Rattle.std.proofs.Common.{◌≡◌, ℕ, zero, suc, ◌+◌, ◌-◌, ◌*◌, ◌/◌, ◌%◌, ◌^◌, ◌<◌, List, [], ◌∷◌, length, get_or, fold, refl, arith}
 use Rattle.std.proofs.Math.Nat.{pow-suc}
-use Rattle.std.proofs.lemmas.Nat.{mul-add-lt, div-mul-add, mul-pow, pow-add}
+use Rattle.std.proofs.lemmas.Nat.{mul-add-lt, div-mul-add, pow-add}
 use Rattle.kdf_syllable.specs.Packing.{packed, syllable}
 
 -- the number behind which these digits are written

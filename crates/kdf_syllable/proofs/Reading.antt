@@ -1,5 +1,5 @@
 -- The order that bytes spell, read back from them: orders that are spelt alike are one order.
-use Rattle.std.proofs.Common.{◌≡◌, ℕ, ◌+◌, ◌-◌, ◌*◌, ◌/◌, ◌%◌, ◌^◌, ◌<◌, ◌≤◌, ℤ, pos, negsuc, ◌≤ℤ◌, Bool, true, false, eqb, ltb, ◌||◌, cond, List, [], ◌∷◌, lit<, refl, sym, ap, ◌∙◌, arith}
+use Rattle.std.proofs.Common.{◌≡◌, ℕ, ◌+◌, ◌-◌, ◌*◌, ◌/◌, ◌%◌, ◌^◌, ◌<◌, ◌≤◌, ℤ, pos, negsuc, ◌≤ℤ◌, Bool, true, false, eqb, ltb, ◌||◌, List, [], ◌∷◌, lit<, refl, sym, ap, ◌∙◌, arith}
 use Rattle.std.specs.Int.{from_bool}
 use Rattle.std.specs.Prelude.{if◌then◌else◌}
 use Rattle.std.proofs.lemmas.Bool.Decides.{nat_tests}
@@ -51,7 +51,7 @@ signed_7-seven_bits (negsuc n) low high =
     let test : ltb (127 - n) 64 ≡ false = grind (arith, nat_tests) in
     let back : 127 - (127 - n) ≡ n = omega arith in rw (test, back)
 
-seven_bits-below : (n : ℤ) → negsuc 63 ≤ℤ n → n ≤ℤ pos 63 → seven_bits n < 128
+pub seven_bits-below : (n : ℤ) → negsuc 63 ≤ℤ n → n ≤ℤ pos 63 → seven_bits n < 128
 seven_bits-below (pos n) low high = let small : n < 64 = omega (arith, ints) in omega arith
 seven_bits-below (negsuc n) low high = omega arith
 
@@ -65,7 +65,7 @@ amount_of-amount (Count q) is =
     let back : (16 * q) / 16 ≡ q = omega arith in
     rw (even, back)
 
-from_bool-below : (b : Bool) → from_bool b < 2
+pub from_bool-below : (b : Bool) → from_bool b < 2
 from_bool-below true = lit< tt
 from_bool-below false = lit< tt
 
