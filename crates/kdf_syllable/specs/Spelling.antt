@@ -15,7 +15,7 @@ abbrev pub IsAmount : Amount → Type 0
 IsAmount (Fixed n) = (negsuc 63 ≤ℤ n) × (n ≤ℤ pos 63)
 IsAmount (Count q) = IsQ q
 
--- each field of the order is in its range
+-- each field of the order is in its range; no order has the code 13
 abbrev pub IsOrder : Order → Type 0
 IsOrder (Plain code) = IsInRange 0x01 0x21 code × (code ≢ 0x13)
 IsOrder (Indirect code k q) = IsInRange 0x40 0x4f code × IsQ k × IsQ q
