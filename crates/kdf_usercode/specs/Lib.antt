@@ -3,3 +3,7 @@ pub mod Kept
 pub mod Shape
 pub mod Parse
 pub mod Range
+pub mod Octal
+pub mod Orders
+pub mod Stores
+pub mod Jumps

@@ -1,6 +1,6 @@
 //! What a deck says.
 
-use crate::order::Order;
+use kdf_syllable::Order;
 use kdf_word::Word;
 
 /// A deck that was read.
