@@ -4,6 +4,10 @@ pub mod Shape
 pub mod Parse
 pub mod Range
 pub mod Octal
+pub mod Characters
 pub mod Orders
 pub mod Stores
 pub mod Jumps
+pub mod Constants
+pub mod Forms
+pub mod Phase
