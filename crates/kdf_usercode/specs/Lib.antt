@@ -11,3 +11,5 @@ pub mod Jumps
 pub mod Constants
 pub mod Forms
 pub mod Phase
+pub mod Grammar
+pub mod Reading

@@ -13,8 +13,12 @@ mod orders;
 mod parse;
 mod phase;
 mod range;
+mod reader;
+mod reading;
 mod shape;
 mod statement;
 mod stores;
 
 pub use fault::{DeckError, DeckFault};
+pub use reader::read_deck;
+pub use statement::{Deck, Item, Named, Statement, Target, Value, What};
