@@ -13,6 +13,7 @@ pub fn pack(bytes: &[u8; 6]) -> Word
 }
 
 /// Syllable `i` of a word, from 0 to 5. Syllable 0 is in the word's highest bits.
+#[tactic(auto, using(std::proofs::lemmas::Grind::common_steps, crate::proofs::Digits::pow_bytes))]
 pub fn syllable(word: Word, i: u8) -> u8
     requires { i < 6 }
     ensures { result ≡ syllable word i }
