@@ -5,3 +5,8 @@ pub mod Ranges
 pub mod Outcome
 pub mod Gain
 pub mod Scan
+pub mod Optional
+pub mod InTables
+pub mod Fits
+pub mod Rises
+pub mod Sequence

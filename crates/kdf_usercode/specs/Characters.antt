@@ -11,7 +11,7 @@ is_character c = is_some (code_of c) && (not (c == 32) && (not (c == 59) && (not
 abbrev pub are_characters : List ℕ → Bool
 are_characters cs = list_all is_character cs && not (length cs == 0)
 
-abbrev or_zero : Option ℕ → ℕ
+abbrev pub or_zero : Option ℕ → ℕ
 or_zero None = 0
 or_zero (Some code) = code
 

@@ -13,3 +13,5 @@ pub mod Forms
 pub mod Phase
 pub mod Grammar
 pub mod Reading
+pub mod Rising
+pub mod WellFormed

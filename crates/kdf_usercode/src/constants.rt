@@ -24,9 +24,7 @@ pub enum ItemForm {
     Up,
     /// A number with `-`.
     Down,
-    Address {
-        name: StoreName,
-    },
+    Address { name: StoreName },
 }
 
 /// A constant, without its numbers.
@@ -271,7 +269,12 @@ pub fn with_value_text(
 {
     match form {
         ValueForm::Octal => with_range(best, place, OCTAL_WORD, octal(behind(text, b'B'))),
-        ValueForm::Characters => with_range(best, place, CHARACTERS, behind(text, b'P').len() as u64),
+        ValueForm::Characters => with_range(
+            best,
+            place,
+            CHARACTERS,
+            behind(text, b'P').len() as u64,
+        ),
         _ => best,
     }
 }

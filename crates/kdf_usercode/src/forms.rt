@@ -8,13 +8,14 @@ ghost use Rattle.kdf_usercode.specs.Forms.{form_in, is_constant, ranges_of, text
 
 use crate::constants::{ValueForm, constant_form, value_of, with_value, with_value_text};
 use crate::fault::DeckFault;
-use crate::jumps::{Test, TargetForm, go_of, jump_form, jump_ranges};
+use crate::jumps::{TargetForm, Test, go_of, jump_form, jump_ranges};
 use crate::order_names::OrderForm;
 use crate::orders::{order_form, order_of, order_ranges, with_octal_order};
 use crate::parse::row_in;
 use crate::phase::Stage;
 use crate::range::{
-    OPENED, Q, REFERENCE, Range, STORE, behind_first, number, q_at, short_at, with_range, with_ranges,
+    OPENED, Q, REFERENCE, Range, STORE, behind_first, number, q_at, short_at, with_range,
+    with_ranges,
 };
 use crate::statement::What;
 use crate::stores::{

@@ -18,6 +18,12 @@ mod reading;
 mod shape;
 mod statement;
 mod stores;
+#[cfg(test)]
+mod test_faults;
+#[cfg(test)]
+mod test_forms;
+#[cfg(test)]
+mod tests;
 
 pub use fault::{DeckError, DeckFault};
 pub use reader::read_deck;

@@ -7,11 +7,11 @@ ghost use Rattle.kdf_usercode.specs.Orders.{order_form, octal_order, is_floating
 
 use crate::fault::DeckFault;
 use crate::octal::{all_octal, octal};
-use kdf_syllable::{Amount, Order};
 use crate::order_names::{FLOATING, ORDERS, OrderForm};
 use crate::parse::{behind, row_in};
 use crate::range::{Q, Range, number, q_at, short, short_at, with_range};
 use kdf_fault::Found;
+use kdf_syllable::{Amount, Order};
 
 /// The amount of a shift to the left.
 pub const LEFT: Range = Range {

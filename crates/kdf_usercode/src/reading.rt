@@ -26,11 +26,7 @@ pub struct Reading {
 }
 
 /// This fault as well.
-fn with(
-    best: Option<Found<DeckFault>>,
-    fault: DeckFault,
-    place: u32,
-) -> Option<Found<DeckFault>>
+fn with(best: Option<Found<DeckFault>>, fault: DeckFault, place: u32) -> Option<Found<DeckFault>>
     ensures { result ≡ lesser best (least (founds place (fault ∷ []))) }
 {
     earlier(best, Found { fault, place })
@@ -188,7 +184,12 @@ impl Reading {
     }
 
     /// A byte that stays.
-    pub fn take(&mut self, alloc: Global, piece: &mut Vec<Kept>, kept: Kept) -> Result<(), AllocError>
+    pub fn take(
+        &mut self,
+        alloc: Global,
+        piece: &mut Vec<Kept>,
+        kept: Kept,
+    ) -> Result<(), AllocError>
         ensures { OnOk result ((len : ℕ) (bad : List FoundFault) (ahead : List Kept) →
             with_ahead self.new piece.new.items len bad ahead ≡ with_ahead self.old piece.old.items len bad (kept ∷ ahead)) }
     {

@@ -115,11 +115,7 @@ pub fn address_form(shape: &[u8]) -> Option<StoreName>
 {
     let rest = strip(shape, b"SETA")?;
     let (name, rest) = addressed(rest)?;
-    if rest.is_empty() {
-        Some(name)
-    } else {
-        None
-    }
+    if rest.is_empty() { Some(name) } else { None }
 }
 
 /// The range of each number of a store's name.
