@@ -10,3 +10,4 @@ pub mod InTables
 pub mod Fits
 pub mod Rises
 pub mod Sequence
+pub mod WellFormed
