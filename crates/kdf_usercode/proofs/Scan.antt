@@ -1,5 +1,6 @@
 -- One byte of the deck, as the loop takes it.
-use Rattle.std.proofs.Common.{◌≡◌, ℕ, ◌+◌, ◌<◌, length, get_or, drop, Bool, true, false, cond, List, [], ◌∷◌, ◌++◌, Result, eqb, ◌||◌, refl, sym, ap, ◌∙◌}
+use Rattle.std.proofs.Common.{◌≡◌, ℕ, ◌+◌, ◌<◌, length, get_or, drop, Bool, true, false, cond, List, [], ◌∷◌, ◌++◌, Result, eqb, ◌||◌, refl, sym, ap, subst, ◌≤◌, ◌∙◌}
+use Rattle.std.proofs.Math.ListN.{drop_of_length-le}
 use Rattle.std.proofs.lemmas.List.{at_drop_more}
 use Rattle.kdf_usercode.specs.declared.kept.Kept.{Kept}
 use Rattle.kdf_usercode.specs.declared.reading.Reading.{Reading}
@@ -55,3 +56,11 @@ goes-skipped inside next kept i len bad text rest r p due lt e k n goes so_far =
     let here : kept_from inside i (drop i text) ≡ kept_from next (i + 1) (drop (i + 1) text)
     = kept_from-step inside i text rest lt e ∙ rw (← k, ← n, goes) refl in
     ap (with_ahead r p len bad) (sym here) ∙ so_far
+
+-- behind the last byte nothing is to come
+pub at-end : (inside : Bool) (i : ℕ) (text : List ℕ) (r : Reading) (p : List Kept) (due : Result (List Statement) Found) → length text ≤ i
+    → with_ahead r p (length text) (bytes_faults i (drop i text)) (kept_from inside i (drop i text)) ≡ due
+    → with_ahead r p (length text) [] [] ≡ due
+at-end inside i text r p due le e =
+    let nothing : drop i text ≡ [] = drop_of_length-le text le in
+    subst (λ (rest : List ℕ). with_ahead r p (length text) (bytes_faults i rest) (kept_from inside i rest) ≡ due) nothing e

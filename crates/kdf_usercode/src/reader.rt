@@ -1,8 +1,9 @@
 //! The reader: once over the bytes of a deck.
 
-ghost use Rattle.std.specs.Prelude.{◌≡◌, ◌≤◌, length};
+ghost use Rattle.std.specs.Prelude.{◌≤◌, length, IfOk};
 ghost use Rattle.kdf_usercode.specs.Grammar.{deck};
 ghost use Rattle.kdf_usercode.specs.Reading.{Gives};
+ghost use Rattle.kdf_usercode.specs.WellFormed.{IsWellFormed};
 
 use crate::fault::DeckError;
 use crate::kept::{Comments, Kept};
@@ -15,7 +16,8 @@ use std::alloc::Global;
 #[tactic(auto, unfolding(crate::specs::Phase::start))]
 pub fn read_deck(alloc: Global, text: &[u8]) -> Result<Deck, DeckError>
     requires { length text.now ≤ 268435456 }
-    ensures { Gives result (length text.now) (deck text.now) }
+    ensures answer { Gives result (length text.now) (deck text.now) }
+    ensures sound { IfOk result IsWellFormed }
 {
     let mut reading = Reading {
         phase: Phase {
