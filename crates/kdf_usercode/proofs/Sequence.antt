@@ -298,7 +298,8 @@ declare-once phase len [] tail l e = tt
 declare-once phase len (w ∷ ws) tail l e =
     let s = goes phase len w ws tail e in
     let next = same-length phase.declared s.form ∙ l in
-    subst DeclareOnce (sym s.statements)
-    (behind-group (group_of (what_of phase.stage s.form (numbers w.codes) w.codes)) (statements_from (phase_with phase s.form) ws)
-    (λ g same. none-again (phase_with phase s.form) len ws tail g next (form-declares phase.stage phase.declared s.form (numbers w.codes) w.codes g l s.is s.here.placed same).later s.later),
-    declare-once (phase_with phase s.form) len ws tail next s.later)
+    subst DeclareOnce (sym s.statements) (
+      behind-group (group_of (what_of phase.stage s.form (numbers w.codes) w.codes)) (statements_from (phase_with phase s.form) ws)
+          (λ g same. none-again (phase_with phase s.form) len ws tail g next (form-declares phase.stage phase.declared s.form (numbers w.codes) w.codes g l s.is s.here.placed same).later s.later),
+      declare-once (phase_with phase s.form) len ws tail next s.later,
+    )

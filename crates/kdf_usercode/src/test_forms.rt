@@ -469,16 +469,16 @@ pub const NUMBERS: [(&str, u64); 21] = [
     ("V0=P00000000", 71485708370960),
 ];
 
-/// Decks without a fault.
-pub const SOUND: [&str; 10] = [
-    "PROGRAM;FINISH;",
-    "PROGRAM; FINISH;;",
-    "PROGRAM; FINISH; ; \n;",
-    "Y0; YA5; YZ32767; PROGRAM; FINISH;",
-    "PROGRAM V1; V0=1; P2V3; V1=2; FINISH;",
-    "PROGRAM; ((a) ZERO; FINISH;",
-    "PROGRAM; Z E\nR(x)O; FINISH; (end)",
-    "PROGRAM; Y0; 1; 1; FINISH;",
-    ";;PROGRAM;;FINISH;",
-    "PROGRAM; P1; P1; J7; FINISH;",
+/// Decks without a fault, and their lengths.
+pub const SOUND: [(&str, &str, u32); 10] = [
+    ("PROGRAM;FINISH;", "none", 15),
+    ("PROGRAM; FINISH;;", "none", 17),
+    ("PROGRAM; FINISH; ; \n;", "none", 21),
+    ("Y0; YA5; YZ32767; PROGRAM; FINISH;", "none", 34),
+    ("PROGRAM V1; V0=1; P2V3; V1=2; FINISH;", "none", 37),
+    ("PROGRAM; ((a) ZERO; FINISH;", "none", 27),
+    ("PROGRAM; Z E\nR(x)O; FINISH; (end)", "none", 33),
+    ("PROGRAM; Y0; 1; 1; FINISH;", "none", 26),
+    (";;PROGRAM;;FINISH;", "none", 18),
+    ("PROGRAM; P1; P1; J7; FINISH;", "none", 28),
 ];

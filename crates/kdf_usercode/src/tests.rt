@@ -16,11 +16,47 @@ fn read(rt: &HostRuntime, text: &str) -> Result<Deck, DeckError> {
     read_deck(rt.alloc(), text.as_bytes())
 }
 
-/// The second statement of a deck, as it is printed.
-fn second(rt: &HostRuntime, text: &str) -> Result<String, Fail> {
-    let deck = read(rt, text)?;
-    let what = deck.statements.get(1).copied();
-    Ok(format!(in rt.alloc(); "{:?}", what.map(|s| s.what))?)
+/// What a statement behind `PROGRAM` says, as it is printed.
+fn said(rt: &HostRuntime, statement: &str) -> Result<String, Fail> {
+    let text = format!(in rt.alloc(); "PROGRAM;{statement};FINISH;")?;
+    let deck = read(rt, &text)?;
+    let what = deck.statements.get(1).copied().map(|s| s.what);
+    Ok(format!(in rt.alloc(); "{what:?}")?)
+}
+
+/// How many statements in front mean what stands beside them.
+fn right_forms(rt: &HostRuntime, rows: &[(&str, &str)]) -> Result<usize, Fail> {
+    for (i, (statement, meaning)) in rows.iter().enumerate() {
+        let due = format!(in rt.alloc(); "Some({meaning})")?;
+        if said(rt, statement)? != due {
+            return Ok(i);
+        }
+    }
+    Ok(rows.len())
+}
+
+#[test]
+fn forms(rt: HostRuntime) -> Result<(), Fail> {
+    assert_eq!(rt; right_forms(&rt, &FORMS)?, FORMS.len());
+    Ok(())
+}
+
+/// How many constants in front have the word that stands beside them.
+fn right_numbers(rt: &HostRuntime, rows: &[(&str, u64)]) -> Result<usize, Fail> {
+    for (i, (constant, word)) in rows.iter().enumerate() {
+        let value = format!(in rt.alloc(); "Number {{ word: Word {{ bits: {word} }} }}")?;
+        let due = format!(in rt.alloc(); "Some(Constant {{ n: 0, value: {value} }})")?;
+        if said(rt, constant)? != due {
+            return Ok(i);
+        }
+    }
+    Ok(rows.len())
+}
+
+#[test]
+fn numbers(rt: HostRuntime) -> Result<(), Fail> {
+    assert_eq!(rt; right_numbers(&rt, &NUMBERS)?, NUMBERS.len());
+    Ok(())
 }
 
 /// The name of a deck's fault, and its place.
@@ -32,58 +68,24 @@ fn fault_of(rt: &HostRuntime, text: &str) -> (&'static str, u32) {
     }
 }
 
-/// Each statement behind `PROGRAM` means what stands beside it.
-fn mean(rt: &HostRuntime, rows: &[(&str, &str)]) -> Result<(), Fail> {
-    for (statement, meaning) in rows {
-        let deck = format!(in rt.alloc(); "PROGRAM;{statement};FINISH;")?;
-        let due = format!(in rt.alloc(); "Some({meaning})")?;
-        assert_eq!(rt; second(rt, &deck)?, due, "{statement}");
+/// How many decks in front have the fault that stands beside them, at its place.
+fn right_faults(rt: &HostRuntime, rows: &[(&str, &str, u32)]) -> usize {
+    for (i, (deck, name, place)) in rows.iter().enumerate() {
+        if fault_of(rt, deck) != (*name, *place) {
+            return i;
+        }
     }
-    Ok(())
-}
-
-#[test]
-fn forms(rt: HostRuntime) -> Result<(), Fail> {
-    mean(&rt, &FORMS)
-}
-
-/// Each constant has the word that stands beside it.
-fn have_words(rt: &HostRuntime, rows: &[(&str, u64)]) -> Result<(), Fail> {
-    for (constant, word) in rows {
-        let deck = format!(in rt.alloc(); "PROGRAM;{constant};FINISH;")?;
-        let due = format!(in rt.alloc(); "Some(Constant {{ n: 0, value: Number {{ word: Word {{ bits: {word} }} }} }})")?;
-        assert_eq!(rt; second(rt, &deck)?, due, "{constant}");
-    }
-    Ok(())
-}
-
-#[test]
-fn numbers(rt: HostRuntime) -> Result<(), Fail> {
-    have_words(&rt, &NUMBERS)
-}
-
-/// Each deck has the fault at the place that stand beside it.
-fn have_faults(rt: &HostRuntime, rows: &[(&str, &str, u32)]) {
-    for (deck, name, place) in rows {
-        assert_eq!(rt; fault_of(rt, deck), (*name, *place), "{deck}");
-    }
+    rows.len()
 }
 
 #[test]
 fn first_faults(rt: HostRuntime) {
-    have_faults(&rt, &FAULTS);
-}
-
-/// No deck has a fault.
-fn are_sound(rt: &HostRuntime, decks: &[&str]) {
-    for deck in decks {
-        assert_eq!(rt; fault_of(rt, deck), ("none", deck.len() as u32), "{deck}");
-    }
+    assert_eq!(rt; right_faults(&rt, &FAULTS), FAULTS.len());
+    assert_eq!(rt; right_faults(&rt, &SOUND), SOUND.len());
 }
 
 #[test]
 fn places(rt: HostRuntime) -> Result<(), Fail> {
-    are_sound(&rt, &SOUND);
     let text = "YB3; PROGRAM V0;(x) *** ZE(y)RO;\n 1;J1;FINISH;";
     let deck = read(&rt, text)?;
     assert_eq!(rt; deck.length, 46);
