@@ -15,6 +15,8 @@ use Rattle.kdf_usercode.specs.declared.orders.TheConstants.{LEFT, RIGHT, EXIT, U
 use Rattle.kdf_usercode.specs.declared.constants.TheConstants.{WORD_UP, WORD_DOWN, OCTAL_WORD, BITS_UP, BITS_DOWN}
 use Rattle.kdf_usercode.specs.declared.order_names.OrderForm.{OrderForm}
 use Rattle.kdf_usercode.specs.declared.order_names.OrderForm.TheVariants as orders
+use Rattle.kdf_usercode.specs.declared.stores.Direction.{Direction}
+use Rattle.kdf_usercode.specs.declared.stores.Direction.TheVariants.{Fetch, Keep}
 use Rattle.kdf_usercode.specs.declared.stores.StoreName.{StoreName}
 use Rattle.kdf_usercode.specs.declared.stores.StoreName.TheVariants as names
 use Rattle.kdf_usercode.specs.declared.stores.Suffix.{Suffix}
@@ -128,26 +130,26 @@ q-fits name suffixes.Nothing ns r = lit< tt
 q-fits name suffixes.M ns r = behind-fits name ns r
 q-fits name suffixes.MQ ns r = behind-fits name ns r
 
-done-fits : (keep : Bool) (named : Named) (q : ℕ) (u : Bool) → IsNamed named → IsQ q → IsWhat (done keep named q u)
-done-fits true named q u h k = (h, k)
-done-fits false named q u h k = (h, k)
+done-fits : (direction : Direction) (named : Named) (q : ℕ) (u : Bool) → IsNamed named → IsQ q → IsWhat (done direction named q u)
+done-fits Keep named q u h k = (h, k)
+done-fits Fetch named q u h k = (h, k)
 
-access-fits : (keep : Bool) (name : StoreName) (suffix : Suffix) (ns : List ℕ) → HasGroup name → range_faults (access_ranges name suffix) ns ≡ [] → IsWhat (access_of keep name suffix ns)
-access-fits keep name suffix ns g r =
-    done-fits keep (named_of name ns) (q_of name suffix ns) (is_stepped suffix)
+access-fits : (direction : Direction) (name : StoreName) (suffix : Suffix) (ns : List ℕ) → HasGroup name → range_faults (access_ranges name suffix) ns ≡ [] → IsWhat (access_of direction name suffix ns)
+access-fits direction name suffix ns g r =
+    done-fits direction (named_of name ns) (q_of name suffix ns) (is_stepped suffix)
     (named-fits name ns g (ranges-apart (store_ranges name) (suffix_ranges suffix) ns r).0) (q-fits name suffix ns r)
 
-store-fits : (stage : Stage) (keep : Bool) (name : StoreName) (suffix : Suffix) (ns : List ℕ) → HasGroup name → range_faults (access_ranges name suffix) ns ≡ [] → IsWhat (store_of stage keep name suffix ns)
-store-fits Heading false (names.Y group) suffixes.Nothing ns g r = (g, (first STORE [] ns r).1)
-store-fits Heading false (names.Y group) suffixes.M ns g r = access-fits false (names.Y group) suffixes.M ns g r
-store-fits Heading false (names.Y group) suffixes.MQ ns g r = access-fits false (names.Y group) suffixes.MQ ns g r
-store-fits Heading false names.V suffix ns g r = access-fits false names.V suffix ns g r
-store-fits Heading false names.VOfPart suffix ns g r = access-fits false names.VOfPart suffix ns g r
-store-fits Heading false names.E suffix ns g r = access-fits false names.E suffix ns g r
-store-fits Heading true name suffix ns g r = access-fits true name suffix ns g r
-store-fits Constants keep name suffix ns g r = access-fits keep name suffix ns g r
-store-fits Body keep name suffix ns g r = access-fits keep name suffix ns g r
-store-fits Ended keep name suffix ns g r = access-fits keep name suffix ns g r
+store-fits : (stage : Stage) (direction : Direction) (name : StoreName) (suffix : Suffix) (ns : List ℕ) → HasGroup name → range_faults (access_ranges name suffix) ns ≡ [] → IsWhat (store_of stage direction name suffix ns)
+store-fits Heading Fetch (names.Y group) suffixes.Nothing ns g r = (g, (first STORE [] ns r).1)
+store-fits Heading Fetch (names.Y group) suffixes.M ns g r = access-fits Fetch (names.Y group) suffixes.M ns g r
+store-fits Heading Fetch (names.Y group) suffixes.MQ ns g r = access-fits Fetch (names.Y group) suffixes.MQ ns g r
+store-fits Heading Fetch names.V suffix ns g r = access-fits Fetch names.V suffix ns g r
+store-fits Heading Fetch names.VOfPart suffix ns g r = access-fits Fetch names.VOfPart suffix ns g r
+store-fits Heading Fetch names.E suffix ns g r = access-fits Fetch names.E suffix ns g r
+store-fits Heading Keep name suffix ns g r = access-fits Keep name suffix ns g r
+store-fits Constants direction name suffix ns g r = access-fits direction name suffix ns g r
+store-fits Body direction name suffix ns g r = access-fits direction name suffix ns g r
+store-fits Ended direction name suffix ns g r = access-fits direction name suffix ns g r
 
 -- ---- jumps
 
@@ -229,5 +231,5 @@ what-fits stage forms.Short ns text f r o = let a = first REFERENCE (Q ∷ []) n
 what-fits stage (forms.Plain order) ns text f r o = (order-fits order ns text f r o, order-alone order ns text f)
 what-fits stage (forms.Constant value) ns text f r o = constant-fits value ns text f r o
 what-fits stage (forms.Go test target) ns text f r o = go-fits test target ns f r
-what-fits stage (forms.Access keep name suffix) ns text f r o = store-fits stage keep name suffix ns f r
+what-fits stage (forms.Access direction name suffix) ns text f r o = store-fits stage direction name suffix ns f r
 what-fits stage (forms.SetAddress name) ns text f r o = addressed-fits name ns f r

@@ -9,7 +9,8 @@ use Rattle.kdf_usercode.specs.Phase.{is_ended, phase_with}
 use Rattle.kdf_usercode.specs.Shape.{shape, numbers}
 use Rattle.kdf_usercode.specs.Forms.{form_in}
 use Rattle.kdf_usercode.specs.Kept.{Written}
-use Rattle.kdf_usercode.specs.Grammar.{formless, form_faults, with_form, statement_faults, phase_after, statements_of}
+use Rattle.kdf_usercode.specs.Orders.{formless}
+use Rattle.kdf_usercode.specs.Grammar.{form_faults, with_form, statement_faults, phase_after, statements_of}
 use Rattle.kdf_usercode.specs.Reading.{Gains, Reads}
 use Rattle.kdf_usercode.proofs.Least.{none-before, none-behind, no-founds, least-front, founds-append}
 

@@ -8,6 +8,7 @@ use lib.Chars.{codes}
 use Rattle.kdf_usercode.specs.declared.order_names.OrderForm.{OrderForm}
 use Rattle.kdf_usercode.specs.declared.order_names.OrderForm.TheVariants as orders
 use Rattle.kdf_usercode.specs.declared.order_names.TheConstants.{ORDERS}
+use Rattle.kdf_usercode.specs.declared.stores.Direction.{Direction}
 use Rattle.kdf_usercode.specs.declared.stores.StoreName.{StoreName}
 use Rattle.kdf_usercode.specs.declared.stores.StoreName.TheVariants as names
 use Rattle.kdf_usercode.specs.declared.stores.Suffix.{Suffix}
@@ -27,7 +28,7 @@ use Rattle.kdf_usercode.specs.Parse.{◌>>=◌, ◌or◌, opt_map, behind, row_i
 use Rattle.kdf_usercode.specs.Octal.{all_octal}
 use Rattle.kdf_usercode.specs.Characters.{are_characters}
 use Rattle.kdf_usercode.specs.Orders.{octal_order, order_form}
-use Rattle.kdf_usercode.specs.Stores.{letter_after, lettered, store_name, not_e, addressed, suffix_of, keep_of, access_form, address_form}
+use Rattle.kdf_usercode.specs.Stores.{letter_after, lettered, store_name, not_e, addressed, suffix_of, direction_of, access_form, address_form}
 use Rattle.kdf_usercode.specs.Jumps.{condition_of, target_form, subroutine_form, test_form, jump_form}
 use Rattle.kdf_usercode.specs.Constants.{address_item, number_item, item_behind, item_form, triple_form, octal_value, characters_value, value_form, constant_form}
 use Rattle.kdf_usercode.specs.Forms.{form_in}
@@ -127,13 +128,13 @@ addressed-name : (shape : List ℕ) → Holds (NameHas IsAddressedName) (address
 unfolding addressed
 addressed-name shape = holds-bind (NameHas HasGroup) (NameHas IsAddressedName) (store_name shape) not_e (store-name shape) (λ x h. not-e x.0 x.1 h)
 
-abbrev AccessHas : Bool × StoreName × Suffix → Type 0
+abbrev AccessHas : Direction × StoreName × Suffix → Type 0
 AccessHas x = HasGroup x.1
 
 access-form : (shape : List ℕ) → Holds AccessHas (access_form shape)
 unfolding access_form
 access-form shape =
-    let kept = keep_of shape (strip (codes "=") shape) in
+    let kept = direction_of shape (strip (codes "=") shape) in
     holds-bind (NameHas HasGroup) AccessHas (store_name kept.1) _ (store-name kept.1)
     (λ name h. holds-bind (λ x. Unit {0}) AccessHas (suffix_of name.1) _ (any (suffix_of name.1)) (λ suffix u. h))
 
@@ -278,7 +279,7 @@ abbrev pub IsForm : Form → Type 0
 IsForm (forms.Plain order) = has_code order ≡ true
 IsForm (forms.Constant value) = IsValueForm value
 IsForm (forms.Go test target) = has_jump test ≡ true
-IsForm (forms.Access keep name suffix) = HasGroup name
+IsForm (forms.Access direction name suffix) = HasGroup name
 IsForm (forms.SetAddress name) = IsAddressedName name
 IsForm form = Unit {0}
 
@@ -305,7 +306,7 @@ bare forms.Short e = tt
 bare (forms.Plain order) e = absurd cc
 bare (forms.Constant value) e = absurd cc
 bare (forms.Go test target) e = absurd cc
-bare (forms.Access keep name suffix) e = absurd cc
+bare (forms.Access direction name suffix) e = absurd cc
 bare (forms.SetAddress name) e = absurd cc
 
 statements-bare : list_all (λ (r : List ℕ × Form). is_bare r.1) (map (λ row. (row.0.now, row.1)) STATEMENTS) ≡ true
@@ -319,7 +320,7 @@ form-in shape text =
     let constant = opt_map (λ value. forms.Constant value) (constant_form shape text) in
     let jump = opt_map (λ (jump : Test × TargetForm). forms.Go jump.0 jump.1) (jump_form shape) in
     let address = opt_map (λ name. forms.SetAddress name) (address_form shape) in
-    let access = opt_map (λ (access : Bool × StoreName × Suffix). forms.Access access.0 access.1 access.2) (access_form shape) in
+    let access = opt_map (λ (access : Direction × StoreName × Suffix). forms.Access access.0 access.1 access.2) (access_form shape) in
     holds-or IsForm (row or order or constant or jump or address) access
     (holds-or IsForm (row or order or constant or jump) address
     (holds-or IsForm (row or order or constant) jump
@@ -330,4 +331,4 @@ form-in shape text =
     (holds-map IsValueForm IsForm (λ value. forms.Constant value) (constant_form shape text) (constant-form shape text) (λ x h. h)))
     (holds-map JumpHas IsForm (λ (jump : Test × TargetForm). forms.Go jump.0 jump.1) (jump_form shape) (jump-form shape) (λ x h. h)))
     (holds-map IsAddressedName IsForm (λ name. forms.SetAddress name) (address_form shape) (address-form shape) (λ x h. h)))
-    (holds-map AccessHas IsForm (λ (access : Bool × StoreName × Suffix). forms.Access access.0 access.1 access.2) (access_form shape) (access-form shape) (λ x h. h))
+    (holds-map AccessHas IsForm (λ (access : Direction × StoreName × Suffix). forms.Access access.0 access.1 access.2) (access_form shape) (access-form shape) (λ x h. h))

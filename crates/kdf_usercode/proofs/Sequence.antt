@@ -10,6 +10,8 @@ use Rattle.kdf_usercode.specs.declared.phase.Phase.{Phase}
 use Rattle.kdf_usercode.specs.declared.phase.Stage.{Stage}
 use Rattle.kdf_usercode.specs.declared.phase.Stage.TheVariants.{Heading, Constants, Body, Ended}
 use Rattle.kdf_usercode.specs.declared.statement.Statement.{Statement}
+use Rattle.kdf_usercode.specs.declared.stores.Direction.{Direction}
+use Rattle.kdf_usercode.specs.declared.stores.Direction.TheVariants.{Fetch, Keep}
 use Rattle.kdf_usercode.specs.declared.stores.StoreName.{StoreName}
 use Rattle.kdf_usercode.specs.declared.stores.StoreName.TheVariants as names
 use Rattle.kdf_usercode.specs.declared.stores.Suffix.{Suffix}
@@ -82,22 +84,22 @@ next-phase phase w form s = rw (s.goes, s.is_form) refl
 
 -- ---- the stages
 
-access-follows : (stage : Stage) (keep : Bool) (name : StoreName) (suffix : Suffix) (ns : List ℕ) → stage ≡ Constants ⊎ stage ≡ Body
-    → follows stage (access_of keep name suffix ns) ≡ Some Body
-access-follows stage true name suffix ns (inl e) = rw e refl
-access-follows stage true name suffix ns (inr e) = rw e refl
-access-follows stage false name suffix ns (inl e) = rw e refl
-access-follows stage false name suffix ns (inr e) = rw e refl
+access-follows : (stage : Stage) (direction : Direction) (name : StoreName) (suffix : Suffix) (ns : List ℕ) → stage ≡ Constants ⊎ stage ≡ Body
+    → follows stage (access_of direction name suffix ns) ≡ Some Body
+access-follows stage Keep name suffix ns (inl e) = rw e refl
+access-follows stage Keep name suffix ns (inr e) = rw e refl
+access-follows stage Fetch name suffix ns (inl e) = rw e refl
+access-follows stage Fetch name suffix ns (inr e) = rw e refl
 
-heading-follows : (declared : List Bool) (keep : Bool) (name : StoreName) (suffix : Suffix) (ns : List ℕ) → is_new declared (declared_group keep name suffix) ≡ true
-    → follows Heading (store_of Heading keep name suffix ns) ≡ Some Heading
-heading-follows declared false (names.Y group) suffixes.Nothing ns e = refl
-heading-follows declared false (names.Y group) suffixes.M ns e = absurd cc
-heading-follows declared false (names.Y group) suffixes.MQ ns e = absurd cc
-heading-follows declared false names.V suffix ns e = absurd cc
-heading-follows declared false names.VOfPart suffix ns e = absurd cc
-heading-follows declared false names.E suffix ns e = absurd cc
-heading-follows declared true name suffix ns e = absurd cc
+heading-follows : (declared : List Bool) (direction : Direction) (name : StoreName) (suffix : Suffix) (ns : List ℕ) → is_new declared (declared_group direction name suffix) ≡ true
+    → follows Heading (store_of Heading direction name suffix ns) ≡ Some Heading
+heading-follows declared Fetch (names.Y group) suffixes.Nothing ns e = refl
+heading-follows declared Fetch (names.Y group) suffixes.M ns e = absurd cc
+heading-follows declared Fetch (names.Y group) suffixes.MQ ns e = absurd cc
+heading-follows declared Fetch names.V suffix ns e = absurd cc
+heading-follows declared Fetch names.VOfPart suffix ns e = absurd cc
+heading-follows declared Fetch names.E suffix ns e = absurd cc
+heading-follows declared Keep name suffix ns e = absurd cc
 
 -- where a statement stands in its place, what it says is in its sequence
 stage-follows : (stage : Stage) (declared : List Bool) (form : Form) (ns text : List ℕ) → ends stage ≡ false → in_stage stage declared form ≡ true
@@ -114,7 +116,7 @@ stage-follows Heading declared forms.Short ns text g e = absurd cc
 stage-follows Heading declared (forms.Plain order) ns text g e = absurd cc
 stage-follows Heading declared (forms.Constant value) ns text g e = absurd cc
 stage-follows Heading declared (forms.Go test target) ns text g e = absurd cc
-stage-follows Heading declared (forms.Access keep name suffix) ns text g e = heading-follows declared keep name suffix ns e
+stage-follows Heading declared (forms.Access direction name suffix) ns text g e = heading-follows declared direction name suffix ns e
 stage-follows Heading declared (forms.SetAddress name) ns text g e = absurd cc
 stage-follows Constants declared forms.Program ns text g e = absurd cc
 stage-follows Constants declared forms.ProgramStores ns text g e = absurd cc
@@ -127,7 +129,7 @@ stage-follows Constants declared forms.Short ns text g e = refl
 stage-follows Constants declared (forms.Plain order) ns text g e = refl
 stage-follows Constants declared (forms.Constant value) ns text g e = refl
 stage-follows Constants declared (forms.Go test target) ns text g e = refl
-stage-follows Constants declared (forms.Access keep name suffix) ns text g e = access-follows Constants keep name suffix ns (inl refl)
+stage-follows Constants declared (forms.Access direction name suffix) ns text g e = access-follows Constants direction name suffix ns (inl refl)
 stage-follows Constants declared (forms.SetAddress name) ns text g e = refl
 stage-follows Body declared forms.Program ns text g e = absurd cc
 stage-follows Body declared forms.ProgramStores ns text g e = absurd cc
@@ -140,7 +142,7 @@ stage-follows Body declared forms.Short ns text g e = refl
 stage-follows Body declared (forms.Plain order) ns text g e = refl
 stage-follows Body declared (forms.Constant value) ns text g e = absurd cc
 stage-follows Body declared (forms.Go test target) ns text g e = refl
-stage-follows Body declared (forms.Access keep name suffix) ns text g e = access-follows Body keep name suffix ns (inr refl)
+stage-follows Body declared (forms.Access direction name suffix) ns text g e = access-follows Body direction name suffix ns (inr refl)
 stage-follows Body declared (forms.SetAddress name) ns text g e = refl
 
 -- ---- the groups
@@ -169,7 +171,7 @@ stays-declared declared forms.Short g e = e
 stays-declared declared (forms.Plain order) g e = e
 stays-declared declared (forms.Constant value) g e = e
 stays-declared declared (forms.Go test target) g e = e
-stays-declared declared (forms.Access keep name suffix) g e = group-keeps declared (declared_group keep name suffix) g e
+stays-declared declared (forms.Access direction name suffix) g e = group-keeps declared (declared_group direction name suffix) g e
 stays-declared declared (forms.SetAddress name) g e = e
 
 group-length : (declared : List Bool) (o : Option ℕ) → length (with_group declared o) ≡ length declared
@@ -188,7 +190,7 @@ same-length declared forms.Short = refl
 same-length declared (forms.Plain order) = refl
 same-length declared (forms.Constant value) = refl
 same-length declared (forms.Go test target) = refl
-same-length declared (forms.Access keep name suffix) = group-length declared (declared_group keep name suffix)
+same-length declared (forms.Access direction name suffix) = group-length declared (declared_group direction name suffix)
 same-length declared (forms.SetAddress name) = refl
 
 -- a group that is declared here was not declared before, and is from here on
@@ -200,26 +202,26 @@ not-false : (b : Bool) → not b ≡ true → b ≡ false
 not-false true e = absurd cc
 not-false false e = refl
 
-access-none : (A : Type 0) (keep : Bool) (name : StoreName) (suffix : Suffix) (ns : List ℕ) (g : ℕ) → group_of (access_of keep name suffix ns) ≡ Some g → A
-access-none A true name suffix ns g e = absurd cc
-access-none A false name suffix ns g e = absurd cc
+access-none : (A : Type 0) (direction : Direction) (name : StoreName) (suffix : Suffix) (ns : List ℕ) (g : ℕ) → group_of (access_of direction name suffix ns) ≡ Some g → A
+access-none A Keep name suffix ns g e = absurd cc
+access-none A Fetch name suffix ns g e = absurd cc
 
-store-declares : (stage : Stage) (declared : List Bool) (keep : Bool) (name : StoreName) (suffix : Suffix) (ns : List ℕ) (g : ℕ) → length declared ≡ 27 → HasGroup name
-    → in_stage stage declared (forms.Access keep name suffix) ≡ true → group_of (store_of stage keep name suffix ns) ≡ Some g
-    → Declares declared (with_group declared (declared_group keep name suffix)) g
-store-declares Heading declared false (names.Y group) suffixes.Nothing ns g len h e d =
+store-declares : (stage : Stage) (declared : List Bool) (direction : Direction) (name : StoreName) (suffix : Suffix) (ns : List ℕ) (g : ℕ) → length declared ≡ 27 → HasGroup name
+    → in_stage stage declared (forms.Access direction name suffix) ≡ true → group_of (store_of stage direction name suffix ns) ≡ Some g
+    → Declares declared (with_group declared (declared_group direction name suffix)) g
+store-declares Heading declared Fetch (names.Y group) suffixes.Nothing ns g len h e d =
     let same : group ≡ g = cc in
     let lt : group < length declared = omega (arith, h) in
     subst (λ (x : ℕ). Declares declared (set declared group true) x) same (record { fresh = not-false (get_or declared group false) e; later = get_or-set_same declared group true false lt })
-store-declares Heading declared false (names.Y group) suffixes.M ns g len h e d = absurd cc
-store-declares Heading declared false (names.Y group) suffixes.MQ ns g len h e d = absurd cc
-store-declares Heading declared false names.V suffix ns g len h e d = absurd cc
-store-declares Heading declared false names.VOfPart suffix ns g len h e d = absurd cc
-store-declares Heading declared false names.E suffix ns g len h e d = absurd cc
-store-declares Heading declared true name suffix ns g len h e d = absurd cc
-store-declares Constants declared keep name suffix ns g len h e d = access-none (Declares declared (with_group declared (declared_group keep name suffix)) g) keep name suffix ns g d
-store-declares Body declared keep name suffix ns g len h e d = access-none (Declares declared (with_group declared (declared_group keep name suffix)) g) keep name suffix ns g d
-store-declares Ended declared keep name suffix ns g len h e d = access-none (Declares declared (with_group declared (declared_group keep name suffix)) g) keep name suffix ns g d
+store-declares Heading declared Fetch (names.Y group) suffixes.M ns g len h e d = absurd cc
+store-declares Heading declared Fetch (names.Y group) suffixes.MQ ns g len h e d = absurd cc
+store-declares Heading declared Fetch names.V suffix ns g len h e d = absurd cc
+store-declares Heading declared Fetch names.VOfPart suffix ns g len h e d = absurd cc
+store-declares Heading declared Fetch names.E suffix ns g len h e d = absurd cc
+store-declares Heading declared Keep name suffix ns g len h e d = absurd cc
+store-declares Constants declared direction name suffix ns g len h e d = access-none (Declares declared (with_group declared (declared_group direction name suffix)) g) direction name suffix ns g d
+store-declares Body declared direction name suffix ns g len h e d = access-none (Declares declared (with_group declared (declared_group direction name suffix)) g) direction name suffix ns g d
+store-declares Ended declared direction name suffix ns g len h e d = access-none (Declares declared (with_group declared (declared_group direction name suffix)) g) direction name suffix ns g d
 
 form-declares : (stage : Stage) (declared : List Bool) (form : Form) (ns text : List ℕ) (g : ℕ) → length declared ≡ 27 → IsForm form
     → in_stage stage declared form ≡ true → group_of (what_of stage form ns text) ≡ Some g → Declares declared (declared_with declared form) g
@@ -234,7 +236,7 @@ form-declares stage declared forms.Short ns text g len h e d = absurd cc
 form-declares stage declared (forms.Plain order) ns text g len h e d = absurd cc
 form-declares stage declared (forms.Constant value) ns text g len h e d = absurd cc
 form-declares stage declared (forms.Go test target) ns text g len h e d = absurd cc
-form-declares stage declared (forms.Access keep name suffix) ns text g len h e d = store-declares stage declared keep name suffix ns g len h e d
+form-declares stage declared (forms.Access direction name suffix) ns text g len h e d = store-declares stage declared direction name suffix ns g len h e d
 form-declares stage declared (forms.SetAddress name) ns text g len h e d = absurd cc
 
 -- ---- all statements

@@ -7,6 +7,7 @@ use Rattle.kdf_usercode.specs.declared.statement.What.{What}
 use Rattle.kdf_usercode.specs.declared.statement.What.TheVariants as whats
 use Rattle.kdf_usercode.specs.declared.phase.Stage.{Stage}
 use Rattle.kdf_usercode.specs.declared.phase.Stage.TheVariants.{Heading}
+use Rattle.kdf_usercode.specs.declared.stores.Direction.{Direction}
 use Rattle.kdf_usercode.specs.declared.stores.StoreName.{StoreName}
 use Rattle.kdf_usercode.specs.declared.stores.Suffix.{Suffix}
 use Rattle.kdf_usercode.specs.declared.forms.Form.{Form}
@@ -49,7 +50,7 @@ ranges_of Short = REFERENCE ∷ Q ∷ []
 ranges_of (Plain order) = order_ranges order
 ranges_of (Constant value) = STORE ∷ value_ranges value
 ranges_of (Go test target) = jump_ranges test target
-ranges_of (Access keep name suffix) = access_ranges name suffix
+ranges_of (Access direction name suffix) = access_ranges name suffix
 ranges_of (SetAddress name) = store_ranges name
 
 -- the fault of octal digits or characters
@@ -65,8 +66,8 @@ abbrev pub declared_or : Stage → Option ℕ → ℕ → What → What
 declared_or Heading (Some group) n what = whats.Declare group n
 declared_or stage group n what = what
 
-abbrev pub store_of : Stage → Bool → StoreName → Suffix → List ℕ → What
-store_of stage keep name suffix ns = declared_or stage (declared_group keep name suffix) (slice_index ns 0) (access_of keep name suffix ns)
+abbrev pub store_of : Stage → Direction → StoreName → Suffix → List ℕ → What
+store_of stage direction name suffix ns = declared_or stage (declared_group direction name suffix) (slice_index ns 0) (access_of direction name suffix ns)
 
 abbrev pub what_of : Stage → Form → List ℕ → List ℕ → What
 what_of stage Program ns text = whats.Program None
@@ -80,5 +81,5 @@ what_of stage Short ns text = whats.Short (slice_index ns 0) (slice_index ns 1)
 what_of stage (Plain order) ns text = whats.Plain (order_of order ns text)
 what_of stage (Constant value) ns text = whats.Constant (slice_index ns 0) (value_of value (drop 1 ns) text)
 what_of stage (Go test target) ns text = go_of test target ns
-what_of stage (Access keep name suffix) ns text = store_of stage keep name suffix ns
+what_of stage (Access direction name suffix) ns text = store_of stage direction name suffix ns
 what_of stage (SetAddress name) ns text = whats.SetAddress (named_of name ns)

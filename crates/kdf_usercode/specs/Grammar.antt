@@ -11,7 +11,7 @@ use Rattle.kdf_usercode.specs.Faults.{Found, least, found, founds}
 use Rattle.kdf_usercode.specs.Kept.{kept, cut, Written, written}
 use Rattle.kdf_usercode.specs.Shape.{shape, numbers}
 use Rattle.kdf_usercode.specs.Range.{range_faults}
-use Rattle.kdf_usercode.specs.Orders.{is_floating}
+use Rattle.kdf_usercode.specs.Orders.{formless}
 use Rattle.kdf_usercode.specs.Forms.{form_in, ranges_of, text_faults, what_of}
 use Rattle.kdf_usercode.specs.Phase.{is_ended, start, is_in_place, phase_with}
 
@@ -31,9 +31,6 @@ abbrev pub comment_faults : Kept → List Found
 comment_faults k = if k.byte == 40 then found faults.CommentOpen k.at ∷ [] else []
 
 -- ---- a statement, in its phase
-
-abbrev pub formless : List ℕ → DeckFault
-formless shape = if is_floating shape then faults.Floating else faults.UnknownOrder
 
 abbrev pub form_faults : Phase → List ℕ → Option Form → List ℕ → List ℕ → List DeckFault
 form_faults phase shape None ns text = formless shape ∷ []

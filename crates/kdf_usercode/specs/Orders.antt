@@ -3,12 +3,13 @@ use Rattle.std.specs.Prelude.{ℕ, ◌-◌, ◌%◌, Bool, true, false, ◌&&◌
 use Rattle.std.specs.Str.{bytes_eq}
 use lib.Chars.{codes}
 use Rattle.kdf_usercode.specs.declared.fault.DeckFault.{DeckFault}
+use Rattle.kdf_usercode.specs.declared.fault.DeckFault.TheVariants.{UnknownOrder}
 use Rattle.kdf_syllable.specs.declared.order.Order.{Order}
 use Rattle.kdf_syllable.specs.declared.order.Order.TheVariants as orders
 use Rattle.kdf_syllable.specs.declared.amount.Amount.TheVariants as amounts
 use Rattle.kdf_usercode.specs.declared.order_names.OrderForm.{OrderForm}
 use Rattle.kdf_usercode.specs.declared.order_names.OrderForm.TheVariants.{Plain, Indirect, Single, Copies, ShiftUp, ShiftDown, ShiftCount, Device, Query, ExitNone, Exit, SetUp, SetDown, SetOctal}
-use Rattle.kdf_usercode.specs.declared.order_names.TheConstants.{ORDERS, FLOATING}
+use Rattle.kdf_usercode.specs.declared.order_names.TheConstants.{ORDERS, REFUSED}
 use Rattle.kdf_usercode.specs.declared.orders.TheConstants.{LEFT, RIGHT, EXIT, UP, DOWN, OCTAL_SET}
 use Rattle.kdf_usercode.specs.declared.range.Range.{Range}
 use Rattle.kdf_usercode.specs.declared.range.TheConstants.{Q}
@@ -26,13 +27,13 @@ octal_order shape text = if bytes_eq shape (codes "SETB0") && all_octal (behind 
 unfoldable pub order_form : List ℕ → List ℕ → Option OrderForm
 order_form shape text = row_in (map (λ row. (row.0.now, row.1)) ORDERS) shape or octal_order shape text
 
-abbrev or_false : Option Bool → Bool
-or_false None = false
-or_false (Some b) = b
+abbrev or_unknown : Option DeckFault → DeckFault
+or_unknown None = UnknownOrder
+or_unknown (Some fault) = fault
 
--- the name of an order on floating numbers
-unfoldable pub is_floating : List ℕ → Bool
-is_floating shape = or_false (row_in (map (λ row. (row.0.now, row.1)) FLOATING) shape)
+-- the fault of a statement that has no form
+unfoldable pub formless : List ℕ → DeckFault
+formless shape = or_unknown (row_in (map (λ row. (row.0.now, row.1)) REFUSED) shape)
 
 -- ---- ranges
 

@@ -8,6 +8,8 @@ use Rattle.kdf_usercode.specs.declared.statement.Named.{Named}
 use Rattle.kdf_usercode.specs.declared.statement.Named.TheVariants as nameds
 use Rattle.kdf_usercode.specs.declared.statement.What.{What}
 use Rattle.kdf_usercode.specs.declared.statement.What.TheVariants as whats
+use Rattle.kdf_usercode.specs.declared.stores.Direction.{Direction}
+use Rattle.kdf_usercode.specs.declared.stores.Direction.TheVariants.{Fetch, Keep}
 use Rattle.kdf_usercode.specs.declared.stores.StoreName.{StoreName}
 use Rattle.kdf_usercode.specs.declared.stores.StoreName.TheVariants.{Y, V, VOfPart, E}
 use Rattle.kdf_usercode.specs.declared.stores.Suffix.{Suffix}
@@ -53,16 +55,16 @@ suffix_of shape =
     else (if bytes_eq shape (codes "M0") then Some M
     else (if bytes_eq shape (codes "M0Q") then Some MQ else None))
 
-abbrev pub keep_of : List ℕ → Option (List ℕ) → Bool × List ℕ
-keep_of shape None = (false, shape)
-keep_of shape (Some rest) = (true, rest)
+abbrev pub direction_of : List ℕ → Option (List ℕ) → Direction × List ℕ
+direction_of shape None = (Fetch, shape)
+direction_of shape (Some rest) = (Keep, rest)
 
 -- a store that is fetched, or kept where `=` stands before it
-unfoldable pub access_form : List ℕ → Option (Bool × StoreName × Suffix)
+unfoldable pub access_form : List ℕ → Option (Direction × StoreName × Suffix)
 access_form shape = do
-  name ← store_name (keep_of shape (strip (codes "=") shape)).1
+  name ← store_name (direction_of shape (strip (codes "=") shape)).1
   suffix ← suffix_of name.1
-  Some ((keep_of shape (strip (codes "=") shape)).0, name.0, suffix)
+  Some ((direction_of shape (strip (codes "=") shape)).0, name.0, suffix)
 
 -- `SETA` and a store
 unfoldable pub address_form : List ℕ → Option StoreName
@@ -114,14 +116,14 @@ is_stepped Nothing = false
 is_stepped M = false
 is_stepped MQ = true
 
-abbrev pub done : Bool → Named → ℕ → Bool → What
-done true place q u = whats.Keep place q u
-done false place q u = whats.Fetch place q u
+abbrev pub done : Direction → Named → ℕ → Bool → What
+done Keep place q u = whats.Keep place q u
+done Fetch place q u = whats.Fetch place q u
 
-abbrev pub access_of : Bool → StoreName → Suffix → List ℕ → What
-access_of keep name suffix ns = done keep (named_of name ns) (q_of name suffix ns) (is_stepped suffix)
+abbrev pub access_of : Direction → StoreName → Suffix → List ℕ → What
+access_of direction name suffix ns = done direction (named_of name ns) (q_of name suffix ns) (is_stepped suffix)
 
 -- the group that is declared where this stands before PROGRAM
-abbrev pub declared_group : Bool → StoreName → Suffix → Option ℕ
-declared_group false (Y group) Nothing = Some group
-declared_group keep name suffix = None
+abbrev pub declared_group : Direction → StoreName → Suffix → Option ℕ
+declared_group Fetch (Y group) Nothing = Some group
+declared_group direction name suffix = None

@@ -19,7 +19,7 @@ use crate::range::{
 };
 use crate::statement::What;
 use crate::stores::{
-    StoreName, Suffix, access_form, access_of, access_ranges, address_form, named_of, store_ranges,
+    Direction, StoreName, Suffix, access_form, access_of, access_ranges, address_form, named_of, store_ranges,
 };
 use kdf_fault::Found;
 
@@ -45,7 +45,7 @@ pub enum Form {
         target: TargetForm,
     },
     Access {
-        keep: bool,
+        direction: Direction,
         name: StoreName,
         suffix: Suffix,
     },
@@ -86,8 +86,8 @@ pub fn form_in(shape: &[u8], text: &[u8]) -> Option<Form>
     if let Some(name) = address_form(shape) {
         return Some(Form::SetAddress { name });
     }
-    let (keep, name, suffix) = access_form(shape)?;
-    Some(Form::Access { keep, name, suffix })
+    let (direction, name, suffix) = access_form(shape)?;
+    Some(Form::Access { direction, name, suffix })
 }
 
 /// Whether this is a constant.
@@ -152,19 +152,19 @@ pub fn with_text(
 }
 
 /// A store that is declared before `PROGRAM`, and fetched or kept behind it.
-fn store_of(stage: Stage, keep: bool, name: StoreName, suffix: Suffix, numbers: &[u64]) -> What
+fn store_of(stage: Stage, direction: Direction, name: StoreName, suffix: Suffix, numbers: &[u64]) -> What
     requires { range_faults (access_ranges name suffix) numbers.now ≡ [] }
-    ensures { result ≡ store_of stage keep name suffix numbers.now }
+    ensures { result ≡ store_of stage direction name suffix numbers.now }
 {
-    if let (Stage::Heading, false, StoreName::Y { group }, Suffix::Nothing) = (
-        stage, keep, name, suffix,
+    if let (Stage::Heading, Direction::Fetch, StoreName::Y { group }, Suffix::Nothing) = (
+        stage, direction, name, suffix,
     ) {
         return What::Declare {
             group,
             n: short_at(numbers, 0),
         };
     }
-    access_of(keep, name, suffix, numbers)
+    access_of(direction, name, suffix, numbers)
 }
 
 /// What a statement says, where each number is in its range.
@@ -206,7 +206,7 @@ pub fn what_of(stage: Stage, form: Form, numbers: &[u64], text: &[u8]) -> What
             What::Constant { n, value }
         }
         Form::Go { test, target } => go_of(test, target, numbers),
-        Form::Access { keep, name, suffix } => store_of(stage, keep, name, suffix, numbers),
+        Form::Access { direction, name, suffix } => store_of(stage, direction, name, suffix, numbers),
         Form::SetAddress { name } => What::SetAddress {
             place: named_of(name, numbers),
         },

@@ -1,5 +1,7 @@
 //! The names of the orders that name no store and no reference.
 
+use crate::fault::DeckFault;
+
 /// Such an order by its name. The numbers in the name aren't in it.
 #[derive(Clone, Copy, Debug)]
 pub enum OrderForm {
@@ -146,26 +148,26 @@ pub const ORDERS: [(&str, OrderForm); 119] = [
     ("SET-0", OrderForm::SetDown),
 ];
 
-/// The orders on floating numbers, which this machine hasn't.
-pub const FLOATING: [(&str, bool); 20] = [
-    ("+F", true),
-    ("-F", true),
-    ("XF", true),
-    ("X+F", true),
-    ("DIVF", true),
-    ("NEGF", true),
-    ("ABSF", true),
-    ("MAXF", true),
-    ("SIGNF", true),
-    ("FLOAT", true),
-    ("FLOATD", true),
-    ("FIX", true),
-    ("ROUNDF", true),
-    ("ROUNDHF", true),
-    ("STAND", true),
-    ("+DF", true),
-    ("-DF", true),
-    ("XDF", true),
-    ("DIVDF", true),
-    ("NEGDF", true),
+/// Names that are refused by a fault of their own: orders on floating numbers, which this machine hasn't.
+pub const REFUSED: [(&str, DeckFault); 20] = [
+    ("+F", DeckFault::Floating),
+    ("-F", DeckFault::Floating),
+    ("XF", DeckFault::Floating),
+    ("X+F", DeckFault::Floating),
+    ("DIVF", DeckFault::Floating),
+    ("NEGF", DeckFault::Floating),
+    ("ABSF", DeckFault::Floating),
+    ("MAXF", DeckFault::Floating),
+    ("SIGNF", DeckFault::Floating),
+    ("FLOAT", DeckFault::Floating),
+    ("FLOATD", DeckFault::Floating),
+    ("FIX", DeckFault::Floating),
+    ("ROUNDF", DeckFault::Floating),
+    ("ROUNDHF", DeckFault::Floating),
+    ("STAND", DeckFault::Floating),
+    ("+DF", DeckFault::Floating),
+    ("-DF", DeckFault::Floating),
+    ("XDF", DeckFault::Floating),
+    ("DIVDF", DeckFault::Floating),
+    ("NEGDF", DeckFault::Floating),
 ];

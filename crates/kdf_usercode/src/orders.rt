@@ -3,11 +3,11 @@
 ghost use Rattle.std.specs.Prelude.{◌≡◌, ◌-◌, ◌%◌, ◌<◌, [], pos, ◌≤ℤ◌};
 ghost use Rattle.kdf_usercode.specs.Faults.{lesser, least, founds};
 ghost use Rattle.kdf_usercode.specs.Range.{range_faults};
-ghost use Rattle.kdf_usercode.specs.Orders.{order_form, octal_order, is_floating, order_ranges, octal_order_faults, order_of};
+ghost use Rattle.kdf_usercode.specs.Orders.{order_form, octal_order, formless, order_ranges, octal_order_faults, order_of};
 
 use crate::fault::DeckFault;
 use crate::octal::{all_octal, octal};
-use crate::order_names::{FLOATING, ORDERS, OrderForm};
+use crate::order_names::{ORDERS, OrderForm, REFUSED};
 use crate::parse::{behind, row_in};
 use crate::range::{Q, Range, number, q_at, short, short_at, with_range};
 use kdf_fault::Found;
@@ -77,12 +77,12 @@ pub fn order_form(shape: &[u8], text: &[u8]) -> Option<OrderForm>
     octal_order(shape, text)
 }
 
-/// Whether this is the name of an order on floating numbers.
-#[tactic(auto, unfolding(crate::specs::Orders::is_floating))]
-pub fn is_floating(shape: &[u8]) -> bool
-    ensures { result ≡ is_floating shape.now }
+/// The fault of a statement that has no form.
+#[tactic(auto, unfolding(crate::specs::Orders::formless))]
+pub fn formless(shape: &[u8]) -> DeckFault
+    ensures { result ≡ formless shape.now }
 {
-    row_in(&FLOATING, shape).unwrap_or(false)
+    row_in(&REFUSED, shape).unwrap_or(DeckFault::UnknownOrder)
 }
 
 /// The range of each number, in the order in which they stand.

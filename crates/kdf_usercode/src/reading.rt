@@ -4,13 +4,13 @@ ghost use Rattle.std.specs.Prelude.{◌≡◌, ℕ, List, [], ◌∷◌, ◌++�
 ghost use Rattle.kdf_usercode.specs.Faults.{Found as FoundFault, lesser, least, founds};
 ghost use Rattle.kdf_usercode.specs.Kept.{Written, codes_of, statements_in};
 ghost use Rattle.kdf_usercode.specs.Phase.{is_in_place, phase_with};
-ghost use Rattle.kdf_usercode.specs.Grammar.{byte_faults, comment_faults, formless, form_faults, with_form, at_first, end_faults};
+ghost use Rattle.kdf_usercode.specs.Grammar.{byte_faults, comment_faults, form_faults, with_form, at_first, end_faults};
 ghost use Rattle.kdf_usercode.specs.Reading.{Gains, Reads, Gives, outcome, with_ahead};
 
 use crate::fault::{DeckError, DeckFault};
 use crate::forms::{Form, form_in, what_of, with_numbers, with_text};
 use crate::kept::Kept;
-use crate::orders::is_floating;
+use crate::orders::formless;
 use crate::phase::{Phase, is_in_place, phase_with};
 use crate::shape::{numbers_of, shape_of};
 use crate::statement::{Deck, Statement};
@@ -97,17 +97,6 @@ fn with_heading(
         best
     } else {
         with(best, DeckFault::BadHeading, place)
-    }
-}
-
-/// What is wrong with a statement that has no form.
-fn formless(shape: &[u8]) -> DeckFault
-    ensures { result ≡ formless shape.now }
-{
-    if is_floating(shape) {
-        DeckFault::Floating
-    } else {
-        DeckFault::UnknownOrder
     }
 }
 

@@ -19,6 +19,13 @@ pub enum StoreName {
     E,
 }
 
+/// Whether a store is fetched, or kept.
+#[derive(Clone, Copy, Debug)]
+pub enum Direction {
+    Fetch,
+    Keep,
+}
+
 /// What stands behind a store.
 #[derive(Clone, Copy, Debug)]
 pub enum Suffix {
@@ -96,16 +103,16 @@ fn suffix_of(shape: &[u8]) -> Option<Suffix>
 
 /// A store that is fetched, or kept where `=` stands before it.
 #[tactic(auto, unfolding(crate::specs::Stores::access_form))]
-pub fn access_form(shape: &[u8]) -> Option<(bool, StoreName, Suffix)>
+pub fn access_form(shape: &[u8]) -> Option<(Direction, StoreName, Suffix)>
     ensures { result ≡ access_form shape.now }
 {
-    let (keep, rest) = match strip(shape, b"=") {
-        Some(rest) => (true, rest),
-        None => (false, shape),
+    let (direction, rest) = match strip(shape, b"=") {
+        Some(rest) => (Direction::Keep, rest),
+        None => (Direction::Fetch, shape),
     };
     let (name, rest) = store_name(rest)?;
     let suffix = suffix_of(rest)?;
-    Some((keep, name, suffix))
+    Some((direction, name, suffix))
 }
 
 /// `SETA` and a store.
@@ -172,26 +179,25 @@ fn q_of(name: StoreName, suffix: Suffix, numbers: &[u64]) -> u8
 }
 
 /// What is done with the store, where each number is in its range.
-pub fn access_of(keep: bool, name: StoreName, suffix: Suffix, numbers: &[u64]) -> What
+pub fn access_of(direction: Direction, name: StoreName, suffix: Suffix, numbers: &[u64]) -> What
     requires { range_faults (access_ranges name suffix) numbers.now ≡ [] }
-    ensures { result ≡ access_of keep name suffix numbers.now }
+    ensures { result ≡ access_of direction name suffix numbers.now }
 {
     let q = q_of(name, suffix, numbers);
     let place = named_of(name, numbers);
     let u = matches!(suffix, Suffix::MQ);
-    if keep {
-        What::Keep { place, q, u }
-    } else {
-        What::Fetch { place, q, u }
+    match direction {
+        Direction::Fetch => What::Fetch { place, q, u },
+        Direction::Keep => What::Keep { place, q, u },
     }
 }
 
 /// The group that is declared where this stands before `PROGRAM`.
-pub fn declared_group(keep: bool, name: StoreName, suffix: Suffix) -> Option<u8>
-    ensures { result ≡ declared_group keep name suffix }
+pub fn declared_group(direction: Direction, name: StoreName, suffix: Suffix) -> Option<u8>
+    ensures { result ≡ declared_group direction name suffix }
 {
-    match (keep, name, suffix) {
-        (false, StoreName::Y { group }, Suffix::Nothing) => Some(group),
+    match (direction, name, suffix) {
+        (Direction::Fetch, StoreName::Y { group }, Suffix::Nothing) => Some(group),
         _ => None,
     }
 }

@@ -4,7 +4,7 @@ use Rattle.kdf_usercode.specs.Faults.{lesser}
 use Rattle.kdf_usercode.specs.Forms.{form_in}
 use Rattle.kdf_usercode.specs.Kept.{Written}
 use Rattle.kdf_usercode.specs.Shape.{shape}
-use Rattle.kdf_usercode.specs.Grammar.{formless}
+use Rattle.kdf_usercode.specs.Orders.{formless}
 use Rattle.kdf_usercode.proofs.Gain.{reads-ended, reads-formless, reads-form}
 use Rattle.kdf_usercode.proofs.reading.Reading.statement.Goals as goal
 
