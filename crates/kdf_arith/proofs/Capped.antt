@@ -14,8 +14,8 @@ power_split k n h =
 pub capped_left : (w n : ℕ) → w * 2 ^ min n 96 % 2 ^ 128 % 2 ^ 96 ≡ w * 2 ^ n % 2 ^ 96
 capped_left w n =
     elim (cases_lt n 96) [
-      inl h ↦ let e : min n 96 ≡ n = omega arith in rw e (omega arith)
-    | inr h ↦ let e : min n 96 ≡ 96 = omega arith in rw (e, power_split 96 n h) (omega arith)
+      | inl h ↦ let e : min n 96 ≡ n = omega arith in rw e (omega arith)
+      | inr h ↦ let e : min n 96 ≡ 96 = omega arith in rw (e, power_split 96 n h) (omega arith)
     ]
 
 -- a larger power is no less
@@ -26,9 +26,9 @@ power_grows k n h = pow-le-pow_right {n = 2} (omega arith) {i = k} {j = n} h
 pub capped_right : (k w n : ℕ) → w < 2 ^ k → w / 2 ^ min n k ≡ w / 2 ^ n
 capped_right k w n h =
     elim (cases_lt n k) [
-      inl l ↦ let e : min n k ≡ n = omega arith in ap (λ i. w / 2 ^ i) e
-    | inr g ↦ let e : min n k ≡ k = omega arith in
-        let wide = power_grows k n g in
-        let small : w < 2 ^ n = omega arith in
-        rw e (div-eq_of_lt h ∙ sym (div-eq_of_lt small))
+      | inl l ↦ let e : min n k ≡ n = omega arith in ap (λ i. w / 2 ^ i) e
+      | inr g ↦ let e : min n k ≡ k = omega arith in
+          let wide = power_grows k n g in
+          let small : w < 2 ^ n = omega arith in
+          rw e (div-eq_of_lt h ∙ sym (div-eq_of_lt small))
     ]

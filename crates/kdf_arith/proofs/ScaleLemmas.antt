@@ -48,18 +48,18 @@ rounded_half (pos a) k =
 rounded_half (negsuc a) k =
     let least = pow_pos k in
     elim (cases_lt a (2 ^ k)) [
-      inl l ↦ let none : a / 2 ^ k ≡ 0 = div-eq_of_lt l in
-        let left : negsuc (a / 2 ^ k) +ℤ pos 1 ≡ pos 0 = omega (arith, ints) in
-        let right : negsuc a +ℤ pos (2 ^ k) ≡ pos (2 ^ k - suc a) = omega (arith, ints) in
-        let double : 2 ^ suc k ≡ 2 ^ k * 2 = pow-suc 2 k in
-        let small : 2 ^ k - suc a < 2 ^ suc k = omega arith in
-        ap (λ x. floor_div x 2) left ∙ ap pos (sym (div-eq_of_lt small)) ∙ sym (ap (λ x. floor_div x (2 ^ suc k)) right)
-    | inr g ↦ let e : a - 2 ^ k + 2 ^ k ≡ a = omega arith in
-        let one_less : (a - 2 ^ k + 2 ^ k) / 2 ^ k ≡ (a - 2 ^ k) / 2 ^ k + 1 = add-div_right (a - 2 ^ k) least in
-        let quotient : a / 2 ^ k ≡ (a - 2 ^ k) / 2 ^ k + 1 = rw e at one_less in
-        let left : negsuc (a / 2 ^ k) +ℤ pos 1 ≡ negsuc ((a - 2 ^ k) / 2 ^ k) = omega (arith, ints) in
-        let right : negsuc a +ℤ pos (2 ^ k) ≡ negsuc (a - 2 ^ k) = omega (arith, ints) in
-        ap (λ x. floor_div x 2) left ∙ ap negsuc (div-div-eq-div-mul (a - 2 ^ k) (2 ^ k) 2 ∙ ap (λ x. (a - 2 ^ k) / x) (sym (pow-suc 2 k))) ∙ sym (ap (λ x. floor_div x (2 ^ suc k)) right)
+      | inl l ↦ let none : a / 2 ^ k ≡ 0 = div-eq_of_lt l in
+          let left : negsuc (a / 2 ^ k) +ℤ pos 1 ≡ pos 0 = omega (arith, ints) in
+          let right : negsuc a +ℤ pos (2 ^ k) ≡ pos (2 ^ k - suc a) = omega (arith, ints) in
+          let double : 2 ^ suc k ≡ 2 ^ k * 2 = pow-suc 2 k in
+          let small : 2 ^ k - suc a < 2 ^ suc k = omega arith in
+          ap (λ x. floor_div x 2) left ∙ ap pos (sym (div-eq_of_lt small)) ∙ sym (ap (λ x. floor_div x (2 ^ suc k)) right)
+      | inr g ↦ let e : a - 2 ^ k + 2 ^ k ≡ a = omega arith in
+          let one_less : (a - 2 ^ k + 2 ^ k) / 2 ^ k ≡ (a - 2 ^ k) / 2 ^ k + 1 = add-div_right (a - 2 ^ k) least in
+          let quotient : a / 2 ^ k ≡ (a - 2 ^ k) / 2 ^ k + 1 = rw e at one_less in
+          let left : negsuc (a / 2 ^ k) +ℤ pos 1 ≡ negsuc ((a - 2 ^ k) / 2 ^ k) = omega (arith, ints) in
+          let right : negsuc a +ℤ pos (2 ^ k) ≡ negsuc (a - 2 ^ k) = omega (arith, ints) in
+          ap (λ x. floor_div x 2) left ∙ ap negsuc (div-div-eq-div-mul (a - 2 ^ k) (2 ^ k) 2 ∙ ap (λ x. (a - 2 ^ k) / x) (sym (pow-suc 2 k))) ∙ sym (ap (λ x. floor_div x (2 ^ suc k)) right)
     ]
 
 pub one_more_fits : (z : ℤ) → double_fits z ≡ true → FitsSigned w128 (z +ℤ pos 1)

@@ -5,12 +5,15 @@ mod bits;
 mod digits;
 mod division;
 mod flags;
+pub mod laws;
 mod nouv;
 mod obey;
 mod operands;
 mod order;
 mod scales;
 mod shifts;
+#[cfg(test)]
+mod tests;
 mod values;
 mod words;
 

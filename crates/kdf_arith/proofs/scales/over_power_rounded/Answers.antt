@@ -13,6 +13,6 @@ returns c =
     let g = subst P (sym same) (one_more_fits c.over_power.result c.over_power.ensures.fits) in
     let more : c.args.places ≡ suc (c.args.places - 1) = omega arith in
     shifted_right (to_z w128 (of_z w128 c.over_power.result) +ℤ pos 1) 2 g
-        ∙ ap (λ (x : ℤ). floor_div (x +ℤ pos 1) 2) (same ∙ c.over_power.ensures.value)
-        ∙ rounded_half c.args.value (c.args.places - 1)
-        ∙ ap (λ (n : ℕ). floor_div (c.args.value +ℤ pos (2 ^ (c.args.places - 1))) (2 ^ n)) (sym more)
+    ∙ ap (λ (x : ℤ). floor_div (x +ℤ pos 1) 2) (same ∙ c.over_power.ensures.value)
+    ∙ rounded_half c.args.value (c.args.places - 1)
+    ∙ ap (λ (n : ℕ). floor_div (c.args.value +ℤ pos (2 ^ (c.args.places - 1))) (2 ^ n)) (sym more)
