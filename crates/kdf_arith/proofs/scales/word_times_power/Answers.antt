@@ -13,7 +13,7 @@ returns-clause-overflow c =
     let beyond_word : c.contract-word.result.1 ≡ not (fits (put z)) = c.contract-word.ensures.overflow ∙ ap (λ (v : ℤ). not (fits v)) value in
     elim c.if-is_beyond_double.branch [
       | then-is_beyond_double w ↦ let set : not (double_fits z) ≡ true = sym beyond_double ∙ w.if-is_beyond_double.true in
-          w.result-is ∙ sym (ap (λ (b : Bool). b || not (fits (put z))) set) ∙ fits_put z
+          w.result-is ∙ w.if-is_beyond_double.true ∙ sym (ap (λ (b : Bool). b || not (fits (put z))) set) ∙ fits_put z
       | else-is_beyond_double w ↦ let clear : not (double_fits z) ≡ false = sym beyond_double ∙ w.if-is_beyond_double.false in
           w.result-is ∙ beyond_word ∙ sym (ap (λ (b : Bool). b || not (fits (put z))) clear) ∙ fits_put z
     ]
