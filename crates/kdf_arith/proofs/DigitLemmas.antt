@@ -1,9 +1,9 @@
 -- One character more of a number.
-use Rattle.std.proofs.Common.{◌≡◌, ℕ, ◌+◌, ◌-◌, ◌*◌, ◌^◌, ◌<◌, ◌≤◌, refl, ap, ◌∙◌, sym, arith, add-one, pow-suc}
+use Rattle.std.proofs.Common.{◌≡◌, ℕ, ◌+◌, ◌-◌, ◌*◌, ◌^◌, ◌<◌, ◌≤◌, refl, sym, arith, add-one, pow-suc}
 use Rattle.std.proofs.lemmas.Nat.{mul-le}
 use Rattle.std.proofs.Math.Nat.{pow-le-pow_right}
 use Rattle.kdf_word.specs.Characters.{character_of}
-use Rattle.kdf_arith.specs.Digits.{to_binary, from_binary, spelled, Spelled}
+use Rattle.kdf_arith.specs.Digits.{to_binary, from_binary, spelled}
 
 pub to_binary_none : (radices w : ℕ) → to_binary 0 radices w ≡ 0
 unfolding to_binary

@@ -1,9 +1,8 @@
 -- What is put of a number: what is left of it but for multiples of 2^95.
-use Rattle.std.proofs.Common.{◌≡◌, ℕ, suc, ◌+◌, ◌-◌, ◌*◌, ◌/◌, ◌%◌, ◌^◌, ◌<◌, ◌≤◌, Bool, true, false, ℤ, pos, negsuc, neg_ℤ, ◌+ℤ◌, ◌-ℤ◌, ◌*ℤ◌, refl, sym, ap, ◌∙◌, inl, inr, arith, rules}
+use Rattle.std.proofs.Common.{◌≡◌, ℕ, suc, ◌+◌, ◌-◌, ◌*◌, ◌/◌, ◌%◌, ◌^◌, true, ℤ, pos, negsuc, ◌+ℤ◌, ◌-ℤ◌, ◌*ℤ◌, sym, ap, ◌∙◌, arith, rules}
 use Rattle.std.proofs.lemmas.Int.{ints}
 use Rattle.std.proofs.lemmas.Grind.{common_steps}
-use Rattle.std.proofs.lemmas.Bool.{ltb-true, ltb-false, cases_lt, cases_Bool}
-use Rattle.kdf_word.specs.Doubles.{floor_div, modulo, double_fits, put, upper_of, lower_of}
+use Rattle.kdf_word.specs.Doubles.{modulo, double_fits, put, upper_of, lower_of}
 
 pub put_own : (v : ℤ) → double_fits v ≡ true → put v ≡ v
 put_own v h = first_of (search rules, grind (arith, common_steps))

@@ -1,8 +1,8 @@
 -- A value that is put on the words below.
-use Rattle.std.proofs.Common.{◌≡◌, ℕ, ◌≤◌, ◌∷◌, List, length, Bool, not, Option, Some, ℤ, refl, ap, ◌∙◌, arith}
+use Rattle.std.proofs.Common.{◌≡◌, ℕ, ◌≤◌, ◌∷◌, List, length, Bool, not, Some, ℤ, refl, ap, ◌∙◌, arith}
 use Rattle.std.proofs.lemmas.Bool.{le-leb}
 use Rattle.kdf_word.specs.Doubles.{double_fits, put, upper_of, lower_of}
-use Rattle.kdf_arith.specs.Rows.{After, double}
+use Rattle.kdf_arith.specs.Rows.{double}
 use Rattle.kdf_arith.specs.Arith.{in_room}
 use Rattle.kdf_arith.proofs.PutLemmas.{upper_put, lower_put}
 

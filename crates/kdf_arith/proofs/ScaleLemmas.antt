@@ -1,14 +1,13 @@
 -- Values times and over powers of two.
-use Rattle.std.proofs.Common.{◌≡◌, ℕ, suc, ◌+◌, ◌-◌, ◌*◌, ◌/◌, ◌%◌, ◌^◌, ◌<◌, ◌≤◌, min, Bool, true, false, ℤ, pos, negsuc, neg_ℤ, ◌+ℤ◌, ◌-ℤ◌, ◌*ℤ◌, FitsSigned, to_z, of_z, refl, sym, ap, ◌∙◌, inl, inr, arith, rules, pow-suc}
+use Rattle.std.proofs.Common.{◌≡◌, ℕ, suc, ◌+◌, ◌-◌, ◌*◌, ◌/◌, ◌^◌, ◌<◌, ◌≤◌, min, true, ℤ, pos, negsuc, ◌+ℤ◌, FitsSigned, to_z, of_z, refl, sym, ap, ◌∙◌, inl, inr, arith, pow-suc}
 use Rattle.std.specs.Int.{w128}
 use Rattle.std.specs.Int.Signed.{mag, mag_shr, shr_z}
 use Rattle.std.proofs.lemmas.Int.{ints, to_z-of_z}
-use Rattle.std.proofs.lemmas.Nat.{pow_pos, shl-shr, div-mul-add, mod_below, mul-mod_first}
-use Rattle.std.proofs.lemmas.Bool.{ltb-true, lt-ltb, cases_lt, cases_Bool}
-use Rattle.std.proofs.lemmas.Grind.{common_steps}
+use Rattle.std.proofs.lemmas.Nat.{pow_pos}
+use Rattle.std.proofs.lemmas.Bool.{ltb-true, lt-ltb, cases_lt}
 use Rattle.std.proofs.Math.Nat.{div-le_self, add-div_right, div-div-eq-div-mul, div-eq_of_lt}
-use Rattle.kdf_word.specs.Doubles.{floor_div, modulo, double_fits, put}
-use Rattle.kdf_arith.proofs.Capped.{capped_right, power_split}
+use Rattle.kdf_word.specs.Doubles.{floor_div, double_fits}
+use Rattle.kdf_arith.proofs.Capped.{capped_right}
 
 -- a double value is small
 pub small_double : (z : ℤ) → double_fits z ≡ true → mag z < 2 ^ 94

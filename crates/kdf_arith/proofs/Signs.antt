@@ -1,10 +1,10 @@
 -- A shift by its sign.
-use Rattle.std.proofs.Common.{◌≡◌, ℕ, ◌+◌, ◌*◌, ◌/◌, ◌^◌, ℤ, pos, negsuc, ◌*ℤ◌, ◌<ℤ◌, ◌≤ℤ◌, refl, arith}
+use Rattle.std.proofs.Common.{◌≡◌, ℕ, ◌*◌, ◌/◌, ◌^◌, ℤ, pos, negsuc, ◌<ℤ◌, ◌≤ℤ◌, refl, arith}
 use Rattle.std.specs.Prelude.{unsigned_abs}
 use Rattle.std.proofs.lemmas.Int.{ints}
 use Rattle.std.specs.Int.{int_rem_euclid}
 use Rattle.kdf_word.specs.Doubles.{modulo}
-use Rattle.kdf_arith.specs.Shifts.{scaled, rounded, moved}
+use Rattle.kdf_arith.specs.Shifts.{moved}
 
 pub moved_left : (w : ℕ) (n : ℤ) → pos 0 ≤ℤ n → moved w n ≡ w * 2 ^ unsigned_abs n
 moved_left w (pos n) h = refl

@@ -1,5 +1,5 @@
 -- A word turned by some places.
-use Rattle.std.proofs.Common.{◌≡◌, ℕ, ◌+◌, ◌-◌, ◌*◌, ◌/◌, ◌%◌, ◌^◌, ◌<◌, ◌≤◌, arith}
+use Rattle.std.proofs.Common.{◌≡◌, ℕ, ◌+◌, ◌-◌, ◌*◌, ◌/◌, ◌%◌, ◌^◌, ◌<◌, arith}
 use Rattle.std.proofs.lemmas.Nat.{pow_pos, div_below, mul-add-lt, mod_below, one_shl}
 use Rattle.kdf_word.proofs.Fields.{powers}
 use Rattle.kdf_arith.specs.Shifts.{turned}

@@ -1,5 +1,5 @@
 -- What an order of arithmetic does to the nest and the flags, or none where operands or room are missing.
-use Rattle.std.specs.Prelude.{ℕ, ℤ, ◌^◌, ◌≤◌, ◌<◌, ◌≡◌, ◌⊎◌, Bool, ◌||◌, false, List, ◌∷◌, [], length, Option, Some, None, if◌then◌else◌, ◌==◌, nat_le}
+use Rattle.std.specs.Prelude.{ℕ, ℤ, ◌^◌, ◌≤◌, ◌≡◌, ◌⊎◌, ◌||◌, false, List, ◌∷◌, length, Option, Some, None, if◌then◌else◌, ◌==◌, nat_le}
 use Rattle.kdf_arith.specs.Rows.{After, plain_row}
 use Rattle.kdf_arith.specs.Shifts.{shift_row}
 use Rattle.kdf_arith.specs.declared.flags.Flags.{Flags}

@@ -1,5 +1,5 @@
 -- Tests of a value by its sign.
-use Rattle.std.specs.Prelude.{ℤ, pos, negsuc, Bool, false, nat_lt, ◌==◌}
+use Rattle.std.specs.Prelude.{ℤ, pos, negsuc, Bool, false, nat_lt}
 
 -- 0 or -1, which is what is left of a value where its sign alone is
 abbrev pub is_sign : ℤ → Bool

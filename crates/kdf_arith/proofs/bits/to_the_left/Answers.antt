@@ -1,4 +1,3 @@
-use Rattle.std.proofs.Common.{◌≡◌, ap, ◌∙◌, ◌*◌, ◌%◌, ◌^◌}
 use Rattle.kdf_arith.proofs.Capped.{capped_left}
 use Rattle.kdf_arith.proofs.bits.to_the_left.Goals as goal
 

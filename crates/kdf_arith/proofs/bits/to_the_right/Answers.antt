@@ -1,4 +1,3 @@
-use Rattle.std.proofs.Common.{◌≡◌}
 use Rattle.kdf_arith.proofs.Capped.{capped_right}
 use Rattle.kdf_arith.proofs.bits.to_the_right.Goals as goal
 

@@ -1,4 +1,4 @@
-use Rattle.std.proofs.Common.{arith, ◌∙◌}
+use Rattle.std.proofs.Common.{arith}
 use Rattle.kdf_arith.proofs.Turns.{turned_below, turned_shifted}
 use Rattle.kdf_arith.proofs.bits.turned_by.Goals as goal
 

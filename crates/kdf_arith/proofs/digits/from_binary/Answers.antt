@@ -1,4 +1,4 @@
-use Rattle.std.proofs.Common.{◌≡◌, ap, ◌∙◌, sym}
+use Rattle.std.proofs.Common.{ap, ◌∙◌, sym}
 use Rattle.kdf_arith.specs.Digits.{Spelled}
 use Rattle.kdf_arith.proofs.DigitLemmas.{from_binary_none, from_binary_step}
 use Rattle.kdf_arith.proofs.digits.from_binary.Goals as goal

@@ -1,4 +1,4 @@
-use Rattle.std.proofs.Common.{◌≡◌, ◌+◌, ◌*◌, ◌<◌, ◌^◌, sym, arith, ◌∙◌, ap}
+use Rattle.std.proofs.Common.{sym, arith}
 use Rattle.kdf_arith.proofs.DigitLemmas.{to_binary_none, to_binary_more, number_below, number_fits}
 use Rattle.kdf_arith.proofs.digits.to_binary.Goals as goal
 

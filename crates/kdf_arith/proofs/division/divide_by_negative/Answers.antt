@@ -1,4 +1,4 @@
-use Rattle.std.proofs.Common.{◌≡◌, rules, arith, FitsSigned, w64}
+use Rattle.std.proofs.Common.{FitsSigned, w64}
 use Rattle.kdf_arith.proofs.DivisionLemmas.{remainder_by_negative, negative_fits, negative_remainder_fits}
 use Rattle.kdf_arith.proofs.division.divide_by_negative.Goals as goal
 

@@ -1,4 +1,4 @@
-use Rattle.std.proofs.Common.{◌≡◌, ◌<◌, ◌≤◌, ◌-◌, ◌^◌, ◌∙◌, ap, sym, rules, arith, FitsSigned}
+use Rattle.std.proofs.Common.{◌∙◌, ap, sym, rules, arith, FitsSigned}
 use Rattle.std.specs.Int.{w128}
 use Rattle.std.proofs.lemmas.Int.{to_z-of_z}
 use Rattle.kdf_arith.specs.Signs.{is_sign, is_zero}

@@ -1,4 +1,4 @@
-use Rattle.std.proofs.Common.{◌≡◌, ◌^◌, ◌∙◌, ap, ℤ}
+use Rattle.std.proofs.Common.{◌^◌, ◌∙◌, ap, ℤ}
 use Rattle.std.specs.Int.{w128}
 use Rattle.std.proofs.lemmas.Int.{to_z-of_z}
 use Rattle.kdf_word.specs.Doubles.{modulo}

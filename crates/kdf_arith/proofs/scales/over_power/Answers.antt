@@ -1,6 +1,6 @@
-use Rattle.std.proofs.Common.{◌≡◌, ◌^◌, ◌∙◌, ap, rules, FitsSigned}
+use Rattle.std.proofs.Common.{◌^◌, ◌∙◌, ap, rules, FitsSigned}
 use Rattle.std.specs.Int.{w128}
-use Rattle.kdf_word.specs.Doubles.{floor_div, double_fits}
+use Rattle.kdf_word.specs.Doubles.{double_fits}
 use Rattle.kdf_arith.proofs.ScaleLemmas.{shifted_right, capped_floor, floor_fits}
 use Rattle.kdf_arith.proofs.scales.over_power.Goals as goal
 

@@ -1,4 +1,4 @@
-use Rattle.std.proofs.Common.{◌≡◌, arith}
+use Rattle.std.proofs.Common.{arith}
 use Rattle.kdf_arith.specs.Rows.{plain_row}
 use Rattle.kdf_arith.proofs.PutOn.{put_on}
 use Rattle.kdf_arith.proofs.values.xd.Goals as goal
