@@ -19,7 +19,8 @@ use crate::range::{
 };
 use crate::statement::What;
 use crate::stores::{
-    Direction, StoreName, Suffix, access_form, access_of, access_ranges, address_form, named_of, store_ranges,
+    Direction, StoreName, Suffix, access_form, access_of, access_ranges, address_form, named_of,
+    store_ranges,
 };
 use kdf_fault::Found;
 
@@ -87,7 +88,11 @@ pub fn form_in(shape: &[u8], text: &[u8]) -> Option<Form>
         return Some(Form::SetAddress { name });
     }
     let (direction, name, suffix) = access_form(shape)?;
-    Some(Form::Access { direction, name, suffix })
+    Some(Form::Access {
+        direction,
+        name,
+        suffix,
+    })
 }
 
 /// Whether this is a constant.
@@ -152,7 +157,13 @@ pub fn with_text(
 }
 
 /// A store that is declared before `PROGRAM`, and fetched or kept behind it.
-fn store_of(stage: Stage, direction: Direction, name: StoreName, suffix: Suffix, numbers: &[u64]) -> What
+fn store_of(
+    stage: Stage,
+    direction: Direction,
+    name: StoreName,
+    suffix: Suffix,
+    numbers: &[u64],
+) -> What
     requires { range_faults (access_ranges name suffix) numbers.now ≡ [] }
     ensures { result ≡ store_of stage direction name suffix numbers.now }
 {
@@ -206,7 +217,11 @@ pub fn what_of(stage: Stage, form: Form, numbers: &[u64], text: &[u8]) -> What
             What::Constant { n, value }
         }
         Form::Go { test, target } => go_of(test, target, numbers),
-        Form::Access { direction, name, suffix } => store_of(stage, direction, name, suffix, numbers),
+        Form::Access {
+            direction,
+            name,
+            suffix,
+        } => store_of(stage, direction, name, suffix, numbers),
         Form::SetAddress { name } => What::SetAddress {
             place: named_of(name, numbers),
         },

@@ -49,9 +49,11 @@ fn is_heading(declared: &[bool; 27], form: Form) -> bool
 {
     match form {
         Form::Program | Form::ProgramStores => true,
-        Form::Access { direction, name, suffix } => {
-            is_new(declared, declared_group(direction, name, suffix))
-        }
+        Form::Access {
+            direction,
+            name,
+            suffix,
+        } => { is_new(declared, declared_group(direction, name, suffix)) }
         _ => false,
     }
 }
@@ -106,7 +108,12 @@ fn with_group(declared: [bool; 27], group: u8) -> [bool; 27]
 fn declared_with(declared: [bool; 27], form: Form) -> [bool; 27]
     ensures { result ≡ declared_with declared form }
 {
-    if let Form::Access { direction, name, suffix } = form {
+    if let Form::Access {
+        direction,
+        name,
+        suffix,
+    } = form
+    {
         if let Some(group) = declared_group(direction, name, suffix) {
             return with_group(declared, group);
         }

@@ -1,23 +1,24 @@
 //! Decks with faults, each with its name and its place.
 
-pub const FAULTS: [(&str, &str, u32); 205] = [
+/// Bytes that no deck may have, and comments that aren't closed.
+pub const BYTES: [(&str, &str, u32); 10] = [
     ("PROGRAM; \tZERO; FINISH;", "BadByte", 9),
     ("PROGRAM; (a\r) ZERO; FINISH;", "BadByte", 11),
     ("PROGRAM; ZERO; FINISH; (\x7f)", "BadByte", 24),
     ("PROGRAM; ZERO; FINISH; \x01", "BadByte", 23),
     ("PROGRAM; \u{e9}; FINISH;", "BadByte", 9),
     ("PROGRAM; \x01ZERO", "BadByte", 9),
-    ("PROGRAM; ZE\x01RO; FINISH;", "UnknownOrder", 9),
-    ("PROGRAM; ZE\x01RO", "NoSemicolon", 9),
-    ("PROGRAM; FINISH; ZE\x01RO", "AfterFinish", 17),
     ("PROGRAM; (ZERO; FINISH;", "CommentOpen", 9),
     ("(", "CommentOpen", 0),
     ("((((", "CommentOpen", 0),
     ("PROGRAM; FINISH; ( ZERO;", "CommentOpen", 17),
+];
+
+/// Statements that aren't in their place, and the end of a deck.
+pub const SEQUENCE: [(&str, &str, u32); 33] = [
+    ("PROGRAM; ZE\x01RO", "NoSemicolon", 9),
+    ("PROGRAM; FINISH; ZE\x01RO", "AfterFinish", 17),
     ("PROGRAM; FINISH; ZERO(", "AfterFinish", 17),
-    ("PROGRAM; ZERO(x; FINISH;", "UnknownOrder", 9),
-    ("PROGRAM; ((a)b) ZERO; FINISH;", "UnknownOrder", 13),
-    ("PROGRAM; ) ; FINISH;", "UnknownOrder", 9),
     ("PROGRAM", "NoSemicolon", 0),
     ("PROGRAM; ZE RO (a;b) ; FINISH", "NoSemicolon", 23),
     ("PROGRAM; (x) *", "NoSemicolon", 13),
@@ -29,6 +30,37 @@ pub const FAULTS: [(&str, &str, u32); 205] = [
     ("PROGRAM; FINISH;; ;*;", "AfterFinish", 19),
     ("PROGRAM; FINISH; +F;", "AfterFinish", 17),
     ("PROGRAM; FINISH; ZERO", "AfterFinish", 17),
+    ("FINISH;", "BadHeading", 0),
+    ("ZERO; PROGRAM; FINISH;", "BadHeading", 0),
+    ("*; PROGRAM; FINISH;", "BadHeading", 0),
+    ("E0; PROGRAM; FINISH;", "BadHeading", 0),
+    ("V0; PROGRAM; FINISH;", "BadHeading", 0),
+    ("=Y0; PROGRAM; FINISH;", "BadHeading", 0),
+    ("Y0M1; PROGRAM; FINISH;", "BadHeading", 0),
+    ("1; PROGRAM; FINISH;", "BadHeading", 0),
+    ("P1; FINISH;", "BadHeading", 0),
+    ("V0=1; PROGRAM; FINISH;", "BadHeading", 0),
+    ("Y0; Y1; PROGRAM; FINISH;", "BadHeading", 4),
+    ("YZ0; Y1; YZ0; PROGRAM; FINISH;", "BadHeading", 9),
+    ("PROGRAM; PROGRAM; FINISH;", "BadHeading", 9),
+    ("PROGRAM; ZERO; PROGRAM V1; FINISH;", "BadHeading", 15),
+    ("PROGRAM V1; *; V0=1; FINISH;", "BadHeading", 15),
+    ("PROGRAM V1; 1; V0=1; FINISH;", "BadHeading", 15),
+    ("PROGRAM V1; ZERO; V0=B1; FINISH;", "BadHeading", 18),
+    (
+        "PROGRAM V1; V0=1; ZERO; P1V1; V0=1; PROGRAM; FINISH;",
+        "BadHeading",
+        36,
+    ),
+    ("PROGRAM V1; ZERO; V0=PA; FINISH;", "BadHeading", 18),
+];
+
+/// Statements without a form.
+pub const FORMLESS_HERE: [(&str, &str, u32); 39] = [
+    ("PROGRAM; ZE\x01RO; FINISH;", "UnknownOrder", 9),
+    ("PROGRAM; ZERO(x; FINISH;", "UnknownOrder", 9),
+    ("PROGRAM; ((a)b) ZERO; FINISH;", "UnknownOrder", 13),
+    ("PROGRAM; ) ; FINISH;", "UnknownOrder", 9),
     ("PROGRAM V9; V0=P; FINISH;", "UnknownOrder", 12),
     ("PROGRAM V9; V0=Pa; FINISH;", "UnknownOrder", 12),
     ("PROGRAM V9; V0=P#ABCDEFGHIJ; FINISH;", "UnknownOrder", 12),
@@ -64,6 +96,10 @@ pub const FAULTS: [(&str, &str, u32); 205] = [
     ("PROGRAM V9; J1P; FINISH;", "UnknownOrder", 12),
     ("PROGRAM V9; M1M2NQ; FINISH;", "UnknownOrder", 12),
     ("PROGRAM V9; M1M2HQ; FINISH;", "UnknownOrder", 12),
+];
+
+/// Statements without a form.
+pub const FORMLESS_TOO: [(&str, &str, u32); 39] = [
     ("PROGRAM V9; =M1M2M3; FINISH;", "UnknownOrder", 12),
     ("PROGRAM V9; E5M; FINISH;", "UnknownOrder", 12),
     ("PROGRAM V9; E5Q; FINISH;", "UnknownOrder", 12),
@@ -101,6 +137,12 @@ pub const FAULTS: [(&str, &str, u32); 205] = [
     ("PROGRAM V9; DIVR; FINISH;", "UnknownOrder", 12),
     ("PROGRAMV; FINISH;", "UnknownOrder", 0),
     ("ZEROS; PROGRAM; FINISH;", "UnknownOrder", 0),
+    ("PROGRAM; ZEROX; Q16; FINISH", "UnknownOrder", 9),
+    ("PROGRAM; **ZEROX; Q16; FINISH", "UnknownOrder", 11),
+];
+
+/// Orders on floating numbers.
+pub const FLOATING: [(&str, &str, u32); 21] = [
     ("PROGRAM V9; +F; FINISH;", "Floating", 12),
     ("PROGRAM V9; -F; FINISH;", "Floating", 12),
     ("PROGRAM V9; XF; FINISH;", "Floating", 12),
@@ -122,6 +164,10 @@ pub const FAULTS: [(&str, &str, u32); 205] = [
     ("PROGRAM V9; DIVDF; FINISH;", "Floating", 12),
     ("PROGRAM V9; NEGDF; FINISH;", "Floating", 12),
     ("+F; PROGRAM; FINISH;", "Floating", 0),
+];
+
+/// Numbers outside their ranges.
+pub const NUMBERS_HERE: [(&str, &str, u32); 31] = [
     ("PROGRAM V9; J0C16Z; FINISH;", "BadNumber", 12),
     ("PROGRAM V9; J10000; FINISH;", "BadNumber", 12),
     ("PROGRAM V9; J0C0NZS; FINISH;", "BadNumber", 12),
@@ -165,6 +211,10 @@ pub const FAULTS: [(&str, &str, u32); 205] = [
     ("PROGRAM V9; SETAYA32768; FINISH;", "BadNumber", 12),
     ("PROGRAM V9; PROGRAM V32768; FINISH;", "BadNumber", 12),
     ("P0; FINISH;", "BadNumber", 0),
+];
+
+/// Numbers outside their ranges.
+pub const NUMBERS_TOO: [(&str, &str, u32); 32] = [
     ("P1000; FINISH;", "BadNumber", 0),
     ("PROGRAM V32768; FINISH;", "BadNumber", 0),
     ("Y32768; PROGRAM; FINISH;", "BadNumber", 0),
@@ -220,30 +270,19 @@ pub const FAULTS: [(&str, &str, u32); 205] = [
         "ConstantRange",
         0,
     ),
-    ("FINISH;", "BadHeading", 0),
-    ("ZERO; PROGRAM; FINISH;", "BadHeading", 0),
-    ("*; PROGRAM; FINISH;", "BadHeading", 0),
-    ("E0; PROGRAM; FINISH;", "BadHeading", 0),
-    ("V0; PROGRAM; FINISH;", "BadHeading", 0),
-    ("=Y0; PROGRAM; FINISH;", "BadHeading", 0),
-    ("Y0M1; PROGRAM; FINISH;", "BadHeading", 0),
-    ("1; PROGRAM; FINISH;", "BadHeading", 0),
-    ("P1; FINISH;", "BadHeading", 0),
-    ("V0=1; PROGRAM; FINISH;", "BadHeading", 0),
-    ("Y0; Y1; PROGRAM; FINISH;", "BadHeading", 4),
-    ("YZ0; Y1; YZ0; PROGRAM; FINISH;", "BadHeading", 9),
-    ("PROGRAM; PROGRAM; FINISH;", "BadHeading", 9),
-    ("PROGRAM; ZERO; PROGRAM V1; FINISH;", "BadHeading", 15),
-    ("PROGRAM V1; *; V0=1; FINISH;", "BadHeading", 15),
-    ("PROGRAM V1; 1; V0=1; FINISH;", "BadHeading", 15),
-    ("PROGRAM V1; ZERO; V0=B1; FINISH;", "BadHeading", 18),
-    (
-        "PROGRAM V1; V0=1; ZERO; P1V1; V0=1; PROGRAM; FINISH;",
-        "BadHeading",
-        36,
-    ),
-    ("PROGRAM V1; ZERO; V0=PA; FINISH;", "BadHeading", 18),
     ("PROGRAM; Q16; ZEROX; FINISH; X", "QRange", 9),
-    ("PROGRAM; ZEROX; Q16; FINISH", "UnknownOrder", 9),
-    ("PROGRAM; **ZEROX; Q16; FINISH", "UnknownOrder", 11),
+];
+
+/// Decks without a fault, and their lengths.
+pub const SOUND: [(&str, &str, u32); 10] = [
+    ("PROGRAM;FINISH;", "none", 15),
+    ("PROGRAM; FINISH;;", "none", 17),
+    ("PROGRAM; FINISH; ; \n;", "none", 21),
+    ("Y0; YA5; YZ32767; PROGRAM; FINISH;", "none", 34),
+    ("PROGRAM V1; V0=1; P2V3; V1=2; FINISH;", "none", 37),
+    ("PROGRAM; ((a) ZERO; FINISH;", "none", 27),
+    ("PROGRAM; Z E\nR(x)O; FINISH; (end)", "none", 33),
+    ("PROGRAM; Y0; 1; 1; FINISH;", "none", 26),
+    (";;PROGRAM;;FINISH;", "none", 18),
+    ("PROGRAM; P1; P1; J7; FINISH;", "none", 28),
 ];

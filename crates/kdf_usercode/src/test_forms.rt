@@ -1,7 +1,7 @@
-//! Decks, and what the language says of each.
+//! Statements behind `PROGRAM`, and what they mean, as it is printed.
 
-/// A statement behind `PROGRAM`, and what it means, as it is printed.
-pub const FORMS: [(&str, &str); 179] = [
+/// Orders of one syllable.
+pub const PLAIN: [(&str, &str); 32] = [
     ("DUMMY", "Plain { order: Plain { code: 1 } }"),
     ("ERASE", "Plain { order: Plain { code: 2 } }"),
     ("DUP", "Plain { order: Plain { code: 3 } }"),
@@ -34,6 +34,10 @@ pub const FORMS: [(&str, &str); 179] = [
     ("=TR", "Plain { order: Plain { code: 31 } }"),
     ("VR", "Plain { order: Plain { code: 32 } }"),
     ("OUT", "Plain { order: Plain { code: 33 } }"),
+];
+
+/// Orders on Q-stores.
+pub const REGISTERS: [(&str, &str); 42] = [
     (
         "M3M12",
         "Plain { order: Indirect { code: 64, k: 3, q: 12 } }",
@@ -145,6 +149,10 @@ pub const FORMS: [(&str, &str); 179] = [
         "Q1TOQ15",
         "Plain { order: Copies { code: 105, q: 1, k: 15 } }",
     ),
+];
+
+/// Shifts.
+pub const SHIFTS: [(&str, &str); 20] = [
     (
         "SHA63",
         "Plain { order: Shift { code: 106, by: Fixed { n: 63 } } }",
@@ -225,6 +233,10 @@ pub const FORMS: [(&str, &str); 179] = [
         "SHLDC9",
         "Plain { order: Shift { code: 110, by: Count { q: 9 } } }",
     ),
+];
+
+/// Orders on devices, exits and constants that are set.
+pub const DEVICES: [(&str, &str); 29] = [
     ("PRQ4", "Plain { order: Device { code: 112, q: 4 } }"),
     ("PREQ4", "Plain { order: Device { code: 113, q: 4 } }"),
     ("PWQ4", "Plain { order: Device { code: 114, q: 4 } }"),
@@ -254,6 +266,10 @@ pub const FORMS: [(&str, &str); 179] = [
     ("SET-32768", "Plain { order: Set { constant: 32768 } }"),
     ("SETB177777", "Plain { order: Set { constant: 65535 } }"),
     ("SETB17", "Plain { order: Set { constant: 15 } }"),
+];
+
+/// Orders that name a store.
+pub const STORES: [(&str, &str); 19] = [
     ("SETAY5", "SetAddress { place: Y { group: 0, n: 5 } }"),
     (
         "SETAYC32767",
@@ -312,6 +328,10 @@ pub const FORMS: [(&str, &str); 179] = [
         "=V1M0Q",
         "Keep { place: V { n: 1, p: None }, q: 0, u: true }",
     ),
+];
+
+/// Jumps.
+pub const JUMPS: [(&str, &str); 28] = [
     (
         "J9999",
         "Go { c: 32, target: Target { r: Some(9999), p: None } }",
@@ -421,6 +441,10 @@ pub const FORMS: [(&str, &str); 179] = [
         "Go { c: 8, target: Target { r: None, p: Some(7) } }",
     ),
     ("J4C5NZS", "Short { r: 4, q: 5 }"),
+];
+
+/// Statements that aren't orders.
+pub const PARTS: [(&str, &str); 9] = [
     ("P1", "Part { p: 1, v: None }"),
     ("P999V32767", "Part { p: 999, v: Some(32767) }"),
     ("1", "Reference { r: 1 }"),
@@ -467,18 +491,4 @@ pub const NUMBERS: [(&str, u64); 21] = [
     ("V0=PP8", 212755499974656),
     ("V0=PB9", 151251568295936),
     ("V0=P00000000", 71485708370960),
-];
-
-/// Decks without a fault, and their lengths.
-pub const SOUND: [(&str, &str, u32); 10] = [
-    ("PROGRAM;FINISH;", "none", 15),
-    ("PROGRAM; FINISH;;", "none", 17),
-    ("PROGRAM; FINISH; ; \n;", "none", 21),
-    ("Y0; YA5; YZ32767; PROGRAM; FINISH;", "none", 34),
-    ("PROGRAM V1; V0=1; P2V3; V1=2; FINISH;", "none", 37),
-    ("PROGRAM; ((a) ZERO; FINISH;", "none", 27),
-    ("PROGRAM; Z E\nR(x)O; FINISH; (end)", "none", 33),
-    ("PROGRAM; Y0; 1; 1; FINISH;", "none", 26),
-    (";;PROGRAM;;FINISH;", "none", 18),
-    ("PROGRAM; P1; P1; J7; FINISH;", "none", 28),
 ];

@@ -3,8 +3,10 @@
 use crate::fault::DeckError;
 use crate::reader::read_deck;
 use crate::statement::Deck;
-use crate::test_faults::FAULTS;
-use crate::test_forms::{FORMS, NUMBERS, SOUND};
+use crate::test_faults::{
+    BYTES, FLOATING, FORMLESS_HERE, FORMLESS_TOO, NUMBERS_HERE, NUMBERS_TOO, SEQUENCE, SOUND,
+};
+use crate::test_forms::{DEVICES, JUMPS, NUMBERS, PARTS, PLAIN, REGISTERS, SHIFTS, STORES};
 use std::string::String;
 use std::test::Fail;
 
@@ -16,46 +18,69 @@ fn read(rt: &HostRuntime, text: &str) -> Result<Deck, DeckError> {
     read_deck(rt.alloc(), text.as_bytes())
 }
 
-/// What a statement behind `PROGRAM` says, as it is printed.
+/// The statement behind `PROGRAM`, as it is printed.
 fn said(rt: &HostRuntime, statement: &str) -> Result<String, Fail> {
     let text = format!(in rt.alloc(); "PROGRAM;{statement};FINISH;")?;
     let deck = read(rt, &text)?;
-    let what = deck.statements.get(1).copied().map(|s| s.what);
-    Ok(format!(in rt.alloc(); "{what:?}")?)
+    let second = deck.statements.get(1).copied();
+    Ok(format!(in rt.alloc(); "{second:?}")?)
 }
 
-/// How many statements in front mean what stands beside them.
-fn right_forms(rt: &HostRuntime, rows: &[(&str, &str)]) -> Result<usize, Fail> {
-    for (i, (statement, meaning)) in rows.iter().enumerate() {
-        let due = format!(in rt.alloc(); "Some({meaning})")?;
+/// Whether each statement means what stands beside it.
+fn all_mean(rt: &HostRuntime, rows: &[(&str, &str)]) -> Result<bool, Fail> {
+    for (statement, meaning) in rows {
+        let due = format!(in rt.alloc(); "Some(Statement {{ place: 8, what: {meaning} }})")?;
         if said(rt, statement)? != due {
-            return Ok(i);
+            return Ok(false);
         }
     }
-    Ok(rows.len())
+    Ok(true)
 }
 
 #[test]
-fn forms(rt: HostRuntime) -> Result<(), Fail> {
-    assert_eq!(rt; right_forms(&rt, &FORMS)?, FORMS.len());
+fn orders_of_one_syllable(rt: HostRuntime) -> Result<(), Fail> {
+    assert!(rt; all_mean(&rt, &PLAIN)?);
     Ok(())
 }
 
-/// How many constants in front have the word that stands beside them.
-fn right_numbers(rt: &HostRuntime, rows: &[(&str, u64)]) -> Result<usize, Fail> {
-    for (i, (constant, word)) in rows.iter().enumerate() {
+#[test]
+fn orders_on_registers(rt: HostRuntime) -> Result<(), Fail> {
+    assert!(rt; all_mean(&rt, &REGISTERS)?);
+    Ok(())
+}
+
+#[test]
+fn shifts_and_devices(rt: HostRuntime) -> Result<(), Fail> {
+    assert!(rt; all_mean(&rt, &SHIFTS)?);
+    assert!(rt; all_mean(&rt, &DEVICES)?);
+    Ok(())
+}
+
+#[test]
+fn stores_jumps_and_parts(rt: HostRuntime) -> Result<(), Fail> {
+    assert!(rt; all_mean(&rt, &STORES)?);
+    assert!(rt; all_mean(&rt, &JUMPS)?);
+    assert!(rt; all_mean(&rt, &PARTS)?);
+    Ok(())
+}
+
+/// Whether each constant has the word that stands beside it.
+fn all_have_words(rt: &HostRuntime, rows: &[(&str, u64)]) -> Result<bool, Fail> {
+    for (constant, word) in rows {
         let value = format!(in rt.alloc(); "Number {{ word: Word {{ bits: {word} }} }}")?;
-        let due = format!(in rt.alloc(); "Some(Constant {{ n: 0, value: {value} }})")?;
+        let due = format!(in rt.alloc();
+            "Some(Statement {{ place: 8, what: Constant {{ n: 0, value: {value} }} }})"
+        )?;
         if said(rt, constant)? != due {
-            return Ok(i);
+            return Ok(false);
         }
     }
-    Ok(rows.len())
+    Ok(true)
 }
 
 #[test]
 fn numbers(rt: HostRuntime) -> Result<(), Fail> {
-    assert_eq!(rt; right_numbers(&rt, &NUMBERS)?, NUMBERS.len());
+    assert!(rt; all_have_words(&rt, &NUMBERS)?);
     Ok(())
 }
 
@@ -79,9 +104,31 @@ fn right_faults(rt: &HostRuntime, rows: &[(&str, &str, u32)]) -> usize {
 }
 
 #[test]
-fn first_faults(rt: HostRuntime) {
-    assert_eq!(rt; right_faults(&rt, &FAULTS), FAULTS.len());
-    assert_eq!(rt; right_faults(&rt, &SOUND), SOUND.len());
+fn faults_of_bytes_and_sequence(rt: HostRuntime) {
+    assert_eq!(rt; right_faults(&rt, &BYTES), 10);
+    assert_eq!(rt; right_faults(&rt, &SEQUENCE), 33);
+    assert_eq!(rt; right_faults(&rt, &SOUND), 10);
+}
+
+#[test]
+fn statements_without_a_form(rt: HostRuntime) {
+    assert_eq!(rt; right_faults(&rt, &FORMLESS_HERE), 39);
+}
+
+#[test]
+fn more_statements_without_a_form(rt: HostRuntime) {
+    assert_eq!(rt; right_faults(&rt, &FORMLESS_TOO), 39);
+}
+
+#[test]
+fn numbers_outside_their_ranges(rt: HostRuntime) {
+    assert_eq!(rt; right_faults(&rt, &NUMBERS_HERE), 31);
+}
+
+#[test]
+fn more_numbers_and_floating_orders(rt: HostRuntime) {
+    assert_eq!(rt; right_faults(&rt, &NUMBERS_TOO), 32);
+    assert_eq!(rt; right_faults(&rt, &FLOATING), 21);
 }
 
 #[test]
