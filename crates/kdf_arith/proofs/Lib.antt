@@ -4,7 +4,7 @@ pub mod DivisionLemmas
 pub mod FitLemmas
 pub mod PutLemmas
 pub mod PutOn
+pub mod Remainders
 pub mod ScaleLemmas
-pub mod Signs
 pub mod Turns
 pub mod WordLemmas

@@ -1,14 +1,8 @@
 -- What is put of a number: what is left of it but for multiples of 2^95.
-use Rattle.std.proofs.Common.{◌≡◌, ℕ, suc, ◌+◌, ◌-◌, ◌*◌, ◌/◌, ◌%◌, ◌^◌, true, ℤ, pos, negsuc, ◌+ℤ◌, ◌-ℤ◌, ◌*ℤ◌, sym, ap, ◌∙◌, arith, rules}
+use Rattle.std.proofs.Common.{◌≡◌, ℕ, suc, ◌+◌, ◌-◌, ◌*◌, ◌/◌, ◌%◌, ◌^◌, ℤ, pos, negsuc, ◌+ℤ◌, ◌-ℤ◌, ◌*ℤ◌, sym, ap, ◌∙◌, arith, rules}
 use Rattle.std.proofs.lemmas.Int.{ints}
 use Rattle.std.proofs.lemmas.Grind.{common_steps}
-use Rattle.kdf_word.specs.Doubles.{modulo, double_fits, put, upper_of, lower_of}
-
-pub put_own : (v : ℤ) → double_fits v ≡ true → put v ≡ v
-put_own v h = first_of (search rules, grind (arith, common_steps))
-
-pub put_fits : (v : ℤ) → double_fits (put v) ≡ true
-put_fits v = first_of (search rules, grind (arith, common_steps))
+use Rattle.kdf_word.specs.Doubles.{modulo, put, upper_of, lower_of}
 
 pub upper_put : (v : ℤ) → upper_of (put v) ≡ upper_of v
 upper_put v = first_of (search rules, grind (arith, common_steps))

@@ -104,7 +104,7 @@ fn kept_times_power(value: i128, places: u16) -> Double
 }
 
 /// The last 95 bits of a number in two's complement.
-#[tactic(auto, using(crate::proofs::Signs::last_of))]
+#[tactic(auto, using(crate::proofs::Remainders::last_of))]
 fn last_bits(value: i128) -> u128
     ensures { result ≡ modulo value (2 ^ 95) }
 {
