@@ -1,0 +1,43 @@
+-- The remainder by a negative divisor.
+use Rattle.std.proofs.Common.{◌≡◌, ℕ, suc, ◌^◌, ◌<◌, ◌≤◌, ℤ, pos, negsuc, neg_ℤ, ◌+ℤ◌, ◌-ℤ◌, ◌*ℤ◌, ◌<ℤ◌, FitsSigned, w64, to_z, of_z, ap, ◌∙◌, arith}
+use Rattle.std.specs.Prelude.{unsigned_abs}
+use Rattle.std.specs.Int.{int_rem_euclid, IsNonNegative}
+use Rattle.std.proofs.lemmas.Int.{ints, to_z-of_z}
+use Rattle.std.proofs.lemmas.Nat.{mod_below, div-add-mod'}
+use Rattle.kdf_word.specs.Doubles.{floor_div, modulo}
+use Rattle.kdf_word.proofs.Wide.{remainder}
+use Rattle.kdf_arith.specs.Rows.{quotient}
+
+-- what a quotient leaves
+parts : (v : ℤ) (k : ℕ) → v ≡ pos (modulo v (suc k)) +ℤ floor_div v (suc k) *ℤ pos (suc k)
+parts (pos n) k = ap pos (omega (arith, div-add-mod' n (suc k)))
+parts (negsuc n) k =
+    let some : 0 < suc k = omega arith in
+    let whole = div-add-mod' n (suc k) in
+    let below = mod_below n (suc k) some in
+    omega (arith, ints, whole, below)
+
+remainder_down : (v : ℤ) (k : ℕ) → neg_ℤ (pos (modulo (neg_ℤ v) (suc k))) ≡ v -ℤ floor_div (neg_ℤ v) (suc k) *ℤ negsuc k
+remainder_down v k = let e = parts (neg_ℤ v) k in omega (arith, ints, e)
+
+pub negative_fits : (z : ℤ) → unsigned_abs z ≤ 2 ^ 47 → FitsSigned w64 (pos 0 -ℤ z)
+negative_fits (pos n) h = omega (arith, ints)
+negative_fits (negsuc n) h = omega (arith, ints)
+
+pub negative_remainder_fits : (z : ℤ) → IsNonNegative z → FitsSigned w64 z → FitsSigned w64 (pos 0 -ℤ z)
+negative_remainder_fits (pos n) h f = let s : n < 2 ^ 63 = f.sfits in omega (arith, ints)
+negative_remainder_fits (negsuc n) h f = absurd h
+
+-- a sign that the machine changes
+negated : (z : ℤ) → FitsSigned w64 z → FitsSigned w64 (pos 0 -ℤ z) → to_z w64 (of_z w64 (pos 0 -ℤ to_z w64 (of_z w64 z))) ≡ neg_ℤ z
+negated z f g =
+    let e : pos 0 -ℤ z ≡ neg_ℤ z = omega (arith, ints) in
+    ap (λ (x : ℤ). to_z w64 (of_z w64 (pos 0 -ℤ x))) (to_z-of_z w64 z f) ∙ to_z-of_z w64 (pos 0 -ℤ z) g ∙ e
+
+pub remainder_by_negative : (v d r : ℤ) → d <ℤ pos 0 → FitsSigned w64 v → FitsSigned w64 d → FitsSigned w64 r → FitsSigned w64 (pos 0 -ℤ v) → FitsSigned w64 (pos 0 -ℤ d) → FitsSigned w64 (pos 0 -ℤ r) → r ≡ int_rem_euclid (to_z w64 (of_z w64 (pos 0 -ℤ to_z w64 (of_z w64 v)))) (to_z w64 (of_z w64 (pos 0 -ℤ to_z w64 (of_z w64 d)))) → to_z w64 (of_z w64 (pos 0 -ℤ to_z w64 (of_z w64 r))) ≡ v -ℤ quotient v d *ℤ d
+remainder_by_negative v (pos n) r h fv fd fr gv gd gr e = absurd (omega (arith, ints))
+remainder_by_negative v (negsuc k) r h fv fd fr gv gd gr e =
+    let first : int_rem_euclid (to_z w64 (of_z w64 (pos 0 -ℤ to_z w64 (of_z w64 v)))) (to_z w64 (of_z w64 (pos 0 -ℤ to_z w64 (of_z w64 (negsuc k))))) ≡ int_rem_euclid (neg_ℤ v) (to_z w64 (of_z w64 (pos 0 -ℤ to_z w64 (of_z w64 (negsuc k))))) = ap (λ (x : ℤ). int_rem_euclid x (to_z w64 (of_z w64 (pos 0 -ℤ to_z w64 (of_z w64 (negsuc k)))))) (negated v fv gv) in
+    let second : int_rem_euclid (neg_ℤ v) (to_z w64 (of_z w64 (pos 0 -ℤ to_z w64 (of_z w64 (negsuc k))))) ≡ int_rem_euclid (neg_ℤ v) (pos (suc k)) = ap (λ (x : ℤ). int_rem_euclid (neg_ℤ v) x) (negated (negsuc k) fd gd) in
+    let value : r ≡ pos (modulo (neg_ℤ v) (suc k)) = e ∙ first ∙ second ∙ remainder (neg_ℤ v) (suc k) in
+    negated r fr gr ∙ ap neg_ℤ value ∙ remainder_down v k

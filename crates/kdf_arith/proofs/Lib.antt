@@ -1,0 +1,10 @@
+pub mod Capped
+pub mod DigitLemmas
+pub mod DivisionLemmas
+pub mod FitLemmas
+pub mod PutLemmas
+pub mod PutOn
+pub mod Remainders
+pub mod ScaleLemmas
+pub mod Turns
+pub mod WordLemmas

@@ -1,0 +1,5 @@
+pub mod Arith
+pub mod Digits
+pub mod Rows
+pub mod Shifts
+pub mod Signs

@@ -1,0 +1,23 @@
+//! The orders of arithmetic: those that move and combine words of the nest, and the five shifts.
+#![tactic(auto)]
+
+mod bits;
+mod digits;
+mod division;
+mod flags;
+pub mod laws;
+mod nouv;
+mod obey;
+mod operands;
+mod order;
+mod scales;
+mod shifts;
+#[cfg(test)]
+mod tests;
+mod values;
+mod words;
+
+pub use flags::Flags;
+pub use nouv::Nouv;
+pub use obey::obey_arith;
+pub use order::ArithOrder;

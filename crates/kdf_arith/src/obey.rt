@@ -1,0 +1,93 @@
+//! Any order of arithmetic.
+ghost use Rattle.std.specs.Prelude.{◌≡◌, ◌≢◌, ◌≤◌, Some, None, IfOk, OnOk, OnErr};
+ghost use Rattle.kdf_arith.specs.Rows.{left};
+ghost use Rattle.kdf_arith.specs.Arith.{arith, plain, shift, plain_arith, to_tr, with_v, IsArithOrder, IsPlainCode, IsShiftCode};
+
+use crate::operands::take_one;
+use crate::shifts::obey_shifts;
+use crate::values::obey_values;
+use crate::words::obey_words;
+use crate::{ArithOrder, Flags, Nouv};
+use kdf_nest::Nest;
+
+/// Obeys an order of arithmetic.
+///
+/// # Errors
+/// Nouv where the nest has fewer words than the order needs, or would have more than sixteen. Then nothing has changed.
+#[tactic(auto, unfolding(crate::specs::Arith::arith))]
+pub fn obey_arith(nest: &mut Nest, flags: &mut Flags, order: ArithOrder) -> Result<(), Nouv>
+    requires { IsArithOrder order }
+    ensures ok { OnOk result (arith order nest.old flags.old ≡ Some (record { nest = nest.new; flags = flags.new })) }
+    ensures err { OnErr result (arith order nest.old flags.old ≡ None) }
+    ensures same_nest { OnErr result (nest.new ≡ nest.old) }
+    ensures same_flags { OnErr result (flags.new ≡ flags.old) }
+{
+    match order {
+        ArithOrder::Plain { code } => obey_plain(nest, flags, code),
+        ArithOrder::Shift { code, n } => obey_shift(nest, flags, code, n),
+    }
+}
+
+/// An order of one syllable.
+fn obey_plain(nest: &mut Nest, flags: &mut Flags, code: u8) -> Result<(), Nouv>
+    requires { IsPlainCode code }
+    ensures ok { OnOk result (plain_arith code nest.old flags.old ≡ Some (record { nest = nest.new; flags = flags.new })) }
+    ensures err { OnErr result (plain_arith code nest.old flags.old ≡ None) }
+    ensures same_nest { OnErr result (nest.new ≡ nest.old) }
+    ensures same_flags { OnErr result (flags.new ≡ flags.old) }
+{
+    match code {
+        0x1f => set_tr(nest, flags),
+        0x20 => {
+            flags.v = false;
+            Ok(())
+        }
+        _ => {
+            let overflow = obey_row(nest, code)?;
+            flags.note(overflow);
+            Ok(())
+        }
+    }
+}
+
+/// A shift.
+fn obey_shift(nest: &mut Nest, flags: &mut Flags, code: u8, n: i16) -> Result<(), Nouv>
+    requires { IsShiftCode code }
+    ensures ok { OnOk result (with_v (shift code n nest.old) flags.old ≡ Some (record { nest = nest.new; flags = flags.new })) }
+    ensures err { OnErr result (with_v (shift code n nest.old) flags.old ≡ None) }
+    ensures same_nest { OnErr result (nest.new ≡ nest.old) }
+    ensures same_flags { OnErr result (flags.new ≡ flags.old) }
+{
+    let overflow = obey_shifts(nest, code, n)?;
+    flags.note(overflow);
+    Ok(())
+}
+
+/// =TR.
+fn set_tr(nest: &mut Nest, flags: &mut Flags) -> Result<(), Nouv>
+    ensures ok { OnOk result (to_tr nest.old flags.old ≡ Some (record { nest = nest.new; flags = flags.new })) }
+    ensures err { OnErr result (to_tr nest.old flags.old ≡ None) }
+    ensures same_nest { OnErr result (nest.new ≡ nest.old) }
+    ensures same_flags { OnErr result (flags.new ≡ flags.old) }
+{
+    let a = take_one(nest)?;
+    flags.tr = a.bits() >= 1 << 47;
+    Ok(())
+}
+
+/// An order that changes no flag but V, which it tells whether it sets.
+fn obey_row(nest: &mut Nest, code: u8) -> Result<bool, Nouv>
+    requires least { 0x02 ≤ code }
+    requires greatest { code ≤ 0x1C }
+    requires some { code ≢ 0x13 }
+    ensures ok { IfOk result (λ v. plain code nest.old ≡ Some (record { nest = nest.new; sets_v = v })) }
+    ensures err { OnErr result (plain code nest.old ≡ None) }
+    ensures same { OnErr result (nest.new ≡ nest.old) }
+{
+    if code < 0x0f {
+        obey_words(nest, code)?;
+        Ok(false)
+    } else {
+        obey_values(nest, code)
+    }
+}

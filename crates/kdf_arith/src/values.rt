@@ -1,0 +1,215 @@
+//! The orders that take words as values. Each tells whether it sets V.
+#![tactic(auto, unfolding(crate::specs::Rows::plain_row))]
+
+ghost use Rattle.std.specs.Prelude.{◌≡◌, ◌≢◌, ◌≤◌, ◌∷◌, length, Some, None, IfOk, OnErr};
+ghost use Rattle.kdf_word.specs.Doubles.{upper_of, lower_of};
+ghost use Rattle.kdf_arith.specs.Rows.{After};
+ghost use Rattle.kdf_arith.specs.Arith.{plain};
+
+use crate::Nouv;
+use crate::digits::{from_binary, to_binary};
+use crate::division::divide;
+use crate::operands::{need_room, take_four, take_one, take_two};
+use kdf_nest::Nest;
+use kdf_word::{Double, Word};
+
+/// An order with a code from 0F to 12 or from 14 to 1C.
+#[tactic(auto)]
+pub(crate) fn obey_values(nest: &mut Nest, code: u8) -> Result<bool, Nouv>
+    requires least { 0x0F ≤ code }
+    requires greatest { code ≤ 0x1C }
+    requires some { code ≢ 0x13 }
+    ensures ok { IfOk result (λ v. plain code nest.old ≡ Some (record { nest = nest.new; sets_v = v })) }
+    ensures err { OnErr result (plain code nest.old ≡ None) }
+    ensures same { OnErr result (nest.new ≡ nest.old) }
+{
+    match code {
+        0x0f => neg(nest),
+        0x10 => abs(nest),
+        0x11 => plus(nest),
+        0x12 => minus(nest),
+        0x14 => xd(nest),
+        0x15 => cont(nest),
+        0x16 => stretch(nest),
+        0x17 => plus_d(nest),
+        0x18 => minus_d(nest),
+        0x19 => negd(nest),
+        0x1a => divi(nest),
+        0x1b => tob(nest),
+        _ => frb(nest),
+    }
+}
+
+/// Puts a double value on top.
+#[tactic(auto)]
+pub(crate) fn push_double(nest: &mut Nest, value: Double)
+    requires { length nest.old ≤ 14 }
+    ensures { nest.new ≡ upper_of value ∷ lower_of value ∷ nest.old }
+{
+    let (n1, n2) = value.words();
+    nest.push(n2);
+    nest.push(n1);
+}
+
+/// NEG.
+fn neg(nest: &mut Nest) -> Result<bool, Nouv>
+    ensures ok { IfOk result (λ v. plain 0x0F nest.old ≡ Some (record { nest = nest.new; sets_v = v })) }
+    ensures err { OnErr result (plain 0x0F nest.old ≡ None) }
+    ensures same { OnErr result (nest.new ≡ nest.old) }
+{
+    let a = take_one(nest)?;
+    let (negative, overflow) = a.neg();
+    nest.push(negative);
+    Ok(overflow)
+}
+
+/// ABS.
+fn abs(nest: &mut Nest) -> Result<bool, Nouv>
+    ensures ok { IfOk result (λ v. plain 0x10 nest.old ≡ Some (record { nest = nest.new; sets_v = v })) }
+    ensures err { OnErr result (plain 0x10 nest.old ≡ None) }
+    ensures same { OnErr result (nest.new ≡ nest.old) }
+{
+    let a = take_one(nest)?;
+    let (absolute, overflow) = a.abs();
+    nest.push(absolute);
+    Ok(overflow)
+}
+
+/// +.
+fn plus(nest: &mut Nest) -> Result<bool, Nouv>
+    ensures ok { IfOk result (λ v. plain 0x11 nest.old ≡ Some (record { nest = nest.new; sets_v = v })) }
+    ensures err { OnErr result (plain 0x11 nest.old ≡ None) }
+    ensures same { OnErr result (nest.new ≡ nest.old) }
+{
+    let (a, b) = take_two(nest)?;
+    let (sum, overflow) = b.add(a);
+    nest.push(sum);
+    Ok(overflow)
+}
+
+/// -.
+fn minus(nest: &mut Nest) -> Result<bool, Nouv>
+    ensures ok { IfOk result (λ v. plain 0x12 nest.old ≡ Some (record { nest = nest.new; sets_v = v })) }
+    ensures err { OnErr result (plain 0x12 nest.old ≡ None) }
+    ensures same { OnErr result (nest.new ≡ nest.old) }
+{
+    let (a, b) = take_two(nest)?;
+    let (difference, overflow) = b.sub(a);
+    nest.push(difference);
+    Ok(overflow)
+}
+
+/// XD.
+fn xd(nest: &mut Nest) -> Result<bool, Nouv>
+    ensures ok { IfOk result (λ v. plain 0x14 nest.old ≡ Some (record { nest = nest.new; sets_v = v })) }
+    ensures err { OnErr result (plain 0x14 nest.old ≡ None) }
+    ensures same { OnErr result (nest.new ≡ nest.old) }
+{
+    let (a, b) = take_two(nest)?;
+    let (product, overflow) = Double::times(b, a);
+    push_double(nest, product);
+    Ok(overflow)
+}
+
+/// CONT.
+fn cont(nest: &mut Nest) -> Result<bool, Nouv>
+    ensures ok { IfOk result (λ v. plain 0x15 nest.old ≡ Some (record { nest = nest.new; sets_v = v })) }
+    ensures err { OnErr result (plain 0x15 nest.old ≡ None) }
+    ensures same { OnErr result (nest.new ≡ nest.old) }
+{
+    let (a, b) = take_two(nest)?;
+    let (word, overflow) = Double::of(a, b).contract();
+    nest.push(word);
+    Ok(overflow)
+}
+
+/// STR. A word always fits a double value.
+fn stretch(nest: &mut Nest) -> Result<bool, Nouv>
+    ensures ok { IfOk result (λ v. plain 0x16 nest.old ≡ Some (record { nest = nest.new; sets_v = v })) }
+    ensures err { OnErr result (plain 0x16 nest.old ≡ None) }
+    ensures same { OnErr result (nest.new ≡ nest.old) }
+{
+    need_room(nest, 1)?;
+    let a = take_one(nest)?;
+    push_double(nest, Double::stretch(a));
+    Ok(false)
+}
+
+/// +D.
+fn plus_d(nest: &mut Nest) -> Result<bool, Nouv>
+    ensures ok { IfOk result (λ v. plain 0x17 nest.old ≡ Some (record { nest = nest.new; sets_v = v })) }
+    ensures err { OnErr result (plain 0x17 nest.old ≡ None) }
+    ensures same { OnErr result (nest.new ≡ nest.old) }
+{
+    let (a, b, c, d) = take_four(nest)?;
+    let (sum, overflow) = Double::of(c, d).add(Double::of(a, b));
+    push_double(nest, sum);
+    Ok(overflow)
+}
+
+/// -D.
+fn minus_d(nest: &mut Nest) -> Result<bool, Nouv>
+    ensures ok { IfOk result (λ v. plain 0x18 nest.old ≡ Some (record { nest = nest.new; sets_v = v })) }
+    ensures err { OnErr result (plain 0x18 nest.old ≡ None) }
+    ensures same { OnErr result (nest.new ≡ nest.old) }
+{
+    let (a, b, c, d) = take_four(nest)?;
+    let (difference, overflow) = Double::of(c, d).sub(Double::of(a, b));
+    push_double(nest, difference);
+    Ok(overflow)
+}
+
+/// NEGD.
+fn negd(nest: &mut Nest) -> Result<bool, Nouv>
+    ensures ok { IfOk result (λ v. plain 0x19 nest.old ≡ Some (record { nest = nest.new; sets_v = v })) }
+    ensures err { OnErr result (plain 0x19 nest.old ≡ None) }
+    ensures same { OnErr result (nest.new ≡ nest.old) }
+{
+    let (a, b) = take_two(nest)?;
+    let (negative, overflow) = Double::of(a, b).neg();
+    push_double(nest, negative);
+    Ok(overflow)
+}
+
+/// DIVI. Where the divisor is 0, V is set and both words stay.
+fn divi(nest: &mut Nest) -> Result<bool, Nouv>
+    ensures ok { IfOk result (λ v. plain 0x1A nest.old ≡ Some (record { nest = nest.new; sets_v = v })) }
+    ensures err { OnErr result (plain 0x1A nest.old ≡ None) }
+    ensures same { OnErr result (nest.new ≡ nest.old) }
+{
+    let (a, b) = take_two(nest)?;
+    if a.bits() == 0 {
+        nest.push(b);
+        nest.push(a);
+        return Ok(true);
+    }
+    let (quotient, remainder) = divide(b, a);
+    let (quotient, overflow) = Word::put(i128::from(quotient));
+    nest.push(quotient);
+    nest.push(Word::of(remainder));
+    Ok(overflow)
+}
+
+/// TOB.
+fn tob(nest: &mut Nest) -> Result<bool, Nouv>
+    ensures ok { IfOk result (λ v. plain 0x1B nest.old ≡ Some (record { nest = nest.new; sets_v = v })) }
+    ensures err { OnErr result (plain 0x1B nest.old ≡ None) }
+    ensures same { OnErr result (nest.new ≡ nest.old) }
+{
+    let (a, b) = take_two(nest)?;
+    let (word, overflow) = Word::put(i128::from(to_binary(a, b)));
+    nest.push(word);
+    Ok(overflow)
+}
+
+/// FRB.
+fn frb(nest: &mut Nest) -> Result<bool, Nouv>
+    ensures ok { IfOk result (λ v. plain 0x1C nest.old ≡ Some (record { nest = nest.new; sets_v = v })) }
+    ensures err { OnErr result (plain 0x1C nest.old ≡ None) }
+    ensures same { OnErr result (nest.new ≡ nest.old) }
+{
+    let (a, b) = take_two(nest)?;
+    let (word, rest) = from_binary(a, b);
+    nest.push(word);
+    Ok(rest != 0)
+}

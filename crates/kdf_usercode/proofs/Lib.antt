@@ -1,0 +1,13 @@
+pub mod Least
+pub mod Numbers
+pub mod OctalDigits
+pub mod Ranges
+pub mod Outcome
+pub mod Gain
+pub mod Scan
+pub mod Optional
+pub mod InTables
+pub mod Fits
+pub mod Rises
+pub mod Sequence
+pub mod WellFormed

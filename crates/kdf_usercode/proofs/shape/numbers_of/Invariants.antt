@@ -1,0 +1,9 @@
+use Rattle.std.proofs.Common.{◌≡◌, ◌≤◌, ◌++◌, drop, map}
+use Rattle.kdf_usercode.specs.Shape.{capped, values_from, numbers}
+use Rattle.kdf_usercode.proofs.shape.numbers_of.Given as goal
+
+abbrev pub invariant-loop-i : goal.invariant-loop-i
+invariant-loop-i l = record {
+  small : l.value ≤ 281474976710656;
+  numbers : l.numbers.items ++ map capped (values_from l.value (drop l.i l.text)) ≡ numbers l.text;
+}

@@ -1,0 +1,17 @@
+pub mod Faults
+pub mod Kept
+pub mod Shape
+pub mod Parse
+pub mod Range
+pub mod Octal
+pub mod Characters
+pub mod Orders
+pub mod Stores
+pub mod Jumps
+pub mod Constants
+pub mod Forms
+pub mod Phase
+pub mod Grammar
+pub mod Reading
+pub mod Rising
+pub mod WellFormed

@@ -1,0 +1,43 @@
+//! Octal digits: what stands behind a `B`.
+
+ghost use Rattle.std.specs.Prelude.{◌≡◌, ◌+◌, ◌-◌, ◌*◌, ◌≤◌};
+ghost use Rattle.kdf_usercode.specs.Octal.{is_octal, all_octal, octal};
+ghost use Rattle.kdf_usercode.specs.Shape.{capped};
+
+use crate::shape::MANY;
+
+fn is_octal(byte: u8) -> bool
+    ensures { result ≡ is_octal byte }
+{
+    byte >= b'0' && byte <= b'7'
+}
+
+/// Whether all bytes are octal digits.
+pub fn all_octal(text: &[u8]) -> bool
+    ensures { result ≡ all_octal text.now }
+{
+    for b in text {
+        if !is_octal(*b) {
+            return false;
+        }
+    }
+    true
+}
+
+fn octal_after(value: u64, byte: u8) -> u64
+    requires { value ≤ 281474976710656 }
+    ensures { result ≡ capped (8 * value + (byte - 48)) }
+{
+    (8 * value + u64::from(byte.saturating_sub(b'0'))).min(MANY)
+}
+
+/// The value of octal digits.
+pub fn octal(text: &[u8]) -> u64
+    ensures { result ≡ octal text.now }
+{
+    let mut value = 0u64;
+    for b in text {
+        value = octal_after(value, *b);
+    }
+    value
+}

@@ -1,0 +1,207 @@
+//! A deck that is partly read.
+
+ghost use Rattle.std.specs.Prelude.{◌≡◌, ℕ, List, [], ◌∷◌, ◌++◌, OnOk, IfOk, if◌then◌else◌};
+ghost use Rattle.kdf_usercode.specs.Faults.{Found as FoundFault, lesser, least, founds};
+ghost use Rattle.kdf_usercode.specs.Kept.{Written, codes_of, statements_in};
+ghost use Rattle.kdf_usercode.specs.Phase.{is_in_place, phase_with};
+ghost use Rattle.kdf_usercode.specs.Grammar.{byte_faults, comment_faults, form_faults, with_form, at_first, end_faults};
+ghost use Rattle.kdf_usercode.specs.Reading.{Gains, Reads, Gives, outcome, with_ahead};
+
+use crate::fault::{DeckError, DeckFault};
+use crate::forms::{Form, form_in, what_of, with_numbers, with_text};
+use crate::kept::Kept;
+use crate::orders::formless;
+use crate::phase::{Phase, is_in_place, phase_with};
+use crate::shape::{numbers_of, shape_of};
+use crate::statement::{Deck, Statement};
+use kdf_fault::{Found, earlier};
+use std::alloc::{AllocError, Global};
+
+/// What was read so far: the first fault, and the statements while there is none.
+#[derive(Drop)]
+pub struct Reading {
+    pub phase: Phase,
+    pub best: Option<Found<DeckFault>>,
+    pub statements: Vec<Statement>,
+}
+
+/// This fault as well.
+fn with(best: Option<Found<DeckFault>>, fault: DeckFault, place: u32) -> Option<Found<DeckFault>>
+    ensures { result ≡ lesser best (least (founds place (fault ∷ []))) }
+{
+    earlier(best, Found { fault, place })
+}
+
+/// The fault of a byte that no deck may have, after those before.
+fn with_byte(best: Option<Found<DeckFault>>, at: u32, byte: u8) -> Option<Found<DeckFault>>
+    ensures { result ≡ lesser best (least (byte_faults at byte)) }
+{
+    if byte == b'\n' || (byte >= 0x20 && byte < 0x7f) {
+        best
+    } else {
+        with(best, DeckFault::BadByte, at)
+    }
+}
+
+/// The fault of a comment that isn't closed, after those before.
+fn with_comment(best: Option<Found<DeckFault>>, kept: Kept) -> Option<Found<DeckFault>>
+    ensures { result ≡ lesser best (least (comment_faults kept)) }
+{
+    if kept.byte == b'(' {
+        with(best, DeckFault::CommentOpen, kept.at)
+    } else {
+        best
+    }
+}
+
+/// The fault at the first of these bytes, if there are any, after those before.
+fn with_first(
+    best: Option<Found<DeckFault>>,
+    fault: DeckFault,
+    tail: &[Kept],
+) -> Option<Found<DeckFault>>
+    ensures { result ≡ lesser best (least (at_first fault tail.now)) }
+{
+    match tail {
+        [] => best,
+        [first, ..] => with(best, fault, first.at),
+    }
+}
+
+/// What is wrong at the end, after what was before.
+fn with_end(
+    phase: Phase,
+    best: Option<Found<DeckFault>>,
+    tail: &[Kept],
+    length: u32,
+) -> Option<Found<DeckFault>>
+    ensures { result ≡ lesser best (least (end_faults phase length tail.now)) }
+{
+    if phase.is_ended() {
+        return with_first(best, DeckFault::AfterFinish, tail);
+    }
+    let best = with_first(best, DeckFault::NoSemicolon, tail);
+    with(best, DeckFault::NoFinish, length)
+}
+
+/// The fault of a statement that isn't in its place, after those before.
+fn with_heading(
+    best: Option<Found<DeckFault>>,
+    place: u32,
+    phase: Phase,
+    form: Form,
+) -> Option<Found<DeckFault>>
+    ensures { result ≡ lesser best (least (founds place (if is_in_place phase form then [] else DeckFault.BadHeading ∷ []))) }
+{
+    if is_in_place(phase, form) {
+        best
+    } else {
+        with(best, DeckFault::BadHeading, place)
+    }
+}
+
+fn bytes_of(alloc: Global, piece: &[Kept]) -> Result<Vec<u8>, AllocError>
+    ensures { IfOk result (λ v. v.items ≡ codes_of piece.now) }
+{
+    piece.iter().map(|k| k.byte).collect(alloc)
+}
+
+impl Reading {
+    fn form(
+        &mut self,
+        place: u32,
+        form: Form,
+        numbers: &[u64],
+        text: &[u8],
+    ) -> Result<(), AllocError>
+        ensures { OnOk result ((shape : List ℕ) → Gains self.old self.new (phase_with self.old.phase form)
+            (founds place (form_faults self.old.phase shape (Some form) numbers.now text.now)) (with_form self.old.phase place (Some form) numbers.now text.now)) }
+    {
+        let best = with_numbers(self.best, place, form, numbers);
+        let best = with_text(best, place, form, text);
+        let best = with_heading(best, place, self.phase, form);
+        let phase = phase_with(self.phase, form);
+        if best.is_none() {
+            let what = what_of(self.phase.stage, form, numbers, text);
+            self.statements.push(Statement { place, what })?;
+        }
+        self.best = best;
+        self.phase = phase;
+        Ok(())
+    }
+
+    fn statement(&mut self, alloc: Global, place: u32, text: &[u8]) -> Result<(), AllocError>
+        ensures { OnOk result (Reads self.old self.new (record { place = place; codes = text.now })) }
+    {
+        if self.phase.is_ended() {
+            self.best = with(self.best, DeckFault::AfterFinish, place);
+            return Ok(());
+        }
+        let shape = shape_of(alloc, text)?;
+        let numbers = numbers_of(alloc, text)?;
+        match form_in(&shape, text) {
+            Some(form) => self.form(place, form, &numbers, text),
+            None => {
+                self.best = with(self.best, formless(&shape), place);
+                Ok(())
+            }
+        }
+    }
+
+    /// A piece that a `;` ends.
+    fn piece(&mut self, alloc: Global, piece: &[Kept]) -> Result<(), AllocError>
+        ensures { OnOk result ((len : ℕ) (front : List FoundFault) (ws : List Written) (tail : List Kept) →
+            outcome self.new.phase self.new.best self.new.statements.items len front ws tail
+            ≡ outcome self.old.phase self.old.best self.old.statements.items len front (statements_in piece.now ++ ws) tail) }
+    {
+        for (i, k) in piece.iter().enumerate() {
+            if k.byte != b'*' {
+                let text = bytes_of(alloc, &piece[i..])?;
+                return self.statement(alloc, k.at, &text);
+            }
+            self.statement(alloc, k.at, b"*")?;
+        }
+        Ok(())
+    }
+
+    /// A byte of the deck, whether it stays or not.
+    pub fn see(&mut self, at: u32, byte: u8)
+        ensures { (piece : List Kept) (len : ℕ) (bad : List FoundFault) (ahead : List Kept) →
+            with_ahead self.new piece len bad ahead ≡ with_ahead self.old piece len (byte_faults at byte ++ bad) ahead }
+    {
+        self.best = with_byte(self.best, at, byte);
+    }
+
+    /// A byte that stays.
+    pub fn take(
+        &mut self,
+        alloc: Global,
+        piece: &mut Vec<Kept>,
+        kept: Kept,
+    ) -> Result<(), AllocError>
+        ensures { OnOk result ((len : ℕ) (bad : List FoundFault) (ahead : List Kept) →
+            with_ahead self.new piece.new.items len bad ahead ≡ with_ahead self.old piece.old.items len bad (kept ∷ ahead)) }
+    {
+        self.best = with_comment(self.best, kept);
+        if kept.byte == b';' {
+            self.piece(alloc, piece)?;
+            piece.clear();
+        } else {
+            piece.push(kept)?;
+        }
+        Ok(())
+    }
+
+    /// The end of the deck. `piece` is what stands after the last `;`.
+    pub fn finish(self, piece: &[Kept], length: u32) -> Result<Deck, DeckError>
+        ensures { Gives result length (with_ahead self piece.now length [] []) }
+    {
+        match with_end(self.phase, self.best, piece, length) {
+            None => Ok(Deck {
+                statements: self.statements,
+                length,
+            }),
+            Some(found) => Err(DeckError::Fault(found.fault, found.place)),
+        }
+    }
+}
