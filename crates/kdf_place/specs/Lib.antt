@@ -1,0 +1,4 @@
+pub mod Layout
+pub mod Names
+pub mod Late
+pub mod Placement

@@ -1,0 +1,133 @@
+-- What parts, references and stores mean: the first statement that says so.
+use Rattle.std.specs.Prelude.{ℕ, ◌+◌, ◌==◌, ◌&&◌, nat_lt, List, [], ◌∷◌, ◌++◌, get_or, set, replicate, take, sum, Option, Some, None, unwrap_or, Result, Ok, Err, if◌then◌else◌}
+use Rattle.kdf_usercode.specs.declared.fault.DeckFault.{DeckFault}
+use Rattle.kdf_usercode.specs.declared.fault.DeckFault.TheVariants.{ReferenceMissing, PartMissing, VRange, YRange}
+use Rattle.kdf_usercode.specs.declared.statement.Named.{Named}
+use Rattle.kdf_usercode.specs.declared.statement.Named.TheVariants.{Y, V, E}
+use Rattle.kdf_usercode.specs.declared.statement.Statement.{Statement}
+use Rattle.kdf_usercode.specs.declared.statement.Target.{Target}
+use Rattle.kdf_usercode.specs.declared.statement.What.{What}
+use Rattle.kdf_usercode.specs.declared.statement.What.TheVariants.{Declare, Program, Part, Constant, Reference}
+use Rattle.kdf_place.specs.declared.here.Here.{Here}
+use Rattle.kdf_place.specs.declared.here.Section.{Section}
+use Rattle.kdf_place.specs.declared.names.Entry.{Entry}
+use Rattle.kdf_place.specs.declared.names.Mark.{Mark}
+use Rattle.kdf_place.specs.Layout.{words_for, after, next_order, end_of, front}
+
+-- what a number means in a section: the first entry counts
+abbrev pub first : {T : Type 0} → ℕ → ℕ → List (Entry T) → Option T
+first section number [] = None
+first section number (e ∷ es) = if e.section == section && e.number == number then Some e.means else first section number es
+
+-- ---- parts
+
+abbrev pub part_opened : What → Option ℕ
+part_opened (Program v) = Some 0
+part_opened (Part p v) = Some p
+part_opened what = None
+
+abbrev pub opening : Option ℕ → Section → ℕ → List (Entry Section)
+opening None section place = []
+opening (Some p) section place = record { section = 0; number = p; means = section; place = place } ∷ []
+
+-- the parts by their numbers, in the order of the deck
+abbrev pub openings : Here → List Statement → List (Entry Section)
+openings here [] = []
+openings here (s ∷ ss) = opening (part_opened s.what) (after here s).section s.place ++ openings (after here s) ss
+
+-- ---- references
+
+-- the number that a statement gives a meaning in its part: 0 is the part's first order
+abbrev pub labelled : What → Option ℕ
+labelled (Reference r) = Some r
+labelled (Program v) = Some 0
+labelled (Part p v) = Some 0
+labelled what = None
+
+abbrev pub label_at : Option ℕ → Section → ℕ → ℕ → List (Entry Mark)
+label_at None section at place = []
+label_at (Some number) section at place = record { section = section.opened; number = number; means = record { part = section.part; at = at }; place = place } ∷ []
+
+-- the references, each with the next order of its part
+abbrev pub labels : Here → List Statement → List (Entry Mark)
+labels here [] = []
+labels here (s ∷ ss) =
+    label_at (labelled s.what) (after here s).section (next_order (after here s).at ss) s.place ++ labels (after here s) ss
+
+-- ---- constants
+
+abbrev pub constant_at : What → Section → ℕ → List (Entry (Unit {0}))
+constant_at (Constant n value) section place = record { section = section.opened; number = n; means = tt; place = place } ∷ []
+constant_at what section place = []
+
+-- the V-stores that have a constant
+abbrev pub constants : Here → List Statement → List (Entry (Unit {0}))
+constants here [] = []
+constants here (s ∷ ss) = constant_at s.what here.section s.place ++ constants (after here s) ss
+
+-- ---- groups
+
+-- how many words each group has, with this statement
+abbrev pub with_group : List ℕ → What → List ℕ
+with_group groups (Declare group n) = set groups group (n + 1)
+with_group groups what = groups
+
+abbrev pub groups_from : List ℕ → List Statement → List ℕ
+groups_from groups [] = groups
+groups_from groups (s ∷ ss) = groups_from (with_group groups s.what) ss
+
+-- the words of the groups Y, YA, .. YZ
+abbrev pub groups : List Statement → List ℕ
+groups ss = groups_from (replicate 27 0) ss
+
+-- ---- all names
+
+pub record Names : Type 0 where
+  pub parts : ℕ → Option Section
+  pub labels : ℕ → ℕ → Option Mark
+  pub groups : List ℕ
+  -- the address of the first Y-store: they stand behind all parts
+  pub behind : ℕ
+
+abbrev pub names : List Statement → Names
+names ss = record {
+  parts = λ p. first 0 p (openings front ss);
+  labels = λ section r. first section r (labels front ss);
+  groups = groups ss;
+  behind = words_for (end_of front ss)
+}
+
+-- this part, or the first that bears the number
+abbrev pub section_named : Names → Section → Option ℕ → Option Section
+section_named names section None = Some section
+section_named names section (Some p) = names.parts p
+
+-- store n of so many, the first of which has the address `base`
+abbrev pub store_at : ℕ → ℕ → DeckFault → ℕ → Result ℕ DeckFault
+store_at base count fault n = if nat_lt n count then Ok (base + n) else Err fault
+
+abbrev pub v_store : Option Section → ℕ → Result ℕ DeckFault
+v_store None n = Err PartMissing
+v_store (Some section) n = store_at section.base section.stores VRange n
+
+-- the stores of a group stand behind those of all groups before it
+abbrev pub y_store : Names → ℕ → ℕ → Result ℕ DeckFault
+y_store names group n = store_at (names.behind + sum (take group names.groups)) (get_or names.groups group 0) YRange n
+
+-- the address that a store has in this part
+abbrev pub address : Names → Section → Named → Result ℕ DeckFault
+address names section (Y group n) = y_store names group n
+address names section (V n p) = v_store (section_named names section p) n
+address names section (E n) = Ok n
+
+abbrev pub found_mark : Option Mark → Result ℕ DeckFault
+found_mark None = Err ReferenceMissing
+found_mark (Some mark) = Ok mark.at
+
+abbrev pub reference : Names → Option Section → ℕ → Result ℕ DeckFault
+reference names None r = Err PartMissing
+reference names (Some section) r = found_mark (names.labels section.opened r)
+
+-- the syllable that a target means in this part
+abbrev pub syllable_of : Names → Section → Target → Result ℕ DeckFault
+syllable_of names section target = reference names (section_named names section target.p) (unwrap_or target.r 0)
