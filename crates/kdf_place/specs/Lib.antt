@@ -2,3 +2,4 @@ pub mod Layout
 pub mod Names
 pub mod Late
 pub mod Placement
+pub mod Tables

@@ -94,7 +94,7 @@ names ss = record {
   parts = λ p. first 0 p (openings front ss);
   labels = λ section r. first section r (labels front ss);
   groups = groups ss;
-  behind = words_for (end_of front ss)
+  behind = words_for (end_of front ss);
 }
 
 -- this part, or the first that bears the number
