@@ -3,3 +3,4 @@ pub mod Names
 pub mod Late
 pub mod Placement
 pub mod Tables
+pub mod Pending

@@ -6,6 +6,7 @@
 #![tactic(auto)]
 
 mod assembler;
+mod entries;
 mod here;
 mod image;
 mod names;
