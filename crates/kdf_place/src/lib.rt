@@ -10,6 +10,7 @@ mod entries;
 mod here;
 mod image;
 mod names;
+mod table;
 
 pub use assembler::assemble;
 pub use image::{Image, Label};
