@@ -9,6 +9,8 @@ mod assembler;
 mod entries;
 mod here;
 mod image;
+mod late;
+mod meanings;
 mod names;
 mod table;
 
