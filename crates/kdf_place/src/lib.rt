@@ -6,9 +6,13 @@
 #![tactic(auto)]
 
 mod assembler;
+mod constants;
 mod here;
 mod image;
 mod names;
+mod picture;
+mod spell;
+mod words;
 
 pub use assembler::assemble;
 pub use image::{Image, Label};
