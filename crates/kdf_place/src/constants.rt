@@ -11,20 +11,20 @@ use kdf_usercode::{Item, Statement, Value, What};
 use kdf_word::Word;
 
 /// A part of a constant for a Q-store.
-fn item(meanings: &Meanings, section: Section, item: Item) -> u16
-    ensures { result ≡ item (meaning meanings.now) section item }
+fn item(meanings: &Meanings, section: Section, part: Item) -> u16
+    ensures { result ≡ item (meaning meanings.now) section part }
 {
-    match item {
+    match part {
         Item::Bits { bits } => bits,
         Item::Address { place } => address_of(meanings, section, place),
     }
 }
 
 /// The word of a constant.
-fn value(meanings: &Meanings, section: Section, value: Value) -> Word
-    ensures { result ≡ value (meaning meanings.now) section value }
+fn value(meanings: &Meanings, section: Section, constant: Value) -> Word
+    ensures { result ≡ value (meaning meanings.now) section constant }
 {
-    match value {
+    match constant {
         Value::Number { word } => word,
         Value::Triple { c, i, m } => {
             let c = u64::from(item(meanings, section, c));
@@ -39,8 +39,9 @@ fn value(meanings: &Meanings, section: Section, value: Value) -> Word
 fn put(words: &mut [Word], address: u64, word: Word)
     ensures { words.new ≡ set words.old address word }
 {
-    if let Some(store) = words.get_mut(address as usize) {
-        *store = word;
+    let address = address as usize;
+    if address < words.len() {
+        words[address] = word;
     }
 }
 
