@@ -98,8 +98,16 @@ words-image : (m : Names) (ss : List Statement) → length (words m ss) ≡ word
 words-image m ss =
     let bytes = first_word m ++ syllables m front ss in
     let zeros : List ℕ = replicate (sum m.groups) 0 in
-    omega (arith, length-constants m front ss (words_of bytes ++ zeros), length-append (words_of bytes) zeros, length-replicate {A = ℕ} (sum m.groups) 0,
-      length-words_of bytes, length-append (first_word m) (syllables m front ss), length-first m, length-syllables m front ss)
+    omega (
+      arith,
+      length-constants m front ss (words_of bytes ++ zeros),
+      length-append (words_of bytes) zeros,
+      length-replicate {A = ℕ} (sum m.groups) 0,
+      length-words_of bytes,
+      length-append (first_word m) (syllables m front ss),
+      length-first m,
+      length-syllables m front ss,
+    )
 
 -- an image has the words of its syllables and those of its groups
 pub words-length : (ss : List Statement) → length (words (names ss) ss) ≡ words_for (end_of front ss) + sum (groups ss)

@@ -1,8 +1,6 @@
 //! The orders of statements, with the numbers that their names mean, and the syllables of a deck.
 ghost use Rattle.std.specs.Prelude.{◌≡◌, ◌≤◌, ◌<◌, ◌+◌, ◌*◌, ◌%◌, ◌^◌, [], ◌∷◌, ◌++◌, length, replicate, OnOk, IfOk, IfSome};
-ghost use Rattle.kdf_syllable.specs.declared.order.Order.{Order};
-ghost use Rattle.kdf_syllable.specs.declared.order.Order.TheVariants.{Direct, Jump};
-ghost use Rattle.kdf_syllable.specs.Spelling.{IsOrder, IsQ, spelling};
+ghost use Rattle.kdf_syllable.specs.Spelling.{IsOrder, spelling};
 ghost use Rattle.kdf_usercode.specs.WellFormed.{IsWhat, AreInRange};
 ghost use Rattle.kdf_place.specs.Layout.{stores, front};
 ghost use Rattle.kdf_place.specs.Names.{address, syllable_of};
@@ -59,18 +57,12 @@ fn target_of(meanings: &Meanings, section: Section, target: Target) -> u16
     syllable_number(number(meanings.syllable_of(section, target)))
 }
 
-/// The fetch of a store, or its keeping where `t` is true.
-fn direct(meanings: &Meanings, section: Section, t: bool, u: bool, q: u8, place: Named) -> Order
-    requires { IsQ q }
-    ensures value { result ≡ Direct t u q (number (address (meaning meanings.now) section place) % 2 ^ 15) }
-    ensures order { IsOrder result }
+/// The address of a store as a fetch or a keep has it: its last 15 bits.
+fn store_of(meanings: &Meanings, section: Section, place: Named) -> u16
+    ensures value { result ≡ number (address (meaning meanings.now) section place) % 2 ^ 15 }
+    ensures small { result < 2 ^ 15 }
 {
-    Order::Direct {
-        t,
-        u,
-        q,
-        a: address_of(meanings, section, place) % 0x8000,
-    }
+    address_of(meanings, section, place) % 0x8000
 }
 
 /// The order of a statement, with the numbers that its names mean.
@@ -81,8 +73,18 @@ fn order_of(meanings: &Meanings, section: Section, what: &What) -> Option<Order>
 {
     match *what {
         What::Plain { order } => Some(order),
-        What::Fetch { place, q, u } => Some(direct(meanings, section, false, u, q, place)),
-        What::Keep { place, q, u } => Some(direct(meanings, section, true, u, q, place)),
+        What::Fetch { place, q, u } => Some(Order::Direct {
+            t: false,
+            u,
+            q,
+            a: store_of(meanings, section, place),
+        }),
+        What::Keep { place, q, u } => Some(Order::Direct {
+            t: true,
+            u,
+            q,
+            a: store_of(meanings, section, place),
+        }),
         What::SetAddress { place } => Some(Order::Set {
             constant: address_of(meanings, section, place),
         }),
