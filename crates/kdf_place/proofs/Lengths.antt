@@ -1,9 +1,8 @@
 -- How long an image is.
-use Rattle.std.proofs.Common.{◌≡◌, ℕ, suc, ◌+◌, ◌-◌, ◌*◌, ◌/◌, ◌≤◌, List, [], ◌∷◌, ◌++◌, length, length-append, sum, set, replicate, Option, Some, None, refl, sym, ap, ◌∙◌, arith}
+use Rattle.std.proofs.Common.{◌≡◌, ℕ, ◌+◌, ◌-◌, ◌*◌, ◌/◌, ◌≤◌, List, [], ◌∷◌, ◌++◌, length, length-append, sum, replicate, refl, ap, ◌∙◌, arith}
 use Rattle.std.proofs.Math.ListN.{length-set}
 use Rattle.std.proofs.lemmas.List.{length-replicate}
 use Rattle.kdf_syllable.specs.Spelling.{spelling}
-use Rattle.kdf_syllable.specs.declared.order.Order.TheVariants as orders
 use Rattle.kdf_usercode.specs.declared.statement.Statement.{Statement}
 use Rattle.kdf_usercode.specs.declared.statement.What.{What}
 use Rattle.kdf_usercode.specs.declared.statement.What.TheVariants.{Declare, Program, Part, Constant, Reference, Star, Plain, Fetch, Keep, Go, Short, SetAddress, Finish}
@@ -11,7 +10,7 @@ use Rattle.kdf_place.specs.declared.here.Here.{Here}
 use Rattle.kdf_place.specs.declared.here.Section.{Section}
 use Rattle.kdf_place.specs.Layout.{size_of, stores, words_for, round_up, advance, after, front, end_of}
 use Rattle.kdf_place.specs.Names.{Names, names, groups}
-use Rattle.kdf_place.specs.Placement.{order_of, spelt, filling, syllables_of, syllables, words_of, value, with_constant, with_constants, start_of, first_word, words}
+use Rattle.kdf_place.specs.Placement.{order_of, spelt, filling, syllables_of, syllables, words_of, value, with_constant, with_constants, first_word, words}
 
 pub length-spelt : (names : Names) (section : Section) (what : What) → length (spelt (order_of names section what)) ≡ size_of what
 unfolding spelling

@@ -1,5 +1,5 @@
 -- Six syllables more are packed.
-use Rattle.std.proofs.Common.{◌≡◌, ℕ, ◌+◌, ◌<◌, List, [], ◌∷◌, ◌++◌, length, get_or, append_assoc, refl, sym, ap, ◌∙◌, arith}
+use Rattle.std.proofs.Common.{◌≡◌, ℕ, List, [], ◌∷◌, ◌++◌, length, get_or, append_assoc, refl, sym, ap, ◌∙◌, arith}
 use Rattle.kdf_syllable.specs.Packing.{packed}
 use Rattle.kdf_place.specs.Placement.{words_of}
 
