@@ -1,2 +1,5 @@
 mod Firsts
 mod Piecewise
+mod Assembled
+pub mod Lengths
+pub mod Packed

@@ -1,11 +1,33 @@
 //! From the statements of a deck to its image.
-ghost use Rattle.std.specs.Prelude.{◌≡◌, ◌≤◌, length, IfOk};
-ghost use Rattle.kdf_usercode.specs.WellFormed.{IsWellFormed};
-ghost use Rattle.kdf_place.specs.Placement.{Gives, placed};
+ghost use Rattle.std.specs.Prelude.{◌≡◌, ◌≤◌, ◌<◌, ◌^◌, length, IfOk};
+ghost use Rattle.kdf_usercode.specs.WellFormed.{AreInRange, IsWellFormed};
+ghost use Rattle.kdf_place.specs.Layout.{front};
+ghost use Rattle.kdf_place.specs.Names.{names, labels};
+ghost use Rattle.kdf_place.specs.Placement.{Gives, picture_of, sized, placed};
+ghost use Rattle.kdf_place.specs.Tables.{meaning};
 
 use crate::image::Image;
-use kdf_usercode::{Deck, DeckError};
+use crate::meanings::{Known, read_names};
+use crate::picture::picture;
+use kdf_usercode::{Deck, DeckError, DeckFault};
 use std::alloc::Global;
+
+/// The image of a deck without a fault in its names, where the store has room for it.
+fn sized(alloc: Global, known: &Known, deck: &Deck, size: u16) -> Result<Image, DeckError>
+    requires few { length deck.now.statements.items < 2 ^ 40 }
+    requires in_range { AreInRange deck.now.statements.items }
+    requires names { meaning known.now.meanings ≡ names deck.now.statements.items }
+    requires labels { known.now.labels.items ≡ labels front deck.now.statements.items }
+    requires behind { known.now.meanings.behind < 2 ^ 60 }
+    ensures answer { Gives result (sized (picture_of deck.now.statements.items) deck.now.length size) }
+    ensures fits { IfOk result (λ image. length image.words.items ≤ size) }
+{
+    let meanings = &known.meanings;
+    if meanings.behind + meanings.y_words() > u64::from(size) {
+        return Err(DeckError::Fault(DeckFault::TooLarge, deck.length));
+    }
+    Ok(picture(alloc, meanings, &known.labels, &deck.statements)?)
+}
 
 /// The image of a deck for a store of `size` words, or the deck's first late fault.
 pub fn assemble(alloc: Global, deck: &Deck, size: u16) -> Result<Image, DeckError>
@@ -14,8 +36,9 @@ pub fn assemble(alloc: Global, deck: &Deck, size: u16) -> Result<Image, DeckErro
     ensures answer { Gives result (placed deck.now.statements.items deck.now.length size) }
     ensures fits { IfOk result (λ image. length image.words.items ≤ size) }
 {
-    let _alloc = alloc;
-    let _deck = deck;
-    let _size = size;
-    Err(DeckError::Memory)
+    let known = read_names(alloc, &deck.statements)?;
+    match known.meanings.first_wrong(known.twice, &deck.statements) {
+        Some(found) => Err(DeckError::Fault(found.fault, found.place)),
+        None => sized(alloc, &known, deck, size),
+    }
 }
