@@ -1,5 +1,5 @@
 -- The answer for a deck as a whole.
-use Rattle.std.proofs.Common.{◌≡◌, ℕ, ◌+◌, ◌<◌, ◌≤◌, length, sum, ltb, List, [], ◌∷◌, ◌++◌, Option, Some, None, Result, Ok, Err, refl, sym, ap, ◌∙◌, arith}
+use Rattle.std.proofs.Common.{◌≡◌, ℕ, ◌+◌, ◌<◌, ◌≤◌, length, sum, List, [], ◌∷◌, ◌++◌, Option, Some, None, Ok, Err, refl, sym, ap, ◌∙◌, arith}
 use Rattle.std.proofs.lemmas.Bool.{lt-ltb, le-ltb}
 use Rattle.std.specs.List.{flat_map}
 use Rattle.kdf_usercode.specs.declared.fault.DeckFault.TheVariants.{PartTwice, ReferenceTwice, VRange, TooLarge}
@@ -65,9 +65,10 @@ pub with-room : (m : Meanings) (ss ss' : List Statement) (entries : List (Entry 
     → (sized (picture_of ss) len size ≡ Ok (record { words = image.words.items; start = image.start; labels = image.labels.items })) × (length image.words.items ≤ size)
 with-room m ss ss' entries image y len size s e l w f r ye le =
     let room = has-room m ss y size e ye le in
-    let same = same-picture ss ss' (meaning m) entries image s e l w f r in
-    (rw (le-ltb size (length (picture_of ss).words) room) (ap (λ (p : Picture). Ok p) same),
-     omega (arith, ap (λ (p : Picture). length p.words) same, room))
+    let same = same-picture ss ss' (meaning m) entries image s e l w f r in (
+      rw (le-ltb size (length (picture_of ss).words) room) (ap (λ (p : Picture). Ok p) same),
+      omega (arith, ap (λ (p : Picture). length p.words) same, room),
+    )
 
 pub placed-fault : (ss : List Statement) (len size : ℕ) (f : Found) → least (late_faults ss) ≡ Some f → placed ss len size ≡ Err f
 unfolding placed

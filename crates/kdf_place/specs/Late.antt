@@ -1,5 +1,5 @@
 -- The faults of names, each at the place of its statement.
-use Rattle.std.specs.Prelude.{ℕ, ◌+◌, ◌*◌, ◌/◌, ◌==◌, is_some, List, [], ◌∷◌, ◌++◌, map, Option, Some, None, Result, Ok, Err, if◌then◌else◌}
+use Rattle.std.specs.Prelude.{ℕ, ◌+◌, ◌*◌, ◌/◌, ◌==◌, is_some, List, [], ◌∷◌, ◌++◌, map, Some, None, Result, Ok, Err, if◌then◌else◌}
 use Rattle.kdf_usercode.specs.declared.fault.DeckFault.{DeckFault}
 use Rattle.kdf_usercode.specs.declared.fault.DeckFault.TheVariants.{ReferenceTwice, PartTwice, VRange, ShortLoopFar}
 use Rattle.kdf_usercode.specs.declared.statement.Item.{Item}

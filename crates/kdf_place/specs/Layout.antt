@@ -1,9 +1,9 @@
 -- Where each statement stands: the sum of all sizes before it, in syllables from the begin of the image.
-use Rattle.std.specs.Prelude.{ℕ, ◌+◌, ◌*◌, ◌/◌, Bool, true, false, ◌||◌, nat_lt, List, [], ◌∷◌, ◌++◌, length, Option, Some, None, if◌then◌else◌}
+use Rattle.std.specs.Prelude.{ℕ, ◌+◌, ◌*◌, ◌/◌, Bool, true, false, ◌||◌, nat_lt, List, [], ◌∷◌, length, Option, Some, None, if◌then◌else◌}
 use Rattle.kdf_syllable.specs.Spelling.{spelling}
 use Rattle.kdf_usercode.specs.declared.statement.Statement.{Statement}
 use Rattle.kdf_usercode.specs.declared.statement.What.{What}
-use Rattle.kdf_usercode.specs.declared.statement.What.TheVariants.{Program, Part, Reference, Star, Plain, Short, Fetch, Keep, Go, SetAddress}
+use Rattle.kdf_usercode.specs.declared.statement.What.TheVariants.{Program, Part, Star, Plain, Short, Fetch, Keep, Go, SetAddress}
 use Rattle.kdf_place.specs.declared.here.Here.{Here}
 use Rattle.kdf_place.specs.declared.here.Section.{Section}
 

@@ -24,7 +24,7 @@ use Rattle.kdf_place.specs.declared.image.Label.{Label}
 use Rattle.kdf_place.specs.declared.names.Entry.{Entry}
 use Rattle.kdf_place.specs.declared.names.Mark.{Mark}
 use Rattle.kdf_place.specs.Layout.{stores, round_up, after, front}
-use Rattle.kdf_place.specs.Names.{labels, Names, names, v_store, address, syllable_of}
+use Rattle.kdf_place.specs.Names.{labels, Names, names, address, syllable_of}
 use Rattle.kdf_place.specs.Late.{late_faults}
 
 -- a number that was found; in a deck without a fault each one is

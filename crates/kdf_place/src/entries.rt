@@ -30,10 +30,7 @@ fn part_opened(what: &What) -> Option<u16>
 }
 
 /// The parts by their numbers.
-pub fn openings(
-    alloc: Global,
-    statements: &[Statement],
-) -> Result<Vec<Entry<Section>>, AllocError>
+pub fn openings(alloc: Global, statements: &[Statement]) -> Result<Vec<Entry<Section>>, AllocError>
     requires { length statements.now < 2 ^ 40 }
     ensures { IfOk result (λ v. v.items ≡ openings front statements.now) }
 {
@@ -65,11 +62,7 @@ fn labelled(what: &What) -> Option<u16>
 }
 
 /// The order of the pending references stands at `at`.
-fn settle(
-    labels: &mut Vec<Entry<Mark>>,
-    pending: &[Pending],
-    at: u64,
-) -> Result<(), AllocError>
+fn settle(labels: &mut Vec<Entry<Mark>>, pending: &[Pending], at: u64) -> Result<(), AllocError>
     ensures { OnOk result (labels.new.items ≡ labels.old.items ++ settled pending.now at) }
 {
     for p in pending {

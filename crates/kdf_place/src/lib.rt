@@ -17,9 +17,9 @@ mod names;
 mod picture;
 mod spell;
 mod table;
-mod words;
 #[cfg(test)]
 mod tests;
+mod words;
 
 pub use assembler::assemble;
 pub use image::{Image, Label};

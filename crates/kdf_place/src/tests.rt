@@ -40,7 +40,11 @@ const FAULTS: [(&str, &str, u32); 32] = [
     ("YA0; PROGRAM; Y0; FINISH;", "YRange", 14),
     ("PROGRAM; SETAYZ0; FINISH;", "YRange", 9),
     ("PROGRAM; 1; J1C1NZS; FINISH;", "ShortLoopFar", 12),
-    ("PROGRAM; ZERO; 1; SET 1; SET 2; J1C1NZS; FINISH;", "ShortLoopFar", 32),
+    (
+        "PROGRAM; ZERO; 1; SET 1; SET 2; J1C1NZS; FINISH;",
+        "ShortLoopFar",
+        32,
+    ),
     ("PROGRAM; J9; 1; 1; FINISH;", "ReferenceMissing", 9),
     ("PROGRAM; 1; 1; J9; FINISH;", "ReferenceTwice", 12),
     ("PROGRAM V1; V2; J9; FINISH;", "VRange", 12),
@@ -147,6 +151,13 @@ fn places_behind_the_store(rt: HostRuntime) -> Result<(), Fail> {
     let word = image.words.first().copied().unwrap_or_default();
     assert_eq!(rt; word.bits(), 0xa000_0001_0101);
     let label = image.labels.first().copied();
-    assert!(rt; label == Some(Label { part: 0, number: 7, at: 0 }));
+    assert!(rt;
+        label
+            == Some(Label {
+                part: 0,
+                number: 7,
+                at: 0
+            })
+    );
     Ok(())
 }

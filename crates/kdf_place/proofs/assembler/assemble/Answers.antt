@@ -18,7 +18,7 @@ returns-in-Some-clause-answer c =
     let ss = c.args.deck.now.statements.items in
     let known = c.in_ok-known.known in
     let late = first-late ss c.deref-2.result.now (meaning known.meanings) known.twice c.first_wrong.result c.deref-2.ensures.value
-        (c.in_ok-known.ensures.names ∙ ap names c.deref.ensures.value) (rw (← c.deref.ensures.value) c.in_ok-known.ensures.twice) c.first_wrong.ensures in
+    (c.in_ok-known.ensures.names ∙ ap names c.deref.ensures.value) (rw (← c.deref.ensures.value) c.in_ok-known.ensures.twice) c.first_wrong.ensures in
     placed-fault ss c.args.deck.now.length c.args.size c.in-Some.found (sym late ∙ c.in-Some.is)
 
 pub returns-clause-answer : goal.returns-clause-answer
@@ -26,5 +26,5 @@ returns-clause-answer c =
     let ss = c.args.deck.now.statements.items in
     let known = c.in_ok-known.known in
     let late = first-late ss c.deref-2.result.now (meaning known.meanings) known.twice c.first_wrong.result c.deref-2.ensures.value
-        (c.in_ok-known.ensures.names ∙ ap names c.deref.ensures.value) (rw (← c.deref.ensures.value) c.in_ok-known.ensures.twice) c.first_wrong.ensures in
+    (c.in_ok-known.ensures.names ∙ ap names c.deref.ensures.value) (rw (← c.deref.ensures.value) c.in_ok-known.ensures.twice) c.first_wrong.ensures in
     rw (placed-sized ss c.args.deck.now.length c.args.size (sym late ∙ c.in-None.is)) c.sized.ensures.answer
