@@ -1,4 +1,4 @@
-pub mod SpellingLemmas
+pub mod DecodingLemmas
 pub mod FrameLemmas
 pub mod LoneLemmas
 pub mod RowFacts

@@ -1,4 +1,4 @@
-pub mod Spelling
+pub mod Decoding
 pub mod Failures
 pub mod State
 pub mod Arith

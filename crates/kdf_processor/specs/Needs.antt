@@ -2,12 +2,14 @@
 use Rattle.std.specs.Prelude.{ℕ, ◌/◌, ◌%◌, List, [], ◌∷◌, ◌++◌, Option, Some, None, if◌then◌else◌, nat_lt}
 use Rattle.std.specs.Option.{option_map}
 use Rattle.std.proofs.Common.{zero, suc}
-use Rattle.kdf_processor.specs.declared.spelling.order.Order.{Order}
+use Rattle.kdf_syllable.specs.declared.order.Order.{Order}
+use Rattle.kdf_syllable.specs.Packing.{syllable}
+use Rattle.kdf_syllable.specs.Spelling.{size_of_first}
 use Rattle.kdf_processor.specs.declared.failure.Failure.TheVariants.{Liv}
 use Rattle.kdf_processor.specs.declared.step.Need.{Need}
 use Rattle.kdf_processor.specs.declared.step.Need.TheVariants.{Group}
 use Rattle.kdf_processor.specs.declared.registers.Registers.{Registers}
-use Rattle.kdf_processor.specs.Spelling.{size_of_first, decoded, syllable}
+use Rattle.kdf_processor.specs.Decoding.{decoded}
 use Rattle.kdf_processor.specs.State.{Claims, State, word_at}
 use Rattle.kdf_processor.specs.Effect.{Effect, Failing, Ending, Changing, Fetching, Keeping}
 use Rattle.kdf_processor.specs.Table.{on, effect}
@@ -44,7 +46,7 @@ abbrev pub decoded_or_none : Option (List ℕ) → Option Order
 decoded_or_none None = None
 decoded_or_none (Some spelt) = decoded spelt
 
--- the order at a place, or none where it isn't in the store or has no such spelling
+-- the built order at a place, or none where it isn't in the store or no such order is spelt there
 abbrev pub order_at : ℕ → (ℕ → ℕ) → ℕ → Option Order
 order_at size word at = decoded_or_none (syllables (count_at size word at) size word at)
 

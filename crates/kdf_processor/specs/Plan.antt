@@ -1,7 +1,7 @@
 -- What a plan stands for.
 use Rattle.std.specs.Prelude.{◌≢◌, ℕ, ◌<◌, List, [], ◌∷◌, length}
-use Rattle.kdf_processor.specs.declared.spelling.order.Order.{Order}
-use Rattle.kdf_processor.specs.declared.spelling.order.Order.TheVariants as order
+use Rattle.kdf_syllable.specs.declared.order.Order.{Order}
+use Rattle.kdf_syllable.specs.declared.order.Order.TheVariants as order
 use Rattle.kdf_processor.specs.declared.plan.Plan.{Plan}
 use Rattle.kdf_processor.specs.declared.plan.Plan.TheVariants.{Fail, End, Fetch, Keep}
 use Rattle.kdf_processor.specs.declared.registers.Registers.{Registers}

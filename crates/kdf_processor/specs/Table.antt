@@ -1,8 +1,8 @@
 -- The order table: what each order does, as a function of registers and claims alone.
 use Rattle.std.specs.Prelude.{ℕ, ◌+◌, ◌*◌, ◌/◌, ◌%◌, List, [], ◌∷◌, length, Bool, true, Option, Some, None, if◌then◌else◌, nat_lt, ◌==◌}
 use Rattle.kdf_word.specs.Words.{word_of, signed_16}
-use Rattle.kdf_processor.specs.declared.spelling.order.Order.{Order}
-use Rattle.kdf_processor.specs.declared.spelling.order.Order.TheVariants as order
+use Rattle.kdf_syllable.specs.declared.order.Order.{Order}
+use Rattle.kdf_syllable.specs.declared.order.Order.TheVariants as order
 use Rattle.kdf_processor.specs.declared.failure.Failure.TheVariants.{Liv, Nouv, Out}
 use Rattle.kdf_processor.specs.declared.registers.Registers.{Registers}
 use Rattle.kdf_processor.specs.State.{Claims}
@@ -82,7 +82,7 @@ guarded c (Fetching a after) = if nat_lt a c.size then Fetching a after else Fai
 guarded c (Keeping a w after) = if nat_lt a c.size then Keeping a w after else Failing Liv
 guarded c e = e
 
--- what an order does that reads and changes registers alone
+-- what a built order does that reads and changes registers alone
 abbrev pub change_of : Registers → Order → Change
 change_of r (order.Plain code) = plain_row r code
 change_of r (order.Jump c target) = jump_row r c target
@@ -90,7 +90,7 @@ change_of r (order.Jump c target) = jump_row r c target
 change_of r (order.Set constant) = pushes r 3 (word_of (signed_16 constant))
 change_of r _ = Refused Liv
 
--- what any order does
+-- what any built order does
 abbrev pub effect : Claims → Registers → Order → Effect
 effect c r (order.Plain code) = if code == 0x21 then guarded c (on_top (Failing Nouv) r.nest (out_effect r)) else of_change (plain_row r code)
 effect c r (order.Direct t u q a) = guarded c (direct_effect r t a)

@@ -1,15 +1,15 @@
 //! The orders that change registers alone.
 ghost use Rattle.std.specs.Prelude.{◌≡◌, ◌≢◌, ◌+◌, ◌/◌, ◌<◌, ◌≤◌, OnOk, IfErr, OnErr, true};
 ghost use Rattle.kdf_word.specs.Words.{word_of, signed_16};
-ghost use Rattle.kdf_processor.specs.Spelling.{IsOrder, is_plain};
+ghost use Rattle.kdf_processor.specs.Decoding.{IsBuilt, is_plain};
 ghost use Rattle.kdf_processor.specs.Effect.{Going, Refused};
 ghost use Rattle.kdf_processor.specs.Plan.{IsChange};
 ghost use Rattle.kdf_processor.specs.Table.{change_of, plain_row, jump_row, pushes};
 
 use crate::fetch::behind;
 use crate::nest::DEPTH;
-use crate::spelling::Order;
 use crate::{Failure, Registers};
+use kdf_syllable::Order;
 use kdf_word::Word;
 
 /// Pushes a word, or fails where there is no room.
@@ -98,8 +98,7 @@ fn set(registers: &mut Registers, constant: u16) -> Result<(), Failure>
 /// A jump.
 #[tactic(auto, unfolding(crate::specs::Table::jump_row))]
 fn jump(registers: &mut Registers, c: u8, target: u16) -> Result<(), Failure>
-    requires code { c ≡ 0x20 }
-    requires target { target / 8192 < 6 }
+    requires { c ≡ 0x20 }
     ensures ok { OnOk result (jump_row registers.old c target ≡ Going registers.new) }
     ensures err { IfErr result (λ f. jump_row registers.old c target ≡ Refused f) }
     ensures same { OnErr result (registers.new ≡ registers.old) }
@@ -110,9 +109,9 @@ fn jump(registers: &mut Registers, c: u8, target: u16) -> Result<(), Failure>
     Ok(())
 }
 
-/// An order that changes registers alone, or fails and changes nothing. The order isn't counted.
+/// A built order that changes registers alone, or fails and changes nothing. The order isn't counted.
 pub fn change(registers: &mut Registers, order: Order) -> Result<(), Failure>
-    requires legal { IsOrder order }
+    requires built { IsBuilt order }
     requires change { IsChange order }
     ensures ok { OnOk result (change_of registers.old order ≡ Going registers.new) }
     ensures err { IfErr result (λ f. change_of registers.old order ≡ Refused f) }
@@ -124,6 +123,6 @@ pub fn change(registers: &mut Registers, order: Order) -> Result<(), Failure>
         Order::Plain { code } => plain(registers, code),
         Order::Jump { c, target } => jump(registers, c, target),
         Order::Set { constant } => set(registers, constant),
-        Order::Direct { .. } => unreachable!(),
+        _ => unreachable!(),
     }
 }

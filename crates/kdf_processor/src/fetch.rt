@@ -1,13 +1,14 @@
 //! The fetch of an order, syllable by syllable.
 ghost use Rattle.std.specs.Prelude.{◌≡◌, ◌≤◌, [], ◌∷◌, None, IfOk};
-ghost use Rattle.kdf_processor.specs.Spelling.{first_decoded};
-ghost use Rattle.kdf_processor.specs.Fetch.{held_of, IsFetched, IsLegal, syllable_read};
+ghost use Rattle.kdf_processor.specs.Decoding.{decoded};
+ghost use Rattle.kdf_processor.specs.Fetch.{held_of, IsFetched, HasBuilt, syllable_read};
 ghost use Rattle.kdf_processor.specs.Needs.{fetch_needs, order_at};
 ghost use Rattle.kdf_processor.specs.Table.{on};
 ghost use Rattle.kdf_processor.specs.View.{first_pending};
 
 use crate::Port;
-use crate::spelling::{Order, decode, size_of_first, syllable};
+use crate::decoding::decode;
+use kdf_syllable::{Order, size_of_first, syllable};
 
 /// How many syllable numbers there are: six for each of 8,192 words.
 const SYLLABLES: u16 = 49_152;
@@ -16,7 +17,7 @@ const SYLLABLES: u16 = 49_152;
 #[derive(Clone, Copy, Debug, PartialEq, Eq)]
 pub enum Fetched {
     Order(Order),
-    /// The spelling is that of no order, or runs out of the store.
+    /// The spelling is that of no built order, or runs out of the store.
     Bad,
     /// This group of a syllable is out.
     Held(u16),
@@ -58,7 +59,7 @@ pub fn fetch<P: Port>(port: &P, at: u16) -> Fetched
     ensures held { held_of result
         ≡ first_pending (P.shows port.now) (fetch_needs (P.shows port.now).claims.size (P.shows port.now).word at) }
     ensures order { IsFetched (order_at (P.shows port.now).claims.size (P.shows port.now).word at) result }
-    ensures legal { IsLegal result }
+    ensures built { HasBuilt result }
 {
     let first = match read_syllable(port, at) {
         Syllable::Byte(byte) => byte,
@@ -85,14 +86,14 @@ pub fn fetch<P: Port>(port: &P, at: u16) -> Fetched
     }
 }
 
-/// The order that these syllables spell.
+/// The order that these syllables begin with.
 fn decode_fetched(first: u8, second: u8, third: u8) -> Fetched
-    ensures order { IsFetched (first_decoded (first ∷ second ∷ third ∷ [])) result }
+    ensures order { IsFetched (decoded (first ∷ second ∷ third ∷ [])) result }
     ensures held { held_of result ≡ None }
-    ensures legal { IsLegal result }
+    ensures built { HasBuilt result }
 {
     match decode(&[first, second, third]) {
-        Ok(order) => Fetched::Order(order),
-        Err(_) => Fetched::Bad,
+        Some(order) => Fetched::Order(order),
+        None => Fetched::Bad,
     }
 }

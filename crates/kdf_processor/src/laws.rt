@@ -1,35 +1,25 @@
 //! Laws of the definitions, each the contract of a function that does nothing.
-ghost use Rattle.std.specs.Prelude.{◌≡◌, ℕ, ◌<◌, ◌≤◌, ◌^◌, ◌++◌, List, length, slice_index, All, Bool, true, false, Some, find};
-ghost use Rattle.kdf_processor.specs.declared.spelling.order.Order.{Order};
+ghost use Rattle.std.specs.Prelude.{◌≡◌, ◌≢◌, ℕ, ◌<◌, ◌≤◌, ◌++◌, List, length, take, slice_index, Bool, true, false, Some, None, find};
+ghost use Rattle.kdf_syllable.specs.declared.order.Order.{Order};
 ghost use Rattle.kdf_processor.specs.declared.step.Need.{Need};
-ghost use Rattle.kdf_processor.specs.Spelling.{IsOrder, spelling, decoded, BeginsWith, pack, syllable};
+ghost use Rattle.kdf_syllable.specs.Spelling.{IsOrder, spelling};
+ghost use Rattle.kdf_processor.specs.Decoding.{IsBuilt, decoded};
 ghost use Rattle.kdf_processor.specs.Frame.{Agrees, Leaves, HidesNone};
 ghost use Rattle.kdf_processor.specs.Lone.{lone};
 ghost use Rattle.kdf_processor.specs.Needs.{needs};
 ghost use Rattle.kdf_processor.specs.Row.{row};
-ghost use Rattle.kdf_processor.specs.State.{State, begin};
+ghost use Rattle.kdf_processor.specs.State.{State};
 
-/// Decoding is the inverse of the spelling both ways, and no order's spelling begins another's.
+/// Bytes are decoded to a built order exactly where its spelling begins them.
 pub fn one_spelling()
-    ensures decoded { (o : Order) → IsOrder o → decoded (spelling o) ≡ Some o }
-    ensures spelt { (syllables : List ℕ) (o : Order) →
-        All (λ a. a < 2 ^ 8) syllables → decoded syllables ≡ Some o → IsOrder o × (spelling o ≡ syllables) }
-    ensures apart { (o p : Order) → IsOrder o → IsOrder p → BeginsWith (spelling o) (spelling p) → o ≡ p }
-{}
-
-/// A word of six packed syllables has these syllables.
-pub fn packing()
-    ensures { (bytes : List ℕ) (i : ℕ) →
-        length bytes ≡ 6 → All (λ a. a < 2 ^ 8) bytes → i < 6 → syllable (pack bytes) i ≡ slice_index bytes i }
-{}
-
-/// The store of a program has as many words as its size says, at its start and after each order.
-pub fn store_size()
-    ensures start { (size : ℕ) (image : List ℕ) →
-        length image ≤ size → length (begin size image).stock.store ≡ size }
-    ensures kept { (start : State) (answers : List ℕ) (n : ℕ) →
-        length start.stock.store ≡ start.stock.claims.size →
-        length (lone start answers n).stock.store ≡ (lone start answers n).stock.claims.size }
+    ensures decoded { (order : Order) (rest : List ℕ) → IsOrder order → IsBuilt order
+        → decoded (spelling order ++ rest) ≡ Some order }
+    ensures spelt { (bytes : List ℕ) (order : Order) → ((k : ℕ) → slice_index bytes k < 256)
+        → decoded bytes ≡ Some order
+        → IsOrder order × IsBuilt order × (take (length (spelling order)) bytes ≡ spelling order) }
+    ensures none { (bytes : List ℕ) → ((k : ℕ) → slice_index bytes k < 256)
+        → ((order : Order) → IsOrder order → IsBuilt order → take (length (spelling order)) bytes ≢ spelling order)
+        → decoded bytes ≡ None }
 {}
 
 /// Of two states that agree in all but what is hidden, and where nothing that is needed is hidden,

@@ -5,6 +5,7 @@
 #![tactic(auto)]
 
 mod change;
+mod decoding;
 mod failure;
 mod fetch;
 pub mod laws;
@@ -13,7 +14,6 @@ mod obeying;
 mod plan;
 mod port;
 mod registers;
-pub mod spelling;
 mod step;
 #[cfg(test)]
 mod tests;

@@ -1,6 +1,6 @@
 //! Obeying one order over any port.
 ghost use Rattle.std.specs.Prelude.{◌≡◌, ◌<◌, None, ◌∷◌, length};
-ghost use Rattle.kdf_processor.specs.Spelling.{IsOrder};
+ghost use Rattle.kdf_processor.specs.Decoding.{IsBuilt};
 ghost use Rattle.kdf_processor.specs.Effect.{Nothing};
 ghost use Rattle.kdf_processor.specs.Outcome.{outcome, counted};
 ghost use Rattle.kdf_processor.specs.Plan.{plan_needs, done_plan, try_plan, try_change, try_order};
@@ -11,8 +11,8 @@ ghost use Rattle.kdf_processor.specs.View.{first_pending};
 use crate::change::change;
 use crate::fetch::{Fetched, behind, fetch};
 use crate::plan::{Plan, first_need, plan_of};
-use crate::spelling::Order;
 use crate::{Failure, Life, Need, Port, Registers, Step};
+use kdf_syllable::Order;
 use kdf_word::Word;
 
 /// Counts an order.
@@ -101,7 +101,7 @@ fn obey_plan<P: Port>(registers: &mut Registers, port: &mut P, plan: Plan) -> St
 /// Obeys an order that changes registers alone.
 fn obey_change<P: Port>(registers: &mut Registers, port: &mut P, order: Order) -> Step
     requires ran { registers.old.ran < u32.MAX }
-    requires order { IsOrder order }
+    requires built { IsBuilt order }
     requires change { IsChange order }
     requires room { P.room port.old (try_change (P.shows port.old) registers.old order).act }
     ensures step { result ≡ (try_change (P.shows port.old) registers.old order).step }
@@ -121,7 +121,7 @@ fn obey_change<P: Port>(registers: &mut Registers, port: &mut P, order: Order) -
 /// Obeys an order that was fetched.
 fn obey_order<P: Port>(registers: &mut Registers, port: &mut P, order: Order) -> Step
     requires ran { registers.old.ran < u32.MAX }
-    requires order { IsOrder order }
+    requires built { IsBuilt order }
     requires room { P.room port.old (try_order (P.shows port.old) registers.old order).act }
     ensures step { result ≡ (try_order (P.shows port.old) registers.old order).step }
     ensures registers { registers.new ≡ (try_order (P.shows port.old) registers.old order).registers }

@@ -1,14 +1,14 @@
 //! What an order would do, found without doing it, and what that waits for.
 ghost use Rattle.std.specs.Prelude.{◌≡◌, IfSome, IfNone, false};
-ghost use Rattle.kdf_processor.specs.Spelling.{IsOrder};
+ghost use Rattle.kdf_processor.specs.Decoding.{IsBuilt};
 ghost use Rattle.kdf_processor.specs.Effect.{of_change};
 ghost use Rattle.kdf_processor.specs.Plan.{planned, plan_needs, IsSound, IsChange, HasOperands};
 ghost use Rattle.kdf_processor.specs.Table.{effect, change_of};
 ghost use Rattle.kdf_processor.specs.View.{first_pending};
 
 use crate::nest::DEPTH;
-use crate::spelling::Order;
 use crate::{Failure, Need, Port, Registers};
+use kdf_syllable::Order;
 
 /// What an order does that isn't a change of registers alone.
 #[derive(Clone, Copy, Debug)]
@@ -61,9 +61,9 @@ fn plan_direct<P: Port>(registers: &Registers, port: &P, t: bool, address: u16) 
     }
 }
 
-/// The plan of an order, or none where it changes registers alone.
+/// The plan of a built order, or none where it changes registers alone.
 pub fn plan_of<P: Port>(registers: &Registers, port: &P, order: Order) -> Option<Plan>
-    requires { IsOrder order }
+    requires { IsBuilt order }
     ensures effect { IfSome result (λ plan.
         effect (P.shows port.now).claims registers.now order ≡ planned plan registers.now) }
     ensures sound { IfSome result (λ plan. IsSound (P.shows port.now).claims plan) }
@@ -75,7 +75,7 @@ pub fn plan_of<P: Port>(registers: &Registers, port: &P, order: Order) -> Option
     match order {
         Order::Plain { code: 0x21 } => Some(plan_out(registers, port)),
         Order::Direct { t, a, .. } => Some(plan_direct(registers, port, t, a)),
-        Order::Plain { .. } | Order::Jump { .. } | Order::Set { .. } => None,
+        _ => None,
     }
 }
 

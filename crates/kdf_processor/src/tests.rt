@@ -1,8 +1,9 @@
 //! Small programs over a store of which a group may be out.
 ghost use Rattle.std.specs.Prelude.{◌≤◌, vec_len};
 
-use crate::spelling::{BadCode, Order, decode, encode, pack, size, syllable};
+use crate::decoding::decode;
 use crate::{Failure, Life, Need, Port, Registers, Step, obey};
+use kdf_syllable::Order;
 use kdf_word::Word;
 use std::alloc::{AllocError, Global};
 use std::process::Abort;
@@ -376,82 +377,56 @@ fn holds(rt: HostRuntime) -> Result<(), Fail> {
 }
 
 #[test]
-fn spellings(rt: HostRuntime) -> Result<(), Fail> {
-    for (bytes, length, order) in [
-        ([0x01, 0, 0], 1, Order::Plain { code: 0x01 }),
-        ([0x09, 0, 0], 1, Order::Plain { code: 0x09 }),
-        ([0x11, 0, 0], 1, Order::Plain { code: 0x11 }),
-        ([0x21, 0, 0], 1, Order::Plain { code: 0x21 }),
-        ([0xa0, 0x00, 0x01], 3, Order::Jump { c: 0x20, target: 1 }),
+fn decoding(rt: HostRuntime) {
+    for (bytes, order) in [
+        ([0x01, 0xa0, 0x00], Order::Plain { code: 0x01 }),
+        ([0x09, 0x00, 0x00], Order::Plain { code: 0x09 }),
+        ([0x11, 0x00, 0x00], Order::Plain { code: 0x11 }),
+        ([0x21, 0x00, 0x00], Order::Plain { code: 0x21 }),
+        ([0xa0, 0x00, 0x01], Order::Jump { c: 0x20, target: 1 }),
         (
             [0xa0, 0xbf, 0xff],
-            3,
             Order::Jump {
                 c: 0x20,
                 target: 49_151,
             },
         ),
-        (
-            [0xc0, 0x00, 0x03],
-            3,
-            Order::Direct {
-                t: false,
-                u: false,
-                q: 0,
-                a: 3,
-            },
-        ),
-        (
-            [0xd0, 0x7f, 0xff],
-            3,
-            Order::Direct {
-                t: true,
-                u: false,
-                q: 0,
-                a: 32_767,
-            },
-        ),
-        ([0xe0, 0x00, 0x07], 3, Order::Set { constant: 7 }),
-        ([0xe0, 0xff, 0xff], 3, Order::Set { constant: 65_535 }),
+        ([0xc0, 0x00, 0x03], store(false, 3)),
+        ([0xc0, 0x7f, 0xff], store(false, 32_767)),
+        ([0xd0, 0x00, 0x28], store(true, 40)),
+        ([0xd0, 0x7f, 0xff], store(true, 32_767)),
+        ([0xe0, 0x00, 0x07], Order::Set { constant: 7 }),
+        ([0xe0, 0xff, 0xff], Order::Set { constant: 65_535 }),
     ] {
-        match decode(&bytes) {
-            Ok(decoded) => {
-                assert_eq!(rt; decoded, order);
-                assert_eq!(rt; size(&decoded), length);
-                assert_eq!(rt; encode(&decoded).bytes, bytes);
-                assert_eq!(rt; encode(&decoded).size, length);
-            }
-            Err(BadCode) => assert!(rt; false, "{order:?}"),
-        }
+        assert_eq!(rt; decode(&bytes), Some(order), "{bytes:?}");
     }
     for bytes in [
         [0x00, 0x01, 0x01],
         [0x13, 0x01, 0x01],
+        [0x20, 0x01, 0x01],
         [0x3f, 0x01, 0x01],
+        [0x50, 0x10, 0x01],
         [0x7f, 0x00, 0x01],
+        [0x9f, 0x00, 0x01],
         [0xa0, 0xc0, 0x00],
         [0xbf, 0x00, 0x01],
+        [0xc0, 0x80, 0x00],
+        [0xc8, 0x00, 0x01],
+        [0xd1, 0x00, 0x01],
         [0xe1, 0x00, 0x00],
         [0xff, 0xff, 0xff],
     ] {
-        assert_eq!(rt; decode(&bytes), Err(BadCode), "{bytes:?}");
+        assert_eq!(rt; decode(&bytes), None, "{bytes:?}");
     }
-    Ok(())
 }
 
-#[test]
-fn packed_words(rt: HostRuntime) {
-    for (bytes, word) in [
-        ([0xa0, 0x00, 0x01, 0x01, 0x01, 0x01], 0o5000000100200401),
-        ([0xe0, 0x00, 0x05, 0xe0, 0x00, 0x07], 0o7000000570000007),
-        ([0x11, 0xd0, 0x00, 0x03, 0x09, 0x21], 0o0435000000604441),
-    ] {
-        let packed = pack(&bytes);
-        assert_eq!(rt; packed.bits(), word);
-        for (i, byte) in [0, 1, 2, 3, 4, 5].into_iter().zip(bytes) {
-            assert!(rt; i < 6);
-            assert_eq!(rt; syllable(packed, i), byte);
-        }
+/// The fetch or store order on an address, without a Q-store.
+fn store(t: bool, a: u16) -> Order {
+    Order::Direct {
+        t,
+        u: false,
+        q: 0,
+        a,
     }
 }
 

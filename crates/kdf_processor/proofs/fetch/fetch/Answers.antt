@@ -1,7 +1,7 @@
 use Rattle.std.proofs.Common.{sym, ◌∙◌, ap, ◌≡◌}
 use Rattle.kdf_processor.proofs.Syllables.{order_of_one, order_of_two, order_of_three, size_of_three}
 use Rattle.kdf_processor.specs.Fetch.{syllable_read}
-use Rattle.kdf_processor.specs.Spelling.{size_of_first}
+use Rattle.kdf_syllable.specs.Spelling.{size_of_first}
 use Rattle.kdf_processor.specs.Table.{on}
 use Rattle.kdf_processor.specs.declared.fetch.Syllable.TheVariants.{Byte}
 use Rattle.kdf_processor.proofs.fetch.fetch.Goals as goal
