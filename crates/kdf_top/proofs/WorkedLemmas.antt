@@ -18,7 +18,11 @@ use Rattle.kdf_usercode.specs.Orders.{octal_order, order_form, formless}
 use Rattle.kdf_usercode.specs.Phase.{start}
 use Rattle.kdf_usercode.specs.Stores.{lettered, store_name, addressed, suffix_of, access_form, address_form}
 use Rattle.kdf_place.specs.Placement.{placed}
+use Rattle.kdf_top.specs.declared.status.Status.TheVariants as status
+use Rattle.kdf_top.specs.Answers.{called_for}
+use Rattle.kdf_top.specs.Commands.{is_command}
 use Rattle.kdf_top.specs.Deck.{assembled, image_words}
+use Rattle.kdf_top.specs.Text.{job_limit}
 use Rattle.kdf_top.specs.Lines.{lines, words, value}
 use Rattle.kdf_top.specs.Job.{forms, job, job_fault}
 use Rattle.kdf_top.specs.Worked.{Looked, adding, seventeen_zeros, nothing, of_two_parts, alone, looked, job_text}
@@ -38,6 +42,10 @@ zeros_image = refl
 nothing_image : image_words 32 nothing ≡ 0o5000000100200401 ∷ []
 unfolding assembled lettered store_name addressed suffix_of access_form address_form condition_of target_form subroutine_form test_form jump_form form_in address_item number_item item_form triple_form octal_value characters_value value_form constant_form start octal_order order_form formless statement_faults phase_after statements_of placed spelling
 nothing_image = refl
+
+two_parts_image : image_words 32 of_two_parts ≡ 0o5000000200200401 ∷ 37 ∷ 0o6000000170000005 ∷ 0o5002000402220401 ∷ 0o0221072000003240 ∷ 0o3000140100200401 ∷ 0 ∷ []
+unfolding assembled lettered store_name addressed suffix_of access_form address_form condition_of target_form subroutine_form test_form jump_form form_in address_item number_item item_form triple_form octal_value characters_value value_form constant_form start octal_order order_form formless statement_faults phase_after statements_of placed spelling
+two_parts_image = refl
 
 -- programs
 
@@ -60,6 +68,28 @@ zeros_fail = ap (run 31 18) zeros_image
 pub nothing_fails : looked 0 (alone nothing 2) ≡ record { life = Failed Liv; ran = 2; at = 6; nest = []; v = false; word = 0o5000000100200401 }
 unfolding arith_row decoded plain_row out_effect jump_row direct_effect guarded
 nothing_fails = ap (run 0 2) nothing_image
+
+pub parts_add : looked 6 (alone of_two_parts 9) ≡ record { life = Ended; ran = 9; at = 23; nest = []; v = false; word = 42 }
+unfolding arith_row decoded plain_row out_effect jump_row direct_effect guarded
+parts_add = ap (run 6 9) two_parts_image
+
+-- faults of decks
+
+pub no_line : assembled 32 [] ≡ Err (found NoFinish 0)
+unfolding assembled lettered store_name addressed suffix_of access_form address_form condition_of target_form subroutine_form test_form jump_form form_in address_item number_item item_form triple_form octal_value characters_value value_form constant_form start octal_order order_form formless statement_faults phase_after statements_of placed spelling
+no_line = refl
+
+pub number_40000 : assembled 32 (codes "PROGRAM; SET 40000; FINISH;" ++ 10 ∷ []) ≡ Err (found BadNumber 9)
+unfolding assembled lettered store_name addressed suffix_of access_form address_form condition_of target_form subroutine_form test_form jump_form form_in address_item number_item item_form triple_form octal_value characters_value value_form constant_form start octal_order order_form formless statement_faults phase_after statements_of placed spelling
+number_40000 = refl
+
+pub no_store : assembled 32 (codes "PROGRAM; Y0; FINISH;" ++ 10 ∷ []) ≡ Err (found YRange 9)
+unfolding assembled lettered store_name addressed suffix_of access_form address_form condition_of target_form subroutine_form test_form jump_form form_in address_item number_item item_form triple_form octal_value characters_value value_form constant_form start octal_order order_form formless statement_faults phase_after statements_of placed spelling
+no_store = refl
+
+pub word_too_many : assembled 32 (codes "Y31; PROGRAM; FINISH;" ++ 10 ∷ []) ≡ Err (found TooLarge 22)
+unfolding assembled lettered store_name addressed suffix_of access_form address_form condition_of target_form subroutine_form test_form jump_form form_in address_item number_item item_form triple_form octal_value characters_value value_form constant_form start octal_order order_form formless statement_faults phase_after statements_of placed spelling
+word_too_many = refl
 
 -- jobs
 
@@ -84,3 +114,11 @@ store_33 = refl
 pub shows_32 : job_fault (job_text (codes "STORE 32") adding (codes "SHOW 3 32") (codes "ORDERS 10")) ≡ Some (NotYet, 7)
 unfolding value lines words forms job_fault
 shows_32 = refl
+
+pub job_first : called_for (codes "run" ∷ []) (job_text (codes "STORE 32") [] (codes "SHOW 3 32") (codes "ORDERS 10")) ≡ status.Job NotYet 6
+unfolding assembled lettered store_name addressed suffix_of access_form address_form condition_of target_form subroutine_form test_form jump_form form_in address_item number_item item_form triple_form octal_value characters_value value_form constant_form start octal_order order_form formless statement_faults phase_after statements_of placed spelling value lines words forms job job_fault job_limit is_command called_for
+job_first = refl
+
+pub then_deck : called_for (codes "run" ∷ []) (job_text (codes "STORE 32") [] (codes "SHOW 3 3") (codes "ORDERS 10")) ≡ status.Deck 0 NoFinish 0
+unfolding assembled lettered store_name addressed suffix_of access_form address_form condition_of target_form subroutine_form test_form jump_form form_in address_item number_item item_form triple_form octal_value characters_value value_form constant_form start octal_order order_form formless statement_faults phase_after statements_of placed spelling value lines words forms job job_fault job_limit is_command called_for
+then_deck = refl
