@@ -2,13 +2,15 @@
 use Rattle.std.proofs.Common.{◌≡◌, ◌≢◌, ℕ, ◌<◌, ◌≤◌, List, [], ◌++◌, length, Option, Some, None, refl, sym, ◌∙◌, ap, subst, arith, false}
 use Rattle.std.proofs.lemmas.List.{append-nil}
 use Rattle.kdf_io.specs.Outside.{HasRisen, Added, AddedFront}
+use Rattle.kdf_usercode.specs.Faults.{Found}
 use Rattle.kdf_top.specs.declared.job.JobFault.{JobFault}
 use Rattle.kdf_top.specs.declared.status.Status.{Status}
 use Rattle.kdf_top.specs.declared.status.Status.TheVariants as status
 use Rattle.kdf_top.specs.Answered.{Outlet, IsGiven, IsRefusal}
-use Rattle.kdf_top.specs.Answers.{Answers, IsDue, IsMachineOf, Wrote, is_done, refusal_lines, report_of, status_of_fault}
+use Rattle.kdf_top.specs.Answers.{Answers, IsDue, IsMachineOf, Wrote, is_done, refusal_lines, report_of, status_of_decks, status_of_faults, status_of_job}
 use Rattle.kdf_top.specs.Follows.{IsJournal}
-use Rattle.kdf_top.specs.Job.{job, job_fault}
+use Rattle.kdf_top.specs.Deck.{deck_fault}
+use Rattle.kdf_top.specs.Job.{SlotJob, job, job_fault}
 use Rattle.kdf_top.specs.Shown.{Shown, slots_of}
 use Rattle.kdf_top.specs.Text.{text}
 use Rattle.kdf_top.proofs.OneJournal.{one_journal_lem}
@@ -19,6 +21,7 @@ one_due status.Done bytes d e p q =
     p.2 ∙ ap (report_of bytes) (one_journal_lem (slots_of (job bytes)) (job bytes).events p.0 q.0 p.1 q.1) ∙ sym q.2
 one_due status.Usage bytes d e p q = p ∙ sym q
 one_due (status.Job fault line) bytes d e p q = p ∙ sym q
+one_due (status.Deck slot fault place) bytes d e p q = p ∙ sym q
 one_due status.Large bytes d e p q = p ∙ sym q
 one_due status.ReadFault bytes d e p q = p ∙ sym q
 one_due status.WriteFault bytes d e p q = p ∙ sym q
@@ -46,6 +49,7 @@ given_memory called bytes o = record {
 wrote_refusal : (called : Status) (t : List ℕ) (before after : Option (List ℕ)) → IsRefusal called → t ≡ text (refusal_lines called) → Added before t after → Wrote called before after
 wrote_refusal status.Usage t before after is e h = subst (λ x. Added before x after) e h
 wrote_refusal (status.Job fault line) t before after is e h = subst (λ x. Added before x after) e h
+wrote_refusal (status.Deck slot fault place) t before after is e h = subst (λ x. Added before x after) e h
 wrote_refusal status.Large t before after is e h = subst (λ x. Added before x after) e h
 wrote_refusal status.Done t before after is e h = absurd is
 wrote_refusal status.ReadFault t before after is e h = absurd is
@@ -55,6 +59,7 @@ wrote_refusal status.Memory t before after is e h = absurd is
 refusal_due : (called : Status) (bytes t : List ℕ) → IsRefusal called → t ≡ text (refusal_lines called) → IsDue called bytes t
 refusal_due status.Usage bytes t is e = e
 refusal_due (status.Job fault line) bytes t is e = e
+refusal_due (status.Deck slot fault place) bytes t is e = e
 refusal_due status.Large bytes t is e = e
 refusal_due status.Done bytes t is e = absurd is
 refusal_due status.ReadFault bytes t is e = absurd is
@@ -64,6 +69,7 @@ refusal_due status.Memory bytes t is e = absurd is
 refusal_answers : (called : Status) (rose : Type 0) → IsRefusal called → Answers called called ⊥ rose
 refusal_answers status.Usage rose is = refl
 refusal_answers (status.Job fault line) rose is = refl
+refusal_answers (status.Deck slot fault place) rose is = refl
 refusal_answers status.Large rose is = refl
 refusal_answers status.Done rose is = refl
 refusal_answers status.ReadFault rose is = absurd is
@@ -73,6 +79,7 @@ refusal_answers status.Memory rose is = absurd is
 refusal_undone : (called : Status) → IsRefusal called → false ≡ is_done called
 refusal_undone status.Usage is = refl
 refusal_undone (status.Job fault line) is = refl
+refusal_undone (status.Deck slot fault place) is = refl
 refusal_undone status.Large is = refl
 refusal_undone status.Done is = absurd is
 refusal_undone status.ReadFault is = refl
@@ -82,6 +89,7 @@ refusal_undone status.Memory is = refl
 refusal_whole : (called : Status) → IsRefusal called → called ≢ status.WriteFault
 refusal_whole status.Usage is e = cc
 refusal_whole (status.Job fault line) is e = cc
+refusal_whole (status.Deck slot fault place) is e = cc
 refusal_whole status.Large is e = cc
 refusal_whole status.Done is e = absurd is
 refusal_whole status.ReadFault is e = absurd is
@@ -125,21 +133,28 @@ pub report_due : (bytes t : List ℕ) (m : Shown) → IsMachineOf bytes m → t 
 report_due bytes t m is e = (m.journal, subst (λ slots. IsJournal slots (job bytes).events m.journal) is.slots is.journal, e)
 
 -- a report went out whole
-pub given_report : (bytes t : List ℕ) (m : Shown) (o n : Outlet) → job_fault bytes ≡ None → IsMachineOf bytes m → t ≡ report_of bytes m.journal
+pub given_report : (bytes t : List ℕ) (m : Shown) (o n : Outlet) → job_fault bytes ≡ None → deck_fault (job bytes).slots ≡ None → IsMachineOf bytes m → t ≡ report_of bytes m.journal
     → Added o.written t n.written → (length t ≤ o.room → n.faults ≡ o.faults) → o.faults ≤ n.faults
     → IsGiven status.Done bytes status.Done (Some m) o n
-given_report bytes t m o n faultless is e added stays falls = record {
+given_report bytes t m o n faultless assembles is e added stays falls = record {
   answer = refl;
   wrote = tt;
   machine = refl;
-  done = record { faultless = faultless; machine = is; report = subst (λ x. Added o.written x n.written) e added };
+  done = record { faultless = faultless; assembles = assembles; machine = is; report = subst (λ x. Added o.written x n.written) e added };
   front = λ w. absurd (cc);
   room_writes = λ due d h. λ w. absurd (cc);
   room_count = at_due status.Done bytes t o.room _ (report_due bytes t m is e) stays;
   never_falls = falls;
 }
 
--- what is called for goes by the fault of the job
-pub given_by_fault : (bytes : List ℕ) (fault : Option (JobFault × ℕ)) (given : Status) (kept : Option Shown) (o n : Outlet) → job_fault bytes ≡ fault
-    → IsGiven (status_of_fault fault) bytes given kept o n → IsGiven (status_of_fault (job_fault bytes)) bytes given kept o n
-given_by_fault bytes fault given kept o n e h = subst (λ x. IsGiven (status_of_fault x) bytes given kept o n) (sym e) h
+-- an answer to what is called for
+pub as_called : (called wanted : Status) (bytes : List ℕ) (given : Status) (kept : Option Shown) (o n : Outlet) → wanted ≡ called
+    → IsGiven called bytes given kept o n → IsGiven wanted bytes given kept o n
+as_called called wanted bytes given kept o n e h = subst (λ x. IsGiven x bytes given kept o n) (sym e) h
+
+-- what is called for goes by the fault of the job, and then by that of its decks
+pub by_job_fault : (bytes : List ℕ) (fault : Option (JobFault × ℕ)) → job_fault bytes ≡ fault → status_of_job bytes ≡ status_of_faults fault (deck_fault (job bytes).slots)
+by_job_fault bytes fault e = ap (λ x. status_of_faults x (deck_fault (job bytes).slots)) e
+
+pub by_deck_fault : (slots : List SlotJob) (first : Option (ℕ × Found)) → deck_fault slots ≡ first → status_of_decks (deck_fault slots) ≡ status_of_decks first
+by_deck_fault slots first e = ap status_of_decks e

@@ -1,9 +1,8 @@
--- Lines, words and statements of texts that are cut at a byte.
+-- Lines and words of texts that are cut at a byte.
 use Rattle.std.proofs.Common.{◌≡◌, ℕ, ◌<◌, Bool, true, false, cond, eqb, List, [], ◌∷◌, ◌++◌, length, drop, arith, ⊎_elim, refl, ap, ◌∙◌}
 use Rattle.std.specs.List.{list_any}
-use Rattle.std.proofs.lemmas.Bool.{or_parts, cases_Bool, eq-eqb, ne_eqb}
+use Rattle.std.proofs.lemmas.Bool.{or_parts, cases_Bool, eq-eqb, ne_eqb, eqb-true}
 use Rattle.kdf_top.specs.Lines.{lines, line, line_byte, words, word_byte, in_first}
-use Rattle.kdf_top.specs.Deck.{statements, statement_byte}
 
 -- the text has this byte
 abbrev pub has : ℕ → List ℕ → Bool
@@ -50,7 +49,23 @@ unfolding lines
 lines-some [] lt = absurd (omega arith)
 lines-some (b ∷ text) lt = ne_eqb (length (b ∷ text)) 0 (λ e. omega arith)
 
--- a text that is cut at each such byte: the words of a line, and the statements of a deck
+-- and where there is a byte there is a line
+in_first-some : (b : ℕ) (ls : List (List ℕ)) → 0 < length (in_first b ls)
+in_first-some b [] = omega arith
+in_first-some b (l ∷ ls) = omega arith
+
+pub some-lines : (text : List ℕ) → eqb (length text) 0 ≡ false → 0 < length (lines text)
+unfolding lines
+some-lines [] some = absurd cc
+some-lines (b ∷ text) some =
+    elim (eqb b 10) as (λ (x : Bool). 0 < length (cond x ([] ∷ lines text) (in_first b (lines text)))) [ true ↦ omega arith | false ↦ in_first-some b (lines text) ]
+
+pub no-lines : (text : List ℕ) → eqb (length text) 0 ≡ true → lines text ≡ []
+unfolding lines
+no-lines [] none = refl
+no-lines (b ∷ text) none = absurd (omega (arith, eqb-true (length (b ∷ text)) 0 none))
+
+-- a text that is cut at each such byte, as a line is into words
 abbrev pub parts : ℕ → List ℕ → List (List ℕ)
 parts at [] = [] ∷ []
 parts at (b ∷ text) = cond (eqb b at) ([] ∷ parts at text) (in_first b (parts at text))
@@ -59,11 +74,6 @@ pub words-parts : (text : List ℕ) → words text ≡ parts 32 text
 unfolding words
 words-parts [] = refl
 words-parts (b ∷ text) = ap (word_byte b) (words-parts text)
-
-pub statements-parts : (text : List ℕ) → statements text ≡ parts 59 text
-unfolding statements
-statements-parts [] = refl
-statements-parts (b ∷ text) = ap (statement_byte b) (statements-parts text)
 
 parts-cut : (at : ℕ) (front rest : List ℕ) → has at front ≡ false → parts at (front ++ at ∷ rest) ≡ front ∷ parts at rest
 parts-cut at [] rest none = rw (eq-eqb at at refl) refl

@@ -3,8 +3,7 @@ use Rattle.std.proofs.Common.{◌≡◌, ℕ, ◌+◌, ◌*◌, ◌-◌, ◌<◌
 use Rattle.std.specs.List.{list_all}
 use Rattle.std.proofs.lemmas.Bool.{cases_Bool, le-leb, lt-leb, leb-true, leb-false, and_right}
 use Rattle.std.proofs.lemmas.List.{at_drop_more}
-use Rattle.kdf_top.specs.Lines.{is_digit, value}
-use Rattle.kdf_top.specs.Deck.{up_to}
+use Rattle.kdf_top.specs.Lines.{is_digit, value, up_to}
 
 -- what the digits from here make, where those before make n
 abbrev pub reads : ℕ → ℕ → List ℕ → Option ℕ

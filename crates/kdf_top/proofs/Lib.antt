@@ -19,11 +19,10 @@ pub mod Reported
 pub mod Answering
 pub mod Runs
 pub mod Cutting
-pub mod DeckLemmas
 pub mod Digits
 pub mod PassLemmas
-pub mod PlaceLemmas
-pub mod TextLemmas
+pub mod DeckLines
+pub mod LoadedDecks
 pub mod WholeJob
 pub mod WordLemmas
 pub mod WorkedLemmas

@@ -7,8 +7,7 @@ use Rattle.kdf_top.specs.declared.job.JobFault.{JobFault}
 use Rattle.kdf_top.specs.declared.lines.Lines.{Lines}
 use Rattle.kdf_top.specs.Options.{◌>>=◌}
 use Rattle.kdf_top.specs.Lines.{line, lines, words, in_first}
-use Rattle.kdf_top.specs.Deck.{deck, kept, statements, pieces}
-use Rattle.kdf_top.specs.Job.{first_off, fault_at, is_deck, has_size, has_show, has_calls}
+use Rattle.kdf_top.specs.Job.{first_off, fault_at, has_size, has_show, has_calls}
 use Rattle.kdf_top.specs.Reading.{ahead, fault_from, Passes, Says, Stops}
 
 off-passed : (form : List ℕ → Bool) (left : List (List ℕ → Bool)) (ls ls' : List (List ℕ)) (n n' : ℕ) → form [] ≡ false → form (line ls 1) ≡ true → ls' ≡ drop 1 ls → (0 < length ls → n' ≡ n + 1)
@@ -37,10 +36,6 @@ no-count = refl
 pub no-show : (size : ℕ) → has_show size [] ≡ false
 unfolding words
 no-show size = refl
-
-pub no-deck : (size : ℕ) → is_deck size [] ≡ false
-unfolding deck kept statements pieces
-no-deck size = refl
 
 pub end-passed : (at : Lines) → length at.rest.now ≡ 0 → fault_from at [] ≡ None
 unfolding lines

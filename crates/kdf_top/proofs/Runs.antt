@@ -4,22 +4,25 @@ use Rattle.std.proofs.lemmas.Bool.{lt-ltb, le-ltb}
 use Rattle.kdf_io.specs.Outside.{HasRisen, Took, NothingLeft}
 use Rattle.kdf_io.specs.Reading.{TookBefore}
 use Rattle.kdf_io.specs.declared.read_end.ReadEnd.TheVariants.{Large}
+use Rattle.kdf_usercode.specs.Faults.{Found}
 use Rattle.kdf_top.specs.declared.job.JobFault.{JobFault}
 use Rattle.kdf_top.specs.declared.status.Status.{Status}
 use Rattle.kdf_top.specs.declared.status.Status.TheVariants as status
 use Rattle.kdf_top.specs.Answered.{Inlet, Outlet, IsGiven, IsRun}
-use Rattle.kdf_top.specs.Answers.{Answers, called_for, is_done, status_of_bytes, status_of_fault}
+use Rattle.kdf_top.specs.Answers.{Answers, called_for, is_done, status_of_bytes, status_of_faults, status_of_job}
 use Rattle.kdf_top.specs.Commands.{is_command}
-use Rattle.kdf_top.specs.Job.{job_fault}
+use Rattle.kdf_top.specs.Deck.{deck_fault}
+use Rattle.kdf_top.specs.Job.{job, job_fault}
 use Rattle.kdf_top.specs.Shown.{Shown}
 use Rattle.kdf_top.specs.Text.{job_limit}
-use Rattle.kdf_top.proofs.Answering.{given_memory, nothing_added}
+use Rattle.kdf_top.proofs.Answering.{given_memory, nothing_added, as_called, by_job_fault, by_deck_fault}
 
 -- where an answer is that of a source that didn't fail, it is that of one that may have
 answers_weaker : (called given : Status) (read_failed rose : Type 0) → Answers called given ⊥ rose → Answers called given read_failed rose
 answers_weaker called status.Done read_failed rose h = h
 answers_weaker called status.Usage read_failed rose h = h
 answers_weaker called (status.Job fault line) read_failed rose h = h
+answers_weaker called (status.Deck slot fault place) read_failed rose h = h
 answers_weaker called status.Large read_failed rose h = h
 answers_weaker called status.ReadFault read_failed rose h = absurd h
 answers_weaker called status.WriteFault read_failed rose h = h
@@ -69,16 +72,13 @@ called_bytes words bytes e = rw e refl
 called_large : (words : List (List ℕ)) (bytes : List ℕ) → is_command words ≡ true → job_limit < length bytes → called_for words bytes ≡ status.Large
 called_large words bytes e long = called_bytes words bytes e ∙ rw (lt-ltb job_limit (length bytes) long) refl
 
-called_fault : (words : List (List ℕ)) (bytes : List ℕ) → is_command words ≡ true → length bytes ≤ job_limit → called_for words bytes ≡ status_of_fault (job_fault bytes)
-called_fault words bytes e short = called_bytes words bytes e ∙ rw (le-ltb job_limit (length bytes) short) refl
+called_job : (words : List (List ℕ)) (bytes : List ℕ) → is_command words ≡ true → length bytes ≤ job_limit → called_for words bytes ≡ status_of_job bytes
+called_job words bytes e short = called_bytes words bytes e ∙ rw (le-ltb job_limit (length bytes) short) refl
 
-fault_no_usage : (fault : Option (JobFault × ℕ)) → status_of_fault fault ≢ status.Usage
-fault_no_usage None e = cc
-fault_no_usage (Some x) e = cc
-
-as_called : (called wanted : Status) (bytes : List ℕ) (given : Status) (kept : Option Shown) (o n : Outlet) → wanted ≡ called
-    → IsGiven called bytes given kept o n → IsGiven wanted bytes given kept o n
-as_called called wanted bytes given kept o n e h = subst (λ x. IsGiven x bytes given kept o n) (sym e) h
+fault_no_usage : (fault : Option (JobFault × ℕ)) (first : Option (ℕ × Found)) → status_of_faults fault first ≢ status.Usage
+fault_no_usage None None e = cc
+fault_no_usage None (Some x) e = cc
+fault_no_usage (Some x) first e = cc
 
 -- a command: `one` tells what is known where the source tells nothing
 run_command : (words : List (List ℕ)) (called : Status) (read : List ℕ) (given : Status) (kept : Option Shown) (source source' : Inlet) (o n : Outlet)
@@ -133,11 +133,11 @@ run_usage words given kept source o n unasked none given_usage =
 pub run_read : (words : List (List ℕ)) (read : List ℕ) (given : Status) (kept : Option Shown) (source source' : Inlet) (o n : Outlet)
     → is_command words ≡ true → length read ≤ job_limit → Took source.left read source'.left → NothingLeft source'.left
     → IfSome source.left (λ bytes. read ≡ bytes) → source.faults ≤ source'.faults
-    → IsGiven (status_of_fault (job_fault read)) read given kept o n → IsRun words given kept source source' o n
+    → IsGiven (status_of_job read) read given kept o n → IsRun words given kept source source' o n
 run_read words read given kept source source' o n asked short took ended whole falls one =
-    run_command words (status_of_fault (job_fault read)) read given kept source source' o n asked (fault_no_usage (job_fault read)) one
+    run_command words (status_of_job read) read given kept source source' o n asked (fault_no_usage (job_fault read) (deck_fault (job read).slots)) one
     (map_some _ _ source.left (λ bytes e. subst (λ x. IsGiven (called_for words x) x given kept o n) e
-    (as_called _ _ read given kept o n (called_fault words read asked short) one)) whole)
+    (as_called _ _ read given kept o n (called_job words read asked short) one)) whole)
     (all_some _ kept (λ m. ended)) (all_some _ kept (λ m. took)) falls
 
 -- more bytes came than a job may have
@@ -190,17 +190,20 @@ only_memory : (called given : Status) (read_failed rose : Type 0) → Answers ca
 only_memory called status.Done read_failed rose h f g = inl h
 only_memory called status.Usage read_failed rose h f g = inl h
 only_memory called (status.Job fault line) read_failed rose h f g = inl h
+only_memory called (status.Deck slot fault place) read_failed rose h f g = inl h
 only_memory called status.Large read_failed rose h f g = inl h
 only_memory called status.ReadFault read_failed rose h f g = absurd (f h)
 only_memory called status.WriteFault read_failed rose h f g = absurd (g h)
 only_memory called status.Memory read_failed rose h f g = inr refl
 
-called_done : (words : List (List ℕ)) (bytes : List ℕ) → is_command words ≡ true → length bytes ≤ job_limit → job_fault bytes ≡ None → called_for words bytes ≡ status.Done
-called_done words bytes asked short faultless = called_fault words bytes asked short ∙ ap status_of_fault faultless
+called_done : (words : List (List ℕ)) (bytes : List ℕ) → is_command words ≡ true → length bytes ≤ job_limit → job_fault bytes ≡ None → deck_fault (job bytes).slots ≡ None
+    → called_for words bytes ≡ status.Done
+called_done words bytes asked short faultless assembles =
+    called_job words bytes asked short ∙ by_job_fault bytes None faultless ∙ by_deck_fault (job bytes).slots None assembles
 
 pub complete : (words : List (List ℕ)) (given : Status) (left : Option (List ℕ)) (read_failed rose : Type 0) → is_command words ≡ true
     → IfSome left (λ bytes. Answers (called_for words bytes) given read_failed rose)
-    → IfSome left (λ bytes. length bytes ≤ job_limit → job_fault bytes ≡ None → ¬ read_failed → ¬ rose → (given ≡ status.Done) ⊎ (given ≡ status.Memory))
+    → IfSome left (λ bytes. length bytes ≤ job_limit → job_fault bytes ≡ None → deck_fault (job bytes).slots ≡ None → ¬ read_failed → ¬ rose → (given ≡ status.Done) ⊎ (given ≡ status.Memory))
 complete words given left read_failed rose asked answers =
-    map_some _ _ left (λ bytes h short faultless f g.
-    only_memory status.Done given read_failed rose (subst (λ x. Answers x given read_failed rose) (called_done words bytes asked short faultless) h) f g) answers
+    map_some _ _ left (λ bytes h short faultless assembles f g.
+    only_memory status.Done given read_failed rose (subst (λ x. Answers x given read_failed rose) (called_done words bytes asked short faultless assembles) h) f g) answers

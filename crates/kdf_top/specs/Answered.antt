@@ -39,6 +39,7 @@ pub record IsGiven (called : Status) (bytes : List ℕ) (given : Status) (kept :
 abbrev pub IsRefusal : Status → Type 0
 IsRefusal status.Usage = Unit {0}
 IsRefusal (status.Job fault line) = Unit {0}
+IsRefusal (status.Deck slot fault place) = Unit {0}
 IsRefusal status.Large = Unit {0}
 IsRefusal _ = ⊥
 

@@ -5,20 +5,29 @@ use Rattle.kdf_top.specs.declared.job.JobFault.{JobFault}
 use Rattle.kdf_top.specs.declared.status.Status.{Status}
 use Rattle.kdf_top.specs.declared.status.Status.TheVariants as status
 use Rattle.kdf_io.specs.Outside.{Added, AddedFront}
+use Rattle.kdf_usercode.specs.Faults.{Found}
 use Rattle.kdf_top.specs.Commands.{is_command}
 use Rattle.kdf_top.specs.Job.{job, job_fault}
+use Rattle.kdf_top.specs.Deck.{deck_fault}
 use Rattle.kdf_top.specs.Next.{own}
 use Rattle.kdf_top.specs.Follows.{IsJournal}
 use Rattle.kdf_top.specs.Shown.{Shown, ShowsLone, slots_of}
-use Rattle.kdf_top.specs.Text.{text, report_lines, usage_line, large_line, job_fault_line, job_limit}
+use Rattle.kdf_top.specs.Text.{text, report_lines, usage_line, large_line, job_fault_line, deck_fault_line, job_limit}
 
--- the answer that a job calls for
-abbrev pub status_of_fault : Option (JobFault × ℕ) → Status
-status_of_fault None = status.Done
-status_of_fault (Some found) = status.Job found.0 found.1
+-- the answer that a job calls for: a fault of the job comes before one of a deck
+abbrev pub status_of_decks : Option (ℕ × Found) → Status
+status_of_decks None = status.Done
+status_of_decks (Some found) = status.Deck found.0 found.1.fault found.1.place
+
+abbrev pub status_of_faults : Option (JobFault × ℕ) → Option (ℕ × Found) → Status
+status_of_faults None decks = status_of_decks decks
+status_of_faults (Some found) decks = status.Job found.0 found.1
+
+abbrev pub status_of_job : List ℕ → Status
+status_of_job bytes = status_of_faults (job_fault bytes) (deck_fault (job bytes).slots)
 
 abbrev pub status_of_bytes : List ℕ → Status
-status_of_bytes bytes = if nat_lt job_limit (length bytes) then status.Large else status_of_fault (job_fault bytes)
+status_of_bytes bytes = if nat_lt job_limit (length bytes) then status.Large else status_of_job bytes
 
 -- the answer that the words and the bytes call for
 unfoldable pub called_for : List (List ℕ) → List ℕ → Status
@@ -35,6 +44,7 @@ Answers wanted given read_failed write_failed = given ≡ wanted
 abbrev pub refusal_lines : Status → List (List ℕ)
 refusal_lines status.Usage = usage_line ∷ []
 refusal_lines (status.Job fault line) = job_fault_line fault line ∷ []
+refusal_lines (status.Deck slot fault place) = deck_fault_line slot fault place ∷ []
 refusal_lines status.Large = large_line ∷ []
 refusal_lines _ = []
 
@@ -57,9 +67,10 @@ abbrev pub is_done : Status → Bool
 is_done status.Done = true
 is_done _ = false
 
--- the bytes are a job without a fault, the machine is that of the job, and its report was written
+-- the bytes are a job without a fault, nor has a deck one, the machine is that of the job, and its report was written
 pub record IsReported (bytes : List ℕ) (m : Shown) (before after : Option (List ℕ)) : Type 0 where
   pub faultless : job_fault bytes ≡ None
+  pub assembles : deck_fault (job bytes).slots ≡ None
   pub machine : IsMachineOf bytes m
   pub report : Added before (report_of bytes m.journal) after
 

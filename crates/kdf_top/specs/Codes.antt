@@ -3,11 +3,11 @@ use Rattle.std.specs.Prelude.{ℕ}
 use Rattle.kdf_top.specs.declared.status.Status.{Status}
 use Rattle.kdf_top.specs.declared.status.Status.TheVariants as status
 
--- 3 is kept for faults of decks
 abbrev pub code_of : Status → ℕ
 code_of status.Done = 0
 code_of status.Usage = 1
 code_of (status.Job fault line) = 2
+code_of (status.Deck slot fault place) = 3
 code_of status.Large = 4
 code_of status.ReadFault = 5
 code_of status.WriteFault = 6

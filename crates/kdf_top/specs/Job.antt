@@ -1,13 +1,12 @@
 -- The jobs that are read today: which lines they have, the first line that is wrong, and what a job means.
-use Rattle.std.specs.Prelude.{ℕ, ◌+◌, ◌%◌, ◌==◌, ◌&&◌, nat_le, nat_lt, Bool, false, List, [], ◌∷◌, ◌++◌, length, Option, Some, None, unwrap_or, is_some, if◌then◌else◌, codes}
+use Rattle.std.specs.Prelude.{ℕ, ◌+◌, ◌%◌, ◌==◌, ◌&&◌, nat_le, nat_lt, Bool, true, List, [], ◌∷◌, ◌++◌, length, drop, Option, Some, None, unwrap_or, is_some, if◌then◌else◌, codes}
+use Rattle.std.specs.List.{flat_map}
 use Rattle.kdf_top.specs.declared.job.Event.{Event}
 use Rattle.kdf_top.specs.declared.job.Event.TheVariants.{Orders}
 use Rattle.kdf_top.specs.declared.job.JobFault.{JobFault}
 use Rattle.kdf_top.specs.declared.job.JobFault.TheVariants.{Header, NotYet}
 use Rattle.kdf_top.specs.Options.{◌>>=◌}
 use Rattle.kdf_top.specs.Lines.{lines, words, line, is_text, number_in}
-use Rattle.kdf_top.specs.Deck.{Deck, deck}
-use Rattle.kdf_top.specs.Placement.{image_of}
 
 -- a slot of a job
 pub record SlotJob : Type 0 where
@@ -50,21 +49,26 @@ show_of_words size _ = None
 abbrev pub show_range : ℕ → List ℕ → Option (ℕ × ℕ)
 show_range size l = show_of_words size (words l)
 
-abbrev pub fits : ℕ → Option Deck → Bool
-fits size None = false
-fits size (Some d) = nat_le (length (image_of d)) size
-
--- the line is a deck whose image fits the store
-abbrev pub is_deck : ℕ → List ℕ → Bool
-is_deck size l = fits size (deck l)
-
 -- line 3 tells the size of the store
 abbrev pub size_in : List (List ℕ) → ℕ
 size_in ls = unwrap_or (store_size (line ls 3)) 0
 
--- line 7 may tell what to show
+-- the lines before the first ENDDECK
+abbrev pub deck_lines : List (List ℕ) → List (List ℕ)
+deck_lines [] = []
+deck_lines (l ∷ ls) = if is_text (codes "ENDDECK") l then [] else l ∷ deck_lines ls
+
+-- the lines of the deck stand behind the first four
+abbrev pub deck_in : List (List ℕ) → List (List ℕ)
+deck_in ls = deck_lines (drop 4 ls)
+
+-- the lines behind ENDDECK
+abbrev pub behind_deck : List (List ℕ) → List (List ℕ)
+behind_deck ls = drop (5 + length (deck_in ls)) ls
+
+-- the first of these may tell what to show
 abbrev pub show_in : List (List ℕ) → Option (ℕ × ℕ)
-show_in ls = show_range (size_in ls) (line ls 7)
+show_in ls = show_range (size_in ls) (line (behind_deck ls) 1)
 
 -- the forms of lines with a size, with addresses to show, and with a number of calls
 abbrev pub has_size : List ℕ → Bool
@@ -80,8 +84,13 @@ has_calls l = is_some (order_count l)
 abbrev pub head_forms : List (List ℕ → Bool)
 head_forms = is_text (codes "KDF9 JOB 1") ∷ is_text (codes "SLOT 0") ∷ has_size ∷ is_text (codes "DECK") ∷ []
 
-abbrev pub deck_forms : ℕ → List (List ℕ → Bool)
-deck_forms size = is_deck size ∷ is_text (codes "ENDDECK") ∷ []
+-- a line of a deck may hold anything
+abbrev pub any_line : List ℕ → Bool
+any_line l = true
+
+abbrev pub deck_forms : List (List ℕ) → List (List ℕ → Bool)
+deck_forms [] = is_text (codes "ENDDECK") ∷ []
+deck_forms (l ∷ ls) = any_line ∷ deck_forms ls
 
 abbrev pub show_forms : ℕ → Option (ℕ × ℕ) → List (List ℕ → Bool)
 show_forms size None = []
@@ -91,7 +100,7 @@ abbrev pub schedule_forms : List (List ℕ → Bool)
 schedule_forms = is_text (codes "SCHEDULE") ∷ has_calls ∷ is_text (codes "ENDJOB") ∷ []
 
 unfoldable pub forms : List (List ℕ) → List (List ℕ → Bool)
-forms ls = head_forms ++ deck_forms (size_in ls) ++ show_forms (size_in ls) (show_in ls) ++ schedule_forms
+forms ls = head_forms ++ (deck_forms (deck_in ls) ++ (show_forms (size_in ls) (show_in ls) ++ schedule_forms))
 
 -- the first line, from number n on, that hasn't its form: the end of the text counts as a line more, that has none
 abbrev pub first_off : ℕ → List (List ℕ → Bool) → List (List ℕ) → Option ℕ
@@ -116,12 +125,16 @@ shows_of (Some x) = x ∷ []
 
 -- the line of the schedule stands behind SCHEDULE
 abbrev pub orders_in : List (List ℕ) → ℕ
-orders_in ls = unwrap_or (order_count (line ls (8 + length (shows_of (show_in ls))))) 0
+orders_in ls = unwrap_or (order_count (line (behind_deck ls) (2 + length (shows_of (show_in ls))))) 0
+
+-- the text of a deck: its lines, each with a byte 10
+abbrev pub deck_text : List (List ℕ) → List ℕ
+deck_text ls = flat_map (λ l. l ++ 10 ∷ []) ls
 
 abbrev pub job_of_lines : List (List ℕ) → Job
 job_of_lines ls =
     record {
-      slots = record { p = 0; size = size_in ls; deck = line ls 5 ++ 10 ∷ []; shows = shows_of (show_in ls) } ∷ [];
+      slots = record { p = 0; size = size_in ls; deck = deck_text (deck_in ls); shows = shows_of (show_in ls) } ∷ [];
       events = Orders (orders_in ls) ∷ [];
     }
 

@@ -1,8 +1,7 @@
 pub mod Options
 pub mod Lines
-pub mod Deck
-pub mod Placement
 pub mod Job
+pub mod Deck
 pub mod Joined
 pub mod Counts
 pub mod Next

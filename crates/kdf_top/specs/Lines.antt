@@ -42,6 +42,10 @@ is_digits word = not (length word == 0) && list_all is_digit word
 unfoldable pub value : List ℕ → ℕ
 value word = fold (λ n digit. 10 * n + (digit - 48)) 0 word
 
+-- the number that digits spell, if it is at most the limit
+abbrev pub up_to : ℕ → List ℕ → Option ℕ
+up_to limit digits = if is_digits digits && nat_le (value digits) limit then Some (value digits) else None
+
 -- digits without leading zeros
 abbrev pub is_number : List ℕ → Bool
 is_number word = is_digits word && (length word == 1 || not (slice_index word 0 == 48))

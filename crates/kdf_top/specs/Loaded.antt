@@ -1,6 +1,6 @@
 -- The slots that a job and its images are loaded into.
 use Rattle.std.specs.Prelude.{◌≡◌, ◌≤◌, List, [], ◌∷◌, length}
-use Rattle.kdf_top.specs.declared.deck.Image.{Image}
+use Rattle.kdf_place.specs.declared.image.Image.{Image}
 use Rattle.kdf_top.specs.declared.job.SlotJob.{SlotJob}
 use Rattle.kdf_top.specs.Next.{Slot}
 

@@ -3,7 +3,7 @@ use Rattle.std.specs.Prelude.{◌≡◌, ℕ, ◌==◌, List, [], ◌∷◌, map
 use Rattle.kdf_processor.specs.State.{State}
 use Rattle.kdf_top.specs.declared.journal.Entry.{Entry}
 use Rattle.kdf_top.specs.Job.{Job, SlotJob}
-use Rattle.kdf_top.specs.Placement.{image}
+use Rattle.kdf_top.specs.Deck.{image_words}
 use Rattle.kdf_top.specs.Next.{Slot, own}
 
 -- the slots as they were loaded, the state of the program of each, and the journal
@@ -26,7 +26,7 @@ ShowsLone m = m.states ≡ map (λ (s : Slot). own m.slots m.journal s.p) m.slot
 
 -- the slots of a job, with the images of their decks
 abbrev pub slot_of_job : SlotJob → Slot
-slot_of_job s = record { p = s.p; size = s.size; words = image s.deck }
+slot_of_job s = record { p = s.p; size = s.size; words = image_words s.size s.deck }
 
 abbrev pub slots_of : Job → List Slot
 slots_of job = map slot_of_job job.slots

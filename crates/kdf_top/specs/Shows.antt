@@ -1,13 +1,8 @@
 -- What the types of the code show: the definitions' records, with lists in place of vectors.
 use Rattle.std.specs.Prelude.{map}
-use Rattle.kdf_top.specs.declared.deck.Deck.{Deck as ReadDeck}
 use Rattle.kdf_top.specs.declared.job.Job.{Job as ReadJob}
 use Rattle.kdf_top.specs.declared.job.SlotJob.{SlotJob as ReadSlot}
-use Rattle.kdf_top.specs.Deck.{Deck}
 use Rattle.kdf_top.specs.Job.{Job, SlotJob}
-
-abbrev pub shown_deck : ReadDeck → Deck
-shown_deck d = record { stores = d.stores; pieces = d.pieces.items }
 
 abbrev pub shown_slot : ReadSlot → SlotJob
 shown_slot s = record { p = s.p; size = s.size; deck = s.deck.items; shows = s.shows.items }

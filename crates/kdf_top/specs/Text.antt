@@ -12,6 +12,8 @@ use Rattle.kdf_top.specs.declared.journal.Entry.TheVariants.{Ran, Fail, Ended}
 use Rattle.kdf_top.specs.declared.job.JobFault.{JobFault}
 use Rattle.kdf_top.specs.declared.job.JobFault.TheVariants.{Header, NotYet}
 use Rattle.kdf_top.specs.Job.{Job, SlotJob}
+use Rattle.kdf_usercode.specs.declared.fault.DeckFault.{DeckFault}
+use Rattle.kdf_usercode.specs.Faults.{name_of}
 
 -- the bytes of the lines, each with a byte 10 behind it
 unfoldable pub text : List (List ℕ) → List ℕ
@@ -82,6 +84,9 @@ fault_name NotYet = codes "NotYet"
 
 abbrev pub job_fault_line : JobFault → ℕ → List ℕ
 job_fault_line fault line = codes "JOB " ++ fault_name fault ++ codes " " ++ decimal line
+
+abbrev pub deck_fault_line : ℕ → DeckFault → ℕ → List ℕ
+deck_fault_line slot fault place = codes "DECK " ++ decimal slot ++ codes " " ++ name_of fault ++ codes " " ++ decimal place
 
 abbrev pub usage_line : List ℕ
 usage_line = codes "USAGE kdf9 run, alone K, asm K, make N"

@@ -3,9 +3,9 @@ use Rattle.std.specs.Prelude.{ℕ, Bool, List, [], ◌∷◌, ◌++◌, codes}
 use Rattle.kdf_processor.specs.declared.registers.Life.{Life}
 use Rattle.kdf_processor.specs.State.{State, begin, word_at}
 use Rattle.kdf_processor.specs.Lone.{lone}
-use Rattle.kdf_top.specs.Placement.{image}
+use Rattle.kdf_top.specs.Deck.{image_words}
 
--- the texts of three decks
+-- the texts of four decks
 abbrev pub adding : List ℕ
 adding = codes "Y0; PROGRAM; SET 5; SET 7; +; =Y0; ZERO; OUT; FINISH;" ++ 10 ∷ []
 
@@ -17,9 +17,15 @@ seventeen_zeros =
 abbrev pub nothing : List ℕ
 nothing = codes "PROGRAM; FINISH;" ++ 10 ∷ []
 
+abbrev pub of_two_parts : List ℕ
+of_two_parts =
+    codes "Y0; PROGRAM V0; (37 and 5)" ++ 10
+    ∷ codes "V0=37; V0; SET 5; J1P1; 2; ZERO; OUT;" ++ 10
+    ∷ codes "P1; ZERO; 1; +; =Y0; J2P0; FINISH;" ++ 10 ∷ []
+
 -- the program of a deck in a store of 32 words by itself, after n orders
 abbrev pub alone : List ℕ → ℕ → State
-alone deck n = lone (begin 32 (image deck)) [] n
+alone deck n = lone (begin 32 (image_words 32 deck)) [] n
 
 -- what is looked at: the life, the orders obeyed, the next syllable, the nest, V, and the word at one address
 pub record Looked : Type 0 where

@@ -1,20 +1,18 @@
 //! Reading a job: once over its lines, in their order.
 
-ghost use Rattle.std.specs.Prelude.{◌≡◌, [], ◌∷◌, ◌++◌, ◌%◌, ◌<◌, ◌≤◌, All, IfOk, OnOk, IfErr, IfSome, Some, None, drop, length};
-ghost use Rattle.kdf_top.specs.Job.{store_size, show_range, order_count, is_deck, has_size, has_calls, shows_of, fault_at, head_forms, deck_forms, show_forms, schedule_forms, job, job_fault};
+ghost use Rattle.std.specs.Prelude.{◌≡◌, [], ◌∷◌, ◌++◌, ◌+◌, ◌%◌, ◌<◌, ◌≤◌, IfOk, OnOk, IfErr, IfSome, Some, None, drop, length};
+ghost use Rattle.kdf_top.specs.Job.{store_size, show_range, order_count, has_size, has_calls, shows_of, deck_lines, deck_text, fault_at, head_forms, deck_forms, show_forms, schedule_forms, job, job_fault};
 ghost use Rattle.kdf_top.specs.Lines.{line, is_text};
 ghost use Rattle.kdf_top.specs.Reading.{ahead, fault_from, Passes, Says, Stops};
 ghost use Rattle.kdf_top.specs.Shows.{shown_job};
-ghost use Rattle.kdf_top.specs.WellFormed.{HasImage, IsShow, IsJob};
+ghost use Rattle.kdf_top.specs.WellFormed.{IsShow, IsJob};
 
 #[cfg(test)]
 mod tests;
 
-use crate::deck_reader::read_deck;
 use crate::forms::{order_count, show_range, store_size};
 use crate::job::{Event, Job, JobError, JobFault, SlotJob};
 use crate::lines::Lines;
-use crate::place::image_length;
 use std::alloc::{AllocError, Global};
 
 /// The fault of the line of this number, which hasn't its form.
@@ -35,6 +33,7 @@ fn expect(lines: &mut Lines, text: &[u8]) -> Result<(), JobError>
     ensures pass { OnOk result (Passes (is_text text.now ∷ []) lines.old lines.new) }
     ensures stop { IfErr result (Stops (is_text text.now ∷ []) lines.old) }
     ensures rest { OnOk result (ahead lines.new ≡ drop 1 (ahead lines.old)) }
+    ensures shorter { length lines.new.rest.now ≤ length lines.old.rest.now }
 {
     let line = lines.take_line();
     if line.text == text {
@@ -49,6 +48,7 @@ fn read_head(lines: &mut Lines) -> Result<u16, JobError>
     ensures pass { OnOk result (Passes head_forms lines.old lines.new) }
     ensures stop { IfErr result (Stops head_forms lines.old) }
     ensures rest { OnOk result (ahead lines.new ≡ drop 4 (ahead lines.old)) }
+    ensures shorter { OnOk result (length lines.new.rest.now ≤ length lines.old.rest.now) }
     ensures size { IfOk result (λ n. store_size (line (ahead lines.old) 3) ≡ Some n) }
     ensures within { IfOk result (λ n. (32 ≤ n) × (n ≤ 8192)) }
     ensures groups { IfOk result (λ n. n % 32 ≡ 0) }
@@ -65,6 +65,7 @@ fn read_size(lines: &mut Lines) -> Result<u16, JobError>
     ensures pass { OnOk result (Passes (has_size ∷ []) lines.old lines.new) }
     ensures stop { IfErr result (Stops (has_size ∷ []) lines.old) }
     ensures rest { OnOk result (ahead lines.new ≡ drop 1 (ahead lines.old)) }
+    ensures shorter { length lines.new.rest.now ≤ length lines.old.rest.now }
     ensures size { IfOk result (λ n. store_size (line (ahead lines.old) 1) ≡ Some n) }
     ensures within { IfOk result (λ n. (32 ≤ n) × (n ≤ 8192)) }
     ensures groups { IfOk result (λ n. n % 32 ≡ 0) }
@@ -131,32 +132,24 @@ fn read_show(lines: &mut Lines, size: u16) -> Option<(u16, u16)>
     Some(show)
 }
 
-/// Whether a line is a deck whose image fits a store of this size.
-fn is_deck(alloc: Global, size: u16, line: &[u8]) -> Result<bool, AllocError>
-    ensures { IfOk result (λ b. b ≡ is_deck size line.now) }
+/// The text of the deck: the lines before ENDDECK, each with a byte 10.
+fn read_deck_lines(alloc: Global, lines: &mut Lines) -> Result<Vec<u8>, JobError>
+    ensures pass { OnOk result (Passes (deck_forms (deck_lines (ahead lines.old))) lines.old lines.new) }
+    ensures stop { IfErr result (Stops (deck_forms (deck_lines (ahead lines.old))) lines.old) }
+    ensures rest { OnOk result (ahead lines.new ≡ drop (1 + length (deck_lines (ahead lines.old))) (ahead lines.old)) }
+    ensures deck { IfOk result (λ v. v.items ≡ deck_text (deck_lines (ahead lines.old))) }
+    ensures within { IfOk result (λ v. length v.items ≤ length lines.old.rest.now) }
 {
-    match read_deck(alloc, line)? {
-        Some(deck) => Ok(image_length(&deck) <= usize::from(size)),
-        None => Ok(false),
+    let mut deck = Vec::new(alloc);
+    while !lines.rest.is_empty() {
+        let line = lines.take_line();
+        if line.text == b"ENDDECK".as_slice() {
+            return Ok(deck);
+        }
+        deck.extend_from_slice(line.text)?;
+        deck.push(b'\n')?;
     }
-}
-
-/// The bytes of the deck, whose image fits a store of this size.
-fn read_deck_lines(alloc: Global, lines: &mut Lines, size: u16) -> Result<Vec<u8>, JobError>
-    ensures pass { OnOk result (Passes (deck_forms size) lines.old lines.new) }
-    ensures stop { IfErr result (Stops (deck_forms size) lines.old) }
-    ensures rest { OnOk result (ahead lines.new ≡ drop 2 (ahead lines.old)) }
-    ensures deck { IfOk result (λ v. v.items ≡ line (ahead lines.old) 1 ++ 10 ∷ []) }
-    ensures image { IfOk result (λ v. HasImage size v.items) }
-{
-    let line = lines.take_line();
-    if !is_deck(alloc, size, line.text)? {
-        return Err(fault(line.number));
-    }
-    expect(lines, b"ENDDECK")?;
-    let mut deck = Vec::from_slice(alloc, line.text)?;
-    deck.push(b'\n')?;
-    Ok(deck)
+    Err(fault(lines.number))
 }
 
 /// The addresses that a slot shows, as a list.
@@ -182,11 +175,10 @@ pub fn read_job(alloc: Global, bytes: &[u8]) -> Result<Job, JobError>
     ensures fault { IfErr result (λ e. Says e (job_fault bytes.now)) }
     ensures shown { IfOk result (λ j. shown_job j ≡ job bytes.now) }
     ensures well_formed { IfOk result IsJob }
-    ensures images { IfOk result (λ j. All (λ s. HasImage 8192 s.deck.items) j.slots.items) }
 {
     let mut lines = Lines::new(bytes);
     let size = read_head(&mut lines)?;
-    let deck = read_deck_lines(alloc, &mut lines, size)?;
+    let deck = read_deck_lines(alloc, &mut lines)?;
     let show = read_show(&mut lines, size);
     let calls = read_schedule(&mut lines)?;
     let slot = SlotJob {

@@ -1,10 +1,9 @@
-//! The top call: reads a job, runs it, writes the report.
+//! The top call: reads a job, assembles its decks, runs it, writes the report.
 #![tactic(auto)]
 
 mod command;
 mod cuts;
-mod deck;
-mod deck_reader;
+mod decks;
 mod entry_text;
 mod forms;
 mod job;
@@ -16,7 +15,6 @@ mod machine;
 mod numbers;
 mod octal;
 mod outcome;
-mod place;
 mod port;
 mod refusal;
 mod registers_text;
@@ -26,14 +24,12 @@ mod status;
 mod top_call;
 
 pub use command::{Command, command_of};
-pub use deck::{Deck, Image, Piece};
-pub use deck_reader::read_deck;
+pub use decks::{DecksError, assemble_decks};
 pub use job::{Event, Job, JobError, JobFault, SlotJob};
 pub use job_reader::read_job;
 pub use journal::{Entry, Journal};
 pub use machine::{Machine, Progress};
 pub use outcome::Outcome;
-pub use place::assemble;
 pub use schedule::follow;
 pub use status::Status;
 pub use top_call::run;

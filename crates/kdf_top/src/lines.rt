@@ -44,6 +44,8 @@ impl<'a> Lines<'a> {
         ensures number { result.number ≡ self.old.number }
         ensures rest { ahead self.new ≡ drop 1 (ahead self.old) }
         ensures next { 0 < length (ahead self.old) → self.new.number ≡ self.old.number + 1 }
+        ensures shorter { length self.new.rest.now + (if length self.old.rest.now == 0 then 0 else 1) ≤ length self.old.rest.now }
+        ensures within { 0 < length self.new.rest.now → length result.text.now + 1 + length self.new.rest.now ≤ length self.old.rest.now }
     {
         let number = self.number;
         let behind = if self.rest.is_empty() {
@@ -64,6 +66,7 @@ impl<'a> Lines<'a> {
 fn first_line(text: &[u8]) -> (&[u8], &[u8])
     ensures first { result.0.now ≡ line (lines text.now) 1 }
     ensures rest { lines result.1.now ≡ drop 1 (lines text.now) }
+    ensures within { 0 < length result.1.now → length result.0.now + 1 + length result.1.now ≤ length text.now }
     ensures shorter { length result.1.now + (if length text.now == 0 then 0 else 1) ≤ length text.now }
 {
     match cut(text, b'\n') {

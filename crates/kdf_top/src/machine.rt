@@ -13,7 +13,8 @@ ghost use Rattle.kdf_top.specs.Store.{state_with};
 ghost use Rattle.kdf_top.specs.Took.{Took};
 
 use crate::port::Store;
-use crate::{Entry, Image, Job, Journal};
+use crate::{Entry, Job, Journal};
+use kdf_place::Image;
 use kdf_processor::{Life, Registers, Step, obey};
 use kdf_word::Word;
 use std::alloc::{AllocError, Global};

@@ -1,8 +1,7 @@
 //! Numbers in a text, of any length.
 
 ghost use Rattle.std.specs.Prelude.{◌≡◌, ◌≤◌, ◌-◌, Some, None, IfSome, if◌then◌else◌};
-ghost use Rattle.kdf_top.specs.Deck.{up_to};
-ghost use Rattle.kdf_top.specs.Lines.{is_digit, number_in};
+ghost use Rattle.kdf_top.specs.Lines.{is_digit, number_in, up_to};
 
 /// The greatest number that is read.
 pub const MOST: u32 = 20_000_000;

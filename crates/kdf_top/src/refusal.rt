@@ -28,6 +28,10 @@ fn write_refusal(out: &mut String, status: Status) -> Result<(), AllocError>
             let name = fault.name();
             writeln!(out, "JOB {name} {line}")
         }
+        Status::Deck { slot, fault, place } => {
+            let name = fault.name();
+            writeln!(out, "DECK {slot} {name} {place}")
+        }
         Status::Large => writeln!(out, "LARGE {JOB_LIMIT}"),
         _ => Ok(()),
     }

@@ -2,6 +2,7 @@
 ghost use Rattle.std.specs.Prelude.{◌≡◌};
 
 use crate::JobFault;
+use kdf_usercode::DeckFault;
 
 /// What `run` answers.
 #[derive(Clone, Copy, Debug, PartialEq, Eq)]
@@ -12,6 +13,12 @@ pub enum Status {
     Usage,
     /// The job's first faulty line, counted from 1.
     Job { fault: JobFault, line: u32 },
+    /// The first slot whose deck has a fault, the deck's first fault, and its place: an offset in the deck's text, from 0.
+    Deck {
+        slot: u8,
+        fault: DeckFault,
+        place: u32,
+    },
     /// The job is longer than the limit.
     Large,
     /// Reading failed.
@@ -25,8 +32,7 @@ pub enum Status {
 impl Status {
     ghost use Rattle.kdf_top.specs.Codes.{code_of};
 
-    /// The number with which the program ends: 0 to 2 and 4 to 7, in the order of the variants.
-    /// The number 3 is kept for faults of decks.
+    /// The number with which the program ends: 0 to 7, in the order of the variants.
     pub fn code(&self) -> u8
         ensures { result ≡ code_of self.now }
     {
@@ -34,6 +40,7 @@ impl Status {
             Status::Done => 0,
             Status::Usage => 1,
             Status::Job { .. } => 2,
+            Status::Deck { .. } => 3,
             Status::Large => 4,
             Status::ReadFault => 5,
             Status::WriteFault => 6,

@@ -2,23 +2,25 @@
 ghost use Rattle.std.specs.Prelude.{◌≡◌, ◌≢◌, ℕ, ◌+◌, ◌<◌, ◌≤◌, ◌⊎◌, List, None, length, true, false, All, OnOk, IfOk, IfSome, is_some, map, string_bytes};
 ghost use Rattle.kdf_io.specs.Outside.{HasRisen, Took, NothingLeft};
 ghost use Rattle.kdf_top.specs.Answered.{inlet, outlet, IsGiven, IsRefusal, IsRun};
-ghost use Rattle.kdf_top.specs.Answers.{Answers, IsDue, IsReported, Wrote, WroteFront, called_for, is_done, status_of_fault};
+ghost use Rattle.kdf_top.specs.Answers.{Answers, IsDue, IsReported, Wrote, WroteFront, called_for, is_done, status_of_decks, status_of_job};
 ghost use Rattle.kdf_top.specs.Commands.{is_command};
+ghost use Rattle.kdf_top.specs.Deck.{deck_fault};
 ghost use Rattle.kdf_top.specs.Follows.{IsJournal};
 ghost use Rattle.kdf_top.specs.Job.{job as job_of, job_fault};
-ghost use Rattle.kdf_top.specs.Placement.{image};
+ghost use Rattle.kdf_top.specs.Loaded.{loaded, IsLoadable};
 ghost use Rattle.kdf_top.specs.Shown.{ShowsLone, slots_of};
 ghost use Rattle.kdf_top.specs.Shows.{shown_job};
 ghost use Rattle.kdf_top.specs.Text.{job_limit};
-ghost use Rattle.kdf_top.specs.WellFormed.{IsJob, HasImage};
+ghost use Rattle.kdf_top.specs.WellFormed.{IsJob};
 
 use crate::command::command_of;
+use crate::decks::{DecksError, assemble_decks};
 use crate::job_reader::read_job;
-use crate::place::assemble;
 use crate::refusal::refusal_text;
 use crate::report::report;
-use crate::{Image, Job, JobError, Machine, Outcome, SlotJob, Status, follow};
+use crate::{Job, JobError, Machine, Outcome, Status, follow};
 use kdf_io::{ReadEnd, Sink, Source, read_all, write_all};
+use kdf_place::Image;
 use std::alloc::{AllocError, Global};
 
 /// Reads a job from the source, runs it, and writes its report to the sink, or why there is none.
@@ -35,9 +37,9 @@ pub fn run<S: Source, K: Sink>(
         let write_failed = HasRisen (K.faults sink.old) (K.faults sink.new) in
         IfSome (S.left source.old) (λ bytes. Answers (called_for (map string_bytes words.now) bytes) result.status read_failed write_failed) }
 
-    // Where nothing fails, a job without a fault is done, and other words are told how to use the program; or there was no memory.
+    // Where nothing fails, a job without a fault, no deck of which has one, is done, and other words are told how to use the program; or there was no memory.
     ensures complete { is_command (map string_bytes words.now) ≡ true
-        → IfSome (S.left source.old) (λ bytes. length bytes ≤ job_limit → job_fault bytes ≡ None
+        → IfSome (S.left source.old) (λ bytes. length bytes ≤ job_limit → job_fault bytes ≡ None → deck_fault (job_of bytes).slots ≡ None
         → ¬ (HasRisen (S.faults source.old) (S.faults source.new)) → ¬ (HasRisen (K.faults sink.old) (K.faults sink.new))
         → (result.status ≡ Status.Done) ⊎ (result.status ≡ Status.Memory)) }
     ensures complete_usage { is_command (map string_bytes words.now) ≡ false → ¬ (HasRisen (K.faults sink.old) (K.faults sink.new))
@@ -133,25 +135,45 @@ fn refuse<K: Sink>(alloc: Global, status: Status, sink: &mut K) -> Outcome
 // Answers a job of these bytes.
 fn answer<K: Sink>(alloc: Global, bytes: &[u8], sink: &mut K) -> Outcome
     requires { length bytes.now ≤ job_limit }
-    ensures { IsGiven (status_of_fault (job_fault bytes.now)) bytes.now result.status result.machine
+    ensures { IsGiven (status_of_job bytes.now) bytes.now result.status result.machine
         (outlet (K.written sink.old) (K.faults sink.old) (K.room sink.old))
         (outlet (K.written sink.new) (K.faults sink.new) (K.room sink.new)) }
 {
     match read_job(alloc, bytes) {
-        Ok(job) => report_job(alloc, &job, sink),
+        Ok(job) => answer_job(alloc, &job, sink),
         Err(JobError::Fault(fault, line)) => refuse(alloc, Status::Job { fault, line }, sink),
         Err(JobError::Memory) => without_machine(Status::Memory),
     }
 }
 
-// Runs a job and writes its report.
-fn report_job<K: Sink>(alloc: Global, job: &Job, sink: &mut K) -> Outcome
+// Assembles the decks of a job and runs it.
+fn answer_job<K: Sink>(alloc: Global, job: &Job, sink: &mut K) -> Outcome
     requires { IsJob job.now }
-    ensures { (bytes : List ℕ) → job_fault bytes ≡ None → shown_job job.now ≡ job_of bytes → IsGiven Status.Done bytes result.status result.machine
+    ensures { (bytes : List ℕ) → job_fault bytes ≡ None → shown_job job.now ≡ job_of bytes
+        → IsGiven (status_of_decks (deck_fault (job_of bytes).slots)) bytes result.status result.machine
         (outlet (K.written sink.old) (K.faults sink.old) (K.room sink.old))
         (outlet (K.written sink.new) (K.faults sink.new) (K.room sink.new)) }
 {
-    let Ok(machine) = run_job(alloc, job) else {
+    match assemble_decks(alloc, &job.slots) {
+        Ok(images) => report_job(alloc, job, &images, sink),
+        Err(DecksError::Fault(slot, fault, place)) => {
+            refuse(alloc, Status::Deck { slot, fault, place }, sink)
+        }
+        Err(DecksError::Memory) => without_machine(Status::Memory),
+    }
+}
+
+// Runs a job with the images of its decks, and writes its report.
+fn report_job<K: Sink>(alloc: Global, job: &Job, images: &[Image], sink: &mut K) -> Outcome
+    requires job { IsJob job.now }
+    requires loadable { IsLoadable job.now.slots.items images.now }
+    requires loaded { loaded job.now.slots.items images.now ≡ slots_of (shown_job job.now) }
+    ensures { (bytes : List ℕ) → job_fault bytes ≡ None → deck_fault (job_of bytes).slots ≡ None → shown_job job.now ≡ job_of bytes
+        → IsGiven Status.Done bytes result.status result.machine
+        (outlet (K.written sink.old) (K.faults sink.old) (K.room sink.old))
+        (outlet (K.written sink.new) (K.faults sink.new) (K.room sink.new)) }
+{
+    let Ok(machine) = run_job(alloc, job, images) else {
         return without_machine(Status::Memory);
     };
     let Ok(text) = report(alloc, job, &machine) else {
@@ -167,28 +189,16 @@ fn report_job<K: Sink>(alloc: Global, job: &Job, sink: &mut K) -> Outcome
 }
 
 // Loads a job and makes the calls of its schedule.
-fn run_job(alloc: Global, job: &Job) -> Result<Machine, AllocError>
-    requires { IsJob job.now }
-    ensures slots { IfOk result (λ m. m.slots ≡ slots_of (shown_job job.now)) }
+fn run_job(alloc: Global, job: &Job, images: &[Image]) -> Result<Machine, AllocError>
+    requires job { IsJob job.now }
+    requires loadable { IsLoadable job.now.slots.items images.now }
+    ensures slots { IfOk result (λ m. m.slots ≡ loaded job.now.slots.items images.now) }
     ensures journal { IfOk result (λ m. IsJournal m.slots (shown_job job.now).events m.journal) }
     ensures lone { IfOk result ShowsLone }
 {
-    let images = assemble_all(alloc, &job.slots)?;
-    let mut machine = Machine::load(alloc, job, &images)?;
+    let mut machine = Machine::load(alloc, job, images)?;
     follow(&mut machine, &job.events)?;
     Ok(machine)
-}
-
-// The image of the deck of each slot.
-fn assemble_all(alloc: Global, slots: &[SlotJob]) -> Result<Vec<Image>, AllocError>
-    requires { All (λ slot. HasImage 8192 slot.deck.items) slots.now }
-    ensures { IfOk result (λ images. map (λ made. made.words.items) images.items ≡ map (λ slot. image slot.deck.items) slots.now) }
-{
-    let mut images = Vec::new(alloc);
-    for slot in slots {
-        images.push(assemble(alloc, &slot.deck)?)?;
-    }
-    Ok(images)
 }
 
 #[cfg(test)]

@@ -38,7 +38,12 @@ fn load(rt: &impl Abort, alloc: Global, image: &[u64]) -> Result<Machine, AllocE
         slots,
         events: Vec::new(alloc),
     };
-    Machine::load(alloc, &job, &[Image { words }])
+    let image = Image {
+        words,
+        start: 1,
+        labels: Vec::new(alloc),
+    };
+    Machine::load(alloc, &job, &[image])
 }
 
 /// One order more, after which the next is at this place and the nest has so many words.

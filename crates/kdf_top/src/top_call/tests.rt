@@ -4,6 +4,7 @@ ghost use Rattle.std.specs.Prelude.{◌≤◌};
 use super::run;
 use crate::{JobFault, Status};
 use kdf_io::{MemorySink, MemorySource};
+use kdf_usercode::DeckFault;
 use std::alloc::{AllocError, Global};
 use std::process::Abort;
 use std::test::Fail;
@@ -14,6 +15,13 @@ const JOB: &[u8] =
 
 const REPORT: &[u8] =
     b"KDF9 REPORT 1\nRAN 0 7\nENDED 0\nSLOT 0\nSTATE ENDED\nORDERS 7\nAT 3 0\nFLAGS 0 0\nNEST 0\nLINKS 0\nWORD 3 0000000000000014\nENDREPORT\n";
+
+/// The same with its deck in several lines, a comment, and a jump.
+const LINES: &[u8] =
+    b"KDF9 JOB 1\nSLOT 0\nSTORE 32\nDECK\nY0; PROGRAM; (adds)\n\nSET 5; SET 7;\n+; =Y0; J1; *; 1; ZERO;\nOUT; FINISH;\nENDDECK\nSHOW 5 5\nSCHEDULE\nORDERS 10\nENDJOB\n";
+
+const LINES_REPORT: &[u8] =
+    b"KDF9 REPORT 1\nRAN 0 8\nENDED 0\nSLOT 0\nSTATE ENDED\nORDERS 8\nAT 4 2\nFLAGS 0 0\nNEST 0\nLINKS 0\nWORD 5 0000000000000014\nENDREPORT\n";
 
 /// The same stopped after four orders: the sum is in the nest, and not yet in the store.
 const STOPPED: &[u8] =
@@ -86,6 +94,13 @@ fn jobs_have_their_reports(rt: HostRuntime) -> Result<(), Fail> {
     expect(
         &rt,
         alloc,
+        &whole(&["run"], LINES),
+        Status::Done,
+        LINES_REPORT,
+    )?;
+    expect(
+        &rt,
+        alloc,
         &whole(&["run"], STOPPED),
         Status::Done,
         STOPPED_REPORT,
@@ -114,6 +129,79 @@ fn refusals_have_their_lines(rt: HostRuntime) -> Result<(), Fail> {
         &whole(&["run"], b"KDF9 JOB 1\nSLOT 0\nSTORE 33\n"),
         size,
         b"JOB NotYet 3\n",
+    )?;
+    Ok(())
+}
+
+/// The lines of decks, with their first faults and the places of these, and what is written.
+const DECKS: [(&str, DeckFault, u32, &str); 5] = [
+    ("", DeckFault::NoFinish, 0, "DECK 0 NoFinish 0\n"),
+    (
+        "PROGRAM; SET 40000; FINISH;\n",
+        DeckFault::BadNumber,
+        9,
+        "DECK 0 BadNumber 9\n",
+    ),
+    (
+        "PROGRAM; ZERO; FINISH; X\n",
+        DeckFault::AfterFinish,
+        23,
+        "DECK 0 AfterFinish 23\n",
+    ),
+    (
+        "Y0; PROGRAM;\nZERO;\n =Y1; FINISH;\n",
+        DeckFault::YRange,
+        20,
+        "DECK 0 YRange 20\n",
+    ),
+    (
+        "Y31; PROGRAM; FINISH;\n",
+        DeckFault::TooLarge,
+        22,
+        "DECK 0 TooLarge 22\n",
+    ),
+];
+
+/// A job with these lines of deck.
+fn job_with(alloc: Global, deck: &str, orders: u32) -> Result<String, AllocError> {
+    format!(in alloc; "KDF9 JOB 1\nSLOT 0\nSTORE 32\nDECK\n{deck}ENDDECK\nSCHEDULE\nORDERS {orders}\nENDJOB\n")
+}
+
+#[test]
+fn decks_have_faults(rt: HostRuntime) -> Result<(), Fail> {
+    let alloc = rt.alloc();
+    for (deck, fault, place, line) in DECKS {
+        let status = Status::Deck {
+            slot: 0,
+            fault,
+            place,
+        };
+        let job = job_with(alloc, deck, 10)?;
+        expect(
+            &rt,
+            alloc,
+            &whole(&["run"], job.as_bytes()),
+            status,
+            line.as_bytes(),
+        )?;
+    }
+    Ok(())
+}
+
+#[test]
+fn a_fault_of_the_job_comes_first(rt: HostRuntime) -> Result<(), Fail> {
+    let alloc = rt.alloc();
+    let status = Status::Job {
+        fault: JobFault::NotYet,
+        line: 9,
+    };
+    let job = job_with(alloc, "PROGRAM;\n\n", 0)?;
+    expect(
+        &rt,
+        alloc,
+        &whole(&["run"], job.as_bytes()),
+        status,
+        b"JOB NotYet 9\n",
     )?;
     Ok(())
 }
@@ -189,16 +277,22 @@ fn statuses_have_their_numbers(rt: HostRuntime) {
         fault: JobFault::NotYet,
         line: 5,
     };
+    let deck = Status::Deck {
+        slot: 0,
+        fault: DeckFault::BadByte,
+        place: 5,
+    };
     let all = [
         Status::Done,
         Status::Usage,
         job,
+        deck,
         Status::Large,
         Status::ReadFault,
         Status::WriteFault,
         Status::Memory,
     ];
-    let codes = [0, 1, 2, 4, 5, 6, 7];
+    let codes = [0, 1, 2, 3, 4, 5, 6, 7];
     for (status, code) in all.iter().zip(codes) {
         assert_eq!(rt; status.code(), code);
     }

@@ -1,34 +1,30 @@
-use Rattle.std.proofs.Common.{◌≡◌, [], ◌∷◌, ◌++◌, true, codes, rules}
-use Rattle.std.proofs.lemmas.Result.{err_from_is_err_and}
+use Rattle.std.proofs.Common.{◌≡◌, ◌+◌, ◌++◌, ◌∷◌, [], eqb, true, false, codes, length, rules, sym, ◌∙◌, arith}
+use Rattle.std.proofs.lemmas.Grind.{common_steps}
 use Rattle.kdf_top.specs.Lines.{line, is_text}
-use Rattle.kdf_top.specs.Job.{is_deck}
 use Rattle.kdf_top.specs.Reading.{ahead}
-use Rattle.kdf_top.proofs.PassLemmas.{pass-one, pass-pass, pass-stop, no-deck}
-use Rattle.kdf_top.proofs.TextLemmas.{has_image}
+use Rattle.kdf_top.proofs.Cutting.{some-lines, no-lines}
+use Rattle.kdf_top.proofs.DeckLines.{GoesOn, Ends, passed-on, passed-end, stopped, behind-on, behind-end, text-on, text-end}
 use Rattle.kdf_top.proofs.job_reader.read_deck_lines.Goals as goal
 
-pub returns-in_err-expect-clause-stop : goal.returns-in_err-expect-clause-stop
-returns-in_err-expect-clause-stop c =
-    let p = err_from_is_err_and c.from_residual-in_err-expect.result c.from_residual-in_err-expect.ensures.1 in
-    let size = c.args.size in
-    let lines = c.args.lines.now in
-    let behind = c.take_line-line.new.self in
-    let fits : is_deck size (line (ahead lines) 1) ≡ true = search rules in
-    let first = pass-one (is_deck size) lines behind (no-deck size) fits c.take_line-line.ensures.rest c.take_line-line.ensures.next in
-    rw (p.1, p.2) (pass-stop (is_deck size) (is_text (codes "ENDDECK") ∷ []) lines behind c.in_err-expect.field-0.0 first c.in_err-expect.ensures.stop)
+pub loop-lines-preserved : goal.loop-lines-preserved
+loop-lines-preserved c =
+    let at = c.loop-lines.lines in
+    let next = c.take_line-line.new.self in
+    let text = c.take_line-line.result.text.now in
+    let some : eqb (length at.rest.now) 0 ≡ false = search rules in
+    let isnt : is_text (codes "ENDDECK") (line (ahead at) 1) ≡ false = search rules in
+    let on : GoesOn (ahead at) = (some-lines at.rest.now some, isnt) in
+    let rest = c.take_line-line.ensures.rest in
+    let pushed : c.push.new.self.items ≡ (c.loop-lines.deck.items ++ text) ++ 10 ∷ [] = search rules in
+    record {
+      passes = λ left. c.loop-lines.invariant.passes left ∙ passed-on at next left on rest (c.take_line-line.ensures.next on.0);
+      behind = c.loop-lines.invariant.behind ∙ behind-on (ahead at) (ahead next) on rest;
+      read = text-on c.loop-lines.deck.items c.push.new.self.items text (ahead at) (ahead next) on c.take_line-line.ensures.text rest pushed ∙ c.loop-lines.invariant.read;
+      within = grind (arith, common_steps);
+    }
 
-pub returns-clause-pass : goal.returns-clause-pass
-returns-clause-pass c =
-    let size = c.args.size in
-    let lines = c.args.lines.now in
-    let behind = c.take_line-line.new.self in
-    let fits : is_deck size (line (ahead lines) 1) ≡ true = search rules in
-    let first = pass-one (is_deck size) lines behind (no-deck size) fits c.take_line-line.ensures.rest c.take_line-line.ensures.next in
-    pass-pass (is_deck size) (is_text (codes "ENDDECK") ∷ []) lines behind c.expect.new.lines first c.in_ok-expect.ensures.pass
-
-pub returns-clause-image : goal.returns-clause-image
-returns-clause-image c =
-    let size = c.args.size in
-    let fits : is_deck size c.take_line-line.result.text.now ≡ true = search rules in
-    let bytes : c.push.new.self.items ≡ c.take_line-line.result.text.now ++ 10 ∷ [] = search rules in
-    rw bytes (has_image size c.take_line-line.result.text.now fits)
+pub returns-clause-stop : goal.returns-clause-stop
+returns-clause-stop c = λ left.
+    let at = c.loop-lines.lines in
+    let none : eqb (length at.rest.now) 0 ≡ true = search rules in
+    rw c.fault.ensures (c.loop-lines.invariant.passes left ∙ stopped at left (no-lines at.rest.now none))
