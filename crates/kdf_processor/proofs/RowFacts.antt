@@ -1,12 +1,13 @@
 -- What is known of a row without looking at the table.
-use Rattle.std.proofs.Common.{◌≡◌, ℕ, zero, suc, ◌+◌, ◌≤◌, List, get_or, true, false, refl, sym, ap, ◌∙◌, ⊎_elim, cond, arith}
+use Rattle.std.proofs.Common.{◌≡◌, ℕ, zero, suc, ◌+◌, ◌≤◌, List, length, get_or, true, false, refl, sym, ap, ◌∙◌, ⊎_elim, cond, arith}
 use Rattle.std.proofs.lemmas.Bool.{cases_Bool, false≢true}
+use Rattle.std.proofs.lemmas.List.{length-set}
 use Rattle.kdf_processor.specs.declared.registers.Life.{Life}
 use Rattle.kdf_processor.specs.declared.registers.Life.TheVariants.{Ended, Failed}
 use Rattle.kdf_processor.specs.declared.step.Step.{Step}
 use Rattle.kdf_processor.specs.declared.step.Step.TheVariants.{Done, Held, Fails, Ends}
 use Rattle.kdf_processor.specs.State.{State}
-use Rattle.kdf_processor.specs.Effect.{Effect, Failing, Ending}
+use Rattle.kdf_processor.specs.Effect.{Effect, Failing, Ending, Keeping}
 use Rattle.kdf_processor.specs.Needs.{next_effect}
 use Rattle.kdf_processor.specs.Row.{perform, done_by, next_of, row}
 use Rattle.kdf_processor.specs.Lone.{is_live, lone_step, lone}
@@ -35,6 +36,14 @@ claims_perform a e s = refl
 pub size_row : (a : ℕ) (s : State) → (row s a).stock.claims.size ≡ s.stock.claims.size
 size_row a s = claims_perform a (next_effect s) s
 
+store_perform : (a : ℕ) (e : Effect) (s : State) → length (perform a e s).stock.store ≡ length s.stock.store
+store_perform a (Keeping address w after) s = length-set s.stock.store address _
+store_perform a e s = refl
+
+-- and so is the number of its words
+pub store_row : (a : ℕ) (s : State) → length (row s a).stock.store ≡ length s.stock.store
+store_row a s = store_perform a (next_effect s) s
+
 -- the life after an order that went so
 abbrev pub life_after : Step → Life → Life
 life_after Done before = before
@@ -54,6 +63,31 @@ life_row a s = life_perform a (next_effect s) s
 -- the row has the registers of the next order's outcome
 pub registers_row : (a : ℕ) (s : State) → (row s a).registers ≡ (next_of s a).registers
 registers_row a s = refl
+
+-- a step of a lone run
+step_stores : (answers : List ℕ) (s : State) → length (lone_step answers s).stock.store ≡ length s.stock.store
+step_stores answers s =
+    ⊎_elim
+    (λ (live : is_live s.registers.state ≡ true). rw live (store_row (get_or answers s.stock.asked 0) s))
+    (λ (over : is_live s.registers.state ≡ false). rw over refl)
+    (cases_Bool (is_live s.registers.state))
+
+-- a lone run keeps the number of words
+pub store_lone : (start : State) (answers : List ℕ) (n : ℕ) → length (lone start answers n).stock.store ≡ length start.stock.store
+store_lone start answers zero = refl
+store_lone start answers (suc n) = step_stores answers (lone start answers n) ∙ store_lone start answers n
+
+step_sizes : (answers : List ℕ) (s : State) → (lone_step answers s).stock.claims.size ≡ s.stock.claims.size
+step_sizes answers s =
+    ⊎_elim
+    (λ (live : is_live s.registers.state ≡ true). rw live (size_row (get_or answers s.stock.asked 0) s))
+    (λ (over : is_live s.registers.state ≡ false). rw over refl)
+    (cases_Bool (is_live s.registers.state))
+
+-- and the size
+pub size_lone : (start : State) (answers : List ℕ) (n : ℕ) → (lone start answers n).stock.claims.size ≡ start.stock.claims.size
+size_lone start answers zero = refl
+size_lone start answers (suc n) = step_sizes answers (lone start answers n) ∙ size_lone start answers n
 
 step_counts : (answers : List ℕ) (s : State) → (s.registers.ran ≤ (lone_step answers s).registers.ran) × ((lone_step answers s).registers.ran ≤ s.registers.ran + 1) × ((lone_step answers s).stock.asked ≤ s.stock.asked + 1)
 step_counts answers s =

@@ -20,7 +20,7 @@ IsBuilt _ = ⊥
 abbrev pub decoded_one : ℕ → Option Order
 decoded_one a = if is_plain a then Some (Plain a) else None
 
--- the built order of three: the first, and the number that the others are
+-- the built order of three: of the first, and of the number that the others are
 abbrev pub decoded_three : ℕ → ℕ → Option Order
 decoded_three a n =
     if a == 0xa0 && nat_lt n (6 * 8192) then Some (Jump 0x20 n)

@@ -8,7 +8,7 @@ ghost use Rattle.kdf_processor.specs.Frame.{Agrees, Leaves, HidesNone};
 ghost use Rattle.kdf_processor.specs.Lone.{lone};
 ghost use Rattle.kdf_processor.specs.Needs.{needs};
 ghost use Rattle.kdf_processor.specs.Row.{row};
-ghost use Rattle.kdf_processor.specs.State.{State};
+ghost use Rattle.kdf_processor.specs.State.{State, begin};
 
 /// Bytes are decoded to a built order exactly where its spelling begins them.
 pub fn one_spelling()
@@ -20,6 +20,15 @@ pub fn one_spelling()
     ensures none { (bytes : List ℕ) → ((k : ℕ) → slice_index bytes k < 256)
         → ((order : Order) → IsOrder order → IsBuilt order → take (length (spelling order)) bytes ≢ spelling order)
         → decoded bytes ≡ None }
+{}
+
+/// The store of a program has as many words as its size says, at its start and after each order.
+pub fn store_size()
+    ensures start { (size : ℕ) (image : List ℕ) →
+        length image ≤ size → length (begin size image).stock.store ≡ size }
+    ensures kept { (start : State) (answers : List ℕ) (n : ℕ) →
+        length start.stock.store ≡ start.stock.claims.size →
+        length (lone start answers n).stock.store ≡ (lone start answers n).stock.claims.size }
 {}
 
 /// Of two states that agree in all but what is hidden, and where nothing that is needed is hidden,
