@@ -1,5 +1,5 @@
 //! The first meaning of each name, and the names that stand twice.
-ghost use Rattle.std.specs.Prelude.{◌≡◌, ℕ, [], Some, IfOk};
+ghost use Rattle.std.specs.Prelude.{◌≡◌, ℕ, [], is_some, Some, IfOk};
 ghost use Rattle.std.specs.BTreeMap.{get};
 ghost use Rattle.kdf_usercode.specs.Faults.{lesser, least, found};
 ghost use Rattle.kdf_place.specs.Late.{twice};
@@ -23,6 +23,13 @@ pub fn with_fault(
     earlier(best, Found { fault, place })
 }
 
+/// Whether the number of an entry has a meaning in its section.
+fn stood_before<T: Copy + Drop>(table: &Table<T>, entry: &Entry<T>) -> bool
+    ensures { result ≡ is_some (get key_cmp table.now (entry.now.section, entry.now.number)) }
+{
+    table.contains_key(&(entry.section, entry.number))
+}
+
 /// What each number means in each section, and the fault of the entries whose number stood before.
 pub fn table<T: Copy + Drop>(
     alloc: Global,
@@ -35,11 +42,10 @@ pub fn table<T: Copy + Drop>(
     let mut table = BTreeMap::new(alloc);
     let mut best = None;
     for entry in entries {
-        let key = (entry.section, entry.number);
-        if table.contains_key(&key) {
+        if stood_before(&table, entry) {
             best = with_fault(best, fault, entry.place);
         } else {
-            table.insert(key, entry.means)?;
+            table.insert((entry.section, entry.number), entry.means)?;
         }
     }
     Ok((table, best))
