@@ -1,5 +1,5 @@
 -- How each answer comes to be given.
-use Rattle.std.proofs.Common.{◌≡◌, ◌≢◌, ℕ, ◌<◌, ◌≤◌, List, [], ◌++◌, length, Option, Some, None, refl, sym, ◌∙◌, ap, subst, arith, false}
+use Rattle.std.proofs.Common.{◌≡◌, ◌≢◌, ℕ, ◌≤◌, List, [], length, Option, Some, None, refl, sym, ◌∙◌, ap, subst, arith, false}
 use Rattle.std.proofs.lemmas.List.{append-nil}
 use Rattle.kdf_io.specs.Outside.{HasRisen, Added, AddedFront}
 use Rattle.kdf_usercode.specs.Faults.{Found}

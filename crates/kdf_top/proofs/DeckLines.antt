@@ -1,6 +1,5 @@
 -- The lines of a deck, one after the other.
-use Rattle.std.proofs.Common.{◌≡◌, ℕ, suc, ◌+◌, ◌<◌, Bool, true, false, List, [], ◌∷◌, ◌++◌, length, drop, codes, Option, Some, append_assoc, refl, sym, ap, ◌∙◌, arith}
-use Rattle.kdf_top.specs.declared.job.JobFault.{JobFault}
+use Rattle.std.proofs.Common.{◌≡◌, ℕ, suc, ◌+◌, ◌<◌, false, List, [], ◌∷◌, ◌++◌, length, drop, codes, Option, Some, append_assoc, refl, sym, ap, ◌∙◌, arith}
 use Rattle.kdf_top.specs.declared.lines.Lines.{Lines}
 use Rattle.kdf_top.specs.Options.{◌>>=◌}
 use Rattle.kdf_top.specs.Lines.{line, is_text}
@@ -12,30 +11,16 @@ use Rattle.kdf_top.proofs.PassLemmas.{Form}
 abbrev pub GoesOn : List (List ℕ) → Type 0
 GoesOn ls = (0 < length ls) × (is_text (codes "ENDDECK") (line ls 1) ≡ false)
 
--- the next line is
-abbrev pub Ends : List (List ℕ) → Type 0
-Ends ls = (0 < length ls) × (is_text (codes "ENDDECK") (line ls 1) ≡ true)
-
 off-on : (n : ℕ) (ls : List (List ℕ)) (left : List Form) → GoesOn ls
     → first_off n (deck_forms (deck_lines ls) ++ left) ls ≡ first_off (n + 1) (deck_forms (deck_lines (drop 1 ls)) ++ left) (drop 1 ls)
 off-on n [] left on = absurd (omega (arith, on.0))
 off-on n (l ∷ ls) left on = rw on.1 refl
 
-off-end : (n : ℕ) (ls : List (List ℕ)) (left : List Form) → Ends ls
-    → first_off n (deck_forms (deck_lines ls) ++ left) ls ≡ first_off (n + 1) left (drop 1 ls)
-off-end n [] left end = absurd (omega (arith, end.0))
-off-end n (l ∷ ls) left end = rw end.1 (rw end.1 refl)
-
--- what is wrong from here on is what is wrong in all
+-- what is wrong from the next line on is what is wrong from here on
 pub passed-on : (at next : Lines) (left : List Form) → GoesOn (ahead at) → ahead next ≡ drop 1 (ahead at) → next.number ≡ at.number + 1
     → fault_from at (deck_forms (deck_lines (ahead at)) ++ left) ≡ fault_from next (deck_forms (deck_lines (ahead next)) ++ left)
 passed-on at next left on rest number =
     ap (λ (o : Option ℕ). o >>= (λ n. Some (fault_at n))) (off-on at.number (ahead at) left on ∙ rw (rest, number) refl)
-
-pub passed-end : (at next : Lines) (left : List Form) → Ends (ahead at) → ahead next ≡ drop 1 (ahead at) → next.number ≡ at.number + 1
-    → fault_from at (deck_forms (deck_lines (ahead at)) ++ left) ≡ fault_from next left
-passed-end at next left end rest number =
-    ap (λ (o : Option ℕ). o >>= (λ n. Some (fault_at n))) (off-end at.number (ahead at) left end ∙ rw (rest, number) refl)
 
 pub stopped : (at : Lines) (left : List Form) → ahead at ≡ [] → fault_from at (deck_forms (deck_lines (ahead at)) ++ left) ≡ Some (fault_at at.number)
 stopped at left none = rw none refl
@@ -51,10 +36,6 @@ behind-on (l ∷ ls) next on rest =
     let e : 1 + suc n ≡ suc (1 + n) = omega arith in
     rw (rest, on.1) (ap (λ (k : ℕ). drop k (l ∷ ls)) e)
 
-pub behind-end : (ls next : List (List ℕ)) → Ends ls → next ≡ drop 1 ls → next ≡ behind_end ls
-behind-end [] next end rest = absurd (omega (arith, end.0))
-behind-end (l ∷ ls) next end rest = rw (rest, end.1) refl
-
 -- the text that is read so far, and that of the lines ahead
 text-first : (ls : List (List ℕ)) → GoesOn ls → deck_text (deck_lines ls) ≡ (line ls 1 ++ 10 ∷ []) ++ deck_text (deck_lines (drop 1 ls))
 text-first [] on = absurd (omega (arith, on.0))
@@ -65,7 +46,3 @@ pub text-on : (read longer first : List ℕ) (ls next : List (List ℕ)) → Goe
 text-on read longer first ls next on is rest more =
     let tail = deck_text (deck_lines (drop 1 ls)) in
     rw (rest, more, is) (ap (λ (x : List ℕ). x ++ tail) (append_assoc read (line ls 1) (10 ∷ [])) ∙ append_assoc read (line ls 1 ++ 10 ∷ []) tail ∙ ap (λ (x : List ℕ). read ++ x) (sym (text-first ls on)))
-
-pub text-end : (ls : List (List ℕ)) → Ends ls → deck_text (deck_lines ls) ≡ []
-text-end [] end = refl
-text-end (l ∷ ls) end = rw end.1 refl

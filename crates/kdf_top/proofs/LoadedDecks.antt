@@ -9,8 +9,8 @@ use Rattle.kdf_top.specs.declared.job.Job.{Job as ReadJob}
 use Rattle.kdf_top.specs.declared.job.SlotJob.{SlotJob as ReadSlot}
 use Rattle.kdf_top.specs.Deck.{assembled, image_words, words_or_none, first_of, deck_fault}
 use Rattle.kdf_top.specs.Loaded.{loaded, IsLoadable}
-use Rattle.kdf_top.specs.Shown.{slot_of_job, slots_of}
-use Rattle.kdf_top.specs.Shows.{shown_job, shown_slot}
+use Rattle.kdf_top.specs.Shown.{slot_of_job}
+use Rattle.kdf_top.specs.Shows.{shown_slot}
 use Rattle.kdf_top.specs.WellFormed.{IsDeck, IsSlot, IsJob}
 
 -- the words of an image, and those that a slot's deck comes to

@@ -1,14 +1,13 @@
 -- The report of a machine that shows the lone runs of a job is the report of the job.
-use Rattle.std.proofs.Common.{◌≡◌, ℕ, suc, zero, ◌+◌, ◌<◌, Bool, true, false, cond, eqb, List, [], ◌∷◌, ◌++◌, length, map, codes, Option, Some, None, IsSomeAnd, All, refl, sym, ◌∙◌, ap, subst, arith}
+use Rattle.std.proofs.Common.{◌≡◌, ℕ, suc, zero, ◌<◌, Bool, true, false, cond, eqb, List, [], ◌∷◌, ◌++◌, map, codes, Option, Some, None, IsSomeAnd, All, refl, sym, ◌∙◌, ap, subst, arith}
 use Rattle.std.specs.Prelude.{unwrap_or}
 use Rattle.std.specs.List.{flat_map}
 use Rattle.std.specs.Option.{option_map}
 use Rattle.std.proofs.lemmas.Bool.{eqb-true, eq-eqb}
 use Rattle.std.proofs.lemmas.List.Elements.{All-map}
-use Rattle.kdf_processor.specs.State.{State, begin}
+use Rattle.kdf_processor.specs.State.{begin}
 use Rattle.kdf_top.specs.declared.job.Job.{Job as ReadJob}
 use Rattle.kdf_top.specs.declared.job.SlotJob.{SlotJob as ReadSlot}
-use Rattle.kdf_top.specs.declared.journal.Entry.{Entry}
 use Rattle.kdf_top.specs.Answers.{IsMachineOf, report_of}
 use Rattle.kdf_top.specs.Follows.{IsJournal}
 use Rattle.kdf_top.specs.Job.{Job, SlotJob, job}
@@ -17,7 +16,7 @@ use Rattle.kdf_top.specs.Report.{state_at, HasSlot}
 use Rattle.kdf_top.specs.Shown.{Shown, ShowsLone, state_of, slot_of_job, slots_of}
 use Rattle.kdf_top.specs.Shows.{shown_job, shown_slot}
 use Rattle.kdf_top.specs.Text.{text, entry_line, section, report_lines}
-use Rattle.kdf_top.specs.WellFormed.{IsJob, IsSlot, IsShow}
+use Rattle.kdf_top.specs.WellFormed.{IsJob, IsSlot}
 use Rattle.kdf_top.proofs.States.{state_of-lone}
 
 -- the slot that is found has the number

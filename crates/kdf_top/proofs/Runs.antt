@@ -1,5 +1,5 @@
 -- How an answer to words comes of an answer over the bytes of a job.
-use Rattle.std.proofs.Common.{◌≡◌, ◌≢◌, ◌⊎◌, inl, inr, ℕ, ◌<◌, ◌≤◌, List, [], ◌++◌, length, length-append, Bool, true, false, Option, Some, None, IfSome, is_some, refl, sym, ◌∙◌, ap, subst, arith}
+use Rattle.std.proofs.Common.{◌≡◌, ◌≢◌, ◌⊎◌, inl, inr, ℕ, ◌<◌, ◌≤◌, List, [], ◌++◌, length, length-append, true, false, Option, Some, None, IfSome, refl, sym, ◌∙◌, subst, arith}
 use Rattle.std.proofs.lemmas.Bool.{lt-ltb, le-ltb}
 use Rattle.kdf_io.specs.Outside.{HasRisen, Took, NothingLeft}
 use Rattle.kdf_io.specs.Reading.{TookBefore}
@@ -9,7 +9,7 @@ use Rattle.kdf_top.specs.declared.job.JobFault.{JobFault}
 use Rattle.kdf_top.specs.declared.status.Status.{Status}
 use Rattle.kdf_top.specs.declared.status.Status.TheVariants as status
 use Rattle.kdf_top.specs.Answered.{Inlet, Outlet, IsGiven, IsRun}
-use Rattle.kdf_top.specs.Answers.{Answers, called_for, is_done, status_of_bytes, status_of_faults, status_of_job}
+use Rattle.kdf_top.specs.Answers.{Answers, called_for, status_of_bytes, status_of_faults, status_of_job}
 use Rattle.kdf_top.specs.Commands.{is_command}
 use Rattle.kdf_top.specs.Deck.{deck_fault}
 use Rattle.kdf_top.specs.Job.{job, job_fault}

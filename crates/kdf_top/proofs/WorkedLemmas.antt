@@ -1,5 +1,5 @@
 -- Programs and jobs, worked out by computation.
-use Rattle.std.proofs.Common.{◌≡◌, ℕ, List, [], ◌∷◌, ◌++◌, false, Option, None, Some, Ok, Err, codes, replicate, refl, ap}
+use Rattle.std.proofs.Common.{◌≡◌, ℕ, List, [], ◌∷◌, ◌++◌, false, None, Some, Err, codes, replicate, refl, ap}
 use Rattle.kdf_processor.specs.declared.failure.Failure.TheVariants.{Liv, Nouv}
 use Rattle.kdf_processor.specs.declared.registers.Life.TheVariants.{Live, Ended, Failed}
 use Rattle.kdf_processor.specs.Arith.{arith_row}

@@ -1,5 +1,5 @@
 -- What a call came to, from its answer and from what its source and its sink told before and after it.
-use Rattle.std.specs.Prelude.{◌≡◌, ◌≢◌, ℕ, ◌≤◌, List, length, Bool, true, false, Option, is_some, IfSome}
+use Rattle.std.specs.Prelude.{◌≡◌, ◌≢◌, ℕ, ◌≤◌, List, length, true, false, Option, is_some, IfSome}
 use Rattle.kdf_io.specs.Outside.{HasRisen, Took, NothingLeft}
 use Rattle.kdf_top.specs.declared.status.Status.{Status}
 use Rattle.kdf_top.specs.declared.status.Status.TheVariants as status

@@ -1,5 +1,5 @@
 -- What `run` answers to its words and to the bytes of its source, and what it writes.
-use Rattle.std.specs.Prelude.{◌≡◌, ℕ, ◌<◌, List, [], ◌∷◌, length, nat_lt, Bool, true, false, Option, Some, None, if◌then◌else◌}
+use Rattle.std.specs.Prelude.{◌≡◌, ℕ, List, [], ◌∷◌, length, nat_lt, Bool, true, false, Option, Some, None, if◌then◌else◌}
 use Rattle.kdf_top.specs.declared.journal.Entry.{Entry}
 use Rattle.kdf_top.specs.declared.job.JobFault.{JobFault}
 use Rattle.kdf_top.specs.declared.status.Status.{Status}
@@ -67,7 +67,7 @@ abbrev pub is_done : Status → Bool
 is_done status.Done = true
 is_done _ = false
 
--- the bytes are a job without a fault, nor has a deck one, the machine is that of the job, and its report was written
+-- neither the job of these bytes nor a deck of it has a fault, the machine is that of the job, and its report was written
 pub record IsReported (bytes : List ℕ) (m : Shown) (before after : Option (List ℕ)) : Type 0 where
   pub faultless : job_fault bytes ≡ None
   pub assembles : deck_fault (job bytes).slots ≡ None

@@ -1,7 +1,7 @@
 -- How an entry comes to a journal: two entries Ran of one program that follow each other directly become one.
 use Rattle.std.specs.Prelude.{◌+◌, List, [], ◌∷◌, ◌==◌, if◌then◌else◌}
 use Rattle.kdf_top.specs.declared.journal.Entry.{Entry}
-use Rattle.kdf_top.specs.declared.journal.Entry.TheVariants.{Ran, Fail, Ended}
+use Rattle.kdf_top.specs.declared.journal.Entry.TheVariants.{Ran}
 
 -- what stands at the end of a journal when y comes directly after x
 abbrev pub after : Entry → Entry → List Entry

@@ -6,9 +6,3 @@ infixl 10 ◌>>=◌
 abbrev pub ◌>>=◌ : {A B : Type 0} → Option A → (A → Option B) → Option B
 None >>= f = None
 (Some x) >>= f = f x
-
--- the first of two that there is
-infixl 9 ◌or◌
-abbrev pub ◌or◌ : {A : Type 0} → Option A → Option A → Option A
-None or b = b
-(Some x) or b = Some x

@@ -1,5 +1,5 @@
 -- What a machine is to its callers.
-use Rattle.std.specs.Prelude.{◌≡◌, ℕ, ◌==◌, List, [], ◌∷◌, map, Option, Some, None, if◌then◌else◌}
+use Rattle.std.specs.Prelude.{◌≡◌, ℕ, ◌==◌, List, ◌∷◌, map, Option, Some, None, if◌then◌else◌}
 use Rattle.kdf_processor.specs.State.{State}
 use Rattle.kdf_top.specs.declared.journal.Entry.{Entry}
 use Rattle.kdf_top.specs.Job.{Job, SlotJob}

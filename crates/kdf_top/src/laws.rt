@@ -8,7 +8,8 @@ ghost use Rattle.kdf_top.specs.Next.{Slot};
 mod worked;
 
 pub use worked::{
-    adds_5_and_7, adds_in_part_1, answers_of_faults, ends_nowhere, faulty_decks, faulty_jobs, job_of_adding, pushes_17_zeros, stops_after_4_orders,
+    adds_5_and_7, adds_in_part_1, answers_of_faults, ends_nowhere, faulty_decks, faulty_jobs,
+    job_of_adding, pushes_17_zeros, stops_after_4_orders,
 };
 
 /// Slots have at most one journal under a schedule.

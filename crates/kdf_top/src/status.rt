@@ -12,7 +12,10 @@ pub enum Status {
     /// The words are no command.
     Usage,
     /// The job's first faulty line, counted from 1.
-    Job { fault: JobFault, line: u32 },
+    Job {
+        fault: JobFault,
+        line: u32,
+    },
     /// The first slot whose deck has a fault, the deck's first fault, and its place: an offset in the deck's text, from 0.
     Deck {
         slot: u8,

@@ -1,4 +1,4 @@
-//! The call that reads a job, runs it, and writes its report or why there is none.
+//! The call that reads a job, assembles its decks, runs it, and writes its report or why there is none.
 ghost use Rattle.std.specs.Prelude.{◌≡◌, ◌≢◌, ℕ, ◌+◌, ◌<◌, ◌≤◌, ◌⊎◌, List, None, length, true, false, All, OnOk, IfOk, IfSome, is_some, map, string_bytes};
 ghost use Rattle.kdf_io.specs.Outside.{HasRisen, Took, NothingLeft};
 ghost use Rattle.kdf_top.specs.Answered.{inlet, outlet, IsGiven, IsRefusal, IsRun};
@@ -23,7 +23,7 @@ use kdf_io::{ReadEnd, Sink, Source, read_all, write_all};
 use kdf_place::Image;
 use std::alloc::{AllocError, Global};
 
-/// Reads a job from the source, runs it, and writes its report to the sink, or why there is none.
+/// Reads a job from the source, assembles its decks, runs it, and writes its report to the sink, or why there is none.
 ///
 /// The words are those behind the program's name. The text is made whole before its first byte is written.
 pub fn run<S: Source, K: Sink>(

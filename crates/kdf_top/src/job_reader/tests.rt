@@ -6,16 +6,8 @@ use std::test::Fail;
 
 /// Jobs, with the fault and the number of the first line that is off.
 const FAULTS: [(&str, JobFault, u32); 26] = [
-    (
-        "",
-        JobFault::Header,
-        1,
-    ),
-    (
-        "\n",
-        JobFault::Header,
-        1,
-    ),
+    ("", JobFault::Header, 1),
+    ("\n", JobFault::Header, 1),
     (
         "KDF9 JOB 2\nSLOT 0\nSTORE 32\nDECK\nPROGRAM; FINISH;\nENDDECK\nSHOW 3 3\nSCHEDULE\nORDERS 10\nENDJOB\n",
         JobFault::Header,
@@ -26,21 +18,13 @@ const FAULTS: [(&str, JobFault, u32); 26] = [
         JobFault::Header,
         1,
     ),
-    (
-        "KDF9 JOB 1",
-        JobFault::NotYet,
-        2,
-    ),
+    ("KDF9 JOB 1", JobFault::NotYet, 2),
     (
         "KDF9 JOB 1\nSLOT 00\nSTORE 32\nDECK\nPROGRAM; FINISH;\nENDDECK\nSHOW 3 3\nSCHEDULE\nORDERS 10\nENDJOB\n",
         JobFault::NotYet,
         2,
     ),
-    (
-        "KDF9 JOB 1\nSLOT 0\nSTORE 3",
-        JobFault::NotYet,
-        3,
-    ),
+    ("KDF9 JOB 1\nSLOT 0\nSTORE 3", JobFault::NotYet, 3),
     (
         "KDF9 JOB 1\nSLOT 0\nSTORE 032\nDECK\nPROGRAM; FINISH;\nENDDECK\nSHOW 3 3\nSCHEDULE\nORDERS 10\nENDJOB\n",
         JobFault::NotYet,
@@ -66,11 +50,7 @@ const FAULTS: [(&str, JobFault, u32); 26] = [
         JobFault::NotYet,
         4,
     ),
-    (
-        "KDF9 JOB 1\nSLOT 0\nSTORE 32\nDECK\n",
-        JobFault::NotYet,
-        5,
-    ),
+    ("KDF9 JOB 1\nSLOT 0\nSTORE 32\nDECK\n", JobFault::NotYet, 5),
     (
         "KDF9 JOB 1\nSLOT 0\nSTORE 32\nDECK\nY0; PRO",
         JobFault::NotYet,

@@ -164,7 +164,9 @@ const DECKS: [(&str, DeckFault, u32, &str); 5] = [
 
 /// A job with these lines of deck.
 fn job_with(alloc: Global, deck: &str, orders: u32) -> Result<String, AllocError> {
-    format!(in alloc; "KDF9 JOB 1\nSLOT 0\nSTORE 32\nDECK\n{deck}ENDDECK\nSCHEDULE\nORDERS {orders}\nENDJOB\n")
+    format!(in alloc;
+        "KDF9 JOB 1\nSLOT 0\nSTORE 32\nDECK\n{deck}ENDDECK\nSCHEDULE\nORDERS {orders}\nENDJOB\n"
+    )
 }
 
 #[test]

@@ -1,9 +1,9 @@
-use Rattle.std.proofs.Common.{◌≡◌, ◌+◌, ◌++◌, ◌∷◌, [], eqb, true, false, codes, length, rules, sym, ◌∙◌, arith}
+use Rattle.std.proofs.Common.{◌≡◌, ◌++◌, ◌∷◌, [], eqb, true, false, codes, length, rules, ◌∙◌, arith}
 use Rattle.std.proofs.lemmas.Grind.{common_steps}
 use Rattle.kdf_top.specs.Lines.{line, is_text}
 use Rattle.kdf_top.specs.Reading.{ahead}
 use Rattle.kdf_top.proofs.Cutting.{some-lines, no-lines}
-use Rattle.kdf_top.proofs.DeckLines.{GoesOn, Ends, passed-on, passed-end, stopped, behind-on, behind-end, text-on, text-end}
+use Rattle.kdf_top.proofs.DeckLines.{GoesOn, passed-on, stopped, behind-on, text-on}
 use Rattle.kdf_top.proofs.job_reader.read_deck_lines.Goals as goal
 
 pub loop-lines-preserved : goal.loop-lines-preserved

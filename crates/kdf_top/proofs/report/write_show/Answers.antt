@@ -1,7 +1,6 @@
-use Rattle.std.proofs.Common.{◌≡◌, ℕ, ◌+◌, ◌-◌, ◌≤◌, ◌<◌, List, ◌++◌, map, arith, sym, ap, ◌∙◌}
-use Rattle.std.specs.List.{range_with_len}
+use Rattle.std.proofs.Common.{◌≡◌, ◌+◌, ◌-◌, ◌<◌, arith}
 use Rattle.kdf_top.specs.Report.{state_at}
-use Rattle.kdf_top.specs.Text.{text, word_line}
+use Rattle.kdf_top.specs.Text.{word_line}
 use Rattle.kdf_top.proofs.Texts.{text_range_more}
 use Rattle.kdf_top.proofs.report.write_show.Goals as goal
 

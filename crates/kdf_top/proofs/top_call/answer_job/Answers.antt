@@ -1,7 +1,7 @@
-use Rattle.std.proofs.Common.{◌≡◌, ℕ, Option, Some, None, subst, ap, ◌∙◌}
+use Rattle.std.proofs.Common.{◌≡◌, Some, None, subst}
 use Rattle.kdf_usercode.specs.Faults.{found}
 use Rattle.kdf_top.specs.Answers.{status_of_decks}
-use Rattle.kdf_top.specs.Deck.{deck_fault, Tells}
+use Rattle.kdf_top.specs.Deck.{deck_fault}
 use Rattle.kdf_top.specs.Job.{Job, job}
 use Rattle.kdf_top.proofs.Answering.{given_memory, as_called, by_deck_fault}
 use Rattle.kdf_top.proofs.LoadedDecks.{all_decks, loaded_slots, loadable}

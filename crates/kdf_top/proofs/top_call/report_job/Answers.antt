@@ -1,7 +1,7 @@
 use Rattle.std.proofs.Common.{◌∙◌}
 use Rattle.std.proofs.lemmas.Bool.{false≢true}
 use Rattle.kdf_top.specs.declared.status.Status.TheVariants.{Done}
-use Rattle.kdf_top.specs.Shows.{shown_job, shown_slot}
+use Rattle.kdf_top.specs.Shows.{shown_job}
 use Rattle.kdf_top.proofs.Answering.{given_memory, given_report, given_write_fault, report_due}
 use Rattle.kdf_top.proofs.Reported.{has_slots, shown_slots, machine_of, report_own}
 use Rattle.kdf_top.proofs.top_call.report_job.Goals as goal
