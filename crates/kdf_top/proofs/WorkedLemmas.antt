@@ -4,7 +4,7 @@ use Rattle.kdf_processor.specs.declared.failure.Failure.TheVariants.{Liv, Nouv}
 use Rattle.kdf_processor.specs.declared.registers.Life.TheVariants.{Live, Ended, Failed}
 use Rattle.kdf_processor.specs.Arith.{arith_row}
 use Rattle.kdf_processor.specs.Lone.{lone}
-use Rattle.kdf_processor.specs.Spelling.{decoded}
+use Rattle.kdf_processor.specs.Decoding.{decoded}
 use Rattle.kdf_processor.specs.State.{begin}
 use Rattle.kdf_processor.specs.Table.{plain_row, out_effect, jump_row, direct_effect, guarded}
 use Rattle.kdf_syllable.specs.Spelling.{spelling}
