@@ -1,6 +1,7 @@
 -- The texts that are written. A text is a list of lines, each without the byte 10 behind it.
-use Rattle.std.specs.Prelude.{ℕ, ◌+◌, ◌-◌, ◌/◌, ◌%◌, ◌^◌, List, [], ◌∷◌, ◌++◌, map, length, Bool, if◌then◌else◌, codes, decimal}
+use Rattle.std.specs.Prelude.{ℕ, ◌+◌, ◌-◌, ◌/◌, ◌%◌, ◌^◌, List, [], ◌∷◌, ◌++◌, map, length, Bool, ◌==◌, ◌&&◌, if◌then◌else◌, codes, decimal}
 use Rattle.std.specs.List.{flat_map, range_with_len}
+use Rattle.kdf_qstore.specs.Triples.{Triple, triple_at}
 use Rattle.kdf_processor.specs.declared.failure.Failure.{Failure}
 use Rattle.kdf_processor.specs.declared.failure.Failure.TheVariants.{Liv, Nouv, Out, Reset, Claim}
 use Rattle.kdf_processor.specs.declared.registers.Life.{Life}
@@ -55,7 +56,22 @@ word_line s a = codes "WORD " ++ decimal a ++ codes " " ++ octal (word_at s a)
 abbrev pub show_lines : State → ℕ × ℕ → List (List ℕ)
 show_lines s show = map (word_line s) (range_with_len show.0 (show.1 + 1 - show.0))
 
--- what a section says of the registers; no order that is built makes a link
+-- the links, the top first, behind their number: of each the word and the syllable
+abbrev pub links_line : List ℕ → List ℕ
+links_line links =
+    codes "LINKS " ++ decimal (length links) ++ flat_map (λ l. codes " " ++ decimal (l % 8192) ++ codes "/" ++ decimal (l / 8192)) links
+
+-- a Q-store, unless all its parts are zero
+abbrev pub q_line : ℕ → Triple → List (List ℕ)
+q_line q t =
+    if t.c == 0 && t.i == 0 && t.m == 0 then []
+    else (codes "Q " ++ decimal q ++ codes " " ++ decimal t.c ++ codes " " ++ decimal t.i ++ codes " " ++ decimal t.m) ∷ []
+
+-- Q1 to Q15
+abbrev pub q_lines : List Triple → List (List ℕ)
+q_lines qs = flat_map (λ q. q_line q (triple_at qs q)) (range_with_len 1 15)
+
+-- what a section says of the registers
 abbrev pub registers_lines : Registers → List (List ℕ)
 registers_lines r =
     life_line r.state
@@ -63,8 +79,8 @@ registers_lines r =
     ∷ (codes "AT " ++ decimal (r.at / 6) ++ codes " " ++ decimal (r.at % 6))
     ∷ (codes "FLAGS " ++ bit r.flags.v ++ codes " " ++ bit r.flags.tr)
     ∷ nest_line r.nest
-    ∷ codes "LINKS 0"
-    ∷ []
+    ∷ links_line r.links
+    ∷ q_lines r.q
 
 -- what a report says of one slot, from its state
 unfoldable pub section : SlotJob → State → List (List ℕ)

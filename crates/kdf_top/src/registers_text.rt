@@ -1,10 +1,12 @@
 //! The lines of a program's registers.
-ghost use Rattle.std.specs.Prelude.{◌≡◌, ◌++◌, [], ◌∷◌, OnOk, string_bytes, codes, decimal, ◌/◌, ◌%◌};
+ghost use Rattle.std.specs.Prelude.{◌≡◌, ◌<◌, ◌++◌, [], ◌∷◌, OnOk, string_bytes, codes, decimal, ◌/◌, ◌%◌};
 ghost use Rattle.std.specs.List.{flat_map};
-ghost use Rattle.kdf_top.specs.Text.{text, octal, life_line, bit, nest_line, registers_lines};
+ghost use Rattle.kdf_qstore.specs.Triples.{triple_at};
+ghost use Rattle.kdf_top.specs.Text.{text, octal, life_line, bit, nest_line, links_line, q_line, q_lines, registers_lines};
 
 use crate::octal::write_octal;
-use kdf_processor::{Flags, Life, Nest, Registers};
+use kdf_processor::{Flags, Life, Links, Nest, QStores, Registers};
+use kdf_qstore::Part;
 use std::alloc::AllocError;
 use std::fmt::Write;
 
@@ -16,7 +18,8 @@ pub fn write_registers(out: &mut String, registers: &Registers) -> Result<(), Al
     write_place(out, registers.ran, registers.at)?;
     write_flags(out, registers.flags)?;
     write_nest(out, &registers.nest)?;
-    write_no_links(out)
+    write_links(out, &registers.links)?;
+    write_q_stores(out, &registers.q)
 }
 
 #[tactic(auto, unfolding(crate::specs::Text::text))]
@@ -84,10 +87,53 @@ fn write_words(out: &mut String, nest: &Nest) -> Result<(), AllocError>
     Ok(())
 }
 
-// No order that is built makes a link.
+// The places of the links, the top first, behind their number.
 #[tactic(auto, unfolding(crate::specs::Text::text))]
-fn write_no_links(out: &mut String) -> Result<(), AllocError>
-    ensures { OnOk result (string_bytes out.new ≡ string_bytes out.old ++ text (codes "LINKS 0" ∷ [])) }
+fn write_links(out: &mut String, links: &Links) -> Result<(), AllocError>
+    ensures { OnOk result (string_bytes out.new ≡ string_bytes out.old ++ text (links_line links.now ∷ [])) }
 {
-    writeln!(out, "LINKS 0")
+    let depth = links.depth();
+    write!(out, "LINKS {depth}")?;
+    write_places(out, links)?;
+    writeln!(out)
+}
+
+// The word and the syllable of each link, behind a space.
+fn write_places(out: &mut String, links: &Links) -> Result<(), AllocError>
+    ensures { OnOk result (string_bytes out.new ≡ string_bytes out.old
+        ++ flat_map (λ l. codes " " ++ decimal (l % 8192) ++ codes "/" ++ decimal (l / 8192)) links.now) }
+{
+    for i in 0..links.depth() {
+        let link = links.peek(i);
+        let word = link % 8192;
+        let syllable = link / 8192;
+        write!(out, " {word}/{syllable}")?;
+    }
+    Ok(())
+}
+
+// The Q-stores that aren't zero.
+#[tactic(auto, unfolding(crate::specs::Text::text))]
+fn write_q_stores(out: &mut String, q_stores: &QStores) -> Result<(), AllocError>
+    ensures { OnOk result (string_bytes out.new ≡ string_bytes out.old ++ text (q_lines q_stores.now)) }
+{
+    for q in 1..16 {
+        write_q_store(out, q, q_stores)?;
+    }
+    Ok(())
+}
+
+// A Q-store, unless it is zero.
+#[tactic(auto, unfolding(crate::specs::Text::text))]
+fn write_q_store(out: &mut String, q: u8, q_stores: &QStores) -> Result<(), AllocError>
+    requires { q < 16 }
+    ensures { OnOk result (string_bytes out.new ≡ string_bytes out.old ++ text (q_line q (triple_at q_stores.now q))) }
+{
+    let c = q_stores.part(q, Part::C);
+    let i = q_stores.part(q, Part::I);
+    let m = q_stores.part(q, Part::M);
+    if c == 0 && i == 0 && m == 0 {
+        return Ok(());
+    }
+    writeln!(out, "Q {q} {c} {i} {m}")
 }

@@ -7,4 +7,5 @@ returns c =
     let places = text_more _ _ _ _ _ c.in_ok-write_life.ensures c.in_ok-write_place.ensures in
     let flags = text_more _ _ _ _ _ places c.in_ok-write_flags.ensures in
     let nest = text_more _ _ _ _ _ flags c.in_ok-write_nest.ensures in
-    on_ok_weaker _ (text_more _ _ _ _ _ nest) c.write_no_links.ensures
+    let links = text_more _ _ _ _ _ nest c.in_ok-write_links.ensures in
+    on_ok_weaker _ (text_more _ _ _ _ _ links) c.write_q_stores.ensures
