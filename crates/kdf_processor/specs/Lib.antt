@@ -1,7 +1,6 @@
 pub mod Decoding
 pub mod Failures
 pub mod State
-pub mod Arith
 pub mod Effect
 pub mod Table
 pub mod Needs
