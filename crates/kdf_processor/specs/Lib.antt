@@ -1,4 +1,3 @@
-pub mod Decoding
 pub mod Failures
 pub mod State
 pub mod Effect
@@ -9,5 +8,7 @@ pub mod Outcome
 pub mod Row
 pub mod Lone
 pub mod Frame
+pub mod Jumps
+pub mod Examples
 pub mod Fetch
 pub mod Plan

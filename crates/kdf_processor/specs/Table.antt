@@ -6,7 +6,8 @@ use Rattle.kdf_syllable.specs.declared.amount.Amount.{Amount}
 use Rattle.kdf_syllable.specs.declared.amount.Amount.TheVariants.{Fixed, Count}
 use Rattle.kdf_syllable.specs.declared.order.Order.{Order}
 use Rattle.kdf_syllable.specs.declared.order.Order.TheVariants as order
-use Rattle.kdf_qstore.specs.Triples.{Triple, triple_at, with_triple, triple_of, word_of_triple, sum_16, difference_16, counted_down, stepped}
+use Rattle.kdf_qstore.specs.declared.triple.Triple.{Triple}
+use Rattle.kdf_qstore.specs.Triples.{triple_at, with_triple, triple_of, word_of_triple, sum_of, sum_16, difference_16, counted_down, stepped}
 use Rattle.kdf_arith.specs.declared.order.ArithOrder.TheVariants as arithmetic
 use Rattle.kdf_arith.specs.Arith.{Arith, arith}
 use Rattle.kdf_processor.specs.declared.failure.Failure.TheVariants.{Liv, Nouv, Out, Reset}
@@ -102,10 +103,6 @@ sets_q r q f = on_top (Refused Nouv) r.nest (λ n1 below. Going (with_nest 2 bel
 -- Qq becomes this
 abbrev pub changes_q : Registers → ℕ → Triple → Change
 changes_q r q t = Going (with_nest 2 r.nest (with_q q t r))
-
--- the sums of the parts of two triples
-abbrev pub sum_of : Triple → Triple → Triple
-sum_of t u = record { c = sum_16 t.c u.c; i = sum_16 t.i u.i; m = sum_16 t.m u.m }
 
 -- to syllable 0 of the word before, where the counter isn't 0
 abbrev pub short_loop : Registers → ℕ → Change

@@ -19,7 +19,9 @@ pub struct Registers {
     pub nest: Nest,
     /// The subroutine jump nesting store.
     pub links: Links,
+    /// The Q-stores.
     pub q: QStores,
+    /// V and TR.
     pub flags: Flags,
     /// The number of the next order's first syllable, below 49,152.
     pub at: u16,
