@@ -1,5 +1,6 @@
 -- A program by itself is never held up, so the outcome of its next order is its row; and what a port shows of a program's state.
 use Rattle.std.proofs.Common.{◌≡◌, ◌≢◌, ℕ, Bool, None, List, [], ◌∷◌, refl, ap, ◌∙◌}
+use Rattle.std.specs.Prelude.{find}
 use Rattle.kdf_processor.specs.declared.step.Need.{Need}
 use Rattle.kdf_processor.specs.declared.step.Need.TheVariants.{Group}
 use Rattle.kdf_processor.specs.declared.registers.Registers.{Registers}
@@ -18,6 +19,11 @@ state r k = record { registers = r; stock = k }
 pub first_pending_alone : (k : Stock) (ns : List Need) → first_pending (by_itself k) ns ≡ None
 first_pending_alone k [] = refl
 first_pending_alone k (Group g ∷ ns) = first_pending_alone k ns
+
+-- no group is out
+pub none_out : (k : Stock) (gs : List ℕ) → find (by_itself k).is_out gs ≡ None
+none_out k [] = refl
+none_out k (g ∷ gs) = none_out k gs
 
 -- so the next order is never held
 pub outcome_alone : (k : Stock) (a : ℕ) (r : Registers) → outcome (by_itself k) r ≡ next_of (state r k) a

@@ -1,6 +1,7 @@
-pub mod DecodingLemmas
 pub mod FrameLemmas
 pub mod LoneLemmas
 pub mod RowFacts
 pub mod ByItself
 pub mod Syllables
+pub mod Groups
+pub mod Refusals

@@ -2,8 +2,7 @@
 use Rattle.std.proofs.Common.{◌≡◌, ◌≢◌, ℕ, ◌/◌, Bool, true, false, cond, [], ◌∷◌, take, ltb, refl, sym, ap, ◌∙◌, arith}
 use Rattle.kdf_processor.specs.declared.fetch.Syllable.TheVariants.{Byte, Outside, Held}
 use Rattle.kdf_syllable.specs.Spelling.{size_of_first}
-use Rattle.kdf_processor.specs.Decoding.{decoded}
-use Rattle.kdf_processor.proofs.DecodingLemmas.{decoded-take}
+use Rattle.kdf_decode.specs.Decoding.{decoded, first_decoded}
 use Rattle.kdf_processor.specs.View.{View}
 use Rattle.kdf_processor.specs.Needs.{group_of, syllable_at, count_at, order_at}
 use Rattle.kdf_processor.specs.Table.{on}
@@ -26,21 +25,21 @@ count_is v n a k p s =
     ap (λ b. cond b (size_of_first (syllable_at v.word n)) 1) first.0 ∙ ap size_of_first first.1 ∙ s
 
 -- the order is that of its syllables, whatever stands behind them
-by_size : (a b c k : ℕ) → size_of_first a ≡ k → decoded (take k (a ∷ b ∷ c ∷ [])) ≡ decoded (a ∷ b ∷ c ∷ [])
-by_size a b c k s = ap (λ n. decoded (take n (a ∷ b ∷ c ∷ []))) (sym s) ∙ decoded-take a b c
+by_size : (a b c k : ℕ) → size_of_first a ≡ k → decoded (take k (a ∷ b ∷ c ∷ [])) ≡ first_decoded (a ∷ b ∷ c ∷ [])
+by_size a b c k s = ap (λ n. decoded (take n (a ∷ b ∷ c ∷ []))) (sym s)
 
-pub order_of_one : (v : View) (n a : ℕ) → Byte a ≡ syllable_read v n → size_of_first a ≡ 1 → order_at v.claims.size v.word n ≡ decoded (a ∷ 0 ∷ 0 ∷ [])
+pub order_of_one : (v : View) (n a : ℕ) → Byte a ≡ syllable_read v n → size_of_first a ≡ 1 → order_at v.claims.size v.word n ≡ first_decoded (a ∷ 0 ∷ 0 ∷ [])
 order_of_one v n a p s =
     let first = byte_is v n a p in
     rw (count_is v n a 1 p s, first.0, first.1) (by_size a 0 0 1 s)
 
-pub order_of_two : (v : View) (n a b : ℕ) → Byte a ≡ syllable_read v n → Byte b ≡ syllable_read v (on n 1) → size_of_first a ≡ 2 → order_at v.claims.size v.word n ≡ decoded (a ∷ b ∷ 0 ∷ [])
+pub order_of_two : (v : View) (n a b : ℕ) → Byte a ≡ syllable_read v n → Byte b ≡ syllable_read v (on n 1) → size_of_first a ≡ 2 → order_at v.claims.size v.word n ≡ first_decoded (a ∷ b ∷ 0 ∷ [])
 order_of_two v n a b p q s =
     let first = byte_is v n a p in
     let second = byte_is v (on n 1) b q in
     rw (count_is v n a 2 p s, first.0, second.0, first.1, second.1) (by_size a b 0 2 s)
 
-pub order_of_three : (v : View) (n a b c : ℕ) → Byte a ≡ syllable_read v n → Byte b ≡ syllable_read v (on n 1) → Byte c ≡ syllable_read v (on (on n 1) 1) → size_of_first a ≡ 3 → order_at v.claims.size v.word n ≡ decoded (a ∷ b ∷ c ∷ [])
+pub order_of_three : (v : View) (n a b c : ℕ) → Byte a ≡ syllable_read v n → Byte b ≡ syllable_read v (on n 1) → Byte c ≡ syllable_read v (on (on n 1) 1) → size_of_first a ≡ 3 → order_at v.claims.size v.word n ≡ first_decoded (a ∷ b ∷ c ∷ [])
 order_of_three v n a b c p q r s =
     let first = byte_is v n a p in
     let second = byte_is v (on n 1) b q in

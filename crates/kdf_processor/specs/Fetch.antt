@@ -7,7 +7,7 @@ use Rattle.kdf_processor.specs.declared.fetch.Fetched.{Fetched}
 use Rattle.kdf_processor.specs.declared.fetch.Fetched.TheVariants as fetched
 use Rattle.kdf_processor.specs.declared.fetch.Syllable.{Syllable}
 use Rattle.kdf_processor.specs.declared.fetch.Syllable.TheVariants as read
-use Rattle.kdf_processor.specs.Decoding.{IsBuilt}
+use Rattle.kdf_syllable.specs.Spelling.{IsOrder}
 use Rattle.kdf_processor.specs.View.{View}
 use Rattle.kdf_processor.specs.Needs.{group_of, syllable_at}
 
@@ -23,11 +23,11 @@ IsFetched order (fetched.Order o) = order ≡ Some o
 IsFetched order fetched.Bad = order ≡ None
 IsFetched order (fetched.Held g) = Unit {0}
 
--- the order is built
-abbrev pub HasBuilt : Fetched → Type 0
-HasBuilt (fetched.Order o) = IsBuilt o
-HasBuilt fetched.Bad = Unit {0}
-HasBuilt (fetched.Held g) = Unit {0}
+-- each field of the order is in its range
+abbrev pub HasOrder : Fetched → Type 0
+HasOrder (fetched.Order o) = IsOrder o
+HasOrder fetched.Bad = Unit {0}
+HasOrder (fetched.Held g) = Unit {0}
 
 -- a syllable of the store
 abbrev pub syllable_read : View → ℕ → Syllable

@@ -1,7 +1,5 @@
-pub mod Decoding
 pub mod Failures
 pub mod State
-pub mod Arith
 pub mod Effect
 pub mod Table
 pub mod Needs
@@ -10,5 +8,7 @@ pub mod Outcome
 pub mod Row
 pub mod Lone
 pub mod Frame
+pub mod Jumps
+pub mod Examples
 pub mod Fetch
 pub mod Plan

@@ -9,7 +9,7 @@ use Rattle.kdf_processor.specs.declared.failure.Failure.TheVariants.{Liv}
 use Rattle.kdf_processor.specs.declared.step.Need.{Need}
 use Rattle.kdf_processor.specs.declared.step.Need.TheVariants.{Group}
 use Rattle.kdf_processor.specs.declared.registers.Registers.{Registers}
-use Rattle.kdf_processor.specs.Decoding.{decoded}
+use Rattle.kdf_decode.specs.Decoding.{decoded}
 use Rattle.kdf_processor.specs.State.{Claims, State, word_at}
 use Rattle.kdf_processor.specs.Effect.{Effect, Failing, Ending, Changing, Fetching, Keeping}
 use Rattle.kdf_processor.specs.Table.{on, effect}
@@ -46,7 +46,7 @@ abbrev pub decoded_or_none : Option (List ℕ) → Option Order
 decoded_or_none None = None
 decoded_or_none (Some spelt) = decoded spelt
 
--- the built order at a place, or none where it isn't in the store or no such order is spelt there
+-- the order at a place, or none where it isn't in the store or no order is spelt there
 abbrev pub order_at : ℕ → (ℕ → ℕ) → ℕ → Option Order
 order_at size word at = decoded_or_none (syllables (count_at size word at) size word at)
 

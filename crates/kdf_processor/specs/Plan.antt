@@ -1,7 +1,8 @@
 -- What a plan stands for.
-use Rattle.std.specs.Prelude.{◌≢◌, ℕ, ◌<◌, List, [], ◌∷◌, length}
+use Rattle.std.specs.Prelude.{◌≢◌, ℕ, ◌<◌, ◌≤◌, Option, Some, None, List, [], ◌∷◌, length}
 use Rattle.kdf_syllable.specs.declared.order.Order.{Order}
 use Rattle.kdf_syllable.specs.declared.order.Order.TheVariants as order
+use Rattle.kdf_syllable.specs.Spelling.{IsQ}
 use Rattle.kdf_processor.specs.declared.plan.Plan.{Plan}
 use Rattle.kdf_processor.specs.declared.plan.Plan.TheVariants.{Fail, End, Fetch, Keep}
 use Rattle.kdf_processor.specs.declared.registers.Registers.{Registers}
@@ -12,7 +13,7 @@ use Rattle.kdf_processor.specs.Effect.{Effect, Failing, Ending, Fetching, Keepin
 use Rattle.kdf_processor.specs.Needs.{group_of}
 use Rattle.kdf_processor.specs.Outcome.{Outcome, done, try_effect}
 use Rattle.kdf_processor.specs.View.{View}
-use Rattle.kdf_processor.specs.Table.{with_nest, effect, change_of}
+use Rattle.kdf_processor.specs.Table.{with_nest, part_of, with_part, counts_on, effect, change_of}
 
 -- the top of a nest
 abbrev pub top : List ℕ → ℕ
@@ -28,29 +29,33 @@ below_top (n1 ∷ below) = below
 abbrev pub planned : Plan → Registers → Effect
 planned (Fail kind) r = Failing kind
 planned End r = Ending (with_nest 1 (below_top r.nest) r)
-planned (Fetch a) r = Fetching a (λ w. with_nest 3 (w ∷ r.nest) r)
-planned (Keep a) r = Keeping a (λ old. top r.nest) (with_nest 3 (below_top r.nest) r)
+planned (Fetch n a half u q) r = Fetching a (λ w. with_nest n (part_of half w ∷ r.nest) (counts_on u q r))
+planned (Keep n a half u q) r = Keeping a (with_part half (top r.nest)) (with_nest n (below_top r.nest) (counts_on u q r))
 
 -- what it needs
 abbrev pub plan_needs : Plan → List Need
 plan_needs (Fail kind) = []
 plan_needs End = []
-plan_needs (Fetch a) = Group (group_of a) ∷ []
-plan_needs (Keep a) = Group (group_of a) ∷ []
+plan_needs (Fetch n a half u q) = Group (group_of a) ∷ []
+plan_needs (Keep n a half u q) = Group (group_of a) ∷ []
 
--- its address is in the store
+abbrev pub IsHalf : Option ℕ → Type 0
+IsHalf None = Unit {0}
+IsHalf (Some half) = half < 2
+
+-- its address is in the store, and its size, its half and its Q-store are some
 abbrev pub IsSound : Claims → Plan → Type 0
 IsSound c (Fail kind) = Unit {0}
 IsSound c End = Unit {0}
-IsSound c (Fetch a) = a < c.size
-IsSound c (Keep a) = a < c.size
+IsSound c (Fetch n a half u q) = (n ≤ 3) × (a < c.size) × IsHalf half × IsQ q
+IsSound c (Keep n a half u q) = (n ≤ 3) × (a < c.size) × IsHalf half × IsQ q
 
 -- the nest has its operands, or room for its result
 abbrev pub HasOperands : List ℕ → Plan → Type 0
 HasOperands nest (Fail kind) = Unit {0}
 HasOperands nest End = 0 < length nest
-HasOperands nest (Fetch a) = length nest < 16
-HasOperands nest (Keep a) = 0 < length nest
+HasOperands nest (Fetch n a half u q) = length nest < 16
+HasOperands nest (Keep n a half u q) = 0 < length nest
 
 -- what comes of it where none of its needs is pending
 abbrev pub done_plan : View → Registers → Plan → Outcome
@@ -68,9 +73,9 @@ try_order v r o = try_effect v r (effect v.claims r o)
 abbrev pub try_change : View → Registers → Order → Outcome
 try_change v r o = try_effect v r (of_change (change_of r o))
 
--- an order that changes registers alone
+-- an order that changes registers alone, or isn't built
 abbrev pub IsChange : Order → Type 0
 IsChange (order.Plain code) = code ≢ 0x21
-IsChange (order.Jump c target) = Unit {0}
-IsChange (order.Set constant) = Unit {0}
-IsChange _ = ⊥
+IsChange (order.Indirect code k q) = ⊥
+IsChange (order.Direct t u q a) = ⊥
+IsChange _ = Unit {0}

@@ -1,5 +1,6 @@
 -- The state of a program by itself.
 use Rattle.std.specs.Prelude.{ℕ, ◌-◌, List, [], ◌++◌, false, length, replicate, slice_index}
+use Rattle.kdf_qstore.specs.Triples.{zero_triples}
 use Rattle.kdf_processor.specs.declared.registers.Life.TheVariants.{Live}
 use Rattle.kdf_processor.specs.declared.registers.Registers.{Registers}
 
@@ -29,7 +30,8 @@ word_at s a = word_in s.stock a
 
 -- a live program that has obeyed no order: its next is at syllable 0 of word 0
 abbrev pub new_registers : Registers
-new_registers = record { nest = []; flags = record { v = false; tr = false }; at = 0; ran = 0; state = Live }
+new_registers =
+    record { nest = []; links = []; q = zero_triples; flags = record { v = false; tr = false }; at = 0; ran = 0; state = Live }
 
 -- the image in a store of so many words, with zeros behind
 abbrev pub filled : ℕ → List ℕ → List ℕ

@@ -1,13 +1,19 @@
 -- The order table: what each order does, as a function of registers and claims alone.
-use Rattle.std.specs.Prelude.{ℕ, ◌+◌, ◌*◌, ◌/◌, ◌%◌, List, [], ◌∷◌, length, Bool, true, Option, Some, None, if◌then◌else◌, nat_lt, ◌==◌}
+use Rattle.std.specs.Prelude.{ℕ, ◌+◌, ◌-◌, ◌*◌, ◌/◌, ◌%◌, ◌^◌, List, [], ◌∷◌, length, Bool, true, false, not, ◌&&◌, ◌||◌, Option, Some, None, if◌then◌else◌, nat_lt, nat_le, ◌==◌, ℤ}
 use Rattle.kdf_word.specs.Words.{word_of, signed_16}
+use Rattle.kdf_word.specs.Characters.{half_of, with_half}
+use Rattle.kdf_syllable.specs.declared.amount.Amount.{Amount}
+use Rattle.kdf_syllable.specs.declared.amount.Amount.TheVariants.{Fixed, Count}
 use Rattle.kdf_syllable.specs.declared.order.Order.{Order}
 use Rattle.kdf_syllable.specs.declared.order.Order.TheVariants as order
-use Rattle.kdf_processor.specs.declared.failure.Failure.TheVariants.{Liv, Nouv, Out}
+use Rattle.kdf_qstore.specs.declared.triple.Triple.{Triple}
+use Rattle.kdf_qstore.specs.Triples.{triple_at, with_triple, triple_of, word_of_triple, sum_of, sum_16, difference_16, counted_down, stepped}
+use Rattle.kdf_arith.specs.declared.order.ArithOrder.TheVariants as arithmetic
+use Rattle.kdf_arith.specs.Arith.{Arith, arith}
+use Rattle.kdf_processor.specs.declared.failure.Failure.TheVariants.{Liv, Nouv, Out, Reset}
 use Rattle.kdf_processor.specs.declared.registers.Registers.{Registers}
 use Rattle.kdf_processor.specs.State.{Claims}
 use Rattle.kdf_processor.specs.Effect.{Change, Refused, Going, of_change, Effect, Failing, Ending, Fetching, Keeping}
-use Rattle.kdf_processor.specs.Arith.{Arith, arith_row}
 
 -- the syllable that follows n syllables on; they are counted modulo 6 times 8,192
 abbrev pub on : ℕ → ℕ → ℕ
@@ -17,18 +23,28 @@ on at n = (at + n) % 49152
 abbrev pub with_nest : ℕ → List ℕ → Registers → Registers
 with_nest n nest r = record r { nest = nest; at = on r.at n }
 
--- with V so
 abbrev pub with_v : Bool → Registers → Registers
 with_v v r = record r { flags = record r.flags { v = v } }
 
--- where there is room for a word more; else the first
+abbrev pub with_tr : Bool → Registers → Registers
+with_tr tr r = record r { flags = record r.flags { tr = tr } }
+
+-- with this triple in Qq
+abbrev pub with_q : ℕ → Triple → Registers → Registers
+with_q q t r = record r { q = with_triple r.q q t }
+
+-- where there is room for a word or a link more; else the first
 abbrev pub room : {X : Type 0} → X → List ℕ → X → X
 room full nest x = if nat_lt (length nest) 16 then x else full
 
--- where there is a word on top; else the first
+-- where there is a word on top, or there are two; else the first
 abbrev pub on_top : {X : Type 0} → X → List ℕ → (ℕ → List ℕ → X) → X
 on_top less [] f = less
 on_top less (n1 ∷ below) f = f n1 below
+
+abbrev pub on_two : {X : Type 0} → X → List ℕ → (ℕ → ℕ → List ℕ → X) → X
+on_two less (n1 ∷ n2 ∷ below) f = f n1 n2 below
+on_two less _ f = less
 
 -- an order of n syllables that pushes a word
 abbrev pub pushes : Registers → ℕ → ℕ → Change
@@ -37,14 +53,39 @@ pushes r n w = room (Refused Nouv) r.nest (Going (with_nest n (w ∷ r.nest) r))
 -- an order of n syllables that is one of arithmetic
 abbrev pub arith_changes : ℕ → Registers → Option Arith → Change
 arith_changes n r None = Refused Nouv
-arith_changes n r (Some a) = if nat_lt 16 (length a.nest) then Refused Nouv else Going (with_nest n a.nest (with_v a.v r))
+arith_changes n r (Some a) = Going (with_nest n a.nest (record r { flags = a.flags }))
+
+-- a part of a Q-store as a word, its sign extended
+abbrev pub extended : ℕ → ℕ
+extended part = word_of (signed_16 part)
+
+-- the low 16 bits of a word
+abbrev pub low : ℕ → ℕ
+low w = w % 2 ^ 16
+
+-- ---- one syllable
+
+-- LINK: a link becomes a number
+abbrev pub link_row : Registers → List ℕ → Change
+link_row r [] = Refused Nouv
+link_row r (link ∷ links) = room (Refused Nouv) r.nest (Going (with_nest 1 (link ∷ r.nest) (record r { links = links })))
+
+-- =LINK: the low 16 bits become a link
+abbrev pub keep_link_row : Registers → Change
+keep_link_row r =
+    on_top (Refused Nouv) r.nest (λ n1 below.
+    room (Refused Nouv) r.links (Going (with_nest 1 below (record r { links = low n1 ∷ r.links }))))
 
 -- One syllable, but for OUT.
 unfoldable pub plain_row : Registers → ℕ → Change
 plain_row r code =
     -- DUMMY
     if code == 0x01 then Going (with_nest 1 r.nest r)
-    else arith_changes 1 r (arith_row code r.nest r.flags.v)
+    -- LINK, =LINK
+    else (if code == 0x1D then link_row r r.links
+    else (if code == 0x1E then keep_link_row r
+    -- arithmetic
+    else arith_changes 1 r (arith (arithmetic.Plain code) r.nest r.flags)))
 
 -- OUT, by the number on top.
 unfoldable pub out_effect : Registers → ℕ → List ℕ → Effect
@@ -53,28 +94,189 @@ out_effect r number below =
     if number == 0 then Ending (with_nest 1 below r)
     else Failing Out
 
--- where a jump goes: its target is 8192·s + w for syllable s of word w
+-- ---- two syllables
+
+-- Qq becomes what comes of the top, which is erased
+abbrev pub sets_q : Registers → ℕ → (ℕ → Triple) → Change
+sets_q r q f = on_top (Refused Nouv) r.nest (λ n1 below. Going (with_nest 2 below (with_q q (f n1) r)))
+
+-- Qq becomes this
+abbrev pub changes_q : Registers → ℕ → Triple → Change
+changes_q r q t = Going (with_nest 2 r.nest (with_q q t r))
+
+-- to syllable 0 of the word before, where the counter isn't 0
+abbrev pub short_loop : Registers → ℕ → Change
+short_loop r counter = if counter == 0 then Going (with_nest 2 r.nest r) else Going (record r { at = 6 * ((r.at / 6 + 8191) % 8192) })
+
+-- One Q-store, of which t is the triple.
+unfoldable pub single_row : Registers → ℕ → ℕ → Triple → Change
+single_row r code q t =
+    -- Qq, Cq, Iq, Mq
+    if code == 0x50 then pushes r 2 (word_of_triple t)
+    else (if code == 0x51 then pushes r 2 (extended t.c)
+    else (if code == 0x52 then pushes r 2 (extended t.i)
+    else (if code == 0x53 then pushes r 2 (extended t.m)
+    -- =Qq, =Cq, =Iq, =Mq
+    else (if code == 0x54 then sets_q r q triple_of
+    else (if code == 0x55 then sets_q r q (λ n1. record t { c = low n1 })
+    else (if code == 0x56 then sets_q r q (λ n1. record t { i = low n1 })
+    else (if code == 0x57 then sets_q r q (λ n1. record t { m = low n1 })
+    -- =+Qq, =+Cq, =+Iq, =+Mq
+    else (if code == 0x58 then sets_q r q (λ n1. sum_of t (triple_of n1))
+    else (if code == 0x59 then sets_q r q (λ n1. record t { c = sum_16 t.c (low n1) })
+    else (if code == 0x5A then sets_q r q (λ n1. record t { i = sum_16 t.i (low n1) })
+    else (if code == 0x5B then sets_q r q (λ n1. record t { m = sum_16 t.m (low n1) })
+    -- =RCq, =RIq, =RMq
+    else (if code == 0x5C then sets_q r q (λ n1. record { c = low n1; i = 1; m = 0 })
+    else (if code == 0x5D then sets_q r q (λ n1. record { c = 0; i = low n1; m = 0 })
+    else (if code == 0x5E then sets_q r q (λ n1. record { c = 0; i = 1; m = low n1 })
+    -- NCq, DCq, M+Iq, M-Iq
+    else (if code == 0x5F then changes_q r q (record t { c = difference_16 0 t.c })
+    else (if code == 0x60 then changes_q r q (counted_down t)
+    else (if code == 0x61 then changes_q r q (record t { m = sum_16 t.m t.i })
+    else (if code == 0x62 then changes_q r q (record t { m = difference_16 t.m t.i })
+    -- JCqNZS
+    else short_loop r t.c))))))))))))))))))
+
+-- Copies: the parts of the first that are named, and of the second the others.
+unfoldable pub copied : ℕ → Triple → Triple → Triple
+copied code t k =
+    -- MqTOQk, IqTOQk, IMqTOQk
+    if code == 0x63 then record k { m = t.m }
+    else (if code == 0x64 then record k { i = t.i }
+    else (if code == 0x65 then record k { i = t.i; m = t.m }
+    -- CqTOQk, CMqTOQk, CIqTOQk
+    else (if code == 0x66 then record k { c = t.c }
+    else (if code == 0x67 then record k { c = t.c; m = t.m }
+    else (if code == 0x68 then record k { c = t.c; i = t.i }
+    -- QqTOQk
+    else t)))))
+
+-- how far a shift goes to the left, and to the right where it is negative
+abbrev pub places_of : Registers → Amount → ℤ
+places_of r (Fixed n) = n
+places_of r (Count q) = signed_16 (triple_at r.q q).c
+
+-- ---- words of the store
+
+-- what is fetched of a word: all of it, or a half
+abbrev pub part_of : Option ℕ → ℕ → ℕ
+part_of None w = w
+part_of (Some half) w = half_of half w
+
+-- what is kept in place of a word: another, or its first half in a half of the old one
+abbrev pub with_part : Option ℕ → ℕ → ℕ → ℕ
+with_part None w old = w
+with_part (Some half) w old = with_half half w old
+
+-- the suffix Q counts a Q-store on
+abbrev pub counts_on : Bool → ℕ → Registers → Registers
+counts_on u q r = if u then with_q q (stepped (triple_at r.q q)) r else r
+
+-- an order of n syllables that fetches the word at an address, or half of it
+abbrev pub fetches : Registers → ℕ → ℕ → Option ℕ → Bool → ℕ → Effect
+fetches r n address half u q =
+    room (Failing Nouv) r.nest (Fetching address (λ w. with_nest n (part_of half w ∷ r.nest) (counts_on u q r)))
+
+-- an order of n syllables that keeps the top at an address, or in half of a word
+abbrev pub keeps : Registers → ℕ → ℕ → Option ℕ → Bool → ℕ → Effect
+keeps r n address half u q =
+    on_top (Failing Nouv) r.nest (λ n1 below. Keeping address (with_part half n1) (with_nest n below (counts_on u q r)))
+
+-- an order that fetches, or keeps
+abbrev pub moves : Bool → Registers → ℕ → ℕ → Option ℕ → Bool → ℕ → Effect
+moves t r n address half u q = if t then keeps r n address half u q else fetches r n address half u q
+
+-- the bits of the code of MkMq: 8 keeps, 4 is the suffix Q, 2 takes halves, 1 adds one
+abbrev pub has_bit : ℕ → ℕ → Bool
+has_bit bit code = code / bit % 2 == 1
+
+-- Mk and Mq, or half of Mq, and one where the code says so
+abbrev pub indirect_address : ℕ → ℕ → ℕ → ℕ
+indirect_address code mk mq = (mk + (if has_bit 2 code then mq / 2 else mq) + code % 2) % 2 ^ 16
+
+abbrev pub indirect_half : ℕ → ℕ → Option ℕ
+indirect_half code mq = if has_bit 2 code then Some (mq % 2) else None
+
+-- MkMq and =MkMq.
+unfoldable pub indirect_effect : Registers → ℕ → ℕ → ℕ → Effect
+indirect_effect r code k q =
+    let mq = (triple_at r.q q).m in
+    moves (has_bit 8 code) r 2 (indirect_address code (triple_at r.q k).m mq) (indirect_half code mq) (has_bit 4 code) q
+
+-- The store orders, t telling whether the word is kept.
+unfoldable pub direct_effect : Registers → Bool → Bool → ℕ → ℕ → Effect
+direct_effect r t u q a = moves t r 3 ((a + (triple_at r.q q).m) % 2 ^ 16) None u q
+
+-- ---- jumps
+
+-- where a jump goes, if it does: its target is 8192·s + w for syllable s of word w
 abbrev pub goes : Registers → Bool → ℕ → Registers
 goes r jumps target = record r { at = if jumps then 6 * (target % 8192) + target / 8192 else on r.at 3 }
+
+-- the tests of a word by its sign
+abbrev pub is_negative : ℕ → Bool
+is_negative w = nat_le (2 ^ 47) w
+
+abbrev pub is_zero : ℕ → Bool
+is_zero w = w == 0
+
+abbrev pub is_empty : List ℕ → Bool
+is_empty [] = true
+is_empty (x ∷ xs) = false
+
+-- a jump by the top, which is erased
+abbrev pub jumps_by : Registers → (ℕ → Bool) → ℕ → Change
+jumps_by r test target = on_top (Refused Nouv) r.nest (λ n1 below. Going (goes (record r { nest = below }) (test n1) target))
+
+-- a jump by the two words on top, of which the first is erased
+abbrev pub jumps_by_two : Registers → (ℕ → ℕ → Bool) → ℕ → Change
+jumps_by_two r test target =
+    on_two (Refused Nouv) r.nest (λ n1 n2 below. Going (goes (record r { nest = n2 ∷ below }) (test n1 n2) target))
+
+-- a subroutine jump, which pushes its own place as a link
+abbrev pub jumps_with_link : Registers → ℕ → Change
+jumps_with_link r target =
+    room (Refused Nouv) r.links (Going (goes (record r { links = (8192 * (r.at % 6) + r.at / 6) ∷ r.links }) true target))
 
 -- The jumps.
 unfoldable pub jump_row : Registers → ℕ → ℕ → Change
 jump_row r c target =
-    -- Jr
-    if c == 0x20 then Going (goes r true target)
-    else Refused Liv
+    -- JrCqZ, JrCqNZ
+    if nat_lt c 0x10 then Going (goes r (is_zero (triple_at r.q c).c) target)
+    else (if nat_lt c 0x20 then Going (goes r (not (is_zero (triple_at r.q (c - 0x10)).c)) target)
+    -- Jr, JSr
+    else (if c == 0x20 then Going (goes r true target)
+    else (if c == 0x21 then jumps_with_link r target
+    -- Jr=, Jr#
+    else (if c == 0x22 then jumps_by_two r (λ n1 n2. n1 == n2) target
+    else (if c == 0x23 then jumps_by_two r (λ n1 n2. not (n1 == n2)) target
+    -- Jr=Z, Jr#Z, JrGTZ, JrLTZ, JrGEZ, JrLEZ
+    else (if c == 0x24 then jumps_by r is_zero target
+    else (if c == 0x25 then jumps_by r (λ n1. not (is_zero n1)) target
+    else (if c == 0x26 then jumps_by r (λ n1. not (is_zero n1) && not (is_negative n1)) target
+    else (if c == 0x27 then jumps_by r is_negative target
+    else (if c == 0x28 then jumps_by r (λ n1. not (is_negative n1)) target
+    else (if c == 0x29 then jumps_by r (λ n1. is_zero n1 || is_negative n1) target
+    -- JrV, JrNV, JrTR, JrNTR
+    else (if c == 0x2A then Going (goes (with_v false r) r.flags.v target)
+    else (if c == 0x2B then Going (goes (with_v false r) (not r.flags.v) target)
+    else (if c == 0x2C then Going (goes (with_tr false r) r.flags.tr target)
+    else (if c == 0x2D then Going (goes (with_tr false r) (not r.flags.tr) target)
+    -- JrEN, JrNEN, JrEJ, JrNEJ
+    else (if c == 0x2E then Going (goes r (is_empty r.nest) target)
+    else (if c == 0x2F then Going (goes r (not (is_empty r.nest)) target)
+    else (if c == 0x30 then Going (goes r (is_empty r.links) target)
+    else Going (goes r (not (is_empty r.links)) target)))))))))))))))))))
 
--- an order of n syllables that fetches the word at an address
-abbrev pub fetches : Registers → ℕ → ℕ → Effect
-fetches r n address = room (Failing Nouv) r.nest (Fetching address (λ w. with_nest n (w ∷ r.nest) r))
+-- EXIT: a link is popped, and it goes on three times n syllables behind
+unfoldable pub exit_row : Registers → ℕ → List ℕ → Change
+exit_row r n [] = Refused Nouv
+exit_row r n (link ∷ links) =
+    if nat_lt (link / 8192) 6 then Going (record r { links = links; at = on (6 * (link % 8192) + link / 8192) (3 * n) })
+    else Refused Reset
 
--- an order of n syllables that keeps the top at an address
-abbrev pub keeps : Registers → ℕ → ℕ → Effect
-keeps r n address = on_top (Failing Nouv) r.nest (λ n1 below. Keeping address (λ old. n1) (with_nest n below r))
-
--- The store orders, t telling whether the word is kept.
-unfoldable pub direct_effect : Registers → Bool → ℕ → Effect
-direct_effect r t a = if t then keeps r 3 a else fetches r 3 a
+-- ---- any order
 
 -- the checks of what an effect names: an address is below the size of the store
 unfoldable pub guarded : Claims → Effect → Effect
@@ -82,16 +284,21 @@ guarded c (Fetching a after) = if nat_lt a c.size then Fetching a after else Fai
 guarded c (Keeping a w after) = if nat_lt a c.size then Keeping a w after else Failing Liv
 guarded c e = e
 
--- what a built order does that reads and changes registers alone
+-- what an order does that reads and changes registers alone; those of devices aren't built
 abbrev pub change_of : Registers → Order → Change
 change_of r (order.Plain code) = plain_row r code
+change_of r (order.Single code q) = single_row r code q (triple_at r.q q)
+change_of r (order.Copies code q k) = changes_q r k (copied code (triple_at r.q q) (triple_at r.q k))
+change_of r (order.Shift code by) = arith_changes 2 r (arith (arithmetic.Shift code (places_of r by)) r.nest r.flags)
 change_of r (order.Jump c target) = jump_row r c target
+change_of r (order.Exit n) = exit_row r n r.links
 -- SET
-change_of r (order.Set constant) = pushes r 3 (word_of (signed_16 constant))
+change_of r (order.Set constant) = pushes r 3 (extended constant)
 change_of r _ = Refused Liv
 
--- what any built order does
+-- what any order does
 abbrev pub effect : Claims → Registers → Order → Effect
 effect c r (order.Plain code) = if code == 0x21 then guarded c (on_top (Failing Nouv) r.nest (out_effect r)) else of_change (plain_row r code)
-effect c r (order.Direct t u q a) = guarded c (direct_effect r t a)
+effect c r (order.Indirect code k q) = guarded c (indirect_effect r code k q)
+effect c r (order.Direct t u q a) = guarded c (direct_effect r t u q a)
 effect c r o = of_change (change_of r o)

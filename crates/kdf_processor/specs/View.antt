@@ -1,5 +1,6 @@
 -- What a port shows of one program.
-use Rattle.std.specs.Prelude.{ℕ, Bool, false, Option, List, find}
+use Rattle.std.specs.Prelude.{ℕ, ◌+◌, ◌-◌, ◌/◌, Bool, false, Option, List, find}
+use Rattle.std.specs.List.{range_with_len}
 use Rattle.kdf_processor.specs.declared.step.Need.{Need}
 use Rattle.kdf_processor.specs.declared.step.Need.TheVariants.{Group}
 use Rattle.kdf_processor.specs.State.{Claims, Stock, word_in}
@@ -11,6 +12,10 @@ pub record View : Type 0 where
   pub word : ℕ → ℕ
   -- a group is locked out
   pub is_out : ℕ → Bool
+
+-- the groups that an area touches, rising
+abbrev pub groups_of : ℕ → ℕ → List ℕ
+groups_of first last = range_with_len (first / 32) (last / 32 + 1 - first / 32)
 
 -- a need is pending
 abbrev pub is_pending : View → Need → Bool

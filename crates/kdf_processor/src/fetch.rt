@@ -1,23 +1,20 @@
 //! The fetch of an order, syllable by syllable.
-ghost use Rattle.std.specs.Prelude.{◌≡◌, ◌≤◌, [], ◌∷◌, None, IfOk};
-ghost use Rattle.kdf_processor.specs.Decoding.{decoded};
-ghost use Rattle.kdf_processor.specs.Fetch.{held_of, IsFetched, HasBuilt, syllable_read};
+ghost use Rattle.std.specs.Prelude.{◌≡◌, [], ◌∷◌, None};
+ghost use Rattle.kdf_decode.specs.Decoding.{first_decoded};
+ghost use Rattle.kdf_processor.specs.Fetch.{held_of, IsFetched, HasOrder, syllable_read};
 ghost use Rattle.kdf_processor.specs.Needs.{fetch_needs, order_at};
-ghost use Rattle.kdf_processor.specs.Table.{on};
 ghost use Rattle.kdf_processor.specs.View.{first_pending};
 
 use crate::Port;
-use crate::decoding::decode;
+use crate::syllable_number::behind;
+use kdf_decode::decode;
 use kdf_syllable::{Order, size_of_first, syllable};
-
-/// How many syllable numbers there are: six for each of 8,192 words.
-const SYLLABLES: u16 = 49_152;
 
 /// What the fetch of an order gives.
 #[derive(Clone, Copy, Debug, PartialEq, Eq)]
 pub enum Fetched {
     Order(Order),
-    /// The spelling is that of no built order, or runs out of the store.
+    /// The spelling is that of no order, or runs out of the store.
     Bad,
     /// This group of a syllable is out.
     Held(u16),
@@ -29,15 +26,6 @@ pub enum Syllable {
     Byte(u8),
     Outside,
     Held(u16),
-}
-
-/// The syllable number that follows an order of `size` syllables.
-pub fn behind(at: u16, size: u16) -> u16
-    requires { size ≤ 3 }
-    ensures { result ≡ on at size }
-{
-    let sum = u32::from(at) + u32::from(size);
-    (sum % u32::from(SYLLABLES)) as u16
 }
 
 /// A syllable of the program's store.
@@ -59,7 +47,7 @@ pub fn fetch<P: Port>(port: &P, at: u16) -> Fetched
     ensures held { held_of result
         ≡ first_pending (P.shows port.now) (fetch_needs (P.shows port.now).claims.size (P.shows port.now).word at) }
     ensures order { IsFetched (order_at (P.shows port.now).claims.size (P.shows port.now).word at) result }
-    ensures built { HasBuilt result }
+    ensures some { HasOrder result }
 {
     let first = match read_syllable(port, at) {
         Syllable::Byte(byte) => byte,
@@ -88,12 +76,12 @@ pub fn fetch<P: Port>(port: &P, at: u16) -> Fetched
 
 /// The order that these syllables begin with.
 fn decode_fetched(first: u8, second: u8, third: u8) -> Fetched
-    ensures order { IsFetched (decoded (first ∷ second ∷ third ∷ [])) result }
+    ensures order { IsFetched (first_decoded (first ∷ second ∷ third ∷ [])) result }
     ensures held { held_of result ≡ None }
-    ensures built { HasBuilt result }
+    ensures some { HasOrder result }
 {
     match decode(&[first, second, third]) {
-        Some(order) => Fetched::Order(order),
-        None => Fetched::Bad,
+        Ok(order) => Fetched::Order(order),
+        Err(_) => Fetched::Bad,
     }
 }

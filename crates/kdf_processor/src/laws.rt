@@ -1,26 +1,11 @@
 //! Laws of the definitions, each the contract of a function that does nothing.
-ghost use Rattle.std.specs.Prelude.{◌≡◌, ◌≢◌, ℕ, ◌<◌, ◌≤◌, ◌++◌, List, length, take, slice_index, Bool, true, false, Some, None, find};
-ghost use Rattle.kdf_syllable.specs.declared.order.Order.{Order};
+ghost use Rattle.std.specs.Prelude.{◌≡◌, ℕ, ◌≤◌, ◌++◌, List, length, Bool, true, false, find};
 ghost use Rattle.kdf_processor.specs.declared.step.Need.{Need};
-ghost use Rattle.kdf_syllable.specs.Spelling.{IsOrder, spelling};
-ghost use Rattle.kdf_processor.specs.Decoding.{IsBuilt, decoded};
 ghost use Rattle.kdf_processor.specs.Frame.{Agrees, Leaves, HidesNone};
 ghost use Rattle.kdf_processor.specs.Lone.{lone};
 ghost use Rattle.kdf_processor.specs.Needs.{needs};
 ghost use Rattle.kdf_processor.specs.Row.{row};
 ghost use Rattle.kdf_processor.specs.State.{State, begin};
-
-/// Bytes are decoded to a built order exactly where its spelling begins them.
-pub fn one_spelling()
-    ensures decoded { (order : Order) (rest : List ℕ) → IsOrder order → IsBuilt order
-        → decoded (spelling order ++ rest) ≡ Some order }
-    ensures spelt { (bytes : List ℕ) (order : Order) → ((k : ℕ) → slice_index bytes k < 256)
-        → decoded bytes ≡ Some order
-        → IsOrder order × IsBuilt order × (take (length (spelling order)) bytes ≡ spelling order) }
-    ensures none { (bytes : List ℕ) → ((k : ℕ) → slice_index bytes k < 256)
-        → ((order : Order) → IsOrder order → IsBuilt order → take (length (spelling order)) bytes ≢ spelling order)
-        → decoded bytes ≡ None }
-{}
 
 /// The store of a program has as many words as its size says, at its start and after each order.
 pub fn store_size()

@@ -4,23 +4,36 @@
 //! otherwise does its row of the table: new registers and at most one acting call on the port.
 #![tactic(auto)]
 
+mod arithmetic;
 mod change;
-mod decoding;
+mod conditions;
+mod copies;
+pub mod examples;
+mod exit;
 mod failure;
 mod fetch;
+mod jump;
 pub mod laws;
-mod nest;
+mod moves;
 mod obeying;
+mod plain;
 mod plan;
 mod port;
+mod push;
+mod q_store;
 mod registers;
+mod shift;
+mod single;
 mod step;
+mod syllable_number;
 #[cfg(test)]
 mod tests;
 
 pub use failure::Failure;
-pub use nest::Nest;
+pub use kdf_arith::Flags;
+pub use kdf_nest::{Links, Nest};
+pub use kdf_qstore::QStores;
 pub use obeying::obey;
 pub use port::Port;
-pub use registers::{Flags, Life, Registers};
+pub use registers::{Life, Registers};
 pub use step::{Need, Step};

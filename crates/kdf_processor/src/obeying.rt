@@ -1,19 +1,19 @@
 //! Obeying one order over any port.
-ghost use Rattle.std.specs.Prelude.{◌≡◌, ◌<◌, None, ◌∷◌, length};
-ghost use Rattle.kdf_processor.specs.Decoding.{IsBuilt};
+ghost use Rattle.std.specs.Prelude.{◌≡◌, ◌<◌, None};
+ghost use Rattle.kdf_syllable.specs.Spelling.{IsOrder};
 ghost use Rattle.kdf_processor.specs.Effect.{Nothing};
 ghost use Rattle.kdf_processor.specs.Outcome.{outcome, counted};
 ghost use Rattle.kdf_processor.specs.Plan.{plan_needs, done_plan, try_plan, try_change, try_order};
-ghost use Rattle.kdf_processor.specs.Plan.{IsSound, IsChange, HasOperands, below_top, top};
-ghost use Rattle.kdf_processor.specs.Table.{with_nest};
+ghost use Rattle.kdf_processor.specs.Plan.{IsSound, IsChange, HasOperands};
 ghost use Rattle.kdf_processor.specs.View.{first_pending};
 
 use crate::change::change;
-use crate::fetch::{Fetched, behind, fetch};
+use crate::fetch::{Fetched, fetch};
+use crate::moves::{merged, pop_kept, push_fetched};
 use crate::plan::{Plan, first_need, plan_of};
+use crate::syllable_number::behind;
 use crate::{Failure, Life, Need, Port, Registers, Step};
 use kdf_syllable::Order;
-use kdf_word::Word;
 
 /// Counts an order.
 fn count(registers: &mut Registers)
@@ -21,26 +21,6 @@ fn count(registers: &mut Registers)
     ensures { registers.new ≡ counted registers.old registers.old.state registers.old }
 {
     registers.ran += 1;
-}
-
-/// Pushes a word that was fetched.
-fn push_fetched(registers: &mut Registers, word: Word)
-    requires { length registers.old.nest < 16 }
-    ensures { registers.new ≡ with_nest 3 (word ∷ registers.old.nest) registers.old }
-{
-    registers.nest.push(word);
-    registers.at = behind(registers.at, 3);
-}
-
-/// Takes the word that is to be kept.
-fn pop_kept(registers: &mut Registers) -> Word
-    requires { 0 < length registers.old.nest }
-    ensures top { result ≡ top registers.old.nest }
-    ensures registers { registers.new ≡ with_nest 3 (below_top registers.old.nest) registers.old }
-{
-    let word = registers.nest.pop();
-    registers.at = behind(registers.at, 3);
-    word
 }
 
 /// Carries out a plan none of whose needs is pending.
@@ -68,12 +48,24 @@ fn carry_out<P: Port>(registers: &mut Registers, port: &mut P, plan: Plan) -> St
             count(registers);
             return Step::Ends;
         }
-        Plan::Fetch { address } => match port.read(address) {
-            Ok(word) => push_fetched(registers, word),
+        Plan::Fetch {
+            size,
+            address,
+            half,
+            u,
+            q,
+        } => match port.read(address) {
+            Ok(word) => push_fetched(registers, size, word, half, u, q),
             Err(_) => unreachable!(),
         },
-        Plan::Keep { address } => {
-            let word = pop_kept(registers);
+        Plan::Keep {
+            size,
+            address,
+            half,
+            u,
+            q,
+        } => {
+            let word = merged(port, address, half, pop_kept(registers, size, u, q));
             let _ = port.write(address, word);
         }
     }
@@ -101,7 +93,7 @@ fn obey_plan<P: Port>(registers: &mut Registers, port: &mut P, plan: Plan) -> St
 /// Obeys an order that changes registers alone.
 fn obey_change<P: Port>(registers: &mut Registers, port: &mut P, order: Order) -> Step
     requires ran { registers.old.ran < u32.MAX }
-    requires built { IsBuilt order }
+    requires order { IsOrder order }
     requires change { IsChange order }
     requires room { P.room port.old (try_change (P.shows port.old) registers.old order).act }
     ensures step { result ≡ (try_change (P.shows port.old) registers.old order).step }
@@ -121,7 +113,7 @@ fn obey_change<P: Port>(registers: &mut Registers, port: &mut P, order: Order) -
 /// Obeys an order that was fetched.
 fn obey_order<P: Port>(registers: &mut Registers, port: &mut P, order: Order) -> Step
     requires ran { registers.old.ran < u32.MAX }
-    requires built { IsBuilt order }
+    requires order { IsOrder order }
     requires room { P.room port.old (try_order (P.shows port.old) registers.old order).act }
     ensures step { result ≡ (try_order (P.shows port.old) registers.old order).step }
     ensures registers { registers.new ≡ (try_order (P.shows port.old) registers.old order).registers }

@@ -1,8 +1,8 @@
 //! The view of one program that an order is obeyed over.
-ghost use Rattle.std.specs.Prelude.{◌≡◌, ◌<◌, OnOk, OnErr, if◌then◌else◌};
+ghost use Rattle.std.specs.Prelude.{◌≡◌, ◌<◌, ◌≤◌, find, OnOk, OnErr, if◌then◌else◌};
 ghost use Rattle.kdf_processor.specs.Effect.{Act, Nothing, Writes};
 ghost use Rattle.kdf_processor.specs.Needs.{group_of};
-ghost use Rattle.kdf_processor.specs.View.{View};
+ghost use Rattle.kdf_processor.specs.View.{View, groups_of};
 
 use kdf_word::Word;
 
@@ -26,6 +26,12 @@ pub trait Port {
         requires { address < (shows self.now).claims.size }
         ensures { result ≡ (if (shows self.now).is_out (group_of address)
             then Err (group_of address) else Ok ((shows self.now).word address)) };
+
+    /// The least group of an area that is out.
+    fn first_out(&self, first: u16, last: u16) -> Option<u16>
+        requires order { first ≤ last }
+        requires inside { last < (shows self.now).claims.size }
+        ensures { result ≡ find (shows self.now).is_out (groups_of first last) };
 
     /// Writes a word to an address, or answers the address's group where that is out.
     fn write(&mut self, address: u16, word: Word) -> Result<(), u16>

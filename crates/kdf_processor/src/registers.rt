@@ -1,5 +1,8 @@
 //! What a program has of its own in the processor.
-use crate::{Failure, Nest};
+use crate::Failure;
+use kdf_arith::Flags;
+use kdf_nest::{Links, Nest};
+use kdf_qstore::QStores;
 
 /// Whether a program runs.
 #[derive(Clone, Copy, Debug, PartialEq, Eq)]
@@ -9,18 +12,16 @@ pub enum Life {
     Failed(Failure),
 }
 
-/// The overflow register V and the test register TR.
-#[derive(Clone, Copy, Debug, PartialEq, Eq)]
-pub struct Flags {
-    pub v: bool,
-    pub tr: bool,
-}
-
 /// The registers of a program.
 #[derive(Drop)]
 pub struct Registers {
     /// The nesting store.
     pub nest: Nest,
+    /// The subroutine jump nesting store.
+    pub links: Links,
+    /// The Q-stores.
+    pub q: QStores,
+    /// V and TR.
     pub flags: Flags,
     /// The number of the next order's first syllable, below 49,152.
     pub at: u16,
@@ -39,6 +40,8 @@ impl Registers {
     {
         Registers {
             nest: Nest::new(),
+            links: Links::new(),
+            q: QStores::new(),
             flags: Flags {
                 v: false,
                 tr: false,

@@ -1,9 +1,7 @@
 //! Small programs over a store of which a group may be out.
 ghost use Rattle.std.specs.Prelude.{◌≤◌, vec_len};
 
-use crate::decoding::decode;
 use crate::{Failure, Life, Need, Port, Registers, Step, obey};
-use kdf_syllable::Order;
 use kdf_word::Word;
 use std::alloc::{AllocError, Global};
 use std::process::Abort;
@@ -40,6 +38,14 @@ impl Port for Bench {
             return Err(group);
         }
         Ok(self.words[usize::from(address)])
+    }
+
+    #[tactic(auto, using(crate::proofs::Groups::group_found, crate::proofs::Groups::group_before, crate::proofs::Groups::group_behind))]
+    fn first_out(&self, first: u16, last: u16) -> Option<u16> {
+        if self.out < first / 32 || last / 32 < self.out {
+            return None;
+        }
+        Some(self.out)
     }
 
     fn write(&mut self, address: u16, word: Word) -> Result<(), u16> {
@@ -374,60 +380,6 @@ fn holds(rt: HostRuntime) -> Result<(), Fail> {
         assert_eq!(rt; registers.ran, before + 1);
     }
     Ok(())
-}
-
-#[test]
-fn decoding(rt: HostRuntime) {
-    for (bytes, order) in [
-        ([0x01, 0xa0, 0x00], Order::Plain { code: 0x01 }),
-        ([0x09, 0x00, 0x00], Order::Plain { code: 0x09 }),
-        ([0x11, 0x00, 0x00], Order::Plain { code: 0x11 }),
-        ([0x21, 0x00, 0x00], Order::Plain { code: 0x21 }),
-        ([0xa0, 0x00, 0x01], Order::Jump { c: 0x20, target: 1 }),
-        (
-            [0xa0, 0xbf, 0xff],
-            Order::Jump {
-                c: 0x20,
-                target: 49_151,
-            },
-        ),
-        ([0xc0, 0x00, 0x03], store(false, 3)),
-        ([0xc0, 0x7f, 0xff], store(false, 32_767)),
-        ([0xd0, 0x00, 0x28], store(true, 40)),
-        ([0xd0, 0x7f, 0xff], store(true, 32_767)),
-        ([0xe0, 0x00, 0x07], Order::Set { constant: 7 }),
-        ([0xe0, 0xff, 0xff], Order::Set { constant: 65_535 }),
-    ] {
-        assert_eq!(rt; decode(&bytes), Some(order), "{bytes:?}");
-    }
-    for bytes in [
-        [0x00, 0x01, 0x01],
-        [0x13, 0x01, 0x01],
-        [0x20, 0x01, 0x01],
-        [0x3f, 0x01, 0x01],
-        [0x50, 0x10, 0x01],
-        [0x7f, 0x00, 0x01],
-        [0x9f, 0x00, 0x01],
-        [0xa0, 0xc0, 0x00],
-        [0xbf, 0x00, 0x01],
-        [0xc0, 0x80, 0x00],
-        [0xc8, 0x00, 0x01],
-        [0xd1, 0x00, 0x01],
-        [0xe1, 0x00, 0x00],
-        [0xff, 0xff, 0xff],
-    ] {
-        assert_eq!(rt; decode(&bytes), None, "{bytes:?}");
-    }
-}
-
-/// The fetch or store order on an address, without a Q-store.
-fn store(t: bool, a: u16) -> Order {
-    Order::Direct {
-        t,
-        u: false,
-        q: 0,
-        a,
-    }
 }
 
 #[test]

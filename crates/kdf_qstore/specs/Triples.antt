@@ -46,6 +46,29 @@ sum_16 a b = (a + b) % 2 ^ 16
 abbrev pub difference_16 : ℕ → ℕ → ℕ
 difference_16 a b = (a + (2 ^ 16 - b)) % 2 ^ 16
 
+-- the sums of the parts of two triples
+abbrev pub sum_of : Triple → Triple → Triple
+sum_of t u = record { c = sum_16 t.c u.c; i = sum_16 t.i u.i; m = sum_16 t.m u.m }
+
+-- a number is added to one part
+abbrev pub with_sum : Part → ℕ → Triple → Triple
+with_sum part n t = with_part part (sum_16 (part_of part t) n) t
+
+-- one part of a triple of which C and M were 0 and I was 1
+abbrev pub reset : Part → ℕ → Triple
+reset part n = with_part part n (record { c = 0; i = 1; m = 0 })
+
+-- C has its sign changed
+abbrev pub negated : Triple → Triple
+negated t = record t { c = difference_16 0 t.c }
+
+-- I is added to M, or taken from it
+abbrev pub increased : Triple → Triple
+increased t = record t { m = sum_16 t.m t.i }
+
+abbrev pub decreased : Triple → Triple
+decreased t = record t { m = difference_16 t.m t.i }
+
 -- 1 is taken from C
 abbrev pub counted_down : Triple → Triple
 counted_down t = record t { c = difference_16 t.c 1 }

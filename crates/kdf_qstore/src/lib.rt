@@ -11,3 +11,4 @@ mod triple;
 
 pub use part::Part;
 pub use q_stores::QStores;
+pub use triple::Triple;

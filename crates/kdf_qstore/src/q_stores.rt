@@ -1,6 +1,6 @@
 //! The sixteen Q-stores of a program.
 ghost use Rattle.std.specs.Prelude.{◌≡◌, ◌<◌};
-ghost use Rattle.kdf_qstore.specs.Triples.{zero_triples, triple_at, with_triple, triple_of, word_of_triple, part_of, with_part, counted_down, stepped};
+ghost use Rattle.kdf_qstore.specs.Triples.{zero_triples, triple_at, with_triple, triple_of, word_of_triple, part_of, with_part, sum_of, with_sum, reset, negated, increased, decreased, counted_down, stepped};
 
 use crate::Part;
 use crate::triple::Triple;
@@ -64,6 +64,54 @@ impl QStores {
         self.keep(q, self.triple(q).with_part(part, value));
     }
 
+    /// Adds the three parts of a word to those of Qq, each modulo 2^16.
+    pub fn add(&mut self, q: u8, word: Word)
+        requires { q < 16 }
+        ensures { self.new ≡ with_triple self.old q (sum_of (triple_at self.old q) (triple_of word)) }
+    {
+        self.keep(q, self.triple(q).add(Triple::of(word)));
+    }
+
+    /// Adds to one part of Qq, modulo 2^16, and leaves the others.
+    pub fn add_part(&mut self, q: u8, part: Part, value: u16)
+        requires { q < 16 }
+        ensures { self.new ≡ with_triple self.old q (with_sum part value (triple_at self.old q)) }
+    {
+        self.keep(q, self.triple(q).add_part(part, value));
+    }
+
+    /// Sets one part of Qq, and of the others C and M to 0 and I to 1.
+    pub fn reset_part(&mut self, q: u8, part: Part, value: u16)
+        requires { q < 16 }
+        ensures { self.new ≡ with_triple self.old q (reset part value) }
+    {
+        self.keep(q, Triple::reset(part, value));
+    }
+
+    /// Changes the sign of C of Qq, modulo 2^16.
+    pub fn negate_count(&mut self, q: u8)
+        requires { q < 16 }
+        ensures { self.new ≡ with_triple self.old q (negated (triple_at self.old q)) }
+    {
+        self.keep(q, self.triple(q).negated());
+    }
+
+    /// Adds I of Qq to its M, modulo 2^16.
+    pub fn increase(&mut self, q: u8)
+        requires { q < 16 }
+        ensures { self.new ≡ with_triple self.old q (increased (triple_at self.old q)) }
+    {
+        self.keep(q, self.triple(q).increased());
+    }
+
+    /// Takes I of Qq from its M, modulo 2^16.
+    pub fn decrease(&mut self, q: u8)
+        requires { q < 16 }
+        ensures { self.new ≡ with_triple self.old q (decreased (triple_at self.old q)) }
+    {
+        self.keep(q, self.triple(q).decreased());
+    }
+
     /// Adds I of Qq to its M and takes 1 from its C, each modulo 2^16.
     pub fn step(&mut self, q: u8)
         requires { q < 16 }
@@ -81,7 +129,7 @@ impl QStores {
     }
 
     /// The parts of Qq.
-    fn triple(&self, q: u8) -> Triple
+    pub fn triple(&self, q: u8) -> Triple
         requires { q < 16 }
         ensures { result ≡ triple_at self.now q }
     {
@@ -93,7 +141,7 @@ impl QStores {
     }
 
     /// Sets the parts of Qq, unless it is Q0.
-    fn keep(&mut self, q: u8, triple: Triple)
+    pub fn keep(&mut self, q: u8, triple: Triple)
         requires { q < 16 }
         ensures { self.new ≡ with_triple self.old q triple }
     {

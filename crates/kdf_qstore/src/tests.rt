@@ -1,5 +1,5 @@
 //! Each call at the ends of its parts, and at Q0.
-use crate::{Part, QStores};
+use crate::{Part, QStores, Triple};
 use kdf_word::Word;
 
 /// C = 1, I = 65535, M = 2.
@@ -31,6 +31,30 @@ fn steps(rt: HostRuntime) {
     assert_eq!(rt; q.get(1).bits(), 0xffff_ffff_0000);
     q.count_down(1);
     assert_eq!(rt; q.get(1).bits(), 0xfffe_ffff_0000);
+}
+
+#[test]
+fn sums(rt: HostRuntime) {
+    let mut q = QStores::new();
+    q.set(2, Word::new(BITS));
+    q.add(2, Word::new(0xffff_0002_fffe));
+    assert_eq!(rt; q.get(2).bits(), 0x0000_0001_0000);
+    q.add_part(2, Part::M, 65_535);
+    q.negate_count(2);
+    assert_eq!(rt; q.get(2).bits(), 0x0000_0001_ffff);
+    q.increase(2);
+    assert_eq!(rt; q.get(2).bits(), 0x0000_0001_0000);
+    q.decrease(2);
+    assert_eq!(rt; q.get(2).bits(), 0x0000_0001_ffff);
+    q.reset_part(2, Part::C, 1);
+    q.negate_count(2);
+    assert_eq!(rt; q.get(2).bits(), 0xffff_0001_0000);
+    q.reset_part(2, Part::I, 5);
+    assert_eq!(rt; q.get(2).bits(), 0x0000_0005_0000);
+    let triple = Triple { c: 7, i: 8, m: 9 };
+    q.keep(3, triple);
+    assert_eq!(rt; q.triple(3), triple);
+    assert_eq!(rt; q.get(2).bits(), 0x0000_0005_0000);
 }
 
 #[test]

@@ -1,16 +1,19 @@
 //! The three parts of one Q-store.
 ghost use Rattle.std.specs.Prelude.{◌≡◌};
-ghost use Rattle.kdf_qstore.specs.Triples.{zero_triple, triple_of, word_of_triple, part_of, with_part, counted_down, stepped};
+ghost use Rattle.kdf_qstore.specs.Triples.{zero_triple, triple_of, word_of_triple, part_of, with_part, sum_of, with_sum, reset, negated, increased, decreased, counted_down, stepped};
 
 use crate::Part;
 use kdf_word::Word;
 
-/// One Q-store.
-#[derive(Clone, Copy)]
-pub(crate) struct Triple {
-    pub(crate) c: u16,
-    pub(crate) i: u16,
-    pub(crate) m: u16,
+/// The parts of one Q-store.
+#[derive(Clone, Copy, Debug, PartialEq, Eq)]
+pub struct Triple {
+    /// The counter.
+    pub c: u16,
+    /// The increment.
+    pub i: u16,
+    /// The modifier.
+    pub m: u16,
 }
 
 impl Triple {
@@ -55,6 +58,61 @@ impl Triple {
         }
     }
 
+    /// The sums of its parts and those of another, each modulo 2^16.
+    pub(crate) fn add(self, other: Triple) -> Triple
+        ensures { result ≡ sum_of self other }
+    {
+        Triple {
+            c: self.c.wrapping_add(other.c),
+            i: self.i.wrapping_add(other.i),
+            m: self.m.wrapping_add(other.m),
+        }
+    }
+
+    /// The triple with a number added to one part, modulo 2^16.
+    pub(crate) fn add_part(self, part: Part, value: u16) -> Triple
+        ensures { result ≡ with_sum part value self }
+    {
+        self.with_part(part, self.part(part).wrapping_add(value))
+    }
+
+    /// The triple of this part beside a C of 0, an I of 1 and an M of 0.
+    pub(crate) fn reset(part: Part, value: u16) -> Triple
+        ensures { result ≡ reset part value }
+    {
+        Triple { c: 0, i: 1, m: 0 }.with_part(part, value)
+    }
+
+    /// The triple with the sign of C changed, modulo 2^16.
+    pub(crate) fn negated(self) -> Triple
+        ensures { result ≡ negated self }
+    {
+        Triple {
+            c: self.c.wrapping_neg(),
+            ..self
+        }
+    }
+
+    /// The triple with I added to M, modulo 2^16.
+    pub(crate) fn increased(self) -> Triple
+        ensures { result ≡ increased self }
+    {
+        Triple {
+            m: self.m.wrapping_add(self.i),
+            ..self
+        }
+    }
+
+    /// The triple with I taken from M, modulo 2^16.
+    pub(crate) fn decreased(self) -> Triple
+        ensures { result ≡ decreased self }
+    {
+        Triple {
+            m: self.m.wrapping_sub(self.i),
+            ..self
+        }
+    }
+
     /// The triple with 1 taken from C, modulo 2^16.
     pub(crate) fn counted_down(self) -> Triple
         ensures { result ≡ counted_down self }
@@ -69,10 +127,7 @@ impl Triple {
     pub(crate) fn stepped(self) -> Triple
         ensures { result ≡ stepped self }
     {
-        Triple {
-            m: self.m.wrapping_add(self.i),
-            ..self.counted_down()
-        }
+        self.increased().counted_down()
     }
 }
 

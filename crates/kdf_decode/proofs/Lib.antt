@@ -1,0 +1,3 @@
+pub mod First
+pub mod Inverse
+pub mod Spelt

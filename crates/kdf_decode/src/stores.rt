@@ -1,0 +1,32 @@
+//! Store orders and SET.
+ghost use Rattle.std.specs.Prelude.{◌≡◌, ◌<◌, ◌^◌};
+ghost use Rattle.std.specs.Result.{result_ok};
+ghost use Rattle.kdf_decode.specs.Decoding.{decoded_store, direct};
+
+use crate::decoding::BadCode;
+use kdf_syllable::Order;
+
+/// A fetch or a store at an address, or SET.
+pub(crate) fn store_or_set(first: u8, second: u8, third: u8) -> Result<Order, BadCode>
+    ensures { result_ok result ≡ decoded_store first second third }
+{
+    match first {
+        0xc0..=0xdf => Ok(direct(u32::from_be_bytes([0, first, second, third]))),
+        0xe0 => Ok(Order::Set {
+            constant: u16::from_be_bytes([second, third]),
+        }),
+        _ => Err(BadCode),
+    }
+}
+
+/// The fetch or the store of 24 bits.
+fn direct(bits: u32) -> Order
+    ensures { result ≡ direct bits }
+{
+    Order::Direct {
+        t: bits / (1 << 20) % 2 == 1,
+        u: bits / (1 << 19) % 2 == 1,
+        q: (bits / (1 << 15) % (1 << 4)) as u8,
+        a: (bits % (1 << 15)) as u16,
+    }
+}

@@ -1,0 +1,35 @@
+//! Jumps.
+ghost use Rattle.std.specs.Prelude.{◌≡◌, OnOk, IfErr, OnErr};
+ghost use Rattle.kdf_syllable.specs.declared.order.Order.TheVariants as order;
+ghost use Rattle.kdf_syllable.specs.Spelling.{IsOrder};
+ghost use Rattle.kdf_processor.specs.Effect.{Going, Refused};
+ghost use Rattle.kdf_processor.specs.Table.{jump_row, goes};
+
+use crate::conditions::decide;
+use crate::syllable_number::behind;
+use crate::{Failure, Registers};
+
+/// A jump on the condition `c`.
+pub fn jump(registers: &mut Registers, c: u8, target: u16) -> Result<(), Failure>
+    requires { IsOrder (order.Jump c target) }
+    ensures ok { OnOk result (jump_row registers.old c target ≡ Going registers.new) }
+    ensures err { IfErr result (λ f. jump_row registers.old c target ≡ Refused f) }
+    ensures same { OnErr result (registers.new ≡ registers.old) }
+    ensures ran { registers.new.ran ≡ registers.old.ran }
+    ensures state { registers.new.state ≡ registers.old.state }
+{
+    let jumps = decide(registers, c)?;
+    go(registers, jumps, target);
+    Ok(())
+}
+
+/// Goes to the target, or on behind the jump.
+fn go(registers: &mut Registers, jumps: bool, target: u16)
+    ensures { registers.new ≡ goes registers.old jumps target }
+{
+    registers.at = if jumps {
+        6 * (target % 8192) + target / 8192
+    } else {
+        behind(registers.at, 3)
+    };
+}

@@ -1,0 +1,13 @@
+//! Syllable numbers: six for each of 8,192 words, counted around.
+ghost use Rattle.std.specs.Prelude.{◌≡◌};
+ghost use Rattle.kdf_processor.specs.Table.{on};
+
+/// How many syllable numbers there are.
+const SYLLABLES: u32 = 49_152;
+
+/// The syllable number that is `count` syllables on.
+pub fn behind(at: u16, count: u16) -> u16
+    ensures { result ≡ on at count }
+{
+    ((u32::from(at) + u32::from(count)) % SYLLABLES) as u16
+}
