@@ -1,4 +1,5 @@
 pub mod OctalDigits
+pub mod Nothing
 pub mod Texts
 pub mod Pushed
 pub mod CallBounds

@@ -1,7 +1,8 @@
 -- The texts that are written. A text is a list of lines, each without the byte 10 behind it.
 use Rattle.std.specs.Prelude.{ℕ, ◌+◌, ◌-◌, ◌/◌, ◌%◌, ◌^◌, List, [], ◌∷◌, ◌++◌, map, length, Bool, ◌==◌, ◌&&◌, if◌then◌else◌, codes, decimal}
 use Rattle.std.specs.List.{flat_map, range_with_len}
-use Rattle.kdf_qstore.specs.Triples.{Triple, triple_at}
+use Rattle.kdf_qstore.specs.declared.triple.Triple.{Triple}
+use Rattle.kdf_qstore.specs.Triples.{triple_at}
 use Rattle.kdf_processor.specs.declared.failure.Failure.{Failure}
 use Rattle.kdf_processor.specs.declared.failure.Failure.TheVariants.{Liv, Nouv, Out, Reset, Claim}
 use Rattle.kdf_processor.specs.declared.registers.Life.{Life}

@@ -55,6 +55,10 @@ impl Port for Store {
         Ok(self.words[usize::from(address)])
     }
 
+    fn first_out(&self, _first: u16, _last: u16) -> Option<u16> {
+        None
+    }
+
     fn write(&mut self, address: u16, word: Word) -> Result<(), u16> {
         self.words[usize::from(address)] = word;
         Ok(())
