@@ -1,5 +1,5 @@
 -- An order that syllables spell is legal and has these syllables.
-use Rattle.std.proofs.Common.{◌≡◌, ℕ, ◌+◌, ◌*◌, ◌-◌, ◌/◌, ◌%◌, ◌^◌, ◌<◌, ◌≤◌, ◌≢◌, ℤ, pos, negsuc, ◌≤ℤ◌, Bool, true, false, cond, not, eqb, ltb, leb, ◌&&◌, ◌||◌, ◌⊎◌, Option, Some, None, List, [], ◌∷◌, refl, ap, subst, ⊎_elim, arith}
+use Rattle.std.proofs.Common.{◌≡◌, ℕ, ◌+◌, ◌*◌, ◌-◌, ◌/◌, ◌%◌, ◌^◌, ◌<◌, ◌≤◌, ◌≢◌, Bool, true, false, cond, not, eqb, ltb, leb, ◌&&◌, ◌||◌, ◌⊎◌, Option, Some, List, [], ◌∷◌, refl, ap, subst, ⊎_elim, arith}
 use Rattle.std.specs.Int.{IsInRange, is_in_range, from_bool}
 use Rattle.std.specs.List.{All}
 use Rattle.std.proofs.lemmas.Bool.{ltb-true, ltb-false, leb-true, eqb-true, and_parts, cases_Bool}
@@ -7,9 +7,9 @@ use Rattle.std.proofs.lemmas.Bool.Decides.{nat_tests}
 use Rattle.std.proofs.lemmas.Int.{ints}
 use Rattle.kdf_syllable.specs.Spelling.{IsOrder, IsAmount, seven_bits, three_bytes, spelling}
 use Rattle.kdf_syllable.specs.declared.order.Order.{Order}
-use Rattle.kdf_syllable.specs.declared.order.Order.TheVariants.{Plain, Indirect, Single, Copies, Shift, Device, Query, Jump, Exit, Direct, Set}
+use Rattle.kdf_syllable.specs.declared.order.Order.TheVariants.{Plain, Indirect, Single, Copies, Shift, Device, Query, Jump, Exit, Set}
 use Rattle.kdf_syllable.specs.declared.amount.Amount.TheVariants.{Fixed, Count}
-use Rattle.kdf_decode.specs.Decoding.{only_if, signed_7, direct, decoded_one, decoded_shift, decoded_two, decoded_jump, decoded_store, decoded}
+use Rattle.kdf_decode.specs.Decoding.{only_if, signed_7, direct, decoded_shift, decoded_two, decoded_jump, decoded_store, decoded}
 
 -- the order is legal and has this spelling
 abbrev pub Spells : List ℕ → Order → Type 0
