@@ -1,6 +1,6 @@
 -- Each legal order is decoded from its spelling.
-use Rattle.std.proofs.Common.{◌≡◌, ℕ, ◌+◌, ◌*◌, ◌-◌, ◌/◌, ◌%◌, ◌^◌, ◌<◌, ◌≤◌, Bool, true, false, not, eqb, ltb, leb, ◌&&◌, ◌||◌, Option, Some, None, is_some, List, get_or, refl, ap, ⊎_elim, arith}
-use Rattle.std.specs.Int.{IsInRange, from_bool}
+use Rattle.std.proofs.Common.{◌≡◌, ℕ, ◌+◌, ◌*◌, ◌/◌, ◌%◌, ◌^◌, ◌<◌, ◌≤◌, true, false, not, eqb, ltb, leb, ◌&&◌, ◌||◌, Option, Some, None, is_some, List, get_or, refl, ap, ⊎_elim, arith}
+use Rattle.std.specs.Int.{IsInRange, is_in_range, from_bool}
 use Rattle.std.proofs.lemmas.Bool.{lt-ltb, le-leb, ne_eqb, and_from, not_from_false, cases_lt}
 use Rattle.std.proofs.lemmas.Bool.Decides.{nat_tests}
 use Rattle.std.proofs.lemmas.List.{get_or_default}
@@ -11,10 +11,10 @@ use Rattle.kdf_syllable.specs.declared.order.Order.{Order}
 use Rattle.kdf_syllable.specs.declared.order.Order.TheVariants.{Plain, Indirect, Single, Copies, Shift, Device, Query, Jump, Exit, Direct, Set}
 use Rattle.kdf_syllable.specs.declared.amount.Amount.{Amount}
 use Rattle.kdf_syllable.specs.declared.amount.Amount.TheVariants.{Fixed, Count}
-use Rattle.kdf_decode.specs.Decoding.{is_from, only_if, decoded_shift, decoded_jump, decoded_store, decoded}
+use Rattle.kdf_decode.specs.Decoding.{only_if, decoded_shift, decoded_jump, decoded_store, decoded}
 use Rattle.kdf_decode.proofs.Spelt.{Spells, AreBytes, decoded-spelt}
 
-within : (first last code : ℕ) → IsInRange first last code → is_from first last code ≡ true
+within : (first last code : ℕ) → IsInRange first last code → is_in_range first last code ≡ true
 within first last code is = and_from (leb first code) (leb code last) (le-leb first code is.0) (le-leb code last is.1)
 
 -- a shift by any amount is decoded
@@ -25,10 +25,10 @@ shift-some a (Count q) is =
     let even : (16 * q) % 2 ≡ 0 = omega arith in
     let none : (16 * q) % 16 ≡ 0 = omega arith in rw (even, none) refl
 
-jump-some : (a b d : ℕ) → is_from 0x80 0xb1 a ≡ true → (2 ^ 8 * b + d) / 8192 < 6 → is_some (decoded_jump a b d) ≡ true
+jump-some : (a b d : ℕ) → is_in_range 0x80 0xb1 a ≡ true → (2 ^ 8 * b + d) / 8192 < 6 → is_some (decoded_jump a b d) ≡ true
 jump-some a b d is near = rw (is, lt-ltb ((2 ^ 8 * b + d) / 8192) 6 near) refl
 
-direct-some : (a b d : ℕ) → is_from 0xc0 0xdf a ≡ true → is_some (decoded_store a b d) ≡ true
+direct-some : (a b d : ℕ) → is_in_range 0xc0 0xdf a ≡ true → is_some (decoded_store a b d) ≡ true
 direct-some a b d is = rw is refl
 
 set-some : (a b d : ℕ) → a ≡ 0xe0 → is_some (decoded_store a b d) ≡ true
@@ -49,29 +49,29 @@ three-some n low high =
 spelling-some : (o : Order) → IsOrder o → is_some (decoded (spelling o)) ≡ true
 unfolding decoded spelling
 spelling-some (Plain code) is =
-    let test : (is_from 0x01 0x21 code && not (eqb code 0x13)) ≡ true =
-        and_from (is_from 0x01 0x21 code) (not (eqb code 0x13)) (within 0x01 0x21 code is.0) (not_from_false (eqb code 0x13) (ne_eqb code 0x13 is.1)) in
+    let test : (is_in_range 0x01 0x21 code && not (eqb code 0x13)) ≡ true =
+    and_from (is_in_range 0x01 0x21 code) (not (eqb code 0x13)) (within 0x01 0x21 code is.0) (not_from_false (eqb code 0x13) (ne_eqb code 0x13 is.1)) in
     ap (λ test. is_some (only_if test (Plain code))) test
 spelling-some (Indirect code k q) is = rw (within 0x40 0x4f code is.0) refl
 spelling-some (Single code q) is =
-    let test : is_from 0x40 0x4f code ≡ false = grind (arith, nat_tests) in
-    let test_2 : (is_from 0x50 0x62 code || eqb code 0x6f) ≡ true = grind (arith, nat_tests) in
+    let test : is_in_range 0x40 0x4f code ≡ false = grind (arith, nat_tests) in
+    let test_2 : (is_in_range 0x50 0x62 code || eqb code 0x6f) ≡ true = grind (arith, nat_tests) in
     let none : (16 * q) % 16 ≡ 0 = omega arith in
     rw (test, test_2, none) refl
 spelling-some (Copies code q k) is =
-    let test : is_from 0x40 0x4f code ≡ false = grind (arith, nat_tests) in
-    let test_2 : (is_from 0x50 0x62 code || eqb code 0x6f) ≡ false = grind (arith, nat_tests) in
+    let test : is_in_range 0x40 0x4f code ≡ false = grind (arith, nat_tests) in
+    let test_2 : (is_in_range 0x50 0x62 code || eqb code 0x6f) ≡ false = grind (arith, nat_tests) in
     rw (test, test_2, within 0x63 0x69 code is.0) refl
 spelling-some (Shift code by) is =
-    let test : is_from 0x40 0x4f code ≡ false = grind (arith, nat_tests) in
-    let test_2 : (is_from 0x50 0x62 code || eqb code 0x6f) ≡ false = grind (arith, nat_tests) in
-    let test_3 : is_from 0x63 0x69 code ≡ false = grind (arith, nat_tests) in
+    let test : is_in_range 0x40 0x4f code ≡ false = grind (arith, nat_tests) in
+    let test_2 : (is_in_range 0x50 0x62 code || eqb code 0x6f) ≡ false = grind (arith, nat_tests) in
+    let test_3 : is_in_range 0x63 0x69 code ≡ false = grind (arith, nat_tests) in
     rw (test, test_2, test_3, within 0x6a 0x6e code is.0) (shift-some code by is.1)
 spelling-some (Device code q) is =
-    let test : is_from 0x40 0x4f code ≡ false = grind (arith, nat_tests) in
-    let test_2 : (is_from 0x50 0x62 code || eqb code 0x6f) ≡ false = grind (arith, nat_tests) in
-    let test_3 : is_from 0x63 0x69 code ≡ false = grind (arith, nat_tests) in
-    let test_4 : is_from 0x6a 0x6e code ≡ false = grind (arith, nat_tests) in
+    let test : is_in_range 0x40 0x4f code ≡ false = grind (arith, nat_tests) in
+    let test_2 : (is_in_range 0x50 0x62 code || eqb code 0x6f) ≡ false = grind (arith, nat_tests) in
+    let test_3 : is_in_range 0x63 0x69 code ≡ false = grind (arith, nat_tests) in
+    let test_4 : is_in_range 0x6a 0x6e code ≡ false = grind (arith, nat_tests) in
     let none : (16 * q) % 16 ≡ 0 = omega arith in
     rw (test, test_2, test_3, test_4, within 0x70 0x7d code is.0, none) refl
 spelling-some (Query b q) is =

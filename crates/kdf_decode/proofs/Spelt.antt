@@ -1,15 +1,15 @@
 -- An order that syllables spell is legal and has these syllables.
-use Rattle.std.proofs.Common.{◌≡◌, ℕ, ◌+◌, ◌*◌, ◌-◌, ◌/◌, ◌%◌, ◌^◌, ◌<◌, ◌≤◌, ◌≢◌, ℤ, pos, negsuc, ◌≤ℤ◌, Bool, true, false, cond, not, eqb, ltb, leb, ◌&&◌, ◌||◌, ◌⊎◌, Option, Some, None, List, [], ◌∷◌, refl, ap, subst, ⊎_elim, arith}
-use Rattle.std.specs.Int.{IsInRange, from_bool}
+use Rattle.std.proofs.Common.{◌≡◌, ℕ, ◌+◌, ◌*◌, ◌-◌, ◌/◌, ◌%◌, ◌^◌, ◌<◌, ◌≤◌, ◌≢◌, Bool, true, false, cond, not, eqb, ltb, leb, ◌&&◌, ◌||◌, ◌⊎◌, Option, Some, List, [], ◌∷◌, refl, ap, subst, ⊎_elim, arith}
+use Rattle.std.specs.Int.{IsInRange, is_in_range, from_bool}
 use Rattle.std.specs.List.{All}
 use Rattle.std.proofs.lemmas.Bool.{ltb-true, ltb-false, leb-true, eqb-true, and_parts, cases_Bool}
 use Rattle.std.proofs.lemmas.Bool.Decides.{nat_tests}
 use Rattle.std.proofs.lemmas.Int.{ints}
 use Rattle.kdf_syllable.specs.Spelling.{IsOrder, IsAmount, seven_bits, three_bytes, spelling}
 use Rattle.kdf_syllable.specs.declared.order.Order.{Order}
-use Rattle.kdf_syllable.specs.declared.order.Order.TheVariants.{Plain, Indirect, Single, Copies, Shift, Device, Query, Jump, Exit, Direct, Set}
+use Rattle.kdf_syllable.specs.declared.order.Order.TheVariants.{Plain, Indirect, Single, Copies, Shift, Device, Query, Jump, Exit, Set}
 use Rattle.kdf_syllable.specs.declared.amount.Amount.TheVariants.{Fixed, Count}
-use Rattle.kdf_decode.specs.Decoding.{is_from, only_if, signed_7, direct, decoded_one, decoded_shift, decoded_two, decoded_jump, decoded_store, decoded}
+use Rattle.kdf_decode.specs.Decoding.{only_if, signed_7, direct, decoded_shift, decoded_two, decoded_jump, decoded_store, decoded}
 
 -- the order is legal and has this spelling
 abbrev pub Spells : List ℕ → Order → Type 0
@@ -29,16 +29,16 @@ either : (test : Bool) (x y : Option Order) (o : Order) (P : Order → Type 0) �
 either true x y o P f g e = f refl e
 either false x y o P f g e = g refl e
 
-range : (first last code : ℕ) → is_from first last code ≡ true → IsInRange first last code
+range : (first last code : ℕ) → is_in_range first last code ≡ true → IsInRange first last code
 range first last code is =
     let parts = and_parts (leb first code) (leb code last) is in
     (leb-true first code parts.0, leb-true code last parts.1)
 
 -- one syllable
-plain-spelt : (a : ℕ) → (is_from 0x01 0x21 a && not (eqb a 0x13)) ≡ true → Spells (a ∷ []) (Plain a)
+plain-spelt : (a : ℕ) → (is_in_range 0x01 0x21 a && not (eqb a 0x13)) ≡ true → Spells (a ∷ []) (Plain a)
 unfolding spelling
 plain-spelt a is =
-    let parts = and_parts (is_from 0x01 0x21 a) (not (eqb a 0x13)) is in
+    let parts = and_parts (is_in_range 0x01 0x21 a) (not (eqb a 0x13)) is in
     let other : a ≢ 0x13 = λ e. let same : eqb a 0x13 ≡ true = grind (arith, nat_tests) in grind (arith, nat_tests) in
     ((range 0x01 0x21 a parts.0, other), refl)
 
@@ -53,18 +53,18 @@ half-below : (b : ℕ) → b < 2 ^ 8 → b / 16 < 16
 half-below b h = omega arith
 
 -- two syllables
-indirect-spelt : (a b : ℕ) → is_from 0x40 0x4f a ≡ true → b < 2 ^ 8 → Spells (a ∷ b ∷ []) (Indirect a (b / 16) (b % 16))
+indirect-spelt : (a b : ℕ) → is_in_range 0x40 0x4f a ≡ true → b < 2 ^ 8 → Spells (a ∷ b ∷ []) (Indirect a (b / 16) (b % 16))
 unfolding spelling
 indirect-spelt a b is h = ((range 0x40 0x4f a is, half-below b h, omega arith), ap (λ n. a ∷ n ∷ []) (halves b))
 
-single_code : (a : ℕ) → (is_from 0x50 0x62 a || eqb a 0x6f) ≡ true → IsInRange 0x50 0x62 a ⊎ (a ≡ 0x6f)
+single_code : (a : ℕ) → (is_in_range 0x50 0x62 a || eqb a 0x6f) ≡ true → IsInRange 0x50 0x62 a ⊎ (a ≡ 0x6f)
 single_code a is = grind (arith, nat_tests)
 
-single-spelt : (a b : ℕ) → (is_from 0x50 0x62 a || eqb a 0x6f) ≡ true → eqb (b % 16) 0 ≡ true → b < 2 ^ 8 → Spells (a ∷ b ∷ []) (Single a (b / 16))
+single-spelt : (a b : ℕ) → (is_in_range 0x50 0x62 a || eqb a 0x6f) ≡ true → eqb (b % 16) 0 ≡ true → b < 2 ^ 8 → Spells (a ∷ b ∷ []) (Single a (b / 16))
 unfolding spelling
 single-spelt a b is even h = ((single_code a is, half-below b h), ap (λ n. a ∷ n ∷ []) (high_half b even))
 
-copies-spelt : (a b : ℕ) → is_from 0x63 0x69 a ≡ true → b < 2 ^ 8 → Spells (a ∷ b ∷ []) (Copies a (b / 16) (b % 16))
+copies-spelt : (a b : ℕ) → is_in_range 0x63 0x69 a ≡ true → b < 2 ^ 8 → Spells (a ∷ b ∷ []) (Copies a (b / 16) (b % 16))
 unfolding spelling
 copies-spelt a b is h = ((range 0x63 0x69 a is, half-below b h, omega arith), ap (λ n. a ∷ n ∷ []) (halves b))
 
@@ -82,7 +82,7 @@ signed-in n h =
     (λ (high : ltb n 64 ≡ false). let above = ltb-false n 64 high in rw high (omega (arith, ints), omega (arith, ints)))
     (cases_Bool (ltb n 64))
 
-fixed-spelt : (a b : ℕ) → is_from 0x6a 0x6e a ≡ true → eqb (b % 2) 1 ≡ true → b < 2 ^ 8 → Spells (a ∷ b ∷ []) (Shift a (Fixed (signed_7 (b / 2))))
+fixed-spelt : (a b : ℕ) → is_in_range 0x6a 0x6e a ≡ true → eqb (b % 2) 1 ≡ true → b < 2 ^ 8 → Spells (a ∷ b ∷ []) (Shift a (Fixed (signed_7 (b / 2))))
 unfolding spelling
 fixed-spelt a b is odd h =
     let one = eqb-true (b % 2) 1 odd in
@@ -90,11 +90,11 @@ fixed-spelt a b is odd h =
     let same : 2 * seven_bits (signed_7 (b / 2)) + 1 ≡ b = omega (arith, seven_bits-signed (b / 2) low) in
     ((range 0x6a 0x6e a is, signed-in (b / 2) low), ap (λ n. a ∷ n ∷ []) same)
 
-count-spelt : (a b : ℕ) → is_from 0x6a 0x6e a ≡ true → eqb (b % 16) 0 ≡ true → b < 2 ^ 8 → Spells (a ∷ b ∷ []) (Shift a (Count (b / 16)))
+count-spelt : (a b : ℕ) → is_in_range 0x6a 0x6e a ≡ true → eqb (b % 16) 0 ≡ true → b < 2 ^ 8 → Spells (a ∷ b ∷ []) (Shift a (Count (b / 16)))
 unfolding spelling
 count-spelt a b is even h = ((range 0x6a 0x6e a is, half-below b h), ap (λ n. a ∷ n ∷ []) (high_half b even))
 
-device-spelt : (a b : ℕ) → is_from 0x70 0x7d a ≡ true → eqb (b % 16) 0 ≡ true → b < 2 ^ 8 → Spells (a ∷ b ∷ []) (Device a (b / 16))
+device-spelt : (a b : ℕ) → is_in_range 0x70 0x7d a ≡ true → eqb (b % 16) 0 ≡ true → b < 2 ^ 8 → Spells (a ∷ b ∷ []) (Device a (b / 16))
 unfolding spelling
 device-spelt a b is even h = ((range 0x70 0x7d a is, half-below b h), ap (λ n. a ∷ n ∷ []) (high_half b even))
 
@@ -107,7 +107,7 @@ query-spelt a b is h =
     ((leb-true (b % 16) 5 parts.1, half-below b h), cc)
 
 -- three syllables
-jump-spelt : (a b d : ℕ) → is_from 0x80 0xb1 a ≡ true → ltb ((2 ^ 8 * b + d) / 8192) 6 ≡ true → d < 2 ^ 8 → Spells (a ∷ b ∷ d ∷ []) (Jump (a - 0x80) (2 ^ 8 * b + d))
+jump-spelt : (a b d : ℕ) → is_in_range 0x80 0xb1 a ≡ true → ltb ((2 ^ 8 * b + d) / 8192) 6 ≡ true → d < 2 ^ 8 → Spells (a ∷ b ∷ d ∷ []) (Jump (a - 0x80) (2 ^ 8 * b + d))
 unfolding spelling
 jump-spelt a b d is near h =
     let code = range 0x80 0xb1 a is in
@@ -143,7 +143,7 @@ unfolding spelling
 direct-spelling n low high =
     rw (bit (n / 2 ^ 20 % 2) (omega arith), bit (n / 2 ^ 19 % 2) (omega arith)) (ap three_bytes (direct-whole n low high))
 
-direct-spelt : (a b d : ℕ) → is_from 0xc0 0xdf a ≡ true → b < 2 ^ 8 → d < 2 ^ 8 → Spells (a ∷ b ∷ d ∷ []) (direct (2 ^ 16 * a + 2 ^ 8 * b + d))
+direct-spelt : (a b d : ℕ) → is_in_range 0xc0 0xdf a ≡ true → b < 2 ^ 8 → d < 2 ^ 8 → Spells (a ∷ b ∷ d ∷ []) (direct (2 ^ 16 * a + 2 ^ 8 * b + d))
 direct-spelt a b d is hb hd =
     let code = range 0xc0 0xdf a is in
     let n = 2 ^ 16 * a + 2 ^ 8 * b + d in
@@ -157,7 +157,7 @@ set-spelt a b d is hb hd =
     let first = eqb-true a 0xe0 is in
     (omega arith, three (0xe00000 + (2 ^ 8 * b + d)) a b d (omega arith) hb hd)
 
-shift-spelt : (a b : ℕ) (o : Order) → is_from 0x6a 0x6e a ≡ true → b < 2 ^ 8 → decoded_shift a b ≡ Some o → Spells (a ∷ b ∷ []) o
+shift-spelt : (a b : ℕ) (o : Order) → is_in_range 0x6a 0x6e a ≡ true → b < 2 ^ 8 → decoded_shift a b ≡ Some o → Spells (a ∷ b ∷ []) o
 shift-spelt a b o is h =
     either (eqb (b % 2) 1) _ _ o (Spells (a ∷ b ∷ []))
     (λ odd. given _ o (Spells (a ∷ b ∷ [])) (fixed-spelt a b is odd h))
@@ -166,23 +166,23 @@ shift-spelt a b o is h =
 two-spelt : (a b : ℕ) (o : Order) → b < 2 ^ 8 → decoded_two a b ≡ Some o → Spells (a ∷ b ∷ []) o
 two-spelt a b o h =
     let P = Spells (a ∷ b ∷ []) in
-    either (is_from 0x40 0x4f a) _ _ o P (λ is. given _ o P (indirect-spelt a b is h))
-    (λ _. either (is_from 0x50 0x62 a || eqb a 0x6f) _ _ o P (λ is. passed _ _ o P (λ even. single-spelt a b is even h))
-    (λ _. either (is_from 0x63 0x69 a) _ _ o P (λ is. given _ o P (copies-spelt a b is h))
-    (λ _. either (is_from 0x6a 0x6e a) _ _ o P (λ is. shift-spelt a b o is h)
-    (λ _. either (is_from 0x70 0x7d a) _ _ o P (λ is. passed _ _ o P (λ even. device-spelt a b is even h))
+    either (is_in_range 0x40 0x4f a) _ _ o P (λ is. given _ o P (indirect-spelt a b is h))
+    (λ _. either (is_in_range 0x50 0x62 a || eqb a 0x6f) _ _ o P (λ is. passed _ _ o P (λ even. single-spelt a b is even h))
+    (λ _. either (is_in_range 0x63 0x69 a) _ _ o P (λ is. given _ o P (copies-spelt a b is h))
+    (λ _. either (is_in_range 0x6a 0x6e a) _ _ o P (λ is. shift-spelt a b o is h)
+    (λ _. either (is_in_range 0x70 0x7d a) _ _ o P (λ is. passed _ _ o P (λ even. device-spelt a b is even h))
     (λ _. passed _ _ o P (λ is. query-spelt a b is h))))))
 
 jumps-spelt : (a b d : ℕ) (o : Order) → d < 2 ^ 8 → decoded_jump a b d ≡ Some o → Spells (a ∷ b ∷ d ∷ []) o
 jumps-spelt a b d o h =
     let P = Spells (a ∷ b ∷ d ∷ []) in
-    either (is_from 0x80 0xb1 a) _ _ o P (λ is. passed _ _ o P (λ near. jump-spelt a b d is near h))
+    either (is_in_range 0x80 0xb1 a) _ _ o P (λ is. passed _ _ o P (λ near. jump-spelt a b d is near h))
     (λ _. passed _ _ o P (λ is. exit-spelt a b d is h))
 
 stores-spelt : (a b d : ℕ) (o : Order) → b < 2 ^ 8 → d < 2 ^ 8 → decoded_store a b d ≡ Some o → Spells (a ∷ b ∷ d ∷ []) o
 stores-spelt a b d o hb hd =
     let P = Spells (a ∷ b ∷ d ∷ []) in
-    either (is_from 0xc0 0xdf a) _ _ o P (λ is. given _ o P (direct-spelt a b d is hb hd))
+    either (is_in_range 0xc0 0xdf a) _ _ o P (λ is. given _ o P (direct-spelt a b d is hb hd))
     (λ _. passed _ _ o P (λ is. set-spelt a b d is hb hd))
 
 -- syllables are bytes
@@ -193,7 +193,7 @@ AreBytes syllables = All (λ a. a < 2 ^ 8) syllables
 pub decoded-spelt : (syllables : List ℕ) (o : Order) → AreBytes syllables → decoded syllables ≡ Some o → Spells syllables o
 unfolding decoded
 decoded-spelt [] o h e = cc
-decoded-spelt (a ∷ []) o h e = passed (is_from 0x01 0x21 a && not (eqb a 0x13)) (Plain a) o (Spells (a ∷ [])) (plain-spelt a) e
+decoded-spelt (a ∷ []) o h e = passed (is_in_range 0x01 0x21 a && not (eqb a 0x13)) (Plain a) o (Spells (a ∷ [])) (plain-spelt a) e
 decoded-spelt (a ∷ b ∷ []) o h e = two-spelt a b o (h 1 0 (omega arith)) e
 decoded-spelt (a ∷ b ∷ d ∷ []) o h e =
     either (ltb a 0xc0) _ _ o (Spells (a ∷ b ∷ d ∷ []))

@@ -1,13 +1,10 @@
 -- The order that one to three syllables spell, in the order of the tables of orders.
 use Rattle.std.specs.Prelude.{◌≡◌, ℕ, ◌+◌, ◌-◌, ◌*◌, ◌/◌, ◌%◌, ◌^◌, ℤ, pos, negsuc, Bool, not, ◌==◌, ◌&&◌, ◌||◌, nat_lt, nat_le, if◌then◌else◌, Option, Some, None, List, [], ◌∷◌, length, take}
+use Rattle.std.specs.Int.{is_in_range}
 use Rattle.kdf_syllable.specs.Spelling.{size_of_first}
 use Rattle.kdf_syllable.specs.declared.order.Order.{Order}
 use Rattle.kdf_syllable.specs.declared.order.Order.TheVariants.{Plain, Indirect, Single, Copies, Shift, Device, Query, Jump, Exit, Direct, Set}
 use Rattle.kdf_syllable.specs.declared.amount.Amount.TheVariants.{Fixed, Count}
-
--- the code is one from the first to the last
-abbrev pub is_from : ℕ → ℕ → ℕ → Bool
-is_from first last code = nat_le first code && nat_le code last
 
 -- the order, where the test lets it through
 abbrev pub only_if : Bool → Order → Option Order
@@ -15,7 +12,7 @@ only_if test order = if test then Some order else None
 
 -- first bits 00: one syllable. None has the code 13
 abbrev pub decoded_one : ℕ → Option Order
-decoded_one a = only_if (is_from 0x01 0x21 a && not (a == 0x13)) (Plain a)
+decoded_one a = only_if (is_in_range 0x01 0x21 a && not (a == 0x13)) (Plain a)
 
 -- the number from -64 to 63 that seven bits are in two's complement
 abbrev pub signed_7 : ℕ → ℤ
@@ -30,17 +27,17 @@ decoded_shift a b =
 -- first bits 01: two syllables
 abbrev pub decoded_two : ℕ → ℕ → Option Order
 decoded_two a b =
-    if is_from 0x40 0x4f a then Some (Indirect a (b / 16) (b % 16))
-    else (if is_from 0x50 0x62 a || a == 0x6f then only_if (b % 16 == 0) (Single a (b / 16))
-    else (if is_from 0x63 0x69 a then Some (Copies a (b / 16) (b % 16))
-    else (if is_from 0x6a 0x6e a then decoded_shift a b
-    else (if is_from 0x70 0x7d a then only_if (b % 16 == 0) (Device a (b / 16))
+    if is_in_range 0x40 0x4f a then Some (Indirect a (b / 16) (b % 16))
+    else (if is_in_range 0x50 0x62 a || a == 0x6f then only_if (b % 16 == 0) (Single a (b / 16))
+    else (if is_in_range 0x63 0x69 a then Some (Copies a (b / 16) (b % 16))
+    else (if is_in_range 0x6a 0x6e a then decoded_shift a b
+    else (if is_in_range 0x70 0x7d a then only_if (b % 16 == 0) (Device a (b / 16))
     else only_if (a == 0x7e && nat_le (b % 16) 5) (Query (b % 16) (b / 16))))))
 
 -- first bits 10: jumps to a syllable below 6, and EXIT
 abbrev pub decoded_jump : ℕ → ℕ → ℕ → Option Order
 decoded_jump a b d =
-    if is_from 0x80 0xb1 a then only_if (nat_lt ((2 ^ 8 * b + d) / 8192) 6) (Jump (a - 0x80) (2 ^ 8 * b + d))
+    if is_in_range 0x80 0xb1 a then only_if (nat_lt ((2 ^ 8 * b + d) / 8192) 6) (Jump (a - 0x80) (2 ^ 8 * b + d))
     else only_if (a == 0xb2 && b == 0) (Exit d)
 
 -- the store order of 24 bits
@@ -50,7 +47,7 @@ direct bits = Direct (bits / 2 ^ 20 % 2 == 1) (bits / 2 ^ 19 % 2 == 1) (bits / 2
 -- first bits 11: store orders and SET
 abbrev pub decoded_store : ℕ → ℕ → ℕ → Option Order
 decoded_store a b d =
-    if is_from 0xc0 0xdf a then Some (direct (2 ^ 16 * a + 2 ^ 8 * b + d))
+    if is_in_range 0xc0 0xdf a then Some (direct (2 ^ 16 * a + 2 ^ 8 * b + d))
     else only_if (a == 0xe0) (Set (2 ^ 8 * b + d))
 
 -- the order that exactly these syllables spell

@@ -74,10 +74,7 @@ const SHIFTS: &[([u8; 3], Option<Amount>)] = &[
 
 /// Three syllables.
 const LONG: &[([u8; 3], Result<Order, BadCode>)] = &[
-    (
-        [0x80, 0x00, 0x00],
-        Ok(Order::Jump { c: 0x00, target: 0 }),
-    ),
+    ([0x80, 0x00, 0x00], Ok(Order::Jump { c: 0x00, target: 0 })),
     (
         [0x80, 0xbf, 0xff],
         Ok(Order::Jump {
