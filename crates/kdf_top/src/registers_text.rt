@@ -1,5 +1,5 @@
 //! The lines of a program's registers.
-ghost use Rattle.std.specs.Prelude.{◌≡◌, ◌<◌, ◌++◌, [], ◌∷◌, OnOk, string_bytes, codes, decimal, ◌/◌, ◌%◌};
+ghost use Rattle.std.specs.Prelude.{◌≡◌, ◌<◌, ◌++◌, [], ◌∷◌, OnOk, string_bytes, codes, decimal, ◌/◌, ◌%◌, ◌==◌, ◌&&◌};
 ghost use Rattle.std.specs.List.{flat_map};
 ghost use Rattle.kdf_qstore.specs.Triples.{triple_at};
 ghost use Rattle.kdf_top.specs.Text.{text, octal, life_line, bit, nest_line, links_line, q_line, q_lines, registers_lines};
@@ -132,8 +132,14 @@ fn write_q_store(out: &mut String, q: u8, q_stores: &QStores) -> Result<(), Allo
     let c = q_stores.part(q, Part::C);
     let i = q_stores.part(q, Part::I);
     let m = q_stores.part(q, Part::M);
-    if c == 0 && i == 0 && m == 0 {
+    if are_zero(c, i, m) {
         return Ok(());
     }
     writeln!(out, "Q {q} {c} {i} {m}")
+}
+
+fn are_zero(c: u16, i: u16, m: u16) -> bool
+    ensures { result ≡ (c == 0 && i == 0 && m == 0) }
+{
+    c == 0 && i == 0 && m == 0
 }

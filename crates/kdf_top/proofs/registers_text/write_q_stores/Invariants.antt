@@ -8,5 +8,5 @@ abbrev pub invariant-loop-q : goal.invariant-loop-q
 invariant-loop-q l = record {
   written : string_bytes l.out ≡ string_bytes l.initial.out ++ text (flat_map (λ q. q_line q (triple_at l.q_stores q)) (range_with_len 1 (l.q - 1)));
   some : 1 ≤ l.q;
-  most : l.q ≤ 16
+  most : l.q ≤ 16;
 }

@@ -12,6 +12,9 @@ unwrap-requires c =
     let found = state_of-lone c.args.machine.now c.args.slot.now.p c.seen.ensures.lone in
     search rules
 
+pub write_shows-requires : goal.write_shows-requires
+write_shows-requires c = rw c.deref.ensures.value c.requires
+
 pub returns : goal.returns
 returns c =
     let m = c.args.machine.now in
