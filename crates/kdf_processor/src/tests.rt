@@ -40,7 +40,6 @@ impl Port for Bench {
         Ok(self.words[usize::from(address)])
     }
 
-    #[tactic(auto, using(crate::proofs::Groups::group_found, crate::proofs::Groups::group_before, crate::proofs::Groups::group_behind))]
     fn first_out(&self, first: u16, last: u16) -> Option<u16> {
         if self.out < first / 32 || last / 32 < self.out {
             return None;
@@ -304,6 +303,65 @@ fn programs(rt: HostRuntime) -> Result<(), Fail> {
             nest: &[],
             word: (31, 0xffff_ffff_e000),
         },
+        Case {
+            name: "JS to word 2, where SET 3; EXIT1 stand; behind it ZERO; OUT",
+            image: &[0xa000_0101_0101, 0xa100_0209_2101, 0xe000_03b2_0001],
+            size: 32,
+            orders: 10,
+            state: Life::Ended,
+            ran: 6,
+            at: (1, 5),
+            v: false,
+            nest: &[3],
+            word: (1, 0xa100_0209_2101),
+        },
+        Case {
+            name: "a link of syllable 6: SET; =LINK; EXIT",
+            image: &[0xa000_0101_0101, 0xe0c0_001e_b200, 0x0001_0101_0101],
+            size: 32,
+            orders: 10,
+            state: Life::Failed(Failure::Reset),
+            ran: 4,
+            at: (1, 4),
+            v: false,
+            nest: &[],
+            word: (0, 0xa000_0101_0101),
+        },
+        Case {
+            name: "V0 = Q5/1/65535; SET 4; =M2; V0; =Q1; M2M1Q reads word 3",
+            image: &[
+                0xa000_0201_0101,
+                0x0005_0001_ffff,
+                0xe000_0457_20c0,
+                0x0001_5410_4421,
+                0x0209_2101_0101,
+            ],
+            size: 32,
+            orders: 6,
+            state: Life::Live,
+            ran: 6,
+            at: (4, 0),
+            v: false,
+            nest: &[0x0001_5410_4421],
+            word: (1, 0x0005_0001_ffff),
+        },
+        Case {
+            name: "SET 3; =C1; then DC1 in a word, and J1C1NZS; ZERO; OUT in the next",
+            image: &[
+                0xa000_0101_0101,
+                0xe000_0355_1001,
+                0x6010_0101_0101,
+                0x6f10_0921_0101,
+            ],
+            size: 32,
+            orders: 100,
+            state: Life::Ended,
+            ran: 24,
+            at: (3, 4),
+            v: false,
+            nest: &[],
+            word: (31, 0),
+        },
     ];
     for case in cases {
         check(&rt, rt.alloc(), case)?;
@@ -314,7 +372,7 @@ fn programs(rt: HostRuntime) -> Result<(), Fail> {
 #[test]
 fn holds(rt: HostRuntime) -> Result<(), Fail> {
     // an image, the orders before the last, the group that is out, and how the last order goes until and when it is back
-    let cases: [(&[u64], u32, u16, Step, Step); 6] = [
+    let cases: [(&[u64], u32, u16, Step, Step); 7] = [
         // the first order
         (
             &[0xa000_0101_0101],
@@ -343,6 +401,14 @@ fn holds(rt: HostRuntime) -> Result<(), Fail> {
         (
             &[0xa000_0101_0101, 0xe000_c0d0_001f, 0xa0a0_1f01_0101],
             4,
+            1,
+            Step::Held(Need::Group(1)),
+            Step::Done,
+        ),
+        // SET 32; =M1; M1M0H, across words 1 and 2
+        (
+            &[0xa000_0101_0101, 0xe000_2057_1042, 0x1001_0101_0101],
+            3,
             1,
             Step::Held(Need::Group(1)),
             Step::Done,
@@ -378,6 +444,22 @@ fn holds(rt: HostRuntime) -> Result<(), Fail> {
             assert_eq!(rt; run(&mut registers, &mut bench, 1), then);
         }
         assert_eq!(rt; registers.ran, before + 1);
+    }
+    Ok(())
+}
+
+#[test]
+fn areas(rt: HostRuntime) -> Result<(), Fail> {
+    let bench = filled(rt.alloc(), 96, &[], 1)?;
+    for (first, last, group) in [
+        (0, 31, None),
+        (0, 32, Some(1)),
+        (40, 41, Some(1)),
+        (63, 64, Some(1)),
+        (64, 95, None),
+    ] {
+        assert!(rt; first <= last && usize::from(last) < bench.words.len());
+        assert_eq!(rt; bench.first_out(first, last), group);
     }
     Ok(())
 }
