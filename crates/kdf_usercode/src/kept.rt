@@ -25,6 +25,7 @@ impl Comments {
         ensures kept { result ≡ is_kept self.old.inside byte rest.now }
         ensures inside { self.new.inside ≡ inside_after self.old.inside byte rest.now }
         ensures open { self.new.open ≡ true → closes rest.now ≡ false }
+        ensures stays_open { self.old.open ≡ true → self.new.open ≡ true }
     {
         if self.inside {
             self.inside = byte != b')';
