@@ -1,5 +1,4 @@
 pub mod OctalDigits
-pub mod Nothing
 pub mod Texts
 pub mod Pushed
 pub mod CallBounds
