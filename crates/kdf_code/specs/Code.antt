@@ -1,11 +1,14 @@
 -- The codes of characters, and the bytes that the host has for them.
-use Rattle.std.specs.Prelude.{ℕ, ◌==◌, Option, slice_index, position}
-use Rattle.kdf_code.specs.declared.code.TheConstants.{HOST}
+use Rattle.std.specs.Prelude.{ℕ, ◌==◌, List, codes, Option, slice_index, position}
+
+-- the bytes that the host has for the codes 0 to 63; 2, 3 and 4 are the machine's new line, new page and tab, 61 is End Message
+abbrev pub bytes : List ℕ
+bytes = codes " \"~^_?%':=()$*,/0123456789`;+-.!@ABCDEFGHIJKLMNOPQRSTUVWXYZ[]|<>"
 
 -- the host's byte of a code: the byte at that place of the table
 unfoldable pub host_of : ℕ → ℕ
-host_of code = slice_index HOST code
+host_of code = slice_index bytes code
 
 -- the code of a byte of the host: its place in the table, if it stands there
 unfoldable pub code_of : ℕ → Option ℕ
-code_of byte = position (λ b. b == byte) HOST
+code_of byte = position (λ b. b == byte) bytes

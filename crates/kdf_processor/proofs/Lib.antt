@@ -4,4 +4,3 @@ pub mod RowFacts
 pub mod ByItself
 pub mod Syllables
 pub mod Groups
-pub mod Refusals

@@ -1,5 +1,5 @@
 -- What an order does, and what is done to a program beside its registers.
-use Rattle.std.specs.Prelude.{ℕ}
+use Rattle.std.specs.Prelude.{◌≡◌, ℕ, Bool, Result, MatchResult}
 use Rattle.kdf_processor.specs.declared.failure.Failure.{Failure}
 use Rattle.kdf_processor.specs.declared.registers.Registers.{Registers}
 
@@ -7,6 +7,20 @@ use Rattle.kdf_processor.specs.declared.registers.Registers.{Registers}
 pub data Change : Type 0 where
   Refused : (kind : Failure) → Change
   Going : (after : Registers) → Change
+
+-- What the condition of a jump decides: it fails, or the jump is taken or not, with these registers.
+pub data Decision : Type 0 where
+  Undecided : (kind : Failure) → Decision
+  Decided : (jumps : Bool) (after : Registers) → Decision
+
+-- A change comes out so: it went to these registers, or it was refused, and they are as they were.
+abbrev pub Comes : Change → (old new : Registers) → Result (Unit {0}) Failure → Type 0
+Comes change old new result = MatchResult result (λ _. change ≡ Going new) (λ kind. (change ≡ Refused kind) × (new ≡ old))
+
+-- And a decision likewise.
+abbrev pub Decides : Decision → (old new : Registers) → Result Bool Failure → Type 0
+Decides decision old new result =
+    MatchResult result (λ jumps. decision ≡ Decided jumps new) (λ kind. (decision ≡ Undecided kind) × (new ≡ old))
 
 -- What an order does. The registers that a constructor carries are those after it, not yet counted.
 -- Where they depend on a word of the store, it carries a function.

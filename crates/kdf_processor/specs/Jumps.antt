@@ -1,11 +1,8 @@
 -- What decides a jump.
-use Rattle.std.specs.Prelude.{◌≡◌, ℕ, Bool, true, false, not, ◌&&◌, ◌||◌}
+use Rattle.std.specs.Prelude.{ℕ, Bool, true, false, not, ◌&&◌, ◌||◌}
 use Rattle.kdf_processor.specs.declared.conditions.Sign.{Sign}
 use Rattle.kdf_processor.specs.declared.conditions.Sign.TheVariants.{Zero, NotZero, Positive, Negative, NotNegative, NotPositive}
-use Rattle.kdf_processor.specs.declared.failure.Failure.{Failure}
-use Rattle.kdf_processor.specs.declared.registers.Registers.{Registers}
-use Rattle.kdf_processor.specs.Effect.{Going, Refused}
-use Rattle.kdf_processor.specs.Table.{is_zero, is_negative, goes, jump_row}
+use Rattle.kdf_processor.specs.Table.{is_zero, is_negative}
 
 -- a word has this sign
 abbrev pub has_sign : Sign → ℕ → Bool
@@ -20,11 +17,3 @@ has_sign NotPositive w = is_zero w || is_negative w
 abbrev pub is_so : Bool → Bool → Bool
 is_so true test = test
 is_so false test = not test
-
--- a jump on the condition c comes to these registers, but for its target, and is taken or not
-abbrev pub Decides : Registers → ℕ → Registers → Bool → Type 0
-Decides old c new jumps = (target : ℕ) → jump_row old c target ≡ Going (goes new jumps target)
-
--- a jump on the condition c fails
-abbrev pub Refuses : Registers → ℕ → Failure → Type 0
-Refuses r c kind = (target : ℕ) → jump_row r c target ≡ Refused kind

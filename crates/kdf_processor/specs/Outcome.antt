@@ -1,5 +1,5 @@
 -- What obeying the next order comes to, over any port.
-use Rattle.std.specs.Prelude.{◌+◌, Option, Some, None}
+use Rattle.std.specs.Prelude.{◌≡◌, ◌+◌, Option, Some, None}
 use Rattle.kdf_processor.specs.declared.registers.Life.{Life}
 use Rattle.kdf_processor.specs.declared.registers.Life.TheVariants.{Ended, Failed}
 use Rattle.kdf_processor.specs.declared.registers.Registers.{Registers}
@@ -15,6 +15,13 @@ pub record Outcome : Type 0 where
   pub step : Step
   pub registers : Registers
   pub act : Act
+
+-- an order came to this outcome over a port
+pub record Obeyed {P : Type 0} (acts : P → Act → P → Type 0) (o : Outcome) (old new : P) (left : Registers) (ended : Step) : Type 0 where
+  pub step : ended ≡ o.step
+  pub registers : left ≡ o.registers
+  pub acted : acts old o.act new
+  pub unchanged : o.act ≡ Nothing → new ≡ old
 
 -- registers after one order more: the count and the life are set here alone
 abbrev pub counted : Registers → Life → Registers → Registers

@@ -1,16 +1,14 @@
 -- What a plan stands for.
-use Rattle.std.specs.Prelude.{◌≢◌, ℕ, ◌<◌, ◌≤◌, Option, Some, None, List, [], ◌∷◌, length}
+use Rattle.std.specs.Prelude.{◌≢◌, ℕ, ◌<◌, Option, Some, None, List, [], ◌∷◌, length}
 use Rattle.kdf_syllable.specs.declared.order.Order.{Order}
 use Rattle.kdf_syllable.specs.declared.order.Order.TheVariants as order
 use Rattle.kdf_syllable.specs.Spelling.{IsQ}
+use Rattle.kdf_processor.specs.declared.plan.Access.{Access}
 use Rattle.kdf_processor.specs.declared.plan.Plan.{Plan}
 use Rattle.kdf_processor.specs.declared.plan.Plan.TheVariants.{Fail, End, Fetch, Keep}
 use Rattle.kdf_processor.specs.declared.registers.Registers.{Registers}
-use Rattle.kdf_processor.specs.declared.step.Need.{Need}
-use Rattle.kdf_processor.specs.declared.step.Need.TheVariants.{Group}
 use Rattle.kdf_processor.specs.State.{Claims}
 use Rattle.kdf_processor.specs.Effect.{Effect, Failing, Ending, Fetching, Keeping, of_change}
-use Rattle.kdf_processor.specs.Needs.{group_of}
 use Rattle.kdf_processor.specs.Outcome.{Outcome, done, try_effect}
 use Rattle.kdf_processor.specs.View.{View}
 use Rattle.kdf_processor.specs.Table.{with_nest, part_of, with_part, counts_on, effect, change_of}
@@ -29,33 +27,31 @@ below_top (n1 ∷ below) = below
 abbrev pub planned : Plan → Registers → Effect
 planned (Fail kind) r = Failing kind
 planned End r = Ending (with_nest 1 (below_top r.nest) r)
-planned (Fetch n a half u q) r = Fetching a (λ w. with_nest n (part_of half w ∷ r.nest) (counts_on u q r))
-planned (Keep n a half u q) r = Keeping a (with_part half (top r.nest)) (with_nest n (below_top r.nest) (counts_on u q r))
-
--- what it needs
-abbrev pub plan_needs : Plan → List Need
-plan_needs (Fail kind) = []
-plan_needs End = []
-plan_needs (Fetch n a half u q) = Group (group_of a) ∷ []
-plan_needs (Keep n a half u q) = Group (group_of a) ∷ []
+planned (Fetch a) r = Fetching a.address (λ w. with_nest a.size (part_of a.half w ∷ r.nest) (counts_on a.u a.q r))
+planned (Keep a) r = Keeping a.address (with_part a.half (top r.nest)) (with_nest a.size (below_top r.nest) (counts_on a.u a.q r))
 
 abbrev pub IsHalf : Option ℕ → Type 0
 IsHalf None = Unit {0}
 IsHalf (Some half) = half < 2
 
--- its address is in the store, and its size, its half and its Q-store are some
+-- its address is in the store, and its half and its Q-store are some
+pub record IsAccess (c : Claims) (a : Access) : Type 0 where
+  pub address : a.address < c.size
+  pub half : IsHalf a.half
+  pub q : IsQ a.q
+
 abbrev pub IsSound : Claims → Plan → Type 0
 IsSound c (Fail kind) = Unit {0}
 IsSound c End = Unit {0}
-IsSound c (Fetch n a half u q) = (n ≤ 3) × (a < c.size) × IsHalf half × IsQ q
-IsSound c (Keep n a half u q) = (n ≤ 3) × (a < c.size) × IsHalf half × IsQ q
+IsSound c (Fetch a) = IsAccess c a
+IsSound c (Keep a) = IsAccess c a
 
 -- the nest has its operands, or room for its result
 abbrev pub HasOperands : List ℕ → Plan → Type 0
 HasOperands nest (Fail kind) = Unit {0}
 HasOperands nest End = 0 < length nest
-HasOperands nest (Fetch n a half u q) = length nest < 16
-HasOperands nest (Keep n a half u q) = 0 < length nest
+HasOperands nest (Fetch a) = length nest < 16
+HasOperands nest (Keep a) = 0 < length nest
 
 -- what comes of it where none of its needs is pending
 abbrev pub done_plan : View → Registers → Plan → Outcome

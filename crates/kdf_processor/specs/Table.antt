@@ -13,7 +13,7 @@ use Rattle.kdf_arith.specs.Arith.{Arith, arith}
 use Rattle.kdf_processor.specs.declared.failure.Failure.TheVariants.{Liv, Nouv, Out, Reset}
 use Rattle.kdf_processor.specs.declared.registers.Registers.{Registers}
 use Rattle.kdf_processor.specs.State.{Claims}
-use Rattle.kdf_processor.specs.Effect.{Change, Refused, Going, of_change, Effect, Failing, Ending, Fetching, Keeping}
+use Rattle.kdf_processor.specs.Effect.{Change, Refused, Going, Decision, Undecided, Decided, of_change, Effect, Failing, Ending, Fetching, Keeping}
 
 -- the syllable that follows n syllables on; they are counted modulo 6 times 8,192
 abbrev pub on : ℕ → ℕ → ℕ
@@ -108,35 +108,49 @@ changes_q r q t = Going (with_nest 2 r.nest (with_q q t r))
 abbrev pub short_loop : Registers → ℕ → Change
 short_loop r counter = if counter == 0 then Going (with_nest 2 r.nest r) else Going (record r { at = 6 * ((r.at / 6 + 8191) % 8192) })
 
+-- What is brought of a Q-store, of which t is the triple.
+unfoldable pub brought : ℕ → Triple → ℕ
+brought code t =
+    if code == 0x50 then word_of_triple t  -- Qq
+    else (if code == 0x51 then extended t.c  -- Cq
+    else (if code == 0x52 then extended t.i  -- Iq
+    else (if code == 0x53 then extended t.m  -- Mq
+    else 0)))
+
+-- What a Q-store becomes of the word on top.
+unfoldable pub from_top : ℕ → ℕ → Triple → Triple
+from_top code w t =
+    if code == 0x54 then triple_of w  -- =Qq
+    else (if code == 0x55 then record t { c = low w }  -- =Cq
+    else (if code == 0x56 then record t { i = low w }  -- =Iq
+    else (if code == 0x57 then record t { m = low w }  -- =Mq
+    else (if code == 0x58 then sum_of t (triple_of w)  -- =+Qq
+    else (if code == 0x59 then record t { c = sum_16 t.c (low w) }  -- =+Cq
+    else (if code == 0x5A then record t { i = sum_16 t.i (low w) }  -- =+Iq
+    else (if code == 0x5B then record t { m = sum_16 t.m (low w) }  -- =+Mq
+    else (if code == 0x5C then record { c = low w; i = 1; m = 0 }  -- =RCq
+    else (if code == 0x5D then record { c = 0; i = low w; m = 0 }  -- =RIq
+    else (if code == 0x5E then record { c = 0; i = 1; m = low w }  -- =RMq
+    else t))))))))))
+
+-- What it becomes of itself.
+unfoldable pub changed : ℕ → Triple → Triple
+changed code t =
+    if code == 0x5F then record t { c = difference_16 0 t.c }  -- NCq
+    else (if code == 0x60 then counted_down t  -- DCq
+    else (if code == 0x61 then record t { m = sum_16 t.m t.i }  -- M+Iq
+    else (if code == 0x62 then record t { m = difference_16 t.m t.i }  -- M-Iq
+    else t)))
+
 -- One Q-store, of which t is the triple.
 unfoldable pub single_row : Registers → ℕ → ℕ → Triple → Change
 single_row r code q t =
-    -- Qq, Cq, Iq, Mq
-    if code == 0x50 then pushes r 2 (word_of_triple t)
-    else (if code == 0x51 then pushes r 2 (extended t.c)
-    else (if code == 0x52 then pushes r 2 (extended t.i)
-    else (if code == 0x53 then pushes r 2 (extended t.m)
-    -- =Qq, =Cq, =Iq, =Mq
-    else (if code == 0x54 then sets_q r q triple_of
-    else (if code == 0x55 then sets_q r q (λ n1. record t { c = low n1 })
-    else (if code == 0x56 then sets_q r q (λ n1. record t { i = low n1 })
-    else (if code == 0x57 then sets_q r q (λ n1. record t { m = low n1 })
-    -- =+Qq, =+Cq, =+Iq, =+Mq
-    else (if code == 0x58 then sets_q r q (λ n1. sum_of t (triple_of n1))
-    else (if code == 0x59 then sets_q r q (λ n1. record t { c = sum_16 t.c (low n1) })
-    else (if code == 0x5A then sets_q r q (λ n1. record t { i = sum_16 t.i (low n1) })
-    else (if code == 0x5B then sets_q r q (λ n1. record t { m = sum_16 t.m (low n1) })
-    -- =RCq, =RIq, =RMq
-    else (if code == 0x5C then sets_q r q (λ n1. record { c = low n1; i = 1; m = 0 })
-    else (if code == 0x5D then sets_q r q (λ n1. record { c = 0; i = low n1; m = 0 })
-    else (if code == 0x5E then sets_q r q (λ n1. record { c = 0; i = 1; m = low n1 })
-    -- NCq, DCq, M+Iq, M-Iq
-    else (if code == 0x5F then changes_q r q (record t { c = difference_16 0 t.c })
-    else (if code == 0x60 then changes_q r q (counted_down t)
-    else (if code == 0x61 then changes_q r q (record t { m = sum_16 t.m t.i })
-    else (if code == 0x62 then changes_q r q (record t { m = difference_16 t.m t.i })
-    -- JCqNZS
-    else short_loop r t.c))))))))))))))))))
+    -- codes 50 to 53, 54 to 5E, 5F to 62
+    if nat_lt code 0x54 then pushes r 2 (brought code t)
+    else (if nat_lt code 0x5F then sets_q r q (λ n1. from_top code n1 t)
+    else (if nat_lt code 0x63 then changes_q r q (changed code t)
+    else (if code == 0x6F then short_loop r t.c  -- JCqNZS
+    else Refused Liv)))
 
 -- Copies: the parts of the first that are named, and of the second the others.
 unfoldable pub copied : ℕ → Triple → Triple → Triple
@@ -225,49 +239,51 @@ abbrev pub is_empty : List ℕ → Bool
 is_empty [] = true
 is_empty (x ∷ xs) = false
 
--- a jump by the top, which is erased
-abbrev pub jumps_by : Registers → (ℕ → Bool) → ℕ → Change
-jumps_by r test target = on_top (Refused Nouv) r.nest (λ n1 below. Going (goes (record r { nest = below }) (test n1) target))
+-- decided by the top, which is erased
+abbrev pub by_top : Registers → (ℕ → Bool) → Decision
+by_top r test = on_top (Undecided Nouv) r.nest (λ n1 below. Decided (test n1) (record r { nest = below }))
 
--- a jump by the two words on top, of which the first is erased
-abbrev pub jumps_by_two : Registers → (ℕ → ℕ → Bool) → ℕ → Change
-jumps_by_two r test target =
-    on_two (Refused Nouv) r.nest (λ n1 n2 below. Going (goes (record r { nest = n2 ∷ below }) (test n1 n2) target))
+-- decided by the two words on top, of which the first is erased
+abbrev pub by_two : Registers → (ℕ → ℕ → Bool) → Decision
+by_two r test = on_two (Undecided Nouv) r.nest (λ n1 n2 below. Decided (test n1 n2) (record r { nest = n2 ∷ below }))
 
 -- a subroutine jump, which pushes its own place as a link
-abbrev pub jumps_with_link : Registers → ℕ → Change
-jumps_with_link r target =
-    room (Refused Nouv) r.links (Going (goes (record r { links = (8192 * (r.at % 6) + r.at / 6) ∷ r.links }) true target))
+abbrev pub with_link : Registers → Decision
+with_link r = room (Undecided Nouv) r.links (Decided true (record r { links = (8192 * (r.at % 6) + r.at / 6) ∷ r.links }))
+
+-- What the condition of a jump decides.
+unfoldable pub decision : Registers → ℕ → Decision
+decision r c =
+    if nat_lt c 0x10 then Decided (is_zero (triple_at r.q c).c) r  -- JrCqZ
+    else (if nat_lt c 0x20 then Decided (not (is_zero (triple_at r.q (c - 0x10)).c)) r  -- JrCqNZ
+    else (if c == 0x20 then Decided true r  -- Jr
+    else (if c == 0x21 then with_link r  -- JSr
+    else (if c == 0x22 then by_two r (λ n1 n2. n1 == n2)  -- Jr=
+    else (if c == 0x23 then by_two r (λ n1 n2. not (n1 == n2))  -- Jr#
+    else (if c == 0x24 then by_top r is_zero  -- Jr=Z
+    else (if c == 0x25 then by_top r (λ n1. not (is_zero n1))  -- Jr#Z
+    else (if c == 0x26 then by_top r (λ n1. not (is_zero n1) && not (is_negative n1))  -- JrGTZ
+    else (if c == 0x27 then by_top r is_negative  -- JrLTZ
+    else (if c == 0x28 then by_top r (λ n1. not (is_negative n1))  -- JrGEZ
+    else (if c == 0x29 then by_top r (λ n1. is_zero n1 || is_negative n1)  -- JrLEZ
+    else (if c == 0x2A then Decided r.flags.v (with_v false r)  -- JrV
+    else (if c == 0x2B then Decided (not r.flags.v) (with_v false r)  -- JrNV
+    else (if c == 0x2C then Decided r.flags.tr (with_tr false r)  -- JrTR
+    else (if c == 0x2D then Decided (not r.flags.tr) (with_tr false r)  -- JrNTR
+    else (if c == 0x2E then Decided (is_empty r.nest) r  -- JrEN
+    else (if c == 0x2F then Decided (not (is_empty r.nest)) r  -- JrNEN
+    else (if c == 0x30 then Decided (is_empty r.links) r  -- JrEJ
+    else (if c == 0x31 then Decided (not (is_empty r.links)) r  -- JrNEJ
+    else Undecided Liv)))))))))))))))))))
+
+-- a jump that was decided so
+abbrev pub jumps_so : ℕ → Decision → Change
+jumps_so target (Undecided kind) = Refused kind
+jumps_so target (Decided jumps after) = Going (goes after jumps target)
 
 -- The jumps.
-unfoldable pub jump_row : Registers → ℕ → ℕ → Change
-jump_row r c target =
-    -- JrCqZ, JrCqNZ
-    if nat_lt c 0x10 then Going (goes r (is_zero (triple_at r.q c).c) target)
-    else (if nat_lt c 0x20 then Going (goes r (not (is_zero (triple_at r.q (c - 0x10)).c)) target)
-    -- Jr, JSr
-    else (if c == 0x20 then Going (goes r true target)
-    else (if c == 0x21 then jumps_with_link r target
-    -- Jr=, Jr#
-    else (if c == 0x22 then jumps_by_two r (λ n1 n2. n1 == n2) target
-    else (if c == 0x23 then jumps_by_two r (λ n1 n2. not (n1 == n2)) target
-    -- Jr=Z, Jr#Z, JrGTZ, JrLTZ, JrGEZ, JrLEZ
-    else (if c == 0x24 then jumps_by r is_zero target
-    else (if c == 0x25 then jumps_by r (λ n1. not (is_zero n1)) target
-    else (if c == 0x26 then jumps_by r (λ n1. not (is_zero n1) && not (is_negative n1)) target
-    else (if c == 0x27 then jumps_by r is_negative target
-    else (if c == 0x28 then jumps_by r (λ n1. not (is_negative n1)) target
-    else (if c == 0x29 then jumps_by r (λ n1. is_zero n1 || is_negative n1) target
-    -- JrV, JrNV, JrTR, JrNTR
-    else (if c == 0x2A then Going (goes (with_v false r) r.flags.v target)
-    else (if c == 0x2B then Going (goes (with_v false r) (not r.flags.v) target)
-    else (if c == 0x2C then Going (goes (with_tr false r) r.flags.tr target)
-    else (if c == 0x2D then Going (goes (with_tr false r) (not r.flags.tr) target)
-    -- JrEN, JrNEN, JrEJ, JrNEJ
-    else (if c == 0x2E then Going (goes r (is_empty r.nest) target)
-    else (if c == 0x2F then Going (goes r (not (is_empty r.nest)) target)
-    else (if c == 0x30 then Going (goes r (is_empty r.links) target)
-    else Going (goes r (not (is_empty r.links)) target)))))))))))))))))))
+abbrev pub jump_row : Registers → ℕ → ℕ → Change
+jump_row r c target = jumps_so target (decision r c)
 
 -- EXIT: a link is popped, and it goes on three times n syllables behind
 unfoldable pub exit_row : Registers → ℕ → List ℕ → Change

@@ -1,7 +1,6 @@
 //! The orders of arithmetic, over registers.
-ghost use Rattle.std.specs.Prelude.{◌≡◌, OnOk, IfErr, OnErr};
 ghost use Rattle.kdf_arith.specs.Arith.{arith, IsArithOrder};
-ghost use Rattle.kdf_processor.specs.Effect.{Going, Refused};
+ghost use Rattle.kdf_processor.specs.Effect.{Comes};
 ghost use Rattle.kdf_processor.specs.Table.{arith_changes};
 
 use crate::syllable_number::behind;
@@ -15,13 +14,9 @@ pub fn obey_arithmetic(
     order: ArithOrder,
 ) -> Result<(), Failure>
     requires { IsArithOrder order }
-    ensures ok { OnOk result (arith_changes size registers.old (arith order registers.old.nest registers.old.flags)
-        ≡ Going registers.new) }
-    ensures err { IfErr result (λ f.
-        arith_changes size registers.old (arith order registers.old.nest registers.old.flags) ≡ Refused f) }
-    ensures same { OnErr result (registers.new ≡ registers.old) }
-    ensures ran { registers.new.ran ≡ registers.old.ran }
-    ensures state { registers.new.state ≡ registers.old.state }
+    ensures { Comes
+        (arith_changes size registers.old (arith order registers.old.nest registers.old.flags))
+        registers.old registers.new result }
 {
     match obey_arith(&mut registers.nest, &mut registers.flags, order) {
         Ok(()) => {

@@ -1,7 +1,6 @@
 //! The orders that change registers alone.
-ghost use Rattle.std.specs.Prelude.{◌≡◌, OnOk, IfErr, OnErr};
 ghost use Rattle.kdf_syllable.specs.Spelling.{IsOrder};
-ghost use Rattle.kdf_processor.specs.Effect.{Going, Refused};
+ghost use Rattle.kdf_processor.specs.Effect.{Comes};
 ghost use Rattle.kdf_processor.specs.Plan.{IsChange};
 ghost use Rattle.kdf_processor.specs.Table.{change_of};
 
@@ -19,11 +18,7 @@ use kdf_syllable::Order;
 pub fn change(registers: &mut Registers, order: Order) -> Result<(), Failure>
     requires order { IsOrder order }
     requires change { IsChange order }
-    ensures ok { OnOk result (change_of registers.old order ≡ Going registers.new) }
-    ensures err { IfErr result (λ f. change_of registers.old order ≡ Refused f) }
-    ensures same { OnErr result (registers.new ≡ registers.old) }
-    ensures ran { registers.new.ran ≡ registers.old.ran }
-    ensures state { registers.new.state ≡ registers.old.state }
+    ensures { Comes (change_of registers.old order) registers.old registers.new result }
 {
     match order {
         Order::Plain { code } => plain(registers, code),

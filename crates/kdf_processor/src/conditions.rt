@@ -1,8 +1,9 @@
 //! The conditions of jumps.
-ghost use Rattle.std.specs.Prelude.{◌≡◌, ◌≤◌, ◌==◌, ℕ, true, false, IfOk, IfErr, OnErr};
-ghost use Rattle.kdf_processor.specs.Effect.{Going, Refused};
-ghost use Rattle.kdf_processor.specs.Jumps.{has_sign, is_so, Decides, Refuses};
-ghost use Rattle.kdf_processor.specs.Table.{goes, jumps_by, jumps_by_two, jumps_with_link, with_v, with_tr};
+ghost use Rattle.std.specs.Prelude.{◌≡◌, ◌≤◌, ◌==◌, false};
+ghost use Rattle.std.specs.Int.{IsInRange};
+ghost use Rattle.kdf_processor.specs.Effect.{Decided, Decides};
+ghost use Rattle.kdf_processor.specs.Jumps.{has_sign, is_so};
+ghost use Rattle.kdf_processor.specs.Table.{decision, by_top, by_two, with_link, with_v, with_tr};
 
 use crate::{Failure, Registers};
 use kdf_nest::DEPTH;
@@ -24,11 +25,7 @@ pub enum Sign {
 /// flag cleared and the link pushed.
 pub fn decide(registers: &mut Registers, c: u8) -> Result<bool, Failure>
     requires { c ≤ 0x31 }
-    ensures ok { IfOk result (λ jumps. Decides registers.old c registers.new jumps) }
-    ensures err { IfErr result (λ f. Refuses registers.old c f) }
-    ensures same { OnErr result (registers.new ≡ registers.old) }
-    ensures ran { registers.new.ran ≡ registers.old.ran }
-    ensures state { registers.new.state ≡ registers.old.state }
+    ensures { Decides (decision registers.old c) registers.old registers.new result }
 {
     match c {
         0x00..=0x20 => Ok(decide_by_counter(registers, c)),
@@ -40,10 +37,10 @@ pub fn decide(registers: &mut Registers, c: u8) -> Result<bool, Failure>
 }
 
 /// JrCqZ, JrCqNZ and Jr.
-#[tactic(auto, unfolding(crate::specs::Table::jump_row))]
+#[tactic(auto, unfolding(crate::specs::Table::decision))]
 fn decide_by_counter(registers: &Registers, c: u8) -> bool
     requires { c ≤ 0x20 }
-    ensures { Decides registers.now c registers.now result }
+    ensures { decision registers.now c ≡ Decided result registers.now }
 {
     match c {
         0x00..=0x0f => registers.q.part(c, Part::C) == 0,
@@ -53,15 +50,10 @@ fn decide_by_counter(registers: &Registers, c: u8) -> bool
 }
 
 /// JSr, Jr= and Jr#.
-#[tactic(auto, unfolding(crate::specs::Table::jump_row))]
+#[tactic(auto, unfolding(crate::specs::Table::decision))]
 fn decide_by_two(registers: &mut Registers, c: u8) -> Result<bool, Failure>
-    requires least { 0x21 ≤ c }
-    requires greatest { c ≤ 0x23 }
-    ensures ok { IfOk result (λ jumps. Decides registers.old c registers.new jumps) }
-    ensures err { IfErr result (λ f. Refuses registers.old c f) }
-    ensures same { OnErr result (registers.new ≡ registers.old) }
-    ensures ran { registers.new.ran ≡ registers.old.ran }
-    ensures state { registers.new.state ≡ registers.old.state }
+    requires { IsInRange 0x21 0x23 c }
+    ensures { Decides (decision registers.old c) registers.old registers.new result }
 {
     match c {
         0x21 => push_link(registers),
@@ -71,15 +63,10 @@ fn decide_by_two(registers: &mut Registers, c: u8) -> Result<bool, Failure>
 }
 
 /// Jr=Z, Jr#Z, JrGTZ, JrLTZ, JrGEZ and JrLEZ.
-#[tactic(auto, unfolding(crate::specs::Table::jump_row))]
+#[tactic(auto, unfolding(crate::specs::Table::decision))]
 fn decide_by_top(registers: &mut Registers, c: u8) -> Result<bool, Failure>
-    requires least { 0x24 ≤ c }
-    requires greatest { c ≤ 0x29 }
-    ensures ok { IfOk result (λ jumps. Decides registers.old c registers.new jumps) }
-    ensures err { IfErr result (λ f. Refuses registers.old c f) }
-    ensures same { OnErr result (registers.new ≡ registers.old) }
-    ensures ran { registers.new.ran ≡ registers.old.ran }
-    ensures state { registers.new.state ≡ registers.old.state }
+    requires { IsInRange 0x24 0x29 c }
+    ensures { Decides (decision registers.old c) registers.old registers.new result }
 {
     match c {
         0x24 => test_top(registers, Sign::Zero),
@@ -92,13 +79,10 @@ fn decide_by_top(registers: &mut Registers, c: u8) -> Result<bool, Failure>
 }
 
 /// JrV, JrNV, JrTR and JrNTR.
-#[tactic(auto, unfolding(crate::specs::Table::jump_row))]
+#[tactic(auto, unfolding(crate::specs::Table::decision))]
 fn decide_by_flag(registers: &mut Registers, c: u8) -> bool
-    requires least { 0x2A ≤ c }
-    requires greatest { c ≤ 0x2D }
-    ensures decides { Decides registers.old c registers.new result }
-    ensures ran { registers.new.ran ≡ registers.old.ran }
-    ensures state { registers.new.state ≡ registers.old.state }
+    requires { IsInRange 0x2A 0x2D c }
+    ensures { decision registers.old c ≡ Decided result registers.new }
 {
     match c {
         0x2a => take_v(registers),
@@ -109,11 +93,10 @@ fn decide_by_flag(registers: &mut Registers, c: u8) -> bool
 }
 
 /// JrEN, JrNEN, JrEJ and JrNEJ.
-#[tactic(auto, unfolding(crate::specs::Table::jump_row))]
+#[tactic(auto, unfolding(crate::specs::Table::decision))]
 fn decide_by_depth(registers: &Registers, c: u8) -> bool
-    requires least { 0x2E ≤ c }
-    requires greatest { c ≤ 0x31 }
-    ensures { Decides registers.now c registers.now result }
+    requires { IsInRange 0x2E 0x31 c }
+    ensures { decision registers.now c ≡ Decided result registers.now }
 {
     match c {
         0x2e => registers.nest.depth() == 0,
@@ -125,12 +108,7 @@ fn decide_by_depth(registers: &Registers, c: u8) -> bool
 
 /// Pushes the place of the order itself as a link, or fails where there is no room.
 fn push_link(registers: &mut Registers) -> Result<bool, Failure>
-    ensures ok { IfOk result (λ jumps. (target : ℕ) →
-        jumps_with_link registers.old target ≡ Going (goes registers.new jumps target)) }
-    ensures err { IfErr result (λ f. (target : ℕ) → jumps_with_link registers.old target ≡ Refused f) }
-    ensures same { OnErr result (registers.new ≡ registers.old) }
-    ensures ran { registers.new.ran ≡ registers.old.ran }
-    ensures state { registers.new.state ≡ registers.old.state }
+    ensures { Decides (with_link registers.old) registers.old registers.new result }
 {
     if registers.links.depth() == DEPTH {
         return Err(Failure::Nouv);
@@ -142,13 +120,7 @@ fn push_link(registers: &mut Registers) -> Result<bool, Failure>
 
 /// Erases the top, and tells whether it was equal to the word below, or where that is wanted, whether it wasn't.
 fn compare(registers: &mut Registers, wanted: bool) -> Result<bool, Failure>
-    ensures ok { IfOk result (λ jumps. (target : ℕ) →
-        jumps_by_two registers.old (λ n1 n2. is_so wanted (n1 == n2)) target ≡ Going (goes registers.new jumps target)) }
-    ensures err { IfErr result (λ f. (target : ℕ) →
-        jumps_by_two registers.old (λ n1 n2. is_so wanted (n1 == n2)) target ≡ Refused f) }
-    ensures same { OnErr result (registers.new ≡ registers.old) }
-    ensures ran { registers.new.ran ≡ registers.old.ran }
-    ensures state { registers.new.state ≡ registers.old.state }
+    ensures { Decides (by_two registers.old (λ n1 n2. is_so wanted (n1 == n2))) registers.old registers.new result }
 {
     if registers.nest.depth() < 2 {
         return Err(Failure::Nouv);
@@ -160,12 +132,7 @@ fn compare(registers: &mut Registers, wanted: bool) -> Result<bool, Failure>
 
 /// Erases the top, and tells whether it had this sign.
 fn test_top(registers: &mut Registers, sign: Sign) -> Result<bool, Failure>
-    ensures ok { IfOk result (λ jumps. (target : ℕ) →
-        jumps_by registers.old (has_sign sign) target ≡ Going (goes registers.new jumps target)) }
-    ensures err { IfErr result (λ f. (target : ℕ) → jumps_by registers.old (has_sign sign) target ≡ Refused f) }
-    ensures same { OnErr result (registers.new ≡ registers.old) }
-    ensures ran { registers.new.ran ≡ registers.old.ran }
-    ensures state { registers.new.state ≡ registers.old.state }
+    ensures { Decides (by_top registers.old (has_sign sign)) registers.old registers.new result }
 {
     if registers.nest.depth() == 0 {
         return Err(Failure::Nouv);

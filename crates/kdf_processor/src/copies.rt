@@ -1,13 +1,13 @@
 //! The copies of parts of one Q-store to another.
-ghost use Rattle.std.specs.Prelude.{◌≡◌, OnOk, IfErr, OnErr};
+ghost use Rattle.std.specs.Prelude.{◌≡◌};
 ghost use Rattle.kdf_syllable.specs.declared.order.Order.TheVariants as order;
 ghost use Rattle.kdf_syllable.specs.Spelling.{IsOrder};
 ghost use Rattle.kdf_qstore.specs.Triples.{triple_at};
 ghost use Rattle.std.specs.Int.{IsInRange};
-ghost use Rattle.kdf_processor.specs.Effect.{Going, Refused};
+ghost use Rattle.kdf_processor.specs.Effect.{Comes};
 ghost use Rattle.kdf_processor.specs.Table.{changes_q, copied};
 
-use crate::syllable_number::behind;
+use crate::q_store::leave;
 use crate::{Failure, Registers};
 use kdf_qstore::Triple;
 
@@ -31,16 +31,11 @@ fn copied(code: u8, from: Triple, to: Triple) -> Triple
 /// A copy of parts of Qq to Qk.
 pub fn copy(registers: &mut Registers, code: u8, q: u8, k: u8) -> Result<(), Failure>
     requires { IsOrder (order.Copies code q k) }
-    ensures ok { OnOk result (
-        changes_q registers.old k (copied code (triple_at registers.old.q q) (triple_at registers.old.q k)) ≡ Going registers.new) }
-    ensures err { IfErr result (λ f.
-        changes_q registers.old k (copied code (triple_at registers.old.q q) (triple_at registers.old.q k)) ≡ Refused f) }
-    ensures same { OnErr result (registers.new ≡ registers.old) }
-    ensures ran { registers.new.ran ≡ registers.old.ran }
-    ensures state { registers.new.state ≡ registers.old.state }
+    ensures { Comes
+        (changes_q registers.old k (copied code (triple_at registers.old.q q) (triple_at registers.old.q k)))
+        registers.old registers.new result }
 {
     let triple = copied(code, registers.q.triple(q), registers.q.triple(k));
-    registers.q.keep(k, triple);
-    registers.at = behind(registers.at, 2);
+    leave(registers, k, triple);
     Ok(())
 }

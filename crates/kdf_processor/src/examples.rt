@@ -1,5 +1,5 @@
 //! Examples of the rows at the ends of their operands, each computed from the table, as the contract of a function that does nothing.
-#![tactic(auto, unfolding(crate::specs::Table::plain_row, crate::specs::Table::single_row, crate::specs::Table::copied, crate::specs::Table::indirect_effect, crate::specs::Table::direct_effect, crate::specs::Table::jump_row, crate::specs::Table::exit_row, crate::specs::Table::guarded, kdf_arith::specs::Arith::arith, kdf_arith::specs::Rows::plain_row, kdf_arith::specs::Shifts::shift_row))]
+#![tactic(auto, unfolding(crate::specs::Table::plain_row, crate::specs::Table::single_row, crate::specs::Table::brought, crate::specs::Table::from_top, crate::specs::Table::changed, crate::specs::Table::copied, crate::specs::Table::indirect_effect, crate::specs::Table::direct_effect, crate::specs::Table::decision, crate::specs::Table::exit_row, crate::specs::Table::guarded, kdf_arith::specs::Arith::arith, kdf_arith::specs::Rows::plain_row, kdf_arith::specs::Shifts::shift_row))]
 
 ghost use Rattle.std.specs.Prelude.{◌≡◌, ◌+◌, ◌-◌, ◌*◌, ◌^◌, [], ◌∷◌, replicate, true, false, pos, negsuc};
 ghost use Rattle.kdf_syllable.specs.declared.amount.Amount.TheVariants.{Fixed, Count};

@@ -1,6 +1,5 @@
 //! The return from a subroutine.
-ghost use Rattle.std.specs.Prelude.{◌≡◌, OnOk, IfErr, OnErr};
-ghost use Rattle.kdf_processor.specs.Effect.{Going, Refused};
+ghost use Rattle.kdf_processor.specs.Effect.{Comes};
 ghost use Rattle.kdf_processor.specs.Table.{exit_row};
 
 use crate::syllable_number::behind;
@@ -9,11 +8,7 @@ use crate::{Failure, Registers};
 /// EXIT.
 #[tactic(auto, unfolding(crate::specs::Table::exit_row))]
 pub fn exit(registers: &mut Registers, n: u8) -> Result<(), Failure>
-    ensures ok { OnOk result (exit_row registers.old n registers.old.links ≡ Going registers.new) }
-    ensures err { IfErr result (λ f. exit_row registers.old n registers.old.links ≡ Refused f) }
-    ensures same { OnErr result (registers.new ≡ registers.old) }
-    ensures ran { registers.new.ran ≡ registers.old.ran }
-    ensures state { registers.new.state ≡ registers.old.state }
+    ensures { Comes (exit_row registers.old n registers.old.links) registers.old registers.new result }
 {
     if registers.links.depth() == 0 {
         return Err(Failure::Nouv);

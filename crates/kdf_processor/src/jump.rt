@@ -1,8 +1,8 @@
 //! Jumps.
-ghost use Rattle.std.specs.Prelude.{◌≡◌, OnOk, IfErr, OnErr};
+ghost use Rattle.std.specs.Prelude.{◌≡◌};
 ghost use Rattle.kdf_syllable.specs.declared.order.Order.TheVariants as order;
 ghost use Rattle.kdf_syllable.specs.Spelling.{IsOrder};
-ghost use Rattle.kdf_processor.specs.Effect.{Going, Refused};
+ghost use Rattle.kdf_processor.specs.Effect.{Comes};
 ghost use Rattle.kdf_processor.specs.Table.{jump_row, goes};
 
 use crate::conditions::decide;
@@ -12,11 +12,7 @@ use crate::{Failure, Registers};
 /// A jump on the condition `c`.
 pub fn jump(registers: &mut Registers, c: u8, target: u16) -> Result<(), Failure>
     requires { IsOrder (order.Jump c target) }
-    ensures ok { OnOk result (jump_row registers.old c target ≡ Going registers.new) }
-    ensures err { IfErr result (λ f. jump_row registers.old c target ≡ Refused f) }
-    ensures same { OnErr result (registers.new ≡ registers.old) }
-    ensures ran { registers.new.ran ≡ registers.old.ran }
-    ensures state { registers.new.state ≡ registers.old.state }
+    ensures { Comes (jump_row registers.old c target) registers.old registers.new result }
 {
     let jumps = decide(registers, c)?;
     go(registers, jumps, target);

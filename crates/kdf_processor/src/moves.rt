@@ -2,9 +2,10 @@
 ghost use Rattle.std.specs.Prelude.{◌≡◌, ◌<◌, ◌∷◌, false, length};
 ghost use Rattle.kdf_syllable.specs.Spelling.{IsQ};
 ghost use Rattle.kdf_processor.specs.Needs.{group_of};
-ghost use Rattle.kdf_processor.specs.Plan.{IsHalf, below_top, top};
+ghost use Rattle.kdf_processor.specs.Plan.{IsAccess, IsHalf, below_top, top};
 ghost use Rattle.kdf_processor.specs.Table.{with_nest, part_of, with_part, counts_on};
 
+use crate::plan::Access;
 use crate::syllable_number::behind;
 use crate::{Port, Registers};
 use kdf_word::Word;
@@ -21,14 +22,13 @@ fn part(word: Word, half: Option<u8>) -> Word
 }
 
 /// What is kept at an address: the word, or its first half in a half of the word that is there.
-pub fn merged<P: Port>(port: &P, address: u16, half: Option<u8>, word: Word) -> Word
-    requires half { IsHalf half }
-    requires inside { address < (P.shows port.now).claims.size }
-    requires free { (P.shows port.now).is_out (group_of address) ≡ false }
-    ensures { result ≡ with_part half word ((P.shows port.now).word address) }
+pub fn merged<P: Port>(port: &P, access: Access, word: Word) -> Word
+    requires access { IsAccess (P.shows port.now).claims access }
+    requires free { (P.shows port.now).is_out (group_of access.address) ≡ false }
+    ensures { result ≡ with_part access.half word ((P.shows port.now).word access.address) }
 {
-    match half {
-        Some(i) => match port.read(address) {
+    match access.half {
+        Some(i) => match port.read(access.address) {
             Ok(old) => old.with_half(i, word),
             Err(_) => unreachable!(),
         },
@@ -46,34 +46,29 @@ fn count_on(registers: &mut Registers, u: bool, q: u8)
     }
 }
 
-/// Pushes what was fetched, behind an order of `size` syllables.
-pub fn push_fetched(
-    registers: &mut Registers,
-    size: u16,
-    word: Word,
-    half: Option<u8>,
-    u: bool,
-    q: u8,
-)
+/// Pushes what was fetched.
+pub fn push_fetched(registers: &mut Registers, access: Access, word: Word)
     requires room { length registers.old.nest < 16 }
-    requires half { IsHalf half }
-    requires q { IsQ q }
-    ensures { registers.new ≡ with_nest size (part_of half word ∷ registers.old.nest) (counts_on u q registers.old) }
+    requires half { IsHalf access.half }
+    requires q { IsQ access.q }
+    ensures { registers.new
+        ≡ with_nest access.size (part_of access.half word ∷ registers.old.nest) (counts_on access.u access.q registers.old) }
 {
-    count_on(registers, u, q);
-    registers.nest.push(part(word, half));
-    registers.at = behind(registers.at, size);
+    count_on(registers, access.u, access.q);
+    registers.nest.push(part(word, access.half));
+    registers.at = behind(registers.at, access.size);
 }
 
-/// Takes the word that is to be kept, behind an order of `size` syllables.
-pub fn pop_kept(registers: &mut Registers, size: u16, u: bool, q: u8) -> Word
+/// Takes the word that is to be kept.
+pub fn pop_kept(registers: &mut Registers, access: Access) -> Word
     requires there { 0 < length registers.old.nest }
-    requires q { IsQ q }
+    requires q { IsQ access.q }
     ensures top { result ≡ top registers.old.nest }
-    ensures registers { registers.new ≡ with_nest size (below_top registers.old.nest) (counts_on u q registers.old) }
+    ensures registers { registers.new
+        ≡ with_nest access.size (below_top registers.old.nest) (counts_on access.u access.q registers.old) }
 {
     let word = registers.nest.pop();
-    count_on(registers, u, q);
-    registers.at = behind(registers.at, size);
+    count_on(registers, access.u, access.q);
+    registers.at = behind(registers.at, access.size);
     word
 }

@@ -1,16 +1,18 @@
 //! Obeying one order over any port.
-ghost use Rattle.std.specs.Prelude.{◌≡◌, ◌<◌, None};
+ghost use Rattle.std.specs.Prelude.{◌≡◌, ◌<◌, None, false, length};
 ghost use Rattle.kdf_syllable.specs.Spelling.{IsOrder};
 ghost use Rattle.kdf_processor.specs.Effect.{Nothing};
-ghost use Rattle.kdf_processor.specs.Outcome.{outcome, counted};
-ghost use Rattle.kdf_processor.specs.Plan.{plan_needs, done_plan, try_plan, try_change, try_order};
-ghost use Rattle.kdf_processor.specs.Plan.{IsSound, IsChange, HasOperands};
+ghost use Rattle.kdf_processor.specs.Needs.{effect_needs, group_of};
+ghost use Rattle.kdf_processor.specs.Outcome.{Obeyed, outcome, counted};
+ghost use Rattle.kdf_processor.specs.Plan.{planned, done_plan, try_plan, try_change, try_order};
+ghost use Rattle.kdf_processor.specs.Plan.{IsAccess, IsSound, IsChange, HasOperands, below_top};
+ghost use Rattle.kdf_processor.specs.Table.{with_nest};
 ghost use Rattle.kdf_processor.specs.View.{first_pending};
 
 use crate::change::change;
 use crate::fetch::{Fetched, fetch};
 use crate::moves::{merged, pop_kept, push_fetched};
-use crate::plan::{Plan, first_need, plan_of};
+use crate::plan::{Access, Plan, first_need, plan_of};
 use crate::syllable_number::behind;
 use crate::{Failure, Life, Need, Port, Registers, Step};
 use kdf_syllable::Order;
@@ -23,54 +25,79 @@ fn count(registers: &mut Registers)
     registers.ran += 1;
 }
 
+/// Fails.
+fn fail(registers: &mut Registers, kind: Failure) -> Step
+    requires { registers.old.ran < u32.MAX }
+    ensures step { result ≡ Step.Fails kind }
+    ensures registers { registers.new ≡ counted registers.old (Life.Failed kind) registers.old }
+{
+    registers.state = Life::Failed(kind);
+    count(registers);
+    Step::Fails(kind)
+}
+
+/// Takes the top, and ends the program.
+fn end(registers: &mut Registers) -> Step
+    requires ran { registers.old.ran < u32.MAX }
+    requires there { 0 < length registers.old.nest }
+    ensures step { result ≡ Step.Ends }
+    ensures registers { registers.new ≡ counted registers.old Life.Ended (with_nest 1 (below_top registers.old.nest) registers.old) }
+{
+    registers.nest.pop();
+    registers.at = behind(registers.at, 1);
+    registers.state = Life::Ended;
+    count(registers);
+    Step::Ends
+}
+
+/// Pushes what is fetched.
+fn fetch_word<P: Port>(registers: &mut Registers, port: &P, access: Access) -> Step
+    requires ran { registers.old.ran < u32.MAX }
+    requires access { IsAccess (P.shows port.now).claims access }
+    requires room { length registers.old.nest < 16 }
+    requires free { (P.shows port.now).is_out (group_of access.address) ≡ false }
+    ensures step { result ≡ Step.Done }
+    ensures registers { registers.new ≡ (done_plan (P.shows port.now) registers.old (Plan.Fetch access)).registers }
+{
+    match port.read(access.address) {
+        Ok(word) => push_fetched(registers, access, word),
+        Err(_) => unreachable!(),
+    }
+    count(registers);
+    Step::Done
+}
+
+/// Takes the top, and keeps it.
+fn keep_word<P: Port>(registers: &mut Registers, port: &mut P, access: Access) -> Step
+    requires ran { registers.old.ran < u32.MAX }
+    requires access { IsAccess (P.shows port.old).claims access }
+    requires there { 0 < length registers.old.nest }
+    requires free { (P.shows port.old).is_out (group_of access.address) ≡ false }
+    requires room { P.room port.old (done_plan (P.shows port.old) registers.old (Plan.Keep access)).act }
+    ensures { Obeyed P.acts (done_plan (P.shows port.old) registers.old (Plan.Keep access)) port.old port.new registers.new result }
+{
+    let top = pop_kept(registers, access);
+    let word = merged(port, access, top);
+    let _ = port.write(access.address, word);
+    count(registers);
+    Step::Done
+}
+
 /// Carries out a plan none of whose needs is pending.
 fn carry_out<P: Port>(registers: &mut Registers, port: &mut P, plan: Plan) -> Step
     requires ran { registers.old.ran < u32.MAX }
     requires sound { IsSound (P.shows port.old).claims plan }
     requires operands { HasOperands registers.old.nest plan }
-    requires free { first_pending (P.shows port.old) (plan_needs plan) ≡ None }
+    requires free { first_pending (P.shows port.old) (effect_needs (planned plan registers.old)) ≡ None }
     requires room { P.room port.old (done_plan (P.shows port.old) registers.old plan).act }
-    ensures step { result ≡ (done_plan (P.shows port.old) registers.old plan).step }
-    ensures registers { registers.new ≡ (done_plan (P.shows port.old) registers.old plan).registers }
-    ensures acted { P.acts port.old (done_plan (P.shows port.old) registers.old plan).act port.new }
-    ensures unchanged { (done_plan (P.shows port.old) registers.old plan).act ≡ Nothing → port.new ≡ port.old }
+    ensures { Obeyed P.acts (done_plan (P.shows port.old) registers.old plan) port.old port.new registers.new result }
 {
     match plan {
-        Plan::Fail(kind) => {
-            registers.state = Life::Failed(kind);
-            count(registers);
-            return Step::Fails(kind);
-        }
-        Plan::End => {
-            registers.nest.pop();
-            registers.at = behind(registers.at, 1);
-            registers.state = Life::Ended;
-            count(registers);
-            return Step::Ends;
-        }
-        Plan::Fetch {
-            size,
-            address,
-            half,
-            u,
-            q,
-        } => match port.read(address) {
-            Ok(word) => push_fetched(registers, size, word, half, u, q),
-            Err(_) => unreachable!(),
-        },
-        Plan::Keep {
-            size,
-            address,
-            half,
-            u,
-            q,
-        } => {
-            let word = merged(port, address, half, pop_kept(registers, size, u, q));
-            let _ = port.write(address, word);
-        }
+        Plan::Fail(kind) => fail(registers, kind),
+        Plan::End => end(registers),
+        Plan::Fetch(access) => fetch_word(registers, port, access),
+        Plan::Keep(access) => keep_word(registers, port, access),
     }
-    count(registers);
-    Step::Done
 }
 
 /// Holds the program up, or carries the plan out.
@@ -79,10 +106,7 @@ fn obey_plan<P: Port>(registers: &mut Registers, port: &mut P, plan: Plan) -> St
     requires sound { IsSound (P.shows port.old).claims plan }
     requires operands { HasOperands registers.old.nest plan }
     requires room { P.room port.old (try_plan (P.shows port.old) registers.old plan).act }
-    ensures step { result ≡ (try_plan (P.shows port.old) registers.old plan).step }
-    ensures registers { registers.new ≡ (try_plan (P.shows port.old) registers.old plan).registers }
-    ensures acted { P.acts port.old (try_plan (P.shows port.old) registers.old plan).act port.new }
-    ensures unchanged { (try_plan (P.shows port.old) registers.old plan).act ≡ Nothing → port.new ≡ port.old }
+    ensures { Obeyed P.acts (try_plan (P.shows port.old) registers.old plan) port.old port.new registers.new result }
 {
     match first_need(port, plan) {
         Some(need) => Step::Held(need),
@@ -92,18 +116,18 @@ fn obey_plan<P: Port>(registers: &mut Registers, port: &mut P, plan: Plan) -> St
 
 /// Obeys an order that changes registers alone.
 fn obey_change<P: Port>(registers: &mut Registers, port: &mut P, order: Order) -> Step
+    requires live { registers.old.state ≡ Life.Live }
     requires ran { registers.old.ran < u32.MAX }
     requires order { IsOrder order }
     requires change { IsChange order }
     requires room { P.room port.old (try_change (P.shows port.old) registers.old order).act }
-    ensures step { result ≡ (try_change (P.shows port.old) registers.old order).step }
-    ensures registers { registers.new ≡ (try_change (P.shows port.old) registers.old order).registers }
-    ensures acted { P.acts port.old (try_change (P.shows port.old) registers.old order).act port.new }
-    ensures unchanged { (try_change (P.shows port.old) registers.old order).act ≡ Nothing → port.new ≡ port.old }
+    ensures { Obeyed P.acts (try_change (P.shows port.old) registers.old order) port.old port.new registers.new result }
 {
+    let ran = registers.ran;
     match change(registers, order) {
         Ok(()) => {
-            count(registers);
+            registers.ran = ran + 1;
+            registers.state = Life::Live;
             Step::Done
         }
         Err(kind) => obey_plan(registers, port, Plan::Fail(kind)),
@@ -112,13 +136,11 @@ fn obey_change<P: Port>(registers: &mut Registers, port: &mut P, order: Order) -
 
 /// Obeys an order that was fetched.
 fn obey_order<P: Port>(registers: &mut Registers, port: &mut P, order: Order) -> Step
+    requires live { registers.old.state ≡ Life.Live }
     requires ran { registers.old.ran < u32.MAX }
     requires order { IsOrder order }
     requires room { P.room port.old (try_order (P.shows port.old) registers.old order).act }
-    ensures step { result ≡ (try_order (P.shows port.old) registers.old order).step }
-    ensures registers { registers.new ≡ (try_order (P.shows port.old) registers.old order).registers }
-    ensures acted { P.acts port.old (try_order (P.shows port.old) registers.old order).act port.new }
-    ensures unchanged { (try_order (P.shows port.old) registers.old order).act ≡ Nothing → port.new ≡ port.old }
+    ensures { Obeyed P.acts (try_order (P.shows port.old) registers.old order) port.old port.new registers.new result }
 {
     match plan_of(registers, port, order) {
         Some(plan) => obey_plan(registers, port, plan),

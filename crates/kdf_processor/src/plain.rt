@@ -1,8 +1,8 @@
 //! The orders of one syllable, other than OUT.
-ghost use Rattle.std.specs.Prelude.{◌≡◌, ◌≢◌, OnOk, IfErr, OnErr};
+ghost use Rattle.std.specs.Prelude.{◌≢◌};
 ghost use Rattle.kdf_syllable.specs.declared.order.Order.TheVariants as order;
 ghost use Rattle.kdf_syllable.specs.Spelling.{IsOrder};
-ghost use Rattle.kdf_processor.specs.Effect.{Going, Refused};
+ghost use Rattle.kdf_processor.specs.Effect.{Comes};
 ghost use Rattle.kdf_processor.specs.Table.{plain_row, link_row, keep_link_row};
 
 use crate::arithmetic::obey_arithmetic;
@@ -18,11 +18,7 @@ use kdf_word::Word;
 pub fn plain(registers: &mut Registers, code: u8) -> Result<(), Failure>
     requires order { IsOrder (order.Plain code) }
     requires not_out { code ≢ 0x21 }
-    ensures ok { OnOk result (plain_row registers.old code ≡ Going registers.new) }
-    ensures err { IfErr result (λ f. plain_row registers.old code ≡ Refused f) }
-    ensures same { OnErr result (registers.new ≡ registers.old) }
-    ensures ran { registers.new.ran ≡ registers.old.ran }
-    ensures state { registers.new.state ≡ registers.old.state }
+    ensures { Comes (plain_row registers.old code) registers.old registers.new result }
 {
     match code {
         0x01 => {
@@ -37,11 +33,7 @@ pub fn plain(registers: &mut Registers, code: u8) -> Result<(), Failure>
 
 /// LINK.
 fn link(registers: &mut Registers) -> Result<(), Failure>
-    ensures ok { OnOk result (link_row registers.old registers.old.links ≡ Going registers.new) }
-    ensures err { IfErr result (λ f. link_row registers.old registers.old.links ≡ Refused f) }
-    ensures same { OnErr result (registers.new ≡ registers.old) }
-    ensures ran { registers.new.ran ≡ registers.old.ran }
-    ensures state { registers.new.state ≡ registers.old.state }
+    ensures { Comes (link_row registers.old registers.old.links) registers.old registers.new result }
 {
     if registers.links.depth() == 0 || registers.nest.depth() == DEPTH {
         return Err(Failure::Nouv);
@@ -54,11 +46,7 @@ fn link(registers: &mut Registers) -> Result<(), Failure>
 
 /// =LINK.
 fn keep_link(registers: &mut Registers) -> Result<(), Failure>
-    ensures ok { OnOk result (keep_link_row registers.old ≡ Going registers.new) }
-    ensures err { IfErr result (λ f. keep_link_row registers.old ≡ Refused f) }
-    ensures same { OnErr result (registers.new ≡ registers.old) }
-    ensures ran { registers.new.ran ≡ registers.old.ran }
-    ensures state { registers.new.state ≡ registers.old.state }
+    ensures { Comes (keep_link_row registers.old) registers.old registers.new result }
 {
     if registers.nest.depth() == 0 || registers.links.depth() == DEPTH {
         return Err(Failure::Nouv);

@@ -2,7 +2,8 @@
 ghost use Rattle.std.specs.Prelude.{◌≡◌, ◌≤◌, IfSome, IfNone};
 ghost use Rattle.kdf_syllable.specs.Spelling.{IsOrder, IsQ};
 ghost use Rattle.kdf_processor.specs.Effect.{of_change};
-ghost use Rattle.kdf_processor.specs.Plan.{planned, plan_needs, IsSound, IsHalf, IsChange, HasOperands};
+ghost use Rattle.kdf_processor.specs.Needs.{effect_needs};
+ghost use Rattle.kdf_processor.specs.Plan.{planned, IsSound, IsHalf, IsChange, HasOperands};
 ghost use Rattle.kdf_processor.specs.Table.{effect, change_of, guarded, moves};
 ghost use Rattle.kdf_processor.specs.View.{first_pending};
 
@@ -11,6 +12,18 @@ use kdf_nest::DEPTH;
 use kdf_qstore::Part;
 use kdf_syllable::Order;
 
+/// A word of the store that an order fetches or keeps, or a half of it.
+#[derive(Clone, Copy, Debug)]
+pub struct Access {
+    /// How many syllables the order has.
+    pub size: u16,
+    pub address: u16,
+    pub half: Option<u8>,
+    /// The order has the suffix Q, and counts Qq on.
+    pub u: bool,
+    pub q: u8,
+}
+
 /// What an order does that isn't a change of registers alone.
 #[derive(Clone, Copy, Debug)]
 pub enum Plan {
@@ -18,23 +31,10 @@ pub enum Plan {
     Fail(Failure),
     /// It ends the program, and takes the top.
     End,
-    /// An order of `size` syllables pushes the word at an address, or a half of it. The suffix Q,
-    /// where `u` is true, counts Qq on.
-    Fetch {
-        size: u16,
-        address: u16,
-        half: Option<u8>,
-        u: bool,
-        q: u8,
-    },
-    /// It takes the top, and keeps it at an address, or in a half of the word there.
-    Keep {
-        size: u16,
-        address: u16,
-        half: Option<u8>,
-        u: bool,
-        q: u8,
-    },
+    /// It pushes what is fetched.
+    Fetch(Access),
+    /// It takes the top, and keeps it.
+    Keep(Access),
 }
 
 /// OUT.
@@ -53,57 +53,27 @@ fn plan_out<P: Port>(registers: &Registers, port: &P) -> Plan
     }
 }
 
-/// A place in the store, and what else an order on it has: how many syllables, and the Q-store that is counted on.
-#[derive(Clone, Copy)]
-struct Place {
-    size: u16,
-    address: u16,
-    half: Option<u8>,
-    u: bool,
-    q: u8,
-}
-
 /// A fetch of a word or a half, or a store where `t` is true.
 #[tactic(auto, unfolding(crate::specs::Table::guarded))]
-fn plan_move<P: Port>(registers: &Registers, port: &P, t: bool, place: Place) -> Plan
-    requires size { place.size ≤ 3 }
-    requires half { IsHalf place.half }
-    requires q { IsQ place.q }
-    ensures effect { guarded (P.shows port.now).claims (moves t registers.now place.size place.address place.half place.u place.q)
+fn plan_move<P: Port>(registers: &Registers, port: &P, t: bool, access: Access) -> Plan
+    requires half { IsHalf access.half }
+    requires q { IsQ access.q }
+    ensures effect { guarded (P.shows port.now).claims (moves t registers.now access.size access.address access.half access.u access.q)
         ≡ planned result registers.now }
     ensures sound { IsSound (P.shows port.now).claims result }
     ensures operands { HasOperands registers.now.nest result }
 {
-    let Place {
-        size,
-        address,
-        half,
-        u,
-        q,
-    } = place;
     let depth = registers.nest.depth();
     if t && depth == 0 || !t && depth == DEPTH {
         return Plan::Fail(Failure::Nouv);
     }
-    if address >= port.size() {
+    if access.address >= port.size() {
         return Plan::Fail(Failure::Liv);
     }
     if t {
-        Plan::Keep {
-            size,
-            address,
-            half,
-            u,
-            q,
-        }
+        Plan::Keep(access)
     } else {
-        Plan::Fetch {
-            size,
-            address,
-            half,
-            u,
-            q,
-        }
+        Plan::Fetch(access)
     }
 }
 
@@ -115,14 +85,14 @@ fn plan_direct<P: Port>(registers: &Registers, port: &P, t: bool, u: bool, q: u8
     ensures sound { IsSound (P.shows port.now).claims result }
     ensures operands { HasOperands registers.now.nest result }
 {
-    let place = Place {
+    let access = Access {
         size: 3,
         address: a.wrapping_add(registers.q.part(q, Part::M)),
         half: None,
         u,
         q,
     };
-    plan_move(registers, port, t, place)
+    plan_move(registers, port, t, access)
 }
 
 /// MkMq and =MkMq.
@@ -142,14 +112,14 @@ fn plan_indirect<P: Port>(registers: &Registers, port: &P, code: u8, k: u8, q: u
     };
     let base = registers.q.part(k, Part::M);
     let sum = u32::from(base) + u32::from(step) + u32::from(code % 2);
-    let place = Place {
+    let access = Access {
         size: 2,
         address: (sum % (1 << 16)) as u16,
         half,
         u: code / 4 % 2 == 1,
         q,
     };
-    plan_move(registers, port, code / 8 % 2 == 1, place)
+    plan_move(registers, port, code / 8 % 2 == 1, access)
 }
 
 /// The plan of an order, or none where it changes registers alone.
@@ -174,13 +144,12 @@ pub fn plan_of<P: Port>(registers: &Registers, port: &P, order: Order) -> Option
 /// The first need of a plan that is pending.
 pub fn first_need<P: Port>(port: &P, plan: Plan) -> Option<Need>
     requires { IsSound (P.shows port.now).claims plan }
-    ensures { result ≡ first_pending (P.shows port.now) (plan_needs plan) }
+    ensures { (r : Registers) → result ≡ first_pending (P.shows port.now) (effect_needs (planned plan r)) }
 {
     match plan {
         Plan::Fail(_) | Plan::End => None,
-        Plan::Fetch { address, .. } | Plan::Keep { address, .. } => port
-            .read(address)
-            .err()
-            .map(Need::Group),
+        Plan::Fetch(access) | Plan::Keep(access) => {
+            port.read(access.address).err().map(Need::Group)
+        }
     }
 }

@@ -1,6 +1,5 @@
 //! Words that orders bring to the nest.
-ghost use Rattle.std.specs.Prelude.{◌≡◌, OnOk, IfErr, OnErr};
-ghost use Rattle.kdf_processor.specs.Effect.{Going, Refused};
+ghost use Rattle.kdf_processor.specs.Effect.{Comes};
 ghost use Rattle.kdf_processor.specs.Table.{pushes, extended};
 
 use crate::syllable_number::behind;
@@ -10,11 +9,7 @@ use kdf_word::Word;
 
 /// Pushes a word behind an order of `size` syllables, or fails where there is no room.
 pub fn push(registers: &mut Registers, size: u16, word: Word) -> Result<(), Failure>
-    ensures ok { OnOk result (pushes registers.old size word ≡ Going registers.new) }
-    ensures err { IfErr result (λ f. pushes registers.old size word ≡ Refused f) }
-    ensures same { OnErr result (registers.new ≡ registers.old) }
-    ensures ran { registers.new.ran ≡ registers.old.ran }
-    ensures state { registers.new.state ≡ registers.old.state }
+    ensures { Comes (pushes registers.old size word) registers.old registers.new result }
 {
     if registers.nest.depth() == DEPTH {
         return Err(Failure::Nouv);
@@ -26,22 +21,14 @@ pub fn push(registers: &mut Registers, size: u16, word: Word) -> Result<(), Fail
 
 /// Pushes a part of 16 bits, its sign extended.
 pub fn push_part(registers: &mut Registers, size: u16, part: u16) -> Result<(), Failure>
-    ensures ok { OnOk result (pushes registers.old size (extended part) ≡ Going registers.new) }
-    ensures err { IfErr result (λ f. pushes registers.old size (extended part) ≡ Refused f) }
-    ensures same { OnErr result (registers.new ≡ registers.old) }
-    ensures ran { registers.new.ran ≡ registers.old.ran }
-    ensures state { registers.new.state ≡ registers.old.state }
+    ensures { Comes (pushes registers.old size (extended part)) registers.old registers.new result }
 {
     push(registers, size, Word::extend(part))
 }
 
 /// SET.
 pub fn set(registers: &mut Registers, constant: u16) -> Result<(), Failure>
-    ensures ok { OnOk result (pushes registers.old 3 (extended constant) ≡ Going registers.new) }
-    ensures err { IfErr result (λ f. pushes registers.old 3 (extended constant) ≡ Refused f) }
-    ensures same { OnErr result (registers.new ≡ registers.old) }
-    ensures ran { registers.new.ran ≡ registers.old.ran }
-    ensures state { registers.new.state ≡ registers.old.state }
+    ensures { Comes (pushes registers.old 3 (extended constant)) registers.old registers.new result }
 {
     push_part(registers, 3, constant)
 }

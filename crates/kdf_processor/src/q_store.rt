@@ -1,14 +1,12 @@
-//! One Q-store, brought to the nest, set from it, or changed.
-ghost use Rattle.std.specs.Prelude.{◌≡◌, OnOk, IfErr, OnErr};
+//! What becomes of one Q-store, or is brought of it.
+ghost use Rattle.std.specs.Prelude.{◌≡◌};
+ghost use Rattle.std.specs.Int.{IsInRange};
 ghost use Rattle.kdf_syllable.specs.Spelling.{IsQ};
-ghost use Rattle.kdf_qstore.specs.Triples.{triple_at, triple_of, word_of_triple, part_of, with_part, sum_of, with_sum, reset, negated, increased, decreased, counted_down};
-ghost use Rattle.kdf_processor.specs.Effect.{Going, Refused};
-ghost use Rattle.kdf_processor.specs.Table.{pushes, extended, sets_q, changes_q, low};
+ghost use Rattle.kdf_processor.specs.Table.{brought, from_top, changed, low, with_nest, with_q};
 
-use crate::push::{push, push_part};
+use crate::Registers;
 use crate::syllable_number::behind;
-use crate::{Failure, Registers};
-use kdf_qstore::Part;
+use kdf_qstore::{Part, Triple};
 use kdf_word::Word;
 
 /// The low 16 bits of a word.
@@ -18,174 +16,60 @@ pub fn low(word: Word) -> u16
     (word.bits() % (1 << 16)) as u16
 }
 
-/// Brings Qq to the nest.
-pub fn bring_all(registers: &mut Registers, q: u8) -> Result<(), Failure>
-    requires { IsQ q }
-    ensures ok { OnOk result (pushes registers.old 2 (word_of_triple (triple_at registers.old.q q)) ≡ Going registers.new) }
-    ensures err { IfErr result (λ f. pushes registers.old 2 (word_of_triple (triple_at registers.old.q q)) ≡ Refused f) }
-    ensures same { OnErr result (registers.new ≡ registers.old) }
-    ensures ran { registers.new.ran ≡ registers.old.ran }
-    ensures state { registers.new.state ≡ registers.old.state }
+/// The word that is brought of a Q-store.
+#[tactic(auto, unfolding(crate::specs::Table::brought))]
+pub fn brought(code: u8, triple: Triple) -> Word
+    requires { IsInRange 0x50 0x53 code }
+    ensures { result ≡ brought code triple }
 {
-    let word = registers.q.get(q);
-    push(registers, 2, word)
-}
-
-/// Brings a part of Qq to the nest.
-pub fn bring_part(registers: &mut Registers, q: u8, part: Part) -> Result<(), Failure>
-    requires { IsQ q }
-    ensures ok { OnOk result (pushes registers.old 2 (extended (part_of part (triple_at registers.old.q q))) ≡ Going registers.new) }
-    ensures err { IfErr result (λ f. pushes registers.old 2 (extended (part_of part (triple_at registers.old.q q))) ≡ Refused f) }
-    ensures same { OnErr result (registers.new ≡ registers.old) }
-    ensures ran { registers.new.ran ≡ registers.old.ran }
-    ensures state { registers.new.state ≡ registers.old.state }
-{
-    let value = registers.q.part(q, part);
-    push_part(registers, 2, value)
-}
-
-/// Sets Qq from the top.
-pub fn set_all(registers: &mut Registers, q: u8) -> Result<(), Failure>
-    requires { IsQ q }
-    ensures ok { OnOk result (sets_q registers.old q triple_of ≡ Going registers.new) }
-    ensures err { IfErr result (λ f. sets_q registers.old q triple_of ≡ Refused f) }
-    ensures same { OnErr result (registers.new ≡ registers.old) }
-    ensures ran { registers.new.ran ≡ registers.old.ran }
-    ensures state { registers.new.state ≡ registers.old.state }
-{
-    if registers.nest.depth() == 0 {
-        return Err(Failure::Nouv);
+    match code {
+        0x50 => triple.word(),
+        0x51 => Word::extend(triple.c),
+        0x52 => Word::extend(triple.i),
+        _ => Word::extend(triple.m),
     }
-    let word = registers.nest.pop();
-    registers.q.set(q, word);
-    registers.at = behind(registers.at, 2);
-    Ok(())
 }
 
-/// Sets a part of Qq from the top.
-pub fn set_part(registers: &mut Registers, q: u8, part: Part) -> Result<(), Failure>
-    requires { IsQ q }
-    ensures ok { OnOk result (sets_q registers.old q (λ n1. with_part part (low n1) (triple_at registers.old.q q)) ≡ Going registers.new) }
-    ensures err { IfErr result (λ f. sets_q registers.old q (λ n1. with_part part (low n1) (triple_at registers.old.q q)) ≡ Refused f) }
-    ensures same { OnErr result (registers.new ≡ registers.old) }
-    ensures ran { registers.new.ran ≡ registers.old.ran }
-    ensures state { registers.new.state ≡ registers.old.state }
+/// What a Q-store becomes of the word on top.
+#[tactic(auto, unfolding(crate::specs::Table::from_top))]
+pub fn from_top(code: u8, word: Word, triple: Triple) -> Triple
+    requires { IsInRange 0x54 0x5E code }
+    ensures { result ≡ from_top code word triple }
 {
-    if registers.nest.depth() == 0 {
-        return Err(Failure::Nouv);
+    match code {
+        0x54 => Triple::of(word),
+        0x55 => triple.with_part(Part::C, low(word)),
+        0x56 => triple.with_part(Part::I, low(word)),
+        0x57 => triple.with_part(Part::M, low(word)),
+        0x58 => triple.add(Triple::of(word)),
+        0x59 => triple.add_part(Part::C, low(word)),
+        0x5a => triple.add_part(Part::I, low(word)),
+        0x5b => triple.add_part(Part::M, low(word)),
+        0x5c => Triple::reset(Part::C, low(word)),
+        0x5d => Triple::reset(Part::I, low(word)),
+        _ => Triple::reset(Part::M, low(word)),
     }
-    let word = registers.nest.pop();
-    registers.q.set_part(q, part, low(word));
-    registers.at = behind(registers.at, 2);
-    Ok(())
 }
 
-/// Adds the top to Qq.
-pub fn add_all(registers: &mut Registers, q: u8) -> Result<(), Failure>
-    requires { IsQ q }
-    ensures ok { OnOk result (sets_q registers.old q (λ n1. sum_of (triple_at registers.old.q q) (triple_of n1)) ≡ Going registers.new) }
-    ensures err { IfErr result (λ f. sets_q registers.old q (λ n1. sum_of (triple_at registers.old.q q) (triple_of n1)) ≡ Refused f) }
-    ensures same { OnErr result (registers.new ≡ registers.old) }
-    ensures ran { registers.new.ran ≡ registers.old.ran }
-    ensures state { registers.new.state ≡ registers.old.state }
+/// What a Q-store becomes of itself.
+#[tactic(auto, unfolding(crate::specs::Table::changed))]
+pub fn changed(code: u8, triple: Triple) -> Triple
+    requires { IsInRange 0x5F 0x62 code }
+    ensures { result ≡ changed code triple }
 {
-    if registers.nest.depth() == 0 {
-        return Err(Failure::Nouv);
+    match code {
+        0x5f => triple.negated(),
+        0x60 => triple.counted_down(),
+        0x61 => triple.increased(),
+        _ => triple.decreased(),
     }
-    let word = registers.nest.pop();
-    registers.q.add(q, word);
-    registers.at = behind(registers.at, 2);
-    Ok(())
 }
 
-/// Adds the top to a part of Qq.
-pub fn add_part(registers: &mut Registers, q: u8, part: Part) -> Result<(), Failure>
+/// Leaves these parts in Qq, behind an order of two syllables.
+pub fn leave(registers: &mut Registers, q: u8, triple: Triple)
     requires { IsQ q }
-    ensures ok { OnOk result (sets_q registers.old q (λ n1. with_sum part (low n1) (triple_at registers.old.q q)) ≡ Going registers.new) }
-    ensures err { IfErr result (λ f. sets_q registers.old q (λ n1. with_sum part (low n1) (triple_at registers.old.q q)) ≡ Refused f) }
-    ensures same { OnErr result (registers.new ≡ registers.old) }
-    ensures ran { registers.new.ran ≡ registers.old.ran }
-    ensures state { registers.new.state ≡ registers.old.state }
+    ensures { registers.new ≡ with_nest 2 registers.old.nest (with_q q triple registers.old) }
 {
-    if registers.nest.depth() == 0 {
-        return Err(Failure::Nouv);
-    }
-    let word = registers.nest.pop();
-    registers.q.add_part(q, part, low(word));
+    registers.q.keep(q, triple);
     registers.at = behind(registers.at, 2);
-    Ok(())
-}
-
-/// Sets a part of Qq from the top, and resets the others.
-pub fn reset_part(registers: &mut Registers, q: u8, part: Part) -> Result<(), Failure>
-    requires { IsQ q }
-    ensures ok { OnOk result (sets_q registers.old q (λ n1. reset part (low n1)) ≡ Going registers.new) }
-    ensures err { IfErr result (λ f. sets_q registers.old q (λ n1. reset part (low n1)) ≡ Refused f) }
-    ensures same { OnErr result (registers.new ≡ registers.old) }
-    ensures ran { registers.new.ran ≡ registers.old.ran }
-    ensures state { registers.new.state ≡ registers.old.state }
-{
-    if registers.nest.depth() == 0 {
-        return Err(Failure::Nouv);
-    }
-    let word = registers.nest.pop();
-    registers.q.reset_part(q, part, low(word));
-    registers.at = behind(registers.at, 2);
-    Ok(())
-}
-
-/// Changes the sign of Cq.
-pub fn negate_count(registers: &mut Registers, q: u8) -> Result<(), Failure>
-    requires { IsQ q }
-    ensures ok { OnOk result (changes_q registers.old q (negated (triple_at registers.old.q q)) ≡ Going registers.new) }
-    ensures err { IfErr result (λ f. changes_q registers.old q (negated (triple_at registers.old.q q)) ≡ Refused f) }
-    ensures same { OnErr result (registers.new ≡ registers.old) }
-    ensures ran { registers.new.ran ≡ registers.old.ran }
-    ensures state { registers.new.state ≡ registers.old.state }
-{
-    registers.q.negate_count(q);
-    registers.at = behind(registers.at, 2);
-    Ok(())
-}
-
-/// Takes 1 from Cq.
-pub fn count_down(registers: &mut Registers, q: u8) -> Result<(), Failure>
-    requires { IsQ q }
-    ensures ok { OnOk result (changes_q registers.old q (counted_down (triple_at registers.old.q q)) ≡ Going registers.new) }
-    ensures err { IfErr result (λ f. changes_q registers.old q (counted_down (triple_at registers.old.q q)) ≡ Refused f) }
-    ensures same { OnErr result (registers.new ≡ registers.old) }
-    ensures ran { registers.new.ran ≡ registers.old.ran }
-    ensures state { registers.new.state ≡ registers.old.state }
-{
-    registers.q.count_down(q);
-    registers.at = behind(registers.at, 2);
-    Ok(())
-}
-
-/// Adds Iq to Mq.
-pub fn increase(registers: &mut Registers, q: u8) -> Result<(), Failure>
-    requires { IsQ q }
-    ensures ok { OnOk result (changes_q registers.old q (increased (triple_at registers.old.q q)) ≡ Going registers.new) }
-    ensures err { IfErr result (λ f. changes_q registers.old q (increased (triple_at registers.old.q q)) ≡ Refused f) }
-    ensures same { OnErr result (registers.new ≡ registers.old) }
-    ensures ran { registers.new.ran ≡ registers.old.ran }
-    ensures state { registers.new.state ≡ registers.old.state }
-{
-    registers.q.increase(q);
-    registers.at = behind(registers.at, 2);
-    Ok(())
-}
-
-/// Takes Iq from Mq.
-pub fn decrease(registers: &mut Registers, q: u8) -> Result<(), Failure>
-    requires { IsQ q }
-    ensures ok { OnOk result (changes_q registers.old q (decreased (triple_at registers.old.q q)) ≡ Going registers.new) }
-    ensures err { IfErr result (λ f. changes_q registers.old q (decreased (triple_at registers.old.q q)) ≡ Refused f) }
-    ensures same { OnErr result (registers.new ≡ registers.old) }
-    ensures ran { registers.new.ran ≡ registers.old.ran }
-    ensures state { registers.new.state ≡ registers.old.state }
-{
-    registers.q.decrease(q);
-    registers.at = behind(registers.at, 2);
-    Ok(())
 }

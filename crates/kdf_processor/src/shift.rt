@@ -1,10 +1,10 @@
 //! The shifts.
-ghost use Rattle.std.specs.Prelude.{◌≡◌, OnOk, IfErr, OnErr};
+ghost use Rattle.std.specs.Prelude.{◌≡◌};
 ghost use Rattle.kdf_syllable.specs.declared.order.Order.TheVariants as order;
 ghost use Rattle.kdf_syllable.specs.Spelling.{IsOrder, IsAmount};
 ghost use Rattle.kdf_arith.specs.Arith.{arith};
 ghost use Rattle.kdf_arith.specs.declared.order.ArithOrder.TheVariants as arithmetic;
-ghost use Rattle.kdf_processor.specs.Effect.{Going, Refused};
+ghost use Rattle.kdf_processor.specs.Effect.{Comes};
 ghost use Rattle.kdf_processor.specs.Table.{arith_changes, places_of};
 
 use crate::arithmetic::obey_arithmetic;
@@ -27,15 +27,9 @@ fn places(registers: &Registers, by: Amount) -> i16
 /// A shift.
 pub fn shift(registers: &mut Registers, code: u8, by: Amount) -> Result<(), Failure>
     requires { IsOrder (order.Shift code by) }
-    ensures ok { OnOk result (
-        arith_changes 2 registers.old (arith (arithmetic.Shift code (places_of registers.old by)) registers.old.nest registers.old.flags)
-        ≡ Going registers.new) }
-    ensures err { IfErr result (λ f.
-        arith_changes 2 registers.old (arith (arithmetic.Shift code (places_of registers.old by)) registers.old.nest registers.old.flags)
-        ≡ Refused f) }
-    ensures same { OnErr result (registers.new ≡ registers.old) }
-    ensures ran { registers.new.ran ≡ registers.old.ran }
-    ensures state { registers.new.state ≡ registers.old.state }
+    ensures { Comes
+        (arith_changes 2 registers.old (arith (arithmetic.Shift code (places_of registers.old by)) registers.old.nest registers.old.flags))
+        registers.old registers.new result }
 {
     let n = places(registers, by);
     obey_arithmetic(registers, 2, ArithOrder::Shift { code, n })

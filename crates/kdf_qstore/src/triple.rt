@@ -18,7 +18,7 @@ pub struct Triple {
 
 impl Triple {
     /// The triple in a word.
-    pub(crate) fn of(word: Word) -> Triple
+    pub fn of(word: Word) -> Triple
         ensures { result ≡ triple_of word }
     {
         let bits = word.bits();
@@ -30,14 +30,14 @@ impl Triple {
     }
 
     /// The word in which it stands.
-    pub(crate) fn word(self) -> Word
+    pub fn word(self) -> Word
         ensures { result ≡ word_of_triple self }
     {
         Word::new((u64::from(self.c) << 32) + (u64::from(self.i) << 16) + u64::from(self.m))
     }
 
     /// One of its parts.
-    pub(crate) fn part(self, part: Part) -> u16
+    pub fn part(self, part: Part) -> u16
         ensures { result ≡ part_of part self }
     {
         match part {
@@ -48,7 +48,7 @@ impl Triple {
     }
 
     /// The triple with one part changed.
-    pub(crate) fn with_part(self, part: Part, value: u16) -> Triple
+    pub fn with_part(self, part: Part, value: u16) -> Triple
         ensures { result ≡ with_part part value self }
     {
         match part {
@@ -59,7 +59,7 @@ impl Triple {
     }
 
     /// The sums of its parts and those of another, each modulo 2^16.
-    pub(crate) fn add(self, other: Triple) -> Triple
+    pub fn add(self, other: Triple) -> Triple
         ensures { result ≡ sum_of self other }
     {
         Triple {
@@ -70,21 +70,21 @@ impl Triple {
     }
 
     /// The triple with a number added to one part, modulo 2^16.
-    pub(crate) fn add_part(self, part: Part, value: u16) -> Triple
+    pub fn add_part(self, part: Part, value: u16) -> Triple
         ensures { result ≡ with_sum part value self }
     {
         self.with_part(part, self.part(part).wrapping_add(value))
     }
 
     /// The triple of this part beside a C of 0, an I of 1 and an M of 0.
-    pub(crate) fn reset(part: Part, value: u16) -> Triple
+    pub fn reset(part: Part, value: u16) -> Triple
         ensures { result ≡ reset part value }
     {
         Triple { c: 0, i: 1, m: 0 }.with_part(part, value)
     }
 
     /// The triple with the sign of C changed, modulo 2^16.
-    pub(crate) fn negated(self) -> Triple
+    pub fn negated(self) -> Triple
         ensures { result ≡ negated self }
     {
         Triple {
@@ -94,7 +94,7 @@ impl Triple {
     }
 
     /// The triple with I added to M, modulo 2^16.
-    pub(crate) fn increased(self) -> Triple
+    pub fn increased(self) -> Triple
         ensures { result ≡ increased self }
     {
         Triple {
@@ -104,7 +104,7 @@ impl Triple {
     }
 
     /// The triple with I taken from M, modulo 2^16.
-    pub(crate) fn decreased(self) -> Triple
+    pub fn decreased(self) -> Triple
         ensures { result ≡ decreased self }
     {
         Triple {
@@ -114,7 +114,7 @@ impl Triple {
     }
 
     /// The triple with 1 taken from C, modulo 2^16.
-    pub(crate) fn counted_down(self) -> Triple
+    pub fn counted_down(self) -> Triple
         ensures { result ≡ counted_down self }
     {
         Triple {
@@ -124,7 +124,7 @@ impl Triple {
     }
 
     /// The triple with I added to M and 1 taken from C, each modulo 2^16.
-    pub(crate) fn stepped(self) -> Triple
+    pub fn stepped(self) -> Triple
         ensures { result ≡ stepped self }
     {
         self.increased().counted_down()

@@ -7,7 +7,7 @@ use Rattle.kdf_arith.specs.Rows.{plain_row as arith_row}
 use Rattle.kdf_processor.specs.Lone.{lone}
 use Rattle.kdf_decode.specs.Decoding.{decoded}
 use Rattle.kdf_processor.specs.State.{begin}
-use Rattle.kdf_processor.specs.Table.{plain_row, out_effect, jump_row, direct_effect, guarded}
+use Rattle.kdf_processor.specs.Table.{plain_row, out_effect, decision, direct_effect, guarded}
 use Rattle.kdf_syllable.specs.Spelling.{spelling}
 use Rattle.kdf_usercode.specs.declared.fault.DeckFault.TheVariants.{NoFinish, BadNumber, YRange, TooLarge}
 use Rattle.kdf_usercode.specs.Constants.{address_item, number_item, item_form, triple_form, octal_value, characters_value, value_form, constant_form}
@@ -55,23 +55,23 @@ abbrev run : ℕ → ℕ → List ℕ → Looked
 run a n image = looked a (lone (begin 32 image) [] n)
 
 pub adding_ends : looked 3 (alone adding 7) ≡ record { life = Ended; ran = 7; at = 18; nest = []; v = false; word = 12 }
-unfolding arith arith_row decoded plain_row out_effect jump_row direct_effect guarded
+unfolding arith arith_row decoded plain_row out_effect decision direct_effect guarded
 adding_ends = ap (run 3 7) adding_image
 
 pub adding_stops : looked 3 (alone adding 4) ≡ record { life = Live; ran = 4; at = 13; nest = 12 ∷ []; v = false; word = 0 }
-unfolding arith arith_row decoded plain_row out_effect jump_row direct_effect guarded
+unfolding arith arith_row decoded plain_row out_effect decision direct_effect guarded
 adding_stops = ap (run 3 4) adding_image
 
 pub zeros_fail : looked 31 (alone seventeen_zeros 18) ≡ record { life = Failed Nouv; ran = 18; at = 22; nest = replicate 16 0; v = false; word = 0 }
-unfolding arith arith_row decoded plain_row out_effect jump_row direct_effect guarded
+unfolding arith arith_row decoded plain_row out_effect decision direct_effect guarded
 zeros_fail = ap (run 31 18) zeros_image
 
 pub nothing_fails : looked 0 (alone nothing 2) ≡ record { life = Failed Liv; ran = 2; at = 6; nest = []; v = false; word = 0o5000000100200401 }
-unfolding arith arith_row decoded plain_row out_effect jump_row direct_effect guarded
+unfolding arith arith_row decoded plain_row out_effect decision direct_effect guarded
 nothing_fails = ap (run 0 2) nothing_image
 
 pub parts_add : looked 6 (alone of_two_parts 9) ≡ record { life = Ended; ran = 9; at = 23; nest = []; v = false; word = 42 }
-unfolding arith arith_row decoded plain_row out_effect jump_row direct_effect guarded
+unfolding arith arith_row decoded plain_row out_effect decision direct_effect guarded
 parts_add = ap (run 6 9) two_parts_image
 
 -- faults of decks
