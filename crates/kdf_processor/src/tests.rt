@@ -22,9 +22,16 @@ impl Port for Bench {
     ghost use Rattle.std.specs.Prelude.{◌≡◌, ◌==◌, vec_len, slice_index, refl};
     ghost use Rattle.kdf_processor.specs.Row.{at_once};
 
-    ghost shows = { λ b. record { claims = record { size = vec_len b.words }; word = slice_index b.words.items; is_out = λ g. g == b.out } };
+    ghost shows = { λ b. record {
+        claims = record { size = vec_len b.words };
+        word = slice_index b.words.items;
+        is_out = λ g. g == b.out;
+    } };
 
-    ghost acts = { λ b act c. (at_once act (record { claims = record { size = 0 }; asked = 0; store = b.words.items }) ≡ record { claims = record { size = 0 }; asked = 0; store = c.words.items }) × (c.out ≡ b.out) };
+    ghost acts = { λ b act c.
+        (at_once act (record { claims = record { size = 0 }; asked = 0; store = b.words.items })
+        ≡ record { claims = record { size = 0 }; asked = 0; store = c.words.items })
+        × (c.out ≡ b.out) };
 
     ghost room = { λ b act. Unit {0} };
 
@@ -371,7 +378,8 @@ fn programs(rt: HostRuntime) -> Result<(), Fail> {
 
 #[test]
 fn holds(rt: HostRuntime) -> Result<(), Fail> {
-    // an image, the orders before the last, the group that is out, and how the last order goes until and when it is back
+    // an image, the orders before the last, the group that is out, and how the last order goes until it is back
+    // and then
     let cases: [(&[u64], u32, u16, Step, Step); 7] = [
         // the first order
         (
