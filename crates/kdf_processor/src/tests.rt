@@ -23,9 +23,9 @@ impl Port for Bench {
     ghost use Rattle.kdf_processor.specs.Row.{at_once};
 
     ghost shows = { λ b. record {
-        claims = record { size = vec_len b.words };
-        word = slice_index b.words.items;
-        is_out = λ g. g == b.out;
+      claims = record { size = vec_len b.words };
+      word = slice_index b.words.items;
+      is_out = λ g. g == b.out;
     } };
 
     ghost acts = { λ b act c.
