@@ -1,5 +1,5 @@
 -- BITS of large words: their ones are counted by parts.
-use Rattle.std.proofs.Common.{◌≡◌, ℕ, ◌+◌, ◌*◌, ◌^◌, ◌<◌, [], ◌∷◌, ap, ◌∙◌, arith}
+use Rattle.std.proofs.Common.{◌≡◌, ℕ, ◌+◌, ◌*◌, ◌^◌, [], ◌∷◌, ap, ◌∙◌, arith}
 use Rattle.std.specs.Prelude.{count_ones}
 use Rattle.std.specs.Int.Count.{ones-ones}
 use Rattle.std.proofs.lemmas.Nat.{ones_cat, pow_pos}

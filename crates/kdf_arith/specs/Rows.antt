@@ -48,7 +48,8 @@ abbrev pub divided : ℤ → ℤ → List ℕ → After
 divided v d below =
     record {
       nest = word_of (v -ℤ quotient v d *ℤ d) ∷ word_of (quotient v d) ∷ below;
-      sets_v = not (fits (quotient v d)) }
+      sets_v = not (fits (quotient v d));
+    }
 
 -- b by a. By 0, both words stay and V is set
 abbrev pub divi : ℕ → ℕ → List ℕ → After

@@ -14,6 +14,14 @@ const TOP: u64 = 1 << 47;
 /// Eight radices of ten.
 const TENS: u64 = 0o1212_1212_1212_1212;
 
+/// Three radices of ten, and noughts.
+const GAPS: u64 = 0o0012_0000_1200_0012;
+
+const CLEAR: Flags = Flags {
+    v: false,
+    tr: false,
+};
+
 /// A nest of four words, the top first.
 fn nest_of(rt: &impl Abort, words: [u64; 4]) -> Nest {
     let mut nest = Nest::new();
@@ -39,7 +47,11 @@ fn check(
 {
     let mut nest = nest_of(rt, before);
     let mut flags = Flags { v: false, tr: true };
-    assert_eq!(rt; obey_arith(&mut nest, &mut flags, order), Ok(()), "{order:?}");
+    assert_eq!(rt;
+        obey_arith(&mut nest, &mut flags, order),
+        Ok(()),
+        "{order:?}"
+    );
     assert_eq!(rt; nest.depth(), depth, "{order:?}");
     for i in 0..4 {
         if i < nest.depth() {
@@ -98,15 +110,27 @@ fn values(rt: HostRuntime) {
         (0x1a, [ALL - 1, ALL - 6, 3, 4], 4, [ALL, 3, 3, 4], false),
         (0x1a, [ALL, TOP, 3, 4], 4, [0, TOP, 3, 4], true),
         (0x1a, [0, 7, 3, 4], 4, [0, 7, 3, 4], true),
-        (0x1b, [TENS, 0o0102_0304_0506_0710, 3, 4], 3, [12_345_678, 3, 4, 0], false),
-        (0x1b, [ALL, ALL, 3, 4], 3, [252_158_292_852_480, 3, 4, 0], true),
-        (0x1c, [TENS, 12_345_678, 3, 4], 3, [0o0102_0304_0506_0710, 3, 4, 0], false),
-        (0x1c, [2, ALL, 3, 4], 3, [1, 3, 4, 0], true),
-        (0x1c, [0o0012_0000_1200_0012, 345, 3, 4], 3, [0o0003_0000_0400_0005, 3, 4, 0], false),
     ] {
         assert!(rt; code >= 0x14);
-        assert!(rt; code <= 0x1c);
+        assert!(rt; code <= 0x1a);
         check(&rt, ArithOrder::Plain { code }, before, depth, after, v);
+    }
+}
+
+#[test]
+fn characters(rt: HostRuntime) {
+    for (code, radices, before, after, v) in [
+        (0x1b, TENS, 0o0102_0304_0506_0710, 12_345_678, false),
+        (0x1b, ALL, ALL, 252_158_292_852_480, true),
+        (0x1c, TENS, 12_345_678, 0o0102_0304_0506_0710, false),
+        (0x1c, 2, ALL, 1, true),
+        (0x1c, GAPS, 345, 0o0003_0000_0400_0005, false),
+    ] {
+        assert!(rt; code >= 0x1b);
+        assert!(rt; code <= 0x1c);
+        let before = [radices, before, 3, 4];
+        let after = [after, 3, 4, 0];
+        check(&rt, ArithOrder::Plain { code }, before, 3, after, v);
     }
 }
 
@@ -160,13 +184,13 @@ fn flags(rt: HostRuntime) {
         obey_arith(&mut nest, &mut flags, ArithOrder::Plain { code: 0x20 }),
         Ok(())
     );
-    assert_eq!(rt;
-        flags,
-        Flags {
-            v: false,
-            tr: false
-        }
-    );
+    assert_eq!(rt; flags, CLEAR);
+}
+
+#[test]
+fn room(rt: HostRuntime) {
+    let mut nest = Nest::new();
+    let mut flags = CLEAR;
     for depth in 0..16 {
         assert_eq!(rt; nest.depth(), depth);
         assert_eq!(rt;
