@@ -1,4 +1,5 @@
-//! Examples of each row, at the ends of its operands too, each computed from the table, as the contract of a function that does nothing.
+//! Examples of each row, at the ends of its operands too, each computed from the table, as the contract
+//! of a function that does nothing.
 #![tactic(auto, unfolding(crate::specs::Arith::arith, crate::specs::Rows::plain_row, crate::specs::Shifts::shift_row, crate::specs::Digits::to_binary, crate::specs::Digits::from_binary))]
 
 ghost use Rattle.std.specs.Prelude.{◌≡◌, ◌-◌, ◌^◌, [], ◌∷◌, None, pos, negsuc, replicate, true, false};
@@ -209,4 +210,20 @@ pub fn long_shifts()
     ensures all { shifted 0x6E (pos 63) (minus 1 ∷ minus 1 ∷ [])
         ≡ leaves (0o7777777777700000 ∷ 0 ∷ []) }
     ensures one_word { shifted 0x6E (pos 1) (5 ∷ []) ≡ None }
+{}
+
+/// A counter may shift by -32768 to 32767 places.
+pub fn far_shifts()
+    ensures sha_left { shifted 0x6A (pos 32767) (1 ∷ []) ≡ overflows (0 ∷ []) }
+    ensures sha_nought { shifted 0x6A (pos 32767) (0 ∷ []) ≡ leaves (0 ∷ []) }
+    ensures sha_right { shifted 0x6A (negsuc 32767) (minus 1 ∷ []) ≡ leaves (0 ∷ []) }
+    ensures shl_left { shifted 0x6B (pos 32767) (minus 1 ∷ []) ≡ leaves (0 ∷ []) }
+    ensures shl_right { shifted 0x6B (negsuc 32767) (minus 1 ∷ []) ≡ leaves (0 ∷ []) }
+    ensures shc_left { shifted 0x6C (pos 32767) (1 ∷ []) ≡ leaves (2 ^ 31 ∷ []) }
+    ensures shc_right { shifted 0x6C (negsuc 32767) (1 ∷ []) ≡ leaves (2 ^ 16 ∷ []) }
+    ensures shad_left { shifted 0x6D (pos 32767) (0 ∷ 1 ∷ []) ≡ overflows (0 ∷ 0 ∷ []) }
+    ensures shad_right { shifted 0x6D (negsuc 32767) (minus 1 ∷ 0 ∷ [])
+        ≡ leaves (minus 1 ∷ greatest ∷ []) }
+    ensures shld_left { shifted 0x6E (pos 32767) (minus 1 ∷ minus 1 ∷ []) ≡ leaves (0 ∷ 0 ∷ []) }
+    ensures shld_right { shifted 0x6E (negsuc 32767) (minus 1 ∷ minus 1 ∷ []) ≡ leaves (0 ∷ 0 ∷ []) }
 {}
