@@ -1,0 +1,6 @@
+//! What a run enters in its journal.
+#![tactic(auto)]
+
+mod failure;
+
+pub use failure::Failure;
