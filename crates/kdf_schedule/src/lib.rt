@@ -6,6 +6,7 @@
 #![tactic(auto)]
 
 mod event;
+pub mod examples;
 mod reader;
 #[cfg(test)]
 mod tests;

@@ -5,7 +5,10 @@ ghost use Rattle.kdf_text.specs.Lines.{line, lines};
 
 use crate::cuts::cut;
 
-/// A line of a text, without the byte 10 that ends it.
+/// The byte that ends a line.
+pub const LINE_END: u8 = b'\n';
+
+/// A line of a text, without the byte that ends it.
 #[derive(Clone, Copy)]
 pub struct Line<'a> {
     /// The number of the line, counted from 1.
@@ -69,7 +72,7 @@ fn first_line(text: &[u8]) -> (&[u8], &[u8])
     ensures within { 0 < length result.1.now → length result.0.now + 1 + length result.1.now ≤ length text.now }
     ensures shorter { length result.1.now + (if length text.now == 0 then 0 else 1) ≤ length text.now }
 {
-    match cut(text, b'\n') {
+    match cut(text, LINE_END) {
         Some((line, rest)) => (line, rest),
         None => (text, &[]),
     }

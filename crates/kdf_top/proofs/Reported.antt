@@ -12,7 +12,7 @@ use Rattle.kdf_top.specs.Answers.{IsMachineOf, report_of}
 use Rattle.kdf_top.specs.Follows.{IsJournal}
 use Rattle.kdf_top.specs.Job.{Job, SlotJob, job}
 use Rattle.kdf_top.specs.Next.{Slot, own, slot_of}
-use Rattle.kdf_top.specs.Report.{state_at, HasSlot}
+use Rattle.kdf_top.specs.MadeFrom.{state_at, HasSlot}
 use Rattle.kdf_top.specs.Shown.{Shown, ShowsLone, state_of, slot_of_job, slots_of}
 use Rattle.kdf_top.specs.Shows.{shown_job, shown_slot}
 use Rattle.kdf_text.specs.Text.{text}

@@ -4,7 +4,7 @@ use Rattle.std.specs.Option.{option_map}
 use Rattle.kdf_processor.specs.declared.registers.Registers.{Registers}
 use Rattle.kdf_processor.specs.State.{State, begin}
 use Rattle.kdf_top.specs.Next.{Slot, own, slot_of}
-use Rattle.kdf_top.specs.Report.{state_at}
+use Rattle.kdf_top.specs.MadeFrom.{state_at}
 use Rattle.kdf_top.specs.Shown.{Shown, ShowsLone, state_in, state_of}
 
 at_first : (f : Slot → State) (slot : Slot) (rest : Option State) (found : Option Slot) (b : Bool) → rest ≡ option_map f found

@@ -23,7 +23,6 @@ use Rattle.kdf_top.specs.declared.status.Status.TheVariants as status
 use Rattle.kdf_top.specs.Answers.{called_for}
 use Rattle.kdf_top.specs.Commands.{is_command}
 use Rattle.kdf_top.specs.Deck.{assembled, image_words}
-use Rattle.kdf_top.specs.Text.{job_limit}
 use Rattle.kdf_text.specs.Lines.{lines, words}
 use Rattle.kdf_text.specs.Numbers.{value}
 use Rattle.kdf_schedule.specs.Events.{event}
@@ -119,9 +118,9 @@ unfolding value lines words event forms job_fault
 shows_32 = refl
 
 pub job_first : called_for (codes "run" ∷ []) (job_text (codes "STORE 32") [] (codes "SHOW 3 32") (codes "ORDERS 10")) ≡ status.Job NotYet 6
-unfolding assembled lettered store_name addressed suffix_of access_form address_form condition_of target_form subroutine_form test_form jump_form form_in address_item number_item item_form triple_form octal_value characters_value value_form constant_form start octal_order order_form formless statement_faults phase_after statements_of placed spelling value lines words event forms job job_fault job_limit is_command called_for
+unfolding assembled lettered store_name addressed suffix_of access_form address_form condition_of target_form subroutine_form test_form jump_form form_in address_item number_item item_form triple_form octal_value characters_value value_form constant_form start octal_order order_form formless statement_faults phase_after statements_of placed spelling value lines words event forms job job_fault is_command called_for
 job_first = refl
 
 pub then_deck : called_for (codes "run" ∷ []) (job_text (codes "STORE 32") [] (codes "SHOW 3 3") (codes "ORDERS 10")) ≡ status.Deck 0 NoFinish 0
-unfolding assembled lettered store_name addressed suffix_of access_form address_form condition_of target_form subroutine_form test_form jump_form form_in address_item number_item item_form triple_form octal_value characters_value value_form constant_form start octal_order order_form formless statement_faults phase_after statements_of placed spelling value lines words event forms job job_fault job_limit is_command called_for
+unfolding assembled lettered store_name addressed suffix_of access_form address_form condition_of target_form subroutine_form test_form jump_form form_in address_item number_item item_form triple_form octal_value characters_value value_form constant_form start octal_order order_form formless statement_faults phase_after statements_of placed spelling value lines words event forms job job_fault is_command called_for
 then_deck = refl

@@ -13,7 +13,8 @@ use Rattle.kdf_top.specs.Next.{own}
 use Rattle.kdf_top.specs.Follows.{IsJournal}
 use Rattle.kdf_top.specs.Shown.{Shown, ShowsLone, slots_of}
 use Rattle.kdf_text.specs.Text.{text}
-use Rattle.kdf_top.specs.Text.{report_lines, usage_line, large_line, job_fault_line, deck_fault_line, job_limit}
+use Rattle.kdf_top.specs.Text.{report_lines, usage_line, large_line, job_fault_line, deck_fault_line}
+use Rattle.kdf_top.specs.declared.command.TheConstants.{JOB_LIMIT}
 
 -- the answer that a job calls for: a fault of the job comes before one of a deck
 abbrev pub status_of_decks : Option (ℕ × Found) → Status
@@ -28,7 +29,7 @@ abbrev pub status_of_job : List ℕ → Status
 status_of_job bytes = status_of_faults (job_fault bytes) (deck_fault (job bytes).slots)
 
 abbrev pub status_of_bytes : List ℕ → Status
-status_of_bytes bytes = if nat_lt job_limit (length bytes) then status.Large else status_of_job bytes
+status_of_bytes bytes = if nat_lt JOB_LIMIT (length bytes) then status.Large else status_of_job bytes
 
 -- the answer that the words and the bytes call for
 unfoldable pub called_for : List (List ℕ) → List ℕ → Status

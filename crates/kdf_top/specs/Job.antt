@@ -10,6 +10,7 @@ use Rattle.kdf_schedule.specs.Events.{event}
 use Rattle.kdf_top.specs.declared.job.JobFault.{JobFault}
 use Rattle.kdf_top.specs.declared.job.JobFault.TheVariants.{Header, NotYet}
 use Rattle.kdf_top.specs.Options.{◌>>=◌}
+use Rattle.kdf_text.specs.declared.lines.TheConstants.{LINE_END}
 use Rattle.kdf_text.specs.Lines.{lines, words, line, is_text}
 use Rattle.kdf_text.specs.Numbers.{number_in}
 
@@ -137,9 +138,9 @@ shows_of (Some x) = x ∷ []
 abbrev pub scheduled_orders : List (List ℕ) → ℕ
 scheduled_orders ls = unwrap_or (orders_of (line (behind_deck ls) (2 + length (shows_of (show_in ls))))) 0
 
--- the text of a deck: its lines, each with a byte 10
+-- the text of a deck: its lines, each with LINE_END behind it
 abbrev pub deck_text : List (List ℕ) → List ℕ
-deck_text ls = flat_map (λ l. l ++ 10 ∷ []) ls
+deck_text ls = flat_map (λ l. l ++ LINE_END ∷ []) ls
 
 abbrev pub job_of_lines : List (List ℕ) → Job
 job_of_lines ls =

@@ -1,4 +1,5 @@
 pub mod Options
+pub mod Limits
 pub mod Job
 pub mod Deck
 pub mod Joined
@@ -19,7 +20,7 @@ pub mod Loaded
 pub mod Took
 pub mod Agrees
 pub mod Shows
-pub mod Report
+pub mod MadeFrom
 pub mod Answered
 pub mod Worked
 pub mod Reading

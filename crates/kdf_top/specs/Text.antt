@@ -4,8 +4,7 @@ use Rattle.std.specs.List.{flat_map, range_with_len}
 use Rattle.kdf_text.specs.Text.{octal}
 use Rattle.kdf_qstore.specs.declared.triple.Triple.{Triple}
 use Rattle.kdf_qstore.specs.Triples.{triple_at}
-use Rattle.kdf_journal.specs.declared.failure.Failure.{Failure}
-use Rattle.kdf_journal.specs.declared.failure.Failure.TheVariants.{Liv, Nouv, Out, Reset, Claim}
+use Rattle.kdf_journal.specs.Failures.{name_of as failure_name}
 use Rattle.kdf_processor.specs.declared.registers.Life.{Life}
 use Rattle.kdf_processor.specs.declared.registers.Life.TheVariants as life
 use Rattle.kdf_processor.specs.declared.registers.Registers.{Registers}
@@ -14,16 +13,10 @@ use Rattle.kdf_top.specs.declared.journal.Entry.{Entry}
 use Rattle.kdf_top.specs.declared.journal.Entry.TheVariants.{Ran, Fail, Ended}
 use Rattle.kdf_top.specs.declared.job.JobFault.{JobFault}
 use Rattle.kdf_top.specs.declared.job.JobFault.TheVariants.{Header, NotYet}
+use Rattle.kdf_top.specs.declared.command.TheConstants.{JOB_LIMIT}
 use Rattle.kdf_top.specs.Job.{Job, SlotJob}
 use Rattle.kdf_usercode.specs.declared.fault.DeckFault.{DeckFault}
 use Rattle.kdf_usercode.specs.Faults.{name_of}
-
-abbrev pub failure_name : Failure → List ℕ
-failure_name Liv = codes "LIV"
-failure_name Nouv = codes "NOUV"
-failure_name Out = codes "OUT"
-failure_name Reset = codes "RESET"
-failure_name Claim = codes "CLAIM"
 
 -- an entry of the journal
 abbrev pub entry_line : Entry → List ℕ
@@ -101,9 +94,5 @@ deck_fault_line slot fault place = codes "DECK " ++ decimal slot ++ codes " " ++
 abbrev pub usage_line : List ℕ
 usage_line = codes "USAGE kdf9 run, alone K, asm K, make N"
 
--- a job may have so many bytes
-unfoldable pub job_limit : ℕ
-job_limit = 4194304
-
 abbrev pub large_line : List ℕ
-large_line = codes "LARGE " ++ decimal job_limit
+large_line = codes "LARGE " ++ decimal JOB_LIMIT

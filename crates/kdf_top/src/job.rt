@@ -7,6 +7,9 @@ ghost use Rattle.kdf_top.specs.declared.job.JobError.TheVariants.{Memory};
 use std::alloc::{AllocError, AllocFailed};
 use thiserror::Error;
 
+/// A job, and a deck, may have so many bytes.
+pub const TEXT_LIMIT: usize = 268_435_456;
+
 /// A job, as it was read.
 #[derive(Drop)]
 pub struct Job {
@@ -23,7 +26,7 @@ pub struct SlotJob {
     pub p: u8,
     /// The size of the program's store, in words: 32 to 8,192, a multiple of 32.
     pub size: u16,
-    /// The lines of the deck, each with a byte 10.
+    /// The lines of the deck, each with the byte that ends it.
     pub deck: Vec<u8>,
     /// The first and the last address of each run of words that the report shows.
     pub shows: Vec<(u16, u16)>,

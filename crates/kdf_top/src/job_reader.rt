@@ -6,6 +6,8 @@ ghost use Rattle.kdf_text.specs.Lines.{line, is_text};
 ghost use Rattle.kdf_text.specs.Ahead.{ahead};
 ghost use Rattle.kdf_top.specs.Reading.{fault_from, Passes, Says, Stops};
 ghost use Rattle.kdf_top.specs.Shows.{shown_job};
+ghost use Rattle.kdf_top.specs.declared.job.TheConstants.{TEXT_LIMIT};
+ghost use Rattle.kdf_top.specs.Limits.{IsOrders, IsSize};
 ghost use Rattle.kdf_top.specs.WellFormed.{IsShow, IsJob};
 
 #[cfg(test)]
@@ -13,7 +15,7 @@ mod tests;
 
 use crate::forms::{orders_of, show_range, store_size};
 use crate::job::{Event, Job, JobError, JobFault, SlotJob};
-use kdf_text::Lines;
+use kdf_text::{LINE_END, Lines};
 use std::alloc::{AllocError, Global};
 
 /// The fault of the line of this number, which hasn't its form.
@@ -51,7 +53,7 @@ fn read_head(lines: &mut Lines) -> Result<u16, JobError>
     ensures rest { OnOk result (ahead lines.new ≡ drop 4 (ahead lines.old)) }
     ensures shorter { OnOk result (length lines.new.rest.now ≤ length lines.old.rest.now) }
     ensures size { IfOk result (λ n. store_size (line (ahead lines.old) 3) ≡ Some n) }
-    ensures within { IfOk result (λ n. (32 ≤ n) × (n ≤ 8192)) }
+    ensures within { IfOk result IsSize }
     ensures groups { IfOk result (λ n. n % 32 ≡ 0) }
 {
     expect(lines, b"KDF9 JOB 1")?;
@@ -68,7 +70,7 @@ fn read_size(lines: &mut Lines) -> Result<u16, JobError>
     ensures rest { OnOk result (ahead lines.new ≡ drop 1 (ahead lines.old)) }
     ensures shorter { length lines.new.rest.now ≤ length lines.old.rest.now }
     ensures size { IfOk result (λ n. store_size (line (ahead lines.old) 1) ≡ Some n) }
-    ensures within { IfOk result (λ n. (32 ≤ n) × (n ≤ 8192)) }
+    ensures within { IfOk result IsSize }
     ensures groups { IfOk result (λ n. n % 32 ≡ 0) }
 {
     let line = lines.take_line();
@@ -84,7 +86,7 @@ fn read_calls(lines: &mut Lines) -> Result<u32, JobError>
     ensures stop { IfErr result (Stops (has_orders ∷ []) lines.old) }
     ensures rest { OnOk result (ahead lines.new ≡ drop 1 (ahead lines.old)) }
     ensures calls { IfOk result (λ n. orders_of (line (ahead lines.old) 1) ≡ Some n) }
-    ensures within { IfOk result (λ n. (1 ≤ n) × (n ≤ 20000000)) }
+    ensures within { IfOk result IsOrders }
 {
     let line = lines.take_line();
     match orders_of(line.text) {
@@ -110,7 +112,7 @@ fn read_schedule(lines: &mut Lines) -> Result<u32, JobError>
     ensures pass { OnOk result (fault_from lines.old schedule_forms ≡ None) }
     ensures stop { IfErr result (λ e. Says e (fault_from lines.old schedule_forms)) }
     ensures calls { IfOk result (λ n. orders_of (line (ahead lines.old) 2) ≡ Some n) }
-    ensures within { IfOk result (λ n. (1 ≤ n) × (n ≤ 20000000)) }
+    ensures within { IfOk result IsOrders }
 {
     expect(lines, b"SCHEDULE")?;
     let calls = read_calls(lines)?;
@@ -148,7 +150,7 @@ fn read_deck_lines(alloc: Global, lines: &mut Lines) -> Result<Vec<u8>, JobError
             return Ok(deck);
         }
         deck.extend_from_slice(line.text)?;
-        deck.push(b'\n')?;
+        deck.push(LINE_END)?;
     }
     Err(fault(lines.number))
 }
@@ -171,7 +173,7 @@ fn shows_of(alloc: Global, show: Option<(u16, u16)>) -> Result<Vec<(u16, u16)>, 
 /// `Fault` with the first faulty line, exactly where the job has one; `Memory` where there is none.
 #[tactic(auto, unfolding(crate::specs::Job::job, crate::specs::Job::job_fault))]
 pub fn read_job(alloc: Global, bytes: &[u8]) -> Result<Job, JobError>
-    requires { length bytes.now ≤ 268435456 }
+    requires { length bytes.now ≤ TEXT_LIMIT }
     ensures ok { OnOk result (job_fault bytes.now ≡ None) }
     ensures fault { IfErr result (λ e. Says e (job_fault bytes.now)) }
     ensures shown { IfOk result (λ j. shown_job j ≡ job bytes.now) }

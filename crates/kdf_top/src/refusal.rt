@@ -18,7 +18,7 @@ pub fn refusal_text(alloc: Global, status: Status) -> Result<Vec<u8>, AllocError
     Ok(out.into_bytes())
 }
 
-#[tactic(auto, unfolding(kdf_text::specs::Text::text, crate::specs::Text::job_limit))]
+#[tactic(auto, unfolding(kdf_text::specs::Text::text))]
 fn write_refusal(out: &mut String, status: Status) -> Result<(), AllocError>
     ensures { OnOk result (Adds out.old out.new (refusal_lines status)) }
 {

@@ -2,7 +2,7 @@
 ghost use Rattle.std.specs.Prelude.{◌≡◌, ◌<◌, ◌++◌, [], ◌∷◌, All, OnOk, IfOk, IsSomeAnd, codes, decimal, map, string_bytes, vec_items};
 ghost use Rattle.std.specs.List.{flat_map};
 ghost use Rattle.kdf_top.specs.Next.{slot_of};
-ghost use Rattle.kdf_top.specs.Report.{state_at, HasSlot};
+ghost use Rattle.kdf_top.specs.MadeFrom.{state_at, HasSlot};
 ghost use Rattle.kdf_top.specs.Shows.{shown_slot, shown_job};
 ghost use Rattle.kdf_text.specs.Text.{text, octal, Adds};
 ghost use Rattle.kdf_top.specs.Text.{section, show_lines, word_line, report_lines};

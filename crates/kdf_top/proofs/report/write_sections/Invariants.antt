@@ -1,6 +1,6 @@
 use Rattle.std.proofs.Common.{◌≡◌, ◌++◌, map, take, string_bytes}
 use Rattle.std.specs.List.{flat_map}
-use Rattle.kdf_top.specs.Report.{state_at}
+use Rattle.kdf_top.specs.MadeFrom.{state_at}
 use Rattle.kdf_top.specs.Shows.{shown_slot}
 use Rattle.kdf_text.specs.Text.{Adds}
 use Rattle.kdf_top.specs.Text.{section}

@@ -1,6 +1,6 @@
 use Rattle.std.proofs.Common.{◌≡◌, ◌++◌, ◌-◌, ◌<◌, ◌≤◌, map, string_bytes}
 use Rattle.std.specs.List.{range_with_len}
-use Rattle.kdf_top.specs.Report.{state_at}
+use Rattle.kdf_top.specs.MadeFrom.{state_at}
 use Rattle.kdf_text.specs.Text.{Adds}
 use Rattle.kdf_top.specs.Text.{word_line}
 use Rattle.kdf_top.proofs.report.write_show.Given as goal

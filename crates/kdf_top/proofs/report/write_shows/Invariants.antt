@@ -1,6 +1,6 @@
 use Rattle.std.proofs.Common.{◌≡◌, ◌++◌, take, string_bytes}
 use Rattle.std.specs.List.{flat_map}
-use Rattle.kdf_top.specs.Report.{state_at}
+use Rattle.kdf_top.specs.MadeFrom.{state_at}
 use Rattle.kdf_text.specs.Text.{Adds}
 use Rattle.kdf_top.specs.Text.{show_lines}
 use Rattle.kdf_top.proofs.report.write_shows.Given as goal
