@@ -1,5 +1,5 @@
 //! The lines of a journal.
-ghost use Rattle.std.specs.Prelude.{◌≡◌, ◌++◌, [], ◌∷◌, map, OnOk, string_bytes};
+ghost use Rattle.std.specs.Prelude.{[], ◌∷◌, map, OnOk};
 ghost use Rattle.kdf_text.specs.Text.{Adds};
 ghost use Rattle.kdf_top.specs.Text.{entry_line};
 

@@ -1,5 +1,5 @@
 //! The lines that say why there is no report.
-ghost use Rattle.std.specs.Prelude.{◌≡◌, ◌++◌, [], ◌∷◌, OnOk, IfOk, string_bytes, vec_items};
+ghost use Rattle.std.specs.Prelude.{◌≡◌, OnOk, IfOk, vec_items};
 ghost use Rattle.kdf_text.specs.Text.{text, Adds};
 ghost use Rattle.kdf_top.specs.Answers.{refusal_lines};
 

@@ -1,5 +1,5 @@
 //! The report of a job.
-ghost use Rattle.std.specs.Prelude.{◌≡◌, ◌<◌, ◌++◌, [], ◌∷◌, All, OnOk, IfOk, IsSomeAnd, codes, decimal, map, string_bytes, vec_items};
+ghost use Rattle.std.specs.Prelude.{◌≡◌, ◌<◌, ◌++◌, [], ◌∷◌, All, OnOk, IfOk, IsSomeAnd, codes, decimal, map, vec_items};
 ghost use Rattle.std.specs.List.{flat_map};
 ghost use Rattle.kdf_top.specs.Next.{slot_of};
 ghost use Rattle.kdf_top.specs.MadeFrom.{state_at, HasSlot};

@@ -1,4 +1,4 @@
-use Rattle.std.proofs.Common.{◌≡◌, ◌++◌, map, take, string_bytes}
+use Rattle.std.proofs.Common.{map, take}
 use Rattle.kdf_text.specs.Text.{Adds}
 use Rattle.kdf_top.specs.Text.{entry_line}
 use Rattle.kdf_top.proofs.entry_text.write_entries.Given as goal

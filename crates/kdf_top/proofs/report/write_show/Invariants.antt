@@ -1,4 +1,4 @@
-use Rattle.std.proofs.Common.{◌≡◌, ◌++◌, ◌-◌, ◌<◌, ◌≤◌, map, string_bytes}
+use Rattle.std.proofs.Common.{◌≡◌, ◌-◌, ◌<◌, ◌≤◌, map}
 use Rattle.std.specs.List.{range_with_len}
 use Rattle.kdf_top.specs.MadeFrom.{state_at}
 use Rattle.kdf_text.specs.Text.{Adds}

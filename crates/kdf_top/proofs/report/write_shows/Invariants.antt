@@ -1,4 +1,4 @@
-use Rattle.std.proofs.Common.{◌≡◌, ◌++◌, take, string_bytes}
+use Rattle.std.proofs.Common.{take}
 use Rattle.std.specs.List.{flat_map}
 use Rattle.kdf_top.specs.MadeFrom.{state_at}
 use Rattle.kdf_text.specs.Text.{Adds}
