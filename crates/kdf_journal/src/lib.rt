@@ -2,5 +2,7 @@
 #![tactic(auto)]
 
 mod failure;
+mod kind;
 
 pub use failure::Failure;
+pub use kind::Kind;
