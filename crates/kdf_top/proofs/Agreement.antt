@@ -4,7 +4,7 @@ use Rattle.kdf_processor.specs.declared.registers.Registers.{Registers}
 use Rattle.kdf_processor.specs.declared.step.Step.{Step as Ending}
 use Rattle.kdf_processor.specs.Lone.{is_live}
 use Rattle.kdf_processor.specs.Row.{row, next_of}
-use Rattle.kdf_processor.specs.State.{State, Stock, begin, new_registers}
+use Rattle.kdf_processor.specs.State.{State, Stock, begin, stocked, new_registers}
 use Rattle.kdf_top.specs.declared.journal.Entry.{Entry}
 use Rattle.kdf_top.specs.declared.port.Store.{Store}
 use Rattle.kdf_top.specs.Agrees.{Agrees}
@@ -39,12 +39,13 @@ unfolding next lives
 only_next size words J on = rw on refl
 
 -- a program that is loaded agrees with a journal without entries
-pub agrees-loaded : (r : Registers) (store : Store) (size : ℕ) (front words : List ℕ) (J : List Entry) → r ≡ new_registers → stock_of store ≡ (begin size front).stock → front ≡ words → J ≡ [] → Agrees (zeroth store.size words) (state_with r store) J
+pub agrees-loaded : (r : Registers) (store : Store) (size : ℕ) (front words : List ℕ) (J : List Entry) → r ≡ new_registers → stock_of store ≡ stocked size front → front ≡ words → J ≡ [] → Agrees (zeroth store.size words) (state_with r store) J
 agrees-loaded r store size front words J fresh filled same none =
     let sizes : store.size ≡ size = ap (λ (k : Stock). k.claims.size) filled in
-    let begun : state_with r store ≡ begin size front =
-    ap (λ (k : Stock). let s : State = record { registers = r; stock = k } in s) filled ∙ ap (λ (x : Registers). let s : State = record { registers = x; stock = (begin size front).stock } in s) fresh in
-    let there : begin size front ≡ begin store.size words = ap (λ (n : ℕ). begin n front) (sym sizes) ∙ ap (begin store.size) same in
+    let begun : state_with r store ≡ begin (zeroth size front) =
+    ap (λ (k : Stock). let s : State = record { registers = r; stock = k } in s) filled ∙ ap (λ (x : Registers). let s : State = record { registers = x; stock = stocked size front } in s) fresh in
+    let there : begin (zeroth size front) ≡ begin (zeroth store.size words) =
+    ap (λ (n : ℕ). begin (zeroth n front)) (sym sizes) ∙ ap (λ (xs : List ℕ). begin (zeroth store.size xs)) same in
     rw none (record {
       legal = legal-nil (zeroth store.size words ∷ []);
       alone = begun ∙ (there ∙ sym (own-nil (zeroth store.size words ∷ []) 0));

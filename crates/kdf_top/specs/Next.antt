@@ -1,24 +1,20 @@
 -- Which program is next, and its state by itself. J is the journal so far, oldest entry first.
 use Rattle.std.specs.Prelude.{ℕ, List, [], ◌∷◌, ◌==◌, not, ◌&&◌, Bool, Option, Some, None, is_some, find}
 use Rattle.std.specs.List.{list_any}
+pub use Rattle.kdf_processor.specs.State.{Slot}
 use Rattle.kdf_processor.specs.State.{State, begin}
 use Rattle.kdf_processor.specs.Lone.{lone}
 use Rattle.kdf_top.specs.declared.journal.Entry.{Entry}
 use Rattle.kdf_top.specs.Counts.{ran, over}
 
--- a slot as it was loaded: its number, the size of its store, and the words of its image
-pub record Slot : Type 0 where
-  pub p : ℕ
-  pub size : ℕ
-  pub words : List ℕ
-
 -- the slot with this number
 abbrev pub slot_of : List Slot → ℕ → Option Slot
 slot_of slots p = find (λ (s : Slot). s.p == p) slots
 
+-- a program at its start; where there is no slot, one of an empty store
 abbrev pub start_of : Option Slot → State
-start_of None = begin 0 []
-start_of (Some s) = begin s.size s.words
+start_of None = begin (record { p = 0; size = 0; words = [] })
+start_of (Some s) = begin s
 
 -- the state of program p at its start
 abbrev pub start : List Slot → ℕ → State

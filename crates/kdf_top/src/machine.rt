@@ -64,7 +64,7 @@ impl Machine {
     pub fn load(alloc: Global, job: &Job, images: &[Image]) -> Result<Machine, AllocError>
         requires { IsLoadable job.now.slots.items images.now }
         ensures slots { IfOk result (λ m. m.slots ≡ loaded job.now.slots.items images.now) }
-        ensures states { IfOk result (λ m. m.states ≡ map (λ slot. begin slot.size slot.words) m.slots) }
+        ensures states { IfOk result (λ m. m.states ≡ map begin m.slots) }
         ensures journal { IfOk result (λ m. m.journal ≡ []) }
     {
         let image = Vec::from_slice(alloc, &images[0].words)?;

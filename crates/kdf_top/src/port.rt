@@ -15,13 +15,13 @@ pub struct Store {
 
 impl Store {
     ghost use Rattle.std.specs.Prelude.{◌≡◌, ◌<◌, ◌≤◌, length, IfOk, slice_index};
-    ghost use Rattle.kdf_processor.specs.State.{begin};
+    ghost use Rattle.kdf_processor.specs.State.{stocked};
     ghost use Rattle.kdf_top.specs.Store.{stock_of};
 
     /// A store of `size` words with these at its front and zeros behind them.
     pub fn new(alloc: Global, size: u16, front: &[Word]) -> Result<Store, AllocError>
         requires { length front.now ≤ size }
-        ensures { IfOk result (λ store. stock_of store ≡ (begin size front.now).stock) }
+        ensures { IfOk result (λ store. stock_of store ≡ stocked size front.now) }
     {
         let mut words = Vec::from_slice(alloc, front)?;
         words.resize(usize::from(size), Word::default())?;
