@@ -1,5 +1,3 @@
-pub mod OctalDigits
-pub mod Texts
 pub mod Pushed
 pub mod CallBounds
 pub mod Steps
@@ -18,8 +16,6 @@ pub mod Sections
 pub mod Reported
 pub mod Answering
 pub mod Runs
-pub mod Cutting
-pub mod Digits
 pub mod PassLemmas
 pub mod DeckLines
 pub mod LoadedDecks

@@ -12,7 +12,8 @@ use Rattle.kdf_top.specs.Deck.{deck_fault}
 use Rattle.kdf_top.specs.Next.{own}
 use Rattle.kdf_top.specs.Follows.{IsJournal}
 use Rattle.kdf_top.specs.Shown.{Shown, ShowsLone, slots_of}
-use Rattle.kdf_top.specs.Text.{text, report_lines, usage_line, large_line, job_fault_line, deck_fault_line, job_limit}
+use Rattle.kdf_text.specs.Text.{text}
+use Rattle.kdf_top.specs.Text.{report_lines, usage_line, large_line, job_fault_line, deck_fault_line, job_limit}
 
 -- the answer that a job calls for: a fault of the job comes before one of a deck
 abbrev pub status_of_decks : Option (ℕ × Found) → Status

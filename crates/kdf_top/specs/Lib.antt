@@ -1,5 +1,4 @@
 pub mod Options
-pub mod Lines
 pub mod Job
 pub mod Deck
 pub mod Joined

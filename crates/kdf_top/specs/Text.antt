@@ -1,6 +1,7 @@
--- The texts that are written. A text is a list of lines, each without the byte 10 behind it.
-use Rattle.std.specs.Prelude.{ℕ, ◌+◌, ◌-◌, ◌/◌, ◌%◌, ◌^◌, List, [], ◌∷◌, ◌++◌, map, length, Bool, ◌==◌, ◌&&◌, if◌then◌else◌, codes, decimal}
+-- The lines that are written, each without the byte that ends it.
+use Rattle.std.specs.Prelude.{ℕ, ◌+◌, ◌-◌, ◌/◌, ◌%◌, List, [], ◌∷◌, ◌++◌, map, length, Bool, ◌==◌, ◌&&◌, if◌then◌else◌, codes, decimal}
 use Rattle.std.specs.List.{flat_map, range_with_len}
+use Rattle.kdf_text.specs.Text.{octal}
 use Rattle.kdf_qstore.specs.declared.triple.Triple.{Triple}
 use Rattle.kdf_qstore.specs.Triples.{triple_at}
 use Rattle.kdf_journal.specs.declared.failure.Failure.{Failure}
@@ -16,14 +17,6 @@ use Rattle.kdf_top.specs.declared.job.JobFault.TheVariants.{Header, NotYet}
 use Rattle.kdf_top.specs.Job.{Job, SlotJob}
 use Rattle.kdf_usercode.specs.declared.fault.DeckFault.{DeckFault}
 use Rattle.kdf_usercode.specs.Faults.{name_of}
-
--- the bytes of the lines, each with a byte 10 behind it
-unfoldable pub text : List (List ℕ) → List ℕ
-text ls = flat_map (λ l. l ++ 10 ∷ []) ls
-
--- a word in 16 octal digits
-unfoldable pub octal : ℕ → List ℕ
-octal w = map (λ i. 48 + w / 8 ^ (15 - i) % 8) (range_with_len 0 16)
 
 abbrev pub failure_name : Failure → List ℕ
 failure_name Liv = codes "LIV"

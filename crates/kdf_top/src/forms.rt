@@ -1,15 +1,15 @@
 //! The lines of a job that have numbers in them.
 
 ghost use Rattle.std.specs.Prelude.{◌≡◌, ◌%◌, ◌<◌, ◌≤◌, IfSome};
-ghost use Rattle.kdf_top.specs.Job.{number_of_words, store_size, order_count, show_range, addresses};
-ghost use Rattle.kdf_top.specs.Lines.{words};
+ghost use Rattle.kdf_top.specs.Job.{number_of_words, store_size, orders_of, show_range, addresses};
+ghost use Rattle.kdf_text.specs.Lines.{words};
 
-use crate::cuts::cut;
-use crate::numbers::{MOST, number_in};
+use kdf_schedule::{Event, read_event};
+use kdf_text::{GREATEST, cut, number_in};
 
-/// The number in a line of a name and a number of this range, which ends at most at `MOST`.
-fn number_behind(name: &[u8], low: u32, high: u32, line: &[u8]) -> Option<u32>
-    requires { high ≤ MOST }
+/// The number in a line of a name and a number of this range, which ends at most at `GREATEST`.
+fn number_behind(name: &[u8], low: u64, high: u64, line: &[u8]) -> Option<u64>
+    requires { high ≤ GREATEST }
     ensures value { result ≡ number_of_words name.now low high (words line.now) }
     ensures within { IfSome result (λ n. (low ≤ n) × (n ≤ high)) }
 {
@@ -31,12 +31,15 @@ pub fn store_size(line: &[u8]) -> Option<u16>
     (size % 32 == 0).then_some(size as u16)
 }
 
-/// The number of calls in `ORDERS n`: 1 to 20,000,000.
-pub fn order_count(line: &[u8]) -> Option<u32>
-    ensures value { result ≡ order_count line.now }
+/// The number of orders in `ORDERS n`: 1 to 20,000,000.
+pub fn orders_of(line: &[u8]) -> Option<u32>
+    ensures value { result ≡ orders_of line.now }
     ensures within { IfSome result (λ n. (1 ≤ n) × (n ≤ 20000000)) }
 {
-    number_behind(b"ORDERS", 1, MOST, line)
+    match read_event(line) {
+        Ok(Event::Orders(orders)) => Some(orders),
+        _ => None,
+    }
 }
 
 /// The first and the last address, which these words spell.

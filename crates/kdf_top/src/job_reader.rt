@@ -1,18 +1,19 @@
 //! Reading a job: once over its lines, in their order.
 
 ghost use Rattle.std.specs.Prelude.{◌≡◌, [], ◌∷◌, ◌++◌, ◌+◌, ◌%◌, ◌<◌, ◌≤◌, IfOk, OnOk, IfErr, IfSome, Some, None, drop, length};
-ghost use Rattle.kdf_top.specs.Job.{store_size, show_range, order_count, has_size, has_calls, shows_of, deck_lines, deck_text, fault_at, head_forms, deck_forms, show_forms, schedule_forms, job, job_fault};
-ghost use Rattle.kdf_top.specs.Lines.{line, is_text};
-ghost use Rattle.kdf_top.specs.Reading.{ahead, fault_from, Passes, Says, Stops};
+ghost use Rattle.kdf_top.specs.Job.{store_size, show_range, orders_of, has_size, has_orders, shows_of, deck_lines, deck_text, fault_at, head_forms, deck_forms, show_forms, schedule_forms, job, job_fault};
+ghost use Rattle.kdf_text.specs.Lines.{line, is_text};
+ghost use Rattle.kdf_text.specs.Ahead.{ahead};
+ghost use Rattle.kdf_top.specs.Reading.{fault_from, Passes, Says, Stops};
 ghost use Rattle.kdf_top.specs.Shows.{shown_job};
 ghost use Rattle.kdf_top.specs.WellFormed.{IsShow, IsJob};
 
 #[cfg(test)]
 mod tests;
 
-use crate::forms::{order_count, show_range, store_size};
+use crate::forms::{orders_of, show_range, store_size};
 use crate::job::{Event, Job, JobError, JobFault, SlotJob};
-use crate::lines::Lines;
+use kdf_text::Lines;
 use std::alloc::{AllocError, Global};
 
 /// The fault of the line of this number, which hasn't its form.
@@ -79,14 +80,14 @@ fn read_size(lines: &mut Lines) -> Result<u16, JobError>
 
 /// The number of calls in `ORDERS n`.
 fn read_calls(lines: &mut Lines) -> Result<u32, JobError>
-    ensures pass { OnOk result (Passes (has_calls ∷ []) lines.old lines.new) }
-    ensures stop { IfErr result (Stops (has_calls ∷ []) lines.old) }
+    ensures pass { OnOk result (Passes (has_orders ∷ []) lines.old lines.new) }
+    ensures stop { IfErr result (Stops (has_orders ∷ []) lines.old) }
     ensures rest { OnOk result (ahead lines.new ≡ drop 1 (ahead lines.old)) }
-    ensures calls { IfOk result (λ n. order_count (line (ahead lines.old) 1) ≡ Some n) }
+    ensures calls { IfOk result (λ n. orders_of (line (ahead lines.old) 1) ≡ Some n) }
     ensures within { IfOk result (λ n. (1 ≤ n) × (n ≤ 20000000)) }
 {
     let line = lines.take_line();
-    match order_count(line.text) {
+    match orders_of(line.text) {
         Some(calls) => Ok(calls),
         None => Err(fault(line.number)),
     }
@@ -108,7 +109,7 @@ fn expect_end(lines: &Lines) -> Result<(), JobError>
 fn read_schedule(lines: &mut Lines) -> Result<u32, JobError>
     ensures pass { OnOk result (fault_from lines.old schedule_forms ≡ None) }
     ensures stop { IfErr result (λ e. Says e (fault_from lines.old schedule_forms)) }
-    ensures calls { IfOk result (λ n. order_count (line (ahead lines.old) 2) ≡ Some n) }
+    ensures calls { IfOk result (λ n. orders_of (line (ahead lines.old) 2) ≡ Some n) }
     ensures within { IfOk result (λ n. (1 ≤ n) × (n ≤ 20000000)) }
 {
     expect(lines, b"SCHEDULE")?;

@@ -2,7 +2,6 @@
 #![tactic(auto)]
 
 mod command;
-mod cuts;
 mod decks;
 mod entry_text;
 mod forms;
@@ -10,10 +9,7 @@ mod job;
 mod job_reader;
 mod journal;
 pub mod laws;
-mod lines;
 mod machine;
-mod numbers;
-mod octal;
 mod outcome;
 mod port;
 mod refusal;
