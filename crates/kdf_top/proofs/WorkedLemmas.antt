@@ -29,7 +29,7 @@ use Rattle.kdf_text.specs.Numbers.{value}
 use Rattle.kdf_schedule.specs.Events.{event}
 use Rattle.kdf_top.specs.Job.{forms, job, job_fault}
 use Rattle.kdf_top.specs.Worked.{Looked, adding, seventeen_zeros, nothing, of_two_parts, alone, looked, job_text, of_32}
-use Rattle.kdf_top.specs.declared.job.Event.TheVariants.{Orders}
+use Rattle.kdf_schedule.specs.declared.event.Event.TheVariants.{Orders}
 use Rattle.kdf_top.specs.declared.job.JobFault.TheVariants.{Header, NotYet}
 
 -- images

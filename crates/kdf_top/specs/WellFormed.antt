@@ -1,6 +1,6 @@
 -- What holds of every job that is read.
 use Rattle.std.specs.Prelude.{◌≡◌, ℕ, ◌%◌, ◌<◌, ◌≤◌, [], ◌∷◌, length, All}
-use Rattle.kdf_top.specs.declared.job.Event.TheVariants.{Orders}
+use Rattle.kdf_schedule.specs.declared.event.Event.TheVariants.{Orders}
 use Rattle.kdf_top.specs.declared.job.Job.{Job}
 use Rattle.kdf_top.specs.declared.job.SlotJob.{SlotJob}
 

@@ -7,25 +7,25 @@ use std::alloc::{AllocError, Global};
 
 /// So many words, none of which is ever locked out.
 #[derive(Drop)]
-pub struct Store {
+pub struct Bench {
     size: u16,
     words: Vec<Word>,
     ghost filled: { length words.items ≡ size },
 }
 
-impl Store {
+impl Bench {
     ghost use Rattle.std.specs.Prelude.{◌≡◌, ◌<◌, ◌≤◌, length, IfOk, slice_index};
     ghost use Rattle.kdf_processor.specs.State.{stocked};
-    ghost use Rattle.kdf_top.specs.Store.{stock_of};
+    ghost use Rattle.kdf_top.specs.Bench.{stock_of};
 
     /// A store of `size` words with these at its front and zeros behind them.
-    pub fn new(alloc: Global, size: u16, front: &[Word]) -> Result<Store, AllocError>
+    pub fn new(alloc: Global, size: u16, front: &[Word]) -> Result<Bench, AllocError>
         requires { length front.now ≤ size }
         ensures { IfOk result (λ store. stock_of store ≡ stocked size front.now) }
     {
         let mut words = Vec::from_slice(alloc, front)?;
         words.resize(usize::from(size), Word::default())?;
-        Ok(Store { size, words })
+        Ok(Bench { size, words })
     }
 
     /// The word at an address.
@@ -37,9 +37,9 @@ impl Store {
     }
 }
 
-impl Port for Store {
+impl Port for Bench {
     ghost use Rattle.std.specs.Prelude.{refl};
-    ghost use Rattle.kdf_top.specs.Store.{shown, Acts, HasRoom};
+    ghost use Rattle.kdf_top.specs.Bench.{shown, Acts, HasRoom};
 
     ghost shows = { shown };
 

@@ -5,21 +5,21 @@ use Rattle.kdf_processor.specs.Effect.{Act}
 use Rattle.kdf_processor.specs.Row.{at_once}
 use Rattle.kdf_processor.specs.State.{State, Stock}
 use Rattle.kdf_processor.specs.View.{View, by_itself}
-use Rattle.kdf_top.specs.declared.port.Store.{Store}
+use Rattle.kdf_top.specs.declared.bench.Bench.{Bench}
 
 -- what a program has beside its registers; no order that is built asks anything
-abbrev pub stock_of : Store → Stock
+abbrev pub stock_of : Bench → Stock
 stock_of s = record { claims = record { size = s.size }; asked = 0; store = s.words.items }
 
 -- nothing is locked out
-abbrev pub shown : Store → View
+abbrev pub shown : Bench → View
 shown s = by_itself (stock_of s)
 
-abbrev pub Acts : Store → Act → Store → Type 0
+abbrev pub Acts : Bench → Act → Bench → Type 0
 Acts old act new = stock_of new ≡ at_once act (stock_of old)
 
-abbrev pub HasRoom : Store → Act → Type 0
+abbrev pub HasRoom : Bench → Act → Type 0
 HasRoom s act = Unit {0}
 
-abbrev pub state_with : Registers → Store → State
+abbrev pub state_with : Registers → Bench → State
 state_with r s = record { registers = r; stock = stock_of s }
