@@ -5,10 +5,10 @@ ghost use Rattle.kdf_syllable.specs.Spelling.{IsOrder, spelling};
 ghost use Rattle.kdf_syllable.specs.declared.order.Order.{Order};
 ghost use Rattle.kdf_decode.specs.Decoding.{BeginsWith, first_decoded};
 
-use crate::jumps::jump;
-use crate::one_syllable::plain;
-use crate::stores::store_or_set;
-use crate::two_syllables::two_syllables;
+use crate::jumps::decode_jump;
+use crate::one_syllable::decode_one;
+use crate::stores::decode_store;
+use crate::two_syllables::decode_two;
 use kdf_syllable::Order;
 
 /// No order has this spelling.
@@ -17,6 +17,7 @@ pub struct BadCode;
 
 /// The order whose spelling begins the bytes, or `BadCode` where there is none. What stands behind
 /// the spelling is not looked at.
+#[inline(always)]
 pub fn decode(bytes: &[u8; 3]) -> Result<Order, BadCode>
     ensures decoded { result_ok result ≡ first_decoded bytes.now }
     ensures ok { (o : Order) → (result ≡ Ok o) ↔ (IsOrder o × BeginsWith bytes.now (spelling o)) }
@@ -28,13 +29,14 @@ pub fn decode(bytes: &[u8; 3]) -> Result<Order, BadCode>
 
 /// The order that three syllables begin with.
 #[tactic(auto, unfolding(crate::specs::Decoding::decoded))]
+#[inline(always)]
 fn by_first(first: u8, second: u8, third: u8) -> Result<Order, BadCode>
     ensures { result_ok result ≡ first_decoded (first ∷ second ∷ third ∷ []) }
 {
     match first {
-        0x00..=0x3f => plain(first),
-        0x40..=0x7f => two_syllables(first, second),
-        0x80..=0xbf => jump(first, second, third),
-        0xc0..=0xff => store_or_set(first, second, third),
+        0x00..=0x3f => decode_one(first),
+        0x40..=0x7f => decode_two(first, second),
+        0x80..=0xbf => decode_jump(first, second, third),
+        0xc0..=0xff => decode_store(first, second, third),
     }
 }

@@ -1,5 +1,6 @@
 //! Jumps.
-ghost use Rattle.std.specs.Prelude.{◌≡◌};
+ghost use Rattle.std.specs.Prelude.{◌≡◌, IfOk};
+ghost use Rattle.kdf_syllable.specs.Spelling.{IsOrder};
 ghost use Rattle.std.specs.Result.{result_ok};
 ghost use Rattle.kdf_decode.specs.Decoding.{decoded_jump};
 
@@ -10,8 +11,10 @@ use kdf_syllable::Order;
 const WORDS: u16 = 8192;
 
 /// A jump, or the return from a subroutine.
-pub(crate) fn jump(first: u8, second: u8, third: u8) -> Result<Order, BadCode>
-    ensures { result_ok result ≡ decoded_jump first second third }
+#[inline(always)]
+pub fn decode_jump(first: u8, second: u8, third: u8) -> Result<Order, BadCode>
+    ensures decoded { result_ok result ≡ decoded_jump first second third }
+    ensures order { IfOk result (λ o. IsOrder o) }
 {
     let target = u16::from_be_bytes([second, third]);
     match first {

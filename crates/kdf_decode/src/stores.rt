@@ -1,5 +1,6 @@
 //! Store orders and SET.
-ghost use Rattle.std.specs.Prelude.{◌≡◌, ◌<◌, ◌^◌};
+ghost use Rattle.std.specs.Prelude.{◌≡◌, ◌<◌, ◌^◌, IfOk};
+ghost use Rattle.kdf_syllable.specs.Spelling.{IsOrder};
 ghost use Rattle.std.specs.Result.{result_ok};
 ghost use Rattle.kdf_decode.specs.Decoding.{decoded_store, direct};
 
@@ -7,8 +8,10 @@ use crate::decoding::BadCode;
 use kdf_syllable::Order;
 
 /// A fetch or a store at an address, or SET.
-pub(crate) fn store_or_set(first: u8, second: u8, third: u8) -> Result<Order, BadCode>
-    ensures { result_ok result ≡ decoded_store first second third }
+#[inline(always)]
+pub fn decode_store(first: u8, second: u8, third: u8) -> Result<Order, BadCode>
+    ensures decoded { result_ok result ≡ decoded_store first second third }
+    ensures order { IfOk result (λ o. IsOrder o) }
 {
     match first {
         0xc0..=0xdf => Ok(direct(u32::from_be_bytes([0, first, second, third]))),
@@ -20,6 +23,7 @@ pub(crate) fn store_or_set(first: u8, second: u8, third: u8) -> Result<Order, Ba
 }
 
 /// The fetch or the store of 24 bits.
+#[inline(always)]
 fn direct(bits: u32) -> Order
     ensures { result ≡ direct bits }
 {

@@ -1,5 +1,6 @@
 //! Orders of two syllables. The second one is two numbers below 16, or the amount of a shift.
-ghost use Rattle.std.specs.Prelude.{◌≡◌};
+ghost use Rattle.std.specs.Prelude.{◌≡◌, IfOk};
+ghost use Rattle.kdf_syllable.specs.Spelling.{IsOrder};
 ghost use Rattle.std.specs.Result.{result_ok};
 ghost use Rattle.kdf_decode.specs.Decoding.{decoded_two, decoded_shift};
 
@@ -7,8 +8,10 @@ use crate::decoding::BadCode;
 use kdf_syllable::{Amount, Order};
 
 /// The order of two syllables, the first of which is its code.
-pub(crate) fn two_syllables(code: u8, second: u8) -> Result<Order, BadCode>
-    ensures { result_ok result ≡ decoded_two code second }
+#[inline(always)]
+pub fn decode_two(code: u8, second: u8) -> Result<Order, BadCode>
+    ensures decoded { result_ok result ≡ decoded_two code second }
+    ensures order { IfOk result (λ o. IsOrder o) }
 {
     let (high, low) = (second / 16, second % 16);
     match code {
@@ -31,6 +34,7 @@ pub(crate) fn two_syllables(code: u8, second: u8) -> Result<Order, BadCode>
 }
 
 /// A shift: by a number of places where the second syllable is odd, else by a counter.
+#[inline(always)]
 fn shift(code: u8, second: u8) -> Result<Order, BadCode>
     ensures { result_ok result ≡ decoded_shift code second }
 {

@@ -15,12 +15,14 @@ pub data Decision : Type 0 where
 
 -- A change comes out so: it went to these registers, or it was refused, and they are as they were.
 abbrev pub Comes : Change → (old new : Registers) → Result (Unit {0}) Failure → Type 0
-Comes change old new result = MatchResult result (λ _. change ≡ Going new) (λ kind. (change ≡ Refused kind) × (new ≡ old))
+Comes change old new result =
+    MatchResult result (λ _. change ≡ Going new) (λ kind. (change ≡ Refused kind) × (new ≡ old))
 
 -- And a decision likewise.
 abbrev pub Decides : Decision → (old new : Registers) → Result Bool Failure → Type 0
 Decides decision old new result =
-    MatchResult result (λ jumps. decision ≡ Decided jumps new) (λ kind. (decision ≡ Undecided kind) × (new ≡ old))
+    MatchResult result (λ jumps. decision ≡ Decided jumps new)
+    (λ kind. (decision ≡ Undecided kind) × (new ≡ old))
 
 -- What an order does. The registers that a constructor carries are those after it, not yet counted.
 -- Where they depend on a word of the store, it carries a function.

@@ -5,9 +5,9 @@ use Rattle.kdf_qstore.specs.Triples.{zero_triples, with_triple}
 use Rattle.kdf_syllable.specs.declared.order.Order.{Order}
 use Rattle.kdf_syllable.specs.declared.order.Order.TheVariants as order
 use Rattle.kdf_journal.specs.declared.failure.Failure.{Failure}
-use Rattle.kdf_processor.specs.declared.registers.Life.TheVariants.{Failed}
+use Rattle.kdf_processor.specs.declared.registers.Life.TheVariants.{Ended, Failed}
 use Rattle.kdf_processor.specs.declared.registers.Registers.{Registers}
-use Rattle.kdf_processor.specs.declared.step.Step.TheVariants.{Done, Fails}
+use Rattle.kdf_processor.specs.declared.step.Step.TheVariants.{Done, Ends, Fails}
 use Rattle.kdf_processor.specs.Effect.{Change, Going, Act, Nothing}
 use Rattle.kdf_processor.specs.Outcome.{Outcome, done}
 use Rattle.kdf_processor.specs.State.{new_registers}
@@ -36,7 +36,12 @@ leaves nest t = Going (counted 62 nest t)
 
 -- a nest, an M1 of 5, and Q2
 abbrev pub moving : ℕ → List ℕ → Triple → Registers
-moving at nest t = record new_registers { nest = nest; q = with_triple (with_triple zero_triples 1 (parts 1 2 5)) 2 t; at = at }
+moving at nest t =
+    record new_registers {
+      nest = nest;
+      q = with_triple (with_triple zero_triples 1 (parts 1 2 5)) 2 t;
+      at = at;
+    }
 
 -- a copy from Q1 to a Q2 of other parts
 abbrev pub copy : ℕ → Change
@@ -72,5 +77,9 @@ obeyed r o = done shown r (effect shown.claims r o)
 abbrev pub does : Registers → Act → Outcome
 does r act = record { step = Done; registers = record r { ran = r.ran + 1 }; act = act }
 
+abbrev pub ends : Registers → Outcome
+ends r = record { step = Ends; registers = record r { ran = r.ran + 1; state = Ended }; act = Nothing }
+
 abbrev pub fails : Registers → Failure → Outcome
-fails r kind = record { step = Fails kind; registers = record r { ran = r.ran + 1; state = Failed kind }; act = Nothing }
+fails r kind =
+    record { step = Fails kind; registers = record r { ran = r.ran + 1; state = Failed kind }; act = Nothing }

@@ -26,12 +26,15 @@ syllable_at word n = syllable (word (n / 6)) (n % 6)
 abbrev pub syllables : ℕ → ℕ → (ℕ → ℕ) → ℕ → Option (List ℕ)
 syllables zero size word at = Some []
 syllables (suc n) size word at =
-    if nat_lt (at / 6) size then option_map (λ rest. syllable_at word at ∷ rest) (syllables n size word (on at 1)) else None
+    if nat_lt (at / 6) size
+    then option_map (λ rest. syllable_at word at ∷ rest) (syllables n size word (on at 1))
+    else None
 
 -- their groups, ending before one that is outside
 abbrev pub syllable_needs : ℕ → ℕ → ℕ → List Need
 syllable_needs zero size at = []
-syllable_needs (suc n) size at = if nat_lt (at / 6) size then Group (group_of (at / 6)) ∷ syllable_needs n size (on at 1) else []
+syllable_needs (suc n) size at =
+    if nat_lt (at / 6) size then Group (group_of (at / 6)) ∷ syllable_needs n size (on at 1) else []
 
 -- how many syllables the order at a place has
 abbrev pub count_at : ℕ → (ℕ → ℕ) → ℕ → ℕ

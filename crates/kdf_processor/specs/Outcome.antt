@@ -17,7 +17,8 @@ pub record Outcome : Type 0 where
   pub act : Act
 
 -- an order came to this outcome over a port
-pub record Obeyed {P : Type 0} (acts : P → Act → P → Type 0) (o : Outcome) (old new : P) (left : Registers) (ended : Step) : Type 0 where
+pub record Obeyed {P : Type 0} (acts : P → Act → P → Type 0) (o : Outcome) (old new : P)
+    (left : Registers) (ended : Step) : Type 0 where
   pub step : ended ≡ o.step
   pub registers : left ≡ o.registers
   pub acted : acts old o.act new
@@ -33,7 +34,8 @@ went r after act = record { step = Done; registers = counted r r.state after; ac
 
 -- an effect, none of its needs being pending
 abbrev pub done : View → Registers → Effect → Outcome
-done v r (Failing kind) = record { step = Fails kind; registers = counted r (Failed kind) r; act = Nothing }
+done v r (Failing kind) =
+    record { step = Fails kind; registers = counted r (Failed kind) r; act = Nothing }
 done v r (Ending after) = record { step = Ends; registers = counted r Ended after; act = Nothing }
 done v r (Changing after) = went r after Nothing
 done v r (Fetching a after) = went r (after (v.word a)) Nothing
@@ -46,7 +48,8 @@ held_or r None o = o
 
 -- the next order
 abbrev pub outcome : View → Registers → Outcome
-outcome v r = held_or r (first_pending v (needs_at v.claims v.word r)) (done v r (effect_at v.claims v.word r))
+outcome v r =
+    held_or r (first_pending v (needs_at v.claims v.word r)) (done v r (effect_at v.claims v.word r))
 
 -- one effect, behind the fetch
 abbrev pub try_effect : View → Registers → Effect → Outcome

@@ -31,13 +31,31 @@ word_at s a = word_in s.stock a
 -- a live program that has obeyed no order: its next is at syllable 0 of word 0
 abbrev pub new_registers : Registers
 new_registers =
-    record { nest = []; links = []; q = zero_triples; flags = record { v = false; tr = false }; at = 0; ran = 0; state = Live }
+    record {
+      nest = [];
+      links = [];
+      q = zero_triples;
+      flags = record { v = false; tr = false };
+      at = 0;
+      ran = 0;
+      state = Live;
+    }
 
 -- the image in a store of so many words, with zeros behind
 abbrev pub filled : ℕ → List ℕ → List ℕ
 filled size image = image ++ replicate (size - length image) 0
 
--- a program at its start, of the size of its store and its image
-abbrev pub begin : ℕ → List ℕ → State
-begin size image =
-    record { registers = new_registers; stock = record { claims = record { size = size }; asked = 0; store = filled size image } }
+-- a slot as it is loaded: its number, the size of its store, and the words of its image
+pub record Slot : Type 0 where
+  pub p : ℕ
+  pub size : ℕ
+  pub words : List ℕ
+
+-- what a program has at first: a store of so many words, with the image at its front
+abbrev pub stocked : ℕ → List ℕ → Stock
+stocked size image =
+    record { claims = record { size = size }; asked = 0; store = filled size image }
+
+-- the program of a slot at its start
+abbrev pub begin : Slot → State
+begin s = record { registers = new_registers; stock = stocked s.size s.words }

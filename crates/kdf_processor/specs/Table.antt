@@ -68,7 +68,8 @@ low w = w % 2 ^ 16
 -- LINK: a link becomes a number
 abbrev pub link_row : Registers → List ℕ → Change
 link_row r [] = Refused Nouv
-link_row r (link ∷ links) = room (Refused Nouv) r.nest (Going (with_nest 1 (link ∷ r.nest) (record r { links = links })))
+link_row r (link ∷ links) =
+    room (Refused Nouv) r.nest (Going (with_nest 1 (link ∷ r.nest) (record r { links = links })))
 
 -- =LINK: the low 16 bits become a link
 abbrev pub keep_link_row : Registers → Change
@@ -79,26 +80,25 @@ keep_link_row r =
 -- One syllable, but for OUT.
 unfoldable pub plain_row : Registers → ℕ → Change
 plain_row r code =
-    -- DUMMY
-    if code == 0x01 then Going (with_nest 1 r.nest r)
-    -- LINK, =LINK
-    else (if code == 0x1D then link_row r r.links
-    else (if code == 0x1E then keep_link_row r
-    -- arithmetic
-    else arith_changes 1 r (arith (arithmetic.Plain code) r.nest r.flags)))
+    if code == 0x01 then Going (with_nest 1 r.nest r)  -- DUMMY
+    else (if code == 0x1D then link_row r r.links  -- LINK
+    else (if code == 0x1E then keep_link_row r  -- =LINK
+    -- codes 02 to 12, 14 to 1C, 1F and 20: arithmetic
+    else (if nat_le code 0x20 then arith_changes 1 r (arith (arithmetic.Plain code) r.nest r.flags)
+    else Refused Liv)))
 
 -- OUT, by the number on top.
 unfoldable pub out_effect : Registers → ℕ → List ℕ → Effect
 out_effect r number below =
-    -- the end of the program
-    if number == 0 then Ending (with_nest 1 below r)
+    if number == 0 then Ending (with_nest 1 below r)  -- the end of the program
     else Failing Out
 
 -- ---- two syllables
 
 -- Qq becomes what comes of the top, which is erased
 abbrev pub sets_q : Registers → ℕ → (ℕ → Triple) → Change
-sets_q r q f = on_top (Refused Nouv) r.nest (λ n1 below. Going (with_nest 2 below (with_q q (f n1) r)))
+sets_q r q f =
+    on_top (Refused Nouv) r.nest (λ n1 below. Going (with_nest 2 below (with_q q (f n1) r)))
 
 -- Qq becomes this
 abbrev pub changes_q : Registers → ℕ → Triple → Change
@@ -106,7 +106,9 @@ changes_q r q t = Going (with_nest 2 r.nest (with_q q t r))
 
 -- to syllable 0 of the word before, where the counter isn't 0
 abbrev pub short_loop : Registers → ℕ → Change
-short_loop r counter = if counter == 0 then Going (with_nest 2 r.nest r) else Going (record r { at = 6 * ((r.at / 6 + 8191) % 8192) })
+short_loop r counter =
+    if counter == 0 then Going (with_nest 2 r.nest r)
+    else Going (record r { at = 6 * ((r.at / 6 + 8191) % 8192) })
 
 -- What is brought of a Q-store, of which t is the triple.
 unfoldable pub brought : ℕ → Triple → ℕ
@@ -155,16 +157,14 @@ single_row r code q t =
 -- Copies: the parts of the first that are named, and of the second the others.
 unfoldable pub copied : ℕ → Triple → Triple → Triple
 copied code t k =
-    -- MqTOQk, IqTOQk, IMqTOQk
-    if code == 0x63 then record k { m = t.m }
-    else (if code == 0x64 then record k { i = t.i }
-    else (if code == 0x65 then record k { i = t.i; m = t.m }
-    -- CqTOQk, CMqTOQk, CIqTOQk
-    else (if code == 0x66 then record k { c = t.c }
-    else (if code == 0x67 then record k { c = t.c; m = t.m }
-    else (if code == 0x68 then record k { c = t.c; i = t.i }
-    -- QqTOQk
-    else t)))))
+    if code == 0x63 then record k { m = t.m }  -- MqTOQk
+    else (if code == 0x64 then record k { i = t.i }  -- IqTOQk
+    else (if code == 0x65 then record k { i = t.i; m = t.m }  -- IMqTOQk
+    else (if code == 0x66 then record k { c = t.c }  -- CqTOQk
+    else (if code == 0x67 then record k { c = t.c; m = t.m }  -- CMqTOQk
+    else (if code == 0x68 then record k { c = t.c; i = t.i }  -- CIqTOQk
+    else (if code == 0x69 then t  -- QqTOQk
+    else k))))))
 
 -- how far a shift goes to the left, and to the right where it is negative
 abbrev pub places_of : Registers → Amount → ℤ
@@ -190,16 +190,19 @@ counts_on u q r = if u then with_q q (stepped (triple_at r.q q)) r else r
 -- an order of n syllables that fetches the word at an address, or half of it
 abbrev pub fetches : Registers → ℕ → ℕ → Option ℕ → Bool → ℕ → Effect
 fetches r n address half u q =
-    room (Failing Nouv) r.nest (Fetching address (λ w. with_nest n (part_of half w ∷ r.nest) (counts_on u q r)))
+    room (Failing Nouv) r.nest
+    (Fetching address (λ w. with_nest n (part_of half w ∷ r.nest) (counts_on u q r)))
 
 -- an order of n syllables that keeps the top at an address, or in half of a word
 abbrev pub keeps : Registers → ℕ → ℕ → Option ℕ → Bool → ℕ → Effect
 keeps r n address half u q =
-    on_top (Failing Nouv) r.nest (λ n1 below. Keeping address (with_part half n1) (with_nest n below (counts_on u q r)))
+    on_top (Failing Nouv) r.nest (λ n1 below.
+    Keeping address (with_part half n1) (with_nest n below (counts_on u q r)))
 
 -- an order that fetches, or keeps
 abbrev pub moves : Bool → Registers → ℕ → ℕ → Option ℕ → Bool → ℕ → Effect
-moves t r n address half u q = if t then keeps r n address half u q else fetches r n address half u q
+moves t r n address half u q =
+    if t then keeps r n address half u q else fetches r n address half u q
 
 -- the bits of the code of MkMq: 8 keeps, 4 is the suffix Q, 2 takes halves, 1 adds one
 abbrev pub has_bit : ℕ → ℕ → Bool
@@ -216,7 +219,8 @@ indirect_half code mq = if has_bit 2 code then Some (mq % 2) else None
 unfoldable pub indirect_effect : Registers → ℕ → ℕ → ℕ → Effect
 indirect_effect r code k q =
     let mq = (triple_at r.q q).m in
-    moves (has_bit 8 code) r 2 (indirect_address code (triple_at r.q k).m mq) (indirect_half code mq) (has_bit 4 code) q
+    moves (has_bit 8 code) r 2 (indirect_address code (triple_at r.q k).m mq)
+    (indirect_half code mq) (has_bit 4 code) q
 
 -- The store orders, t telling whether the word is kept.
 unfoldable pub direct_effect : Registers → Bool → Bool → ℕ → ℕ → Effect
@@ -226,7 +230,8 @@ direct_effect r t u q a = moves t r 3 ((a + (triple_at r.q q).m) % 2 ^ 16) None 
 
 -- where a jump goes, if it does: its target is 8192·s + w for syllable s of word w
 abbrev pub goes : Registers → Bool → ℕ → Registers
-goes r jumps target = record r { at = if jumps then 6 * (target % 8192) + target / 8192 else on r.at 3 }
+goes r jumps target =
+    record r { at = if jumps then 6 * (target % 8192) + target / 8192 else on r.at 3 }
 
 -- the tests of a word by its sign
 abbrev pub is_negative : ℕ → Bool
@@ -241,15 +246,19 @@ is_empty (x ∷ xs) = false
 
 -- decided by the top, which is erased
 abbrev pub by_top : Registers → (ℕ → Bool) → Decision
-by_top r test = on_top (Undecided Nouv) r.nest (λ n1 below. Decided (test n1) (record r { nest = below }))
+by_top r test =
+    on_top (Undecided Nouv) r.nest (λ n1 below. Decided (test n1) (record r { nest = below }))
 
 -- decided by the two words on top, of which the first is erased
 abbrev pub by_two : Registers → (ℕ → ℕ → Bool) → Decision
-by_two r test = on_two (Undecided Nouv) r.nest (λ n1 n2 below. Decided (test n1 n2) (record r { nest = n2 ∷ below }))
+by_two r test =
+    on_two (Undecided Nouv) r.nest (λ n1 n2 below. Decided (test n1 n2) (record r { nest = n2 ∷ below }))
 
 -- a subroutine jump, which pushes its own place as a link
 abbrev pub with_link : Registers → Decision
-with_link r = room (Undecided Nouv) r.links (Decided true (record r { links = (8192 * (r.at % 6) + r.at / 6) ∷ r.links }))
+with_link r =
+    room (Undecided Nouv) r.links
+    (Decided true (record r { links = (8192 * (r.at % 6) + r.at / 6) ∷ r.links }))
 
 -- What the condition of a jump decides.
 unfoldable pub decision : Registers → ℕ → Decision
@@ -289,7 +298,8 @@ jump_row r c target = jumps_so target (decision r c)
 unfoldable pub exit_row : Registers → ℕ → List ℕ → Change
 exit_row r n [] = Refused Nouv
 exit_row r n (link ∷ links) =
-    if nat_lt (link / 8192) 6 then Going (record r { links = links; at = on (6 * (link % 8192) + link / 8192) (3 * n) })
+    if nat_lt (link / 8192) 6
+    then Going (record r { links = links; at = on (6 * (link % 8192) + link / 8192) (3 * n) })
     else Refused Reset
 
 -- ---- any order
@@ -304,8 +314,10 @@ guarded c e = e
 abbrev pub change_of : Registers → Order → Change
 change_of r (order.Plain code) = plain_row r code
 change_of r (order.Single code q) = single_row r code q (triple_at r.q q)
-change_of r (order.Copies code q k) = changes_q r k (copied code (triple_at r.q q) (triple_at r.q k))
-change_of r (order.Shift code by) = arith_changes 2 r (arith (arithmetic.Shift code (places_of r by)) r.nest r.flags)
+change_of r (order.Copies code q k) =
+    changes_q r k (copied code (triple_at r.q q) (triple_at r.q k))
+change_of r (order.Shift code by) =
+    arith_changes 2 r (arith (arithmetic.Shift code (places_of r by)) r.nest r.flags)
 change_of r (order.Jump c target) = jump_row r c target
 change_of r (order.Exit n) = exit_row r n r.links
 -- SET
@@ -314,7 +326,9 @@ change_of r _ = Refused Liv
 
 -- what any order does
 abbrev pub effect : Claims → Registers → Order → Effect
-effect c r (order.Plain code) = if code == 0x21 then guarded c (on_top (Failing Nouv) r.nest (out_effect r)) else of_change (plain_row r code)
+effect c r (order.Plain code) =
+    if code == 0x21 then guarded c (on_top (Failing Nouv) r.nest (out_effect r))  -- OUT
+    else of_change (plain_row r code)
 effect c r (order.Indirect code k q) = guarded c (indirect_effect r code k q)
 effect c r (order.Direct t u q a) = guarded c (direct_effect r t u q a)
 effect c r o = of_change (change_of r o)

@@ -15,6 +15,7 @@ use crate::{Failure, Registers};
 use kdf_syllable::Order;
 
 /// An order that changes registers alone, or fails and changes nothing. The order isn't counted.
+#[inline(always)]
 pub fn change(registers: &mut Registers, order: Order) -> Result<(), Failure>
     requires order { IsOrder order }
     requires change { IsChange order }

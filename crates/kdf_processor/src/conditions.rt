@@ -118,9 +118,10 @@ fn push_link(registers: &mut Registers) -> Result<bool, Failure>
     Ok(true)
 }
 
-/// Erases the top, and tells whether it was equal to the word below, or where that is wanted, whether it wasn't.
+/// Erases the top, and tells whether it comes out as is wanted: equal to the word below, or not.
 fn compare(registers: &mut Registers, wanted: bool) -> Result<bool, Failure>
-    ensures { Decides (by_two registers.old (λ n1 n2. is_so wanted (n1 == n2))) registers.old registers.new result }
+    ensures { Decides (by_two registers.old (λ n1 n2. is_so wanted (n1 == n2)))
+        registers.old registers.new result }
 {
     if registers.nest.depth() < 2 {
         return Err(Failure::Nouv);

@@ -32,7 +32,8 @@ fn copied(code: u8, from: Triple, to: Triple) -> Triple
 pub fn copy(registers: &mut Registers, code: u8, q: u8, k: u8) -> Result<(), Failure>
     requires { IsOrder (order.Copies code q k) }
     ensures { Comes
-        (changes_q registers.old k (copied code (triple_at registers.old.q q) (triple_at registers.old.q k)))
+        (changes_q registers.old k
+        (copied code (triple_at registers.old.q q) (triple_at registers.old.q k)))
         registers.old registers.new result }
 {
     let triple = copied(code, registers.q.triple(q), registers.q.triple(k));

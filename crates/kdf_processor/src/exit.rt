@@ -8,7 +8,8 @@ use crate::{Failure, Registers};
 /// EXIT.
 #[tactic(auto, unfolding(crate::specs::Table::exit_row))]
 pub fn exit(registers: &mut Registers, n: u8) -> Result<(), Failure>
-    ensures { Comes (exit_row registers.old n registers.old.links) registers.old registers.new result }
+    ensures { Comes
+        (exit_row registers.old n registers.old.links) registers.old registers.new result }
 {
     if registers.links.depth() == 0 {
         return Err(Failure::Nouv);

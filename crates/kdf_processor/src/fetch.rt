@@ -1,20 +1,23 @@
-//! The fetch of an order, syllable by syllable.
-ghost use Rattle.std.specs.Prelude.{◌≡◌, [], ◌∷◌, None};
+//! The fetch of an order: the syllables that spell it.
+ghost use Rattle.std.specs.Prelude.{◌≡◌, ◌+◌, ◌<◌, ◌%◌, [], ◌∷◌, None};
 ghost use Rattle.kdf_decode.specs.Decoding.{first_decoded};
-ghost use Rattle.kdf_processor.specs.Fetch.{held_of, IsFetched, HasOrder, syllable_read};
-ghost use Rattle.kdf_processor.specs.Needs.{fetch_needs, order_at};
-ghost use Rattle.kdf_processor.specs.View.{first_pending};
+ghost use Rattle.kdf_processor.specs.Fetch.{held_of, IsFetched, IsFetchedAt, syllable_read};
+ghost use Rattle.kdf_syllable.specs.Packing.{syllable};
 
 use crate::Port;
 use crate::syllable_number::behind;
-use kdf_decode::decode;
-use kdf_syllable::{Order, size_of_first, syllable};
+use kdf_syllable::{size_of_first, syllable};
+use kdf_word::Word;
+
+/// How many syllable numbers there are.
+const SYLLABLES: u16 = 49_152;
 
 /// What the fetch of an order gives.
 #[derive(Clone, Copy, Debug, PartialEq, Eq)]
 pub enum Fetched {
-    Order(Order),
-    /// The spelling is that of no order, or runs out of the store.
+    /// These syllables, which the spelling begins. What stands behind it counts for nothing.
+    Spelt { first: u8, second: u8, third: u8 },
+    /// The spelling runs out of the store.
     Bad,
     /// This group of a syllable is out.
     Held(u16),
@@ -43,11 +46,110 @@ fn read_syllable<P: Port>(port: &P, n: u16) -> Syllable
 }
 
 /// The order at a syllable of the program's store.
+#[inline(always)]
 pub fn fetch<P: Port>(port: &P, at: u16) -> Fetched
-    ensures held { held_of result
-        ≡ first_pending (P.shows port.now) (fetch_needs (P.shows port.now).claims.size (P.shows port.now).word at) }
-    ensures order { IsFetched (order_at (P.shows port.now).claims.size (P.shows port.now).word at) result }
-    ensures some { HasOrder result }
+    ensures { IsFetchedAt (P.shows port.now) at result }
+{
+    if at >= SYLLABLES {
+        return fetch_across(port, at);
+    }
+    match at % 6 {
+        0..4 => fetch_within(port, at),
+        4 => fetch_fifth(port, at),
+        _ => fetch_sixth(port, at),
+    }
+}
+
+/// The order at a syllable behind which two others stand in its word.
+#[inline(always)]
+fn fetch_within<P: Port>(port: &P, at: u16) -> Fetched
+    requires least { at < 49152 }
+    requires place { at % 6 < 4 }
+    ensures { IsFetchedAt (P.shows port.now) at result }
+{
+    let address = at / 6;
+    if address >= port.size() {
+        return Fetched::Bad;
+    }
+    match port.read(address) {
+        Ok(word) => spelt_within(word, (at % 6) as u8),
+        Err(group) => Fetched::Held(group),
+    }
+}
+
+/// The order at syllable 4 of a word.
+fn fetch_fifth<P: Port>(port: &P, at: u16) -> Fetched
+    requires least { at < 49152 }
+    requires place { at % 6 ≡ 4 }
+    ensures { IsFetchedAt (P.shows port.now) at result }
+{
+    let address = at / 6;
+    if address >= port.size() {
+        return Fetched::Bad;
+    }
+    let word = match port.read(address) {
+        Ok(word) => word,
+        Err(group) => return Fetched::Held(group),
+    };
+    let (first, second) = (syllable(word, 4), syllable(word, 5));
+    if size_of_first(first) < 3 {
+        return spelt(first, second, 0);
+    }
+    let next = (address + 1) % 8192;
+    if next >= port.size() {
+        return Fetched::Bad;
+    }
+    match port.read(next) {
+        Ok(word) => spelt(first, second, syllable(word, 0)),
+        Err(group) => Fetched::Held(group),
+    }
+}
+
+/// The order at syllable 5 of a word.
+fn fetch_sixth<P: Port>(port: &P, at: u16) -> Fetched
+    requires least { at < 49152 }
+    requires place { at % 6 ≡ 5 }
+    ensures { IsFetchedAt (P.shows port.now) at result }
+{
+    let address = at / 6;
+    if address >= port.size() {
+        return Fetched::Bad;
+    }
+    let first = match port.read(address) {
+        Ok(word) => syllable(word, 5),
+        Err(group) => return Fetched::Held(group),
+    };
+    if size_of_first(first) == 1 {
+        return spelt(first, 0, 0);
+    }
+    let next = (address + 1) % 8192;
+    if next >= port.size() {
+        return Fetched::Bad;
+    }
+    match port.read(next) {
+        Ok(word) => spelt(first, syllable(word, 0), syllable(word, 1)),
+        Err(group) => Fetched::Held(group),
+    }
+}
+
+/// The order at syllable `i` of a word, behind which two others stand.
+#[inline(always)]
+fn spelt_within(word: Word, i: u8) -> Fetched
+    requires { i < 4 }
+    ensures order { IsFetched
+        (first_decoded (syllable word i ∷ syllable word (i + 1) ∷ syllable word (i + 2) ∷ [])) result }
+    ensures held { held_of result ≡ None }
+{
+    spelt(
+        syllable(word, i),
+        syllable(word, i + 1),
+        syllable(word, i + 2),
+    )
+}
+
+/// The order at a syllable, read syllable by syllable.
+fn fetch_across<P: Port>(port: &P, at: u16) -> Fetched
+    ensures { IsFetchedAt (P.shows port.now) at result }
 {
     let first = match read_syllable(port, at) {
         Syllable::Byte(byte) => byte,
@@ -56,7 +158,7 @@ pub fn fetch<P: Port>(port: &P, at: u16) -> Fetched
     };
     let size = size_of_first(first);
     if size == 1 {
-        return decode_fetched(first, 0, 0);
+        return spelt(first, 0, 0);
     }
     let place = behind(at, 1);
     let second = match read_syllable(port, place) {
@@ -65,23 +167,24 @@ pub fn fetch<P: Port>(port: &P, at: u16) -> Fetched
         Syllable::Held(group) => return Fetched::Held(group),
     };
     if size == 2 {
-        return decode_fetched(first, second, 0);
+        return spelt(first, second, 0);
     }
     match read_syllable(port, behind(place, 1)) {
-        Syllable::Byte(third) => decode_fetched(first, second, third),
+        Syllable::Byte(third) => spelt(first, second, third),
         Syllable::Outside => Fetched::Bad,
         Syllable::Held(group) => Fetched::Held(group),
     }
 }
 
 /// The order that these syllables begin with.
-fn decode_fetched(first: u8, second: u8, third: u8) -> Fetched
+#[inline(always)]
+fn spelt(first: u8, second: u8, third: u8) -> Fetched
     ensures order { IsFetched (first_decoded (first ∷ second ∷ third ∷ [])) result }
     ensures held { held_of result ≡ None }
-    ensures some { HasOrder result }
 {
-    match decode(&[first, second, third]) {
-        Ok(order) => Fetched::Order(order),
-        Err(_) => Fetched::Bad,
+    Fetched::Spelt {
+        first,
+        second,
+        third,
     }
 }

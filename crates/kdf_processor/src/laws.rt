@@ -5,12 +5,12 @@ ghost use Rattle.kdf_processor.specs.Frame.{Agrees, Leaves, HidesNone};
 ghost use Rattle.kdf_processor.specs.Lone.{lone};
 ghost use Rattle.kdf_processor.specs.Needs.{needs};
 ghost use Rattle.kdf_processor.specs.Row.{row};
-ghost use Rattle.kdf_processor.specs.State.{State, begin};
+ghost use Rattle.kdf_processor.specs.State.{Slot, State, begin};
 
 /// The store of a program has as many words as its size says, at its start and after each order.
 pub fn store_size()
-    ensures start { (size : ℕ) (image : List ℕ) →
-        length image ≤ size → length (begin size image).stock.store ≡ size }
+    ensures start { (slot : Slot) →
+        length slot.words ≤ slot.size → length (begin slot).stock.store ≡ slot.size }
     ensures kept { (start : State) (answers : List ℕ) (n : ℕ) →
         length start.stock.store ≡ start.stock.claims.size →
         length (lone start answers n).stock.store ≡ (lone start answers n).stock.claims.size }

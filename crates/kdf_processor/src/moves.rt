@@ -11,6 +11,7 @@ use crate::{Port, Registers};
 use kdf_word::Word;
 
 /// What is fetched of a word: all of it, or a half.
+#[inline(always)]
 fn part(word: Word, half: Option<u8>) -> Word
     requires { IsHalf half }
     ensures { result ≡ part_of half word }
@@ -22,6 +23,7 @@ fn part(word: Word, half: Option<u8>) -> Word
 }
 
 /// What is kept at an address: the word, or its first half in a half of the word that is there.
+#[inline(always)]
 pub fn merged<P: Port>(port: &P, access: Access, word: Word) -> Word
     requires access { IsAccess (P.shows port.now).claims access }
     requires free { (P.shows port.now).is_out (group_of access.address) ≡ false }
@@ -37,6 +39,7 @@ pub fn merged<P: Port>(port: &P, access: Access, word: Word) -> Word
 }
 
 /// Counts Qq on, where the order has the suffix Q.
+#[inline(always)]
 fn count_on(registers: &mut Registers, u: bool, q: u8)
     requires { IsQ q }
     ensures { registers.new ≡ counts_on u q registers.old }
@@ -47,12 +50,14 @@ fn count_on(registers: &mut Registers, u: bool, q: u8)
 }
 
 /// Pushes what was fetched.
+#[inline(always)]
 pub fn push_fetched(registers: &mut Registers, access: Access, word: Word)
     requires room { length registers.old.nest < 16 }
     requires half { IsHalf access.half }
     requires q { IsQ access.q }
     ensures { registers.new
-        ≡ with_nest access.size (part_of access.half word ∷ registers.old.nest) (counts_on access.u access.q registers.old) }
+        ≡ with_nest access.size (part_of access.half word ∷ registers.old.nest)
+        (counts_on access.u access.q registers.old) }
 {
     count_on(registers, access.u, access.q);
     registers.nest.push(part(word, access.half));
@@ -60,12 +65,14 @@ pub fn push_fetched(registers: &mut Registers, access: Access, word: Word)
 }
 
 /// Takes the word that is to be kept.
+#[inline(always)]
 pub fn pop_kept(registers: &mut Registers, access: Access) -> Word
     requires there { 0 < length registers.old.nest }
     requires q { IsQ access.q }
     ensures top { result ≡ top registers.old.nest }
     ensures registers { registers.new
-        ≡ with_nest access.size (below_top registers.old.nest) (counts_on access.u access.q registers.old) }
+        ≡ with_nest access.size (below_top registers.old.nest)
+        (counts_on access.u access.q registers.old) }
 {
     let word = registers.nest.pop();
     count_on(registers, access.u, access.q);

@@ -1,10 +1,12 @@
 //! Obeying one order over any port.
-ghost use Rattle.std.specs.Prelude.{◌≡◌, ◌<◌, None, false, length};
+ghost use Rattle.std.specs.Prelude.{◌≡◌, ◌<◌, [], ◌∷◌, None, IfOk, false, length};
+ghost use Rattle.std.specs.Result.{result_ok};
+ghost use Rattle.kdf_decode.specs.Decoding.{first_decoded};
 ghost use Rattle.kdf_syllable.specs.Spelling.{IsOrder};
 ghost use Rattle.kdf_processor.specs.Effect.{Nothing};
 ghost use Rattle.kdf_processor.specs.Needs.{effect_needs, group_of};
 ghost use Rattle.kdf_processor.specs.Outcome.{Obeyed, outcome, counted};
-ghost use Rattle.kdf_processor.specs.Plan.{planned, done_plan, try_plan, try_change, try_order};
+ghost use Rattle.kdf_processor.specs.Plan.{planned, done_plan, try_plan, try_change, try_order, try_decoded};
 ghost use Rattle.kdf_processor.specs.Plan.{IsAccess, IsSound, IsChange, HasOperands, below_top};
 ghost use Rattle.kdf_processor.specs.Table.{with_nest};
 ghost use Rattle.kdf_processor.specs.View.{first_pending};
@@ -15,9 +17,11 @@ use crate::moves::{merged, pop_kept, push_fetched};
 use crate::plan::{Access, Plan, first_need, plan_of};
 use crate::syllable_number::behind;
 use crate::{Failure, Life, Need, Port, Registers, Step};
+use kdf_decode::{BadCode, decode_jump, decode_one, decode_store, decode_two};
 use kdf_syllable::Order;
 
 /// Counts an order.
+#[inline(always)]
 fn count(registers: &mut Registers)
     requires { registers.old.ran < u32.MAX }
     ensures { registers.new ≡ counted registers.old registers.old.state registers.old }
@@ -41,7 +45,8 @@ fn end(registers: &mut Registers) -> Step
     requires ran { registers.old.ran < u32.MAX }
     requires there { 0 < length registers.old.nest }
     ensures step { result ≡ Step.Ends }
-    ensures registers { registers.new ≡ counted registers.old Life.Ended (with_nest 1 (below_top registers.old.nest) registers.old) }
+    ensures registers { registers.new
+        ≡ counted registers.old Life.Ended (with_nest 1 (below_top registers.old.nest) registers.old) }
 {
     registers.nest.pop();
     registers.at = behind(registers.at, 1);
@@ -51,13 +56,15 @@ fn end(registers: &mut Registers) -> Step
 }
 
 /// Pushes what is fetched.
+#[inline(always)]
 fn fetch_word<P: Port>(registers: &mut Registers, port: &P, access: Access) -> Step
     requires ran { registers.old.ran < u32.MAX }
     requires access { IsAccess (P.shows port.now).claims access }
     requires room { length registers.old.nest < 16 }
     requires free { (P.shows port.now).is_out (group_of access.address) ≡ false }
     ensures step { result ≡ Step.Done }
-    ensures registers { registers.new ≡ (done_plan (P.shows port.now) registers.old (Plan.Fetch access)).registers }
+    ensures registers { registers.new
+        ≡ (done_plan (P.shows port.now) registers.old (Plan.Fetch access)).registers }
 {
     match port.read(access.address) {
         Ok(word) => push_fetched(registers, access, word),
@@ -68,13 +75,15 @@ fn fetch_word<P: Port>(registers: &mut Registers, port: &P, access: Access) -> S
 }
 
 /// Takes the top, and keeps it.
+#[inline(always)]
 fn keep_word<P: Port>(registers: &mut Registers, port: &mut P, access: Access) -> Step
     requires ran { registers.old.ran < u32.MAX }
     requires access { IsAccess (P.shows port.old).claims access }
     requires there { 0 < length registers.old.nest }
     requires free { (P.shows port.old).is_out (group_of access.address) ≡ false }
     requires room { P.room port.old (done_plan (P.shows port.old) registers.old (Plan.Keep access)).act }
-    ensures { Obeyed P.acts (done_plan (P.shows port.old) registers.old (Plan.Keep access)) port.old port.new registers.new result }
+    ensures { Obeyed P.acts (done_plan (P.shows port.old) registers.old (Plan.Keep access))
+        port.old port.new registers.new result }
 {
     let top = pop_kept(registers, access);
     let word = merged(port, access, top);
@@ -84,13 +93,15 @@ fn keep_word<P: Port>(registers: &mut Registers, port: &mut P, access: Access) -
 }
 
 /// Carries out a plan none of whose needs is pending.
+#[inline(always)]
 fn carry_out<P: Port>(registers: &mut Registers, port: &mut P, plan: Plan) -> Step
     requires ran { registers.old.ran < u32.MAX }
     requires sound { IsSound (P.shows port.old).claims plan }
     requires operands { HasOperands registers.old.nest plan }
     requires free { first_pending (P.shows port.old) (effect_needs (planned plan registers.old)) ≡ None }
     requires room { P.room port.old (done_plan (P.shows port.old) registers.old plan).act }
-    ensures { Obeyed P.acts (done_plan (P.shows port.old) registers.old plan) port.old port.new registers.new result }
+    ensures { Obeyed P.acts (done_plan (P.shows port.old) registers.old plan)
+        port.old port.new registers.new result }
 {
     match plan {
         Plan::Fail(kind) => fail(registers, kind),
@@ -101,12 +112,14 @@ fn carry_out<P: Port>(registers: &mut Registers, port: &mut P, plan: Plan) -> St
 }
 
 /// Holds the program up, or carries the plan out.
+#[inline(always)]
 fn obey_plan<P: Port>(registers: &mut Registers, port: &mut P, plan: Plan) -> Step
     requires ran { registers.old.ran < u32.MAX }
     requires sound { IsSound (P.shows port.old).claims plan }
     requires operands { HasOperands registers.old.nest plan }
     requires room { P.room port.old (try_plan (P.shows port.old) registers.old plan).act }
-    ensures { Obeyed P.acts (try_plan (P.shows port.old) registers.old plan) port.old port.new registers.new result }
+    ensures { Obeyed P.acts (try_plan (P.shows port.old) registers.old plan)
+        port.old port.new registers.new result }
 {
     match first_need(port, plan) {
         Some(need) => Step::Held(need),
@@ -115,13 +128,15 @@ fn obey_plan<P: Port>(registers: &mut Registers, port: &mut P, plan: Plan) -> St
 }
 
 /// Obeys an order that changes registers alone.
+#[inline(always)]
 fn obey_change<P: Port>(registers: &mut Registers, port: &mut P, order: Order) -> Step
     requires live { registers.old.state ≡ Life.Live }
     requires ran { registers.old.ran < u32.MAX }
     requires order { IsOrder order }
     requires change { IsChange order }
     requires room { P.room port.old (try_change (P.shows port.old) registers.old order).act }
-    ensures { Obeyed P.acts (try_change (P.shows port.old) registers.old order) port.old port.new registers.new result }
+    ensures { Obeyed P.acts (try_change (P.shows port.old) registers.old order)
+        port.old port.new registers.new result }
 {
     let ran = registers.ran;
     match change(registers, order) {
@@ -135,16 +150,65 @@ fn obey_change<P: Port>(registers: &mut Registers, port: &mut P, order: Order) -
 }
 
 /// Obeys an order that was fetched.
+#[inline(always)]
 fn obey_order<P: Port>(registers: &mut Registers, port: &mut P, order: Order) -> Step
     requires live { registers.old.state ≡ Life.Live }
     requires ran { registers.old.ran < u32.MAX }
     requires order { IsOrder order }
     requires room { P.room port.old (try_order (P.shows port.old) registers.old order).act }
-    ensures { Obeyed P.acts (try_order (P.shows port.old) registers.old order) port.old port.new registers.new result }
+    ensures { Obeyed P.acts (try_order (P.shows port.old) registers.old order)
+        port.old port.new registers.new result }
 {
     match plan_of(registers, port, order) {
         Some(plan) => obey_plan(registers, port, plan),
         None => obey_change(registers, port, order),
+    }
+}
+
+/// Obeys an order that was decoded, or fails where there is none.
+#[inline(always)]
+fn obey_decoded<P: Port>(
+    registers: &mut Registers,
+    port: &mut P,
+    decoded: Result<Order, BadCode>,
+) -> Step
+    requires live { registers.old.state ≡ Life.Live }
+    requires ran { registers.old.ran < u32.MAX }
+    requires order { IfOk decoded (λ o. IsOrder o) }
+    requires room { P.room port.old
+        (try_decoded (P.shows port.old) registers.old (result_ok decoded)).act }
+    ensures { Obeyed P.acts (try_decoded (P.shows port.old) registers.old (result_ok decoded))
+        port.old port.new registers.new result }
+{
+    match decoded {
+        Ok(order) => obey_order(registers, port, order),
+        Err(_) => obey_plan(registers, port, Plan::Fail(Failure::Liv)),
+    }
+}
+
+/// Obeys the order that three syllables begin with, class by class.
+#[tactic(auto, unfolding(kdf_decode::specs::Decoding::decoded))]
+#[inline(always)]
+fn obey_spelt<P: Port>(
+    registers: &mut Registers,
+    port: &mut P,
+    first: u8,
+    second: u8,
+    third: u8,
+) -> Step
+    requires live { registers.old.state ≡ Life.Live }
+    requires ran { registers.old.ran < u32.MAX }
+    requires room { P.room port.old
+        (try_decoded (P.shows port.old) registers.old (first_decoded (first ∷ second ∷ third ∷ []))).act }
+    ensures { Obeyed P.acts
+        (try_decoded (P.shows port.old) registers.old (first_decoded (first ∷ second ∷ third ∷ [])))
+        port.old port.new registers.new result }
+{
+    match first {
+        0x00..=0x3f => obey_decoded(registers, port, decode_one(first)),
+        0x40..=0x7f => obey_decoded(registers, port, decode_two(first, second)),
+        0x80..=0xbf => obey_decoded(registers, port, decode_jump(first, second, third)),
+        0xc0..=0xff => obey_decoded(registers, port, decode_store(first, second, third)),
     }
 }
 
@@ -161,6 +225,10 @@ pub fn obey<P: Port>(registers: &mut Registers, port: &mut P) -> Step
     match fetch(port, registers.at) {
         Fetched::Held(group) => Step::Held(Need::Group(group)),
         Fetched::Bad => obey_plan(registers, port, Plan::Fail(Failure::Liv)),
-        Fetched::Order(order) => obey_order(registers, port, order),
+        Fetched::Spelt {
+            first,
+            second,
+            third,
+        } => obey_spelt(registers, port, first, second, third),
     }
 }

@@ -33,7 +33,8 @@ pub fn plain(registers: &mut Registers, code: u8) -> Result<(), Failure>
 
 /// LINK.
 fn link(registers: &mut Registers) -> Result<(), Failure>
-    ensures { Comes (link_row registers.old registers.old.links) registers.old registers.new result }
+    ensures { Comes
+        (link_row registers.old registers.old.links) registers.old registers.new result }
 {
     if registers.links.depth() == 0 || registers.nest.depth() == DEPTH {
         return Err(Failure::Nouv);

@@ -3,7 +3,7 @@ ghost use Rattle.std.specs.Prelude.{◌≡◌, ◌≤◌, IfSome, IfNone};
 ghost use Rattle.kdf_syllable.specs.Spelling.{IsOrder, IsQ};
 ghost use Rattle.kdf_processor.specs.Effect.{of_change};
 ghost use Rattle.kdf_processor.specs.Needs.{effect_needs};
-ghost use Rattle.kdf_processor.specs.Plan.{planned, IsSound, IsHalf, IsChange, HasOperands};
+ghost use Rattle.kdf_processor.specs.Plan.{planned, IsPlanOf, IsSound, IsHalf, IsChange};
 ghost use Rattle.kdf_processor.specs.Table.{effect, change_of, guarded, moves};
 ghost use Rattle.kdf_processor.specs.View.{first_pending};
 
@@ -40,9 +40,8 @@ pub enum Plan {
 /// OUT.
 #[tactic(auto, unfolding(crate::specs::Table::out_effect, crate::specs::Table::guarded))]
 fn plan_out<P: Port>(registers: &Registers, port: &P) -> Plan
-    ensures effect { effect (P.shows port.now).claims registers.now (Order.Plain 0x21) ≡ planned result registers.now }
-    ensures sound { IsSound (P.shows port.now).claims result }
-    ensures operands { HasOperands registers.now.nest result }
+    ensures { IsPlanOf (P.shows port.now).claims registers.now
+        (effect (P.shows port.now).claims registers.now (Order.Plain 0x21)) result }
 {
     if registers.nest.depth() == 0 {
         return Plan::Fail(Failure::Nouv);
@@ -55,13 +54,13 @@ fn plan_out<P: Port>(registers: &Registers, port: &P) -> Plan
 
 /// A fetch of a word or a half, or a store where `t` is true.
 #[tactic(auto, unfolding(crate::specs::Table::guarded))]
+#[inline(always)]
 fn plan_move<P: Port>(registers: &Registers, port: &P, t: bool, access: Access) -> Plan
     requires half { IsHalf access.half }
     requires q { IsQ access.q }
-    ensures effect { guarded (P.shows port.now).claims (moves t registers.now access.size access.address access.half access.u access.q)
-        ≡ planned result registers.now }
-    ensures sound { IsSound (P.shows port.now).claims result }
-    ensures operands { HasOperands registers.now.nest result }
+    ensures { IsPlanOf (P.shows port.now).claims registers.now
+        (guarded (P.shows port.now).claims
+        (moves t registers.now access.size access.address access.half access.u access.q)) result }
 {
     let depth = registers.nest.depth();
     if t && depth == 0 || !t && depth == DEPTH {
@@ -79,11 +78,11 @@ fn plan_move<P: Port>(registers: &Registers, port: &P, t: bool, access: Access) 
 
 /// A store order.
 #[tactic(auto, unfolding(crate::specs::Table::direct_effect))]
+#[inline(always)]
 fn plan_direct<P: Port>(registers: &Registers, port: &P, t: bool, u: bool, q: u8, a: u16) -> Plan
     requires { IsQ q }
-    ensures effect { effect (P.shows port.now).claims registers.now (Order.Direct t u q a) ≡ planned result registers.now }
-    ensures sound { IsSound (P.shows port.now).claims result }
-    ensures operands { HasOperands registers.now.nest result }
+    ensures { IsPlanOf (P.shows port.now).claims registers.now
+        (effect (P.shows port.now).claims registers.now (Order.Direct t u q a)) result }
 {
     let access = Access {
         size: 3,
@@ -97,12 +96,12 @@ fn plan_direct<P: Port>(registers: &Registers, port: &P, t: bool, u: bool, q: u8
 
 /// MkMq and =MkMq.
 #[tactic(auto, unfolding(crate::specs::Table::indirect_effect))]
+#[inline(always)]
 fn plan_indirect<P: Port>(registers: &Registers, port: &P, code: u8, k: u8, q: u8) -> Plan
     requires k { IsQ k }
     requires q { IsQ q }
-    ensures effect { effect (P.shows port.now).claims registers.now (Order.Indirect code k q) ≡ planned result registers.now }
-    ensures sound { IsSound (P.shows port.now).claims result }
-    ensures operands { HasOperands registers.now.nest result }
+    ensures { IsPlanOf (P.shows port.now).claims registers.now
+        (effect (P.shows port.now).claims registers.now (Order.Indirect code k q)) result }
 {
     let modifier = registers.q.part(q, Part::M);
     let (step, half) = if code / 2 % 2 == 1 {
@@ -123,12 +122,11 @@ fn plan_indirect<P: Port>(registers: &Registers, port: &P, code: u8, k: u8, q: u
 }
 
 /// The plan of an order, or none where it changes registers alone.
+#[inline(always)]
 pub fn plan_of<P: Port>(registers: &Registers, port: &P, order: Order) -> Option<Plan>
     requires { IsOrder order }
-    ensures effect { IfSome result (λ plan.
-        effect (P.shows port.now).claims registers.now order ≡ planned plan registers.now) }
-    ensures sound { IfSome result (λ plan. IsSound (P.shows port.now).claims plan) }
-    ensures operands { IfSome result (λ plan. HasOperands registers.now.nest plan) }
+    ensures plan { IfSome result (IsPlanOf (P.shows port.now).claims registers.now
+        (effect (P.shows port.now).claims registers.now order)) }
     ensures change { IfNone result (
         effect (P.shows port.now).claims registers.now order ≡ of_change (change_of registers.now order)) }
     ensures quiet { IfNone result (IsChange order) }
@@ -142,9 +140,11 @@ pub fn plan_of<P: Port>(registers: &Registers, port: &P, order: Order) -> Option
 }
 
 /// The first need of a plan that is pending.
+#[inline(always)]
 pub fn first_need<P: Port>(port: &P, plan: Plan) -> Option<Need>
     requires { IsSound (P.shows port.now).claims plan }
-    ensures { (r : Registers) → result ≡ first_pending (P.shows port.now) (effect_needs (planned plan r)) }
+    ensures { (r : Registers) →
+        result ≡ first_pending (P.shows port.now) (effect_needs (planned plan r)) }
 {
     match plan {
         Plan::Fail(_) | Plan::End => None,

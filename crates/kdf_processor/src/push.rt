@@ -28,7 +28,8 @@ pub fn push_part(registers: &mut Registers, size: u16, part: u16) -> Result<(), 
 
 /// SET.
 pub fn set(registers: &mut Registers, constant: u16) -> Result<(), Failure>
-    ensures { Comes (pushes registers.old 3 (extended constant)) registers.old registers.new result }
+    ensures { Comes
+        (pushes registers.old 3 (extended constant)) registers.old registers.new result }
 {
     push_part(registers, 3, constant)
 }

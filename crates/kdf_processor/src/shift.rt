@@ -28,7 +28,8 @@ fn places(registers: &Registers, by: Amount) -> i16
 pub fn shift(registers: &mut Registers, code: u8, by: Amount) -> Result<(), Failure>
     requires { IsOrder (order.Shift code by) }
     ensures { Comes
-        (arith_changes 2 registers.old (arith (arithmetic.Shift code (places_of registers.old by)) registers.old.nest registers.old.flags))
+        (arith_changes 2 registers.old
+        (arith (arithmetic.Shift code (places_of registers.old by)) registers.old.nest registers.old.flags))
         registers.old registers.new result }
 {
     let n = places(registers, by);

@@ -16,7 +16,8 @@ use crate::{Failure, Registers};
 #[tactic(auto, unfolding(crate::specs::Table::single_row))]
 pub fn single(registers: &mut Registers, code: u8, q: u8) -> Result<(), Failure>
     requires { IsOrder (order.Single code q) }
-    ensures { Comes (single_row registers.old code q (triple_at registers.old.q q)) registers.old registers.new result }
+    ensures { Comes
+        (single_row registers.old code q (triple_at registers.old.q q)) registers.old registers.new result }
 {
     let triple = registers.q.triple(q);
     match code {

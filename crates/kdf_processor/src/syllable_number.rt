@@ -6,6 +6,7 @@ ghost use Rattle.kdf_processor.specs.Table.{on};
 const SYLLABLES: u32 = 49_152;
 
 /// The syllable number that is `count` syllables on.
+#[inline(always)]
 pub fn behind(at: u16, count: u16) -> u16
     ensures { result ≡ on at count }
 {

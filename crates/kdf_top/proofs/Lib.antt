@@ -1,9 +1,6 @@
-pub mod Pushed
-pub mod CallBounds
-pub mod Steps
-pub mod Added
 pub mod LoneRuns
 pub mod Owns
+pub mod Worlds
 pub mod LegalFacts
 pub mod Courses
 pub mod Schedules

@@ -5,13 +5,13 @@ use Rattle.std.specs.List.{flat_map}
 use Rattle.std.specs.Option.{option_map}
 use Rattle.std.proofs.lemmas.Bool.{eqb-true, eq-eqb}
 use Rattle.std.proofs.lemmas.List.Elements.{All-map}
-use Rattle.kdf_processor.specs.State.{begin}
 use Rattle.kdf_top.specs.declared.job.Job.{Job as ReadJob}
 use Rattle.kdf_top.specs.declared.job.SlotJob.{SlotJob as ReadSlot}
 use Rattle.kdf_top.specs.Answers.{IsMachineOf, report_of}
 use Rattle.kdf_top.specs.Follows.{IsJournal}
 use Rattle.kdf_top.specs.Job.{Job, SlotJob, job}
-use Rattle.kdf_top.specs.Next.{Slot, own, slot_of}
+use Rattle.kdf_processor.specs.State.{Slot}
+use Rattle.kdf_top.specs.Next.{own, slot_of, start_of}
 use Rattle.kdf_top.specs.MadeFrom.{state_at, HasSlot}
 use Rattle.kdf_top.specs.Shown.{Shown, ShowsLone, state_of, slot_of_job, slots_of}
 use Rattle.kdf_top.specs.Shows.{shown_job, shown_slot}
@@ -37,7 +37,7 @@ state_at-own m p P lone there = go (slot_of m.slots p) refl there
     go None e there = absurd there
     go (Some s) e there =
         let at : state_of m p ≡ Some (own m.slots m.journal s.p) = state_of-lone m p lone ∙ ap (option_map (λ (x : Slot). own m.slots m.journal x.p)) e in
-        ap (λ o. unwrap_or o (begin 0 [])) at ∙ ap (own m.slots m.journal) (found m.slots p s e)
+        ap (λ o. unwrap_or o (start_of None)) at ∙ ap (own m.slots m.journal) (found m.slots p s e)
 
 sections_own : (m : Shown) → ShowsLone m → (slots : List SlotJob) → All (HasSlot m) slots
     → flat_map (λ (slot : SlotJob). section slot (state_at m slot.p)) slots ≡ flat_map (λ (slot : SlotJob). section slot (own m.slots m.journal slot.p)) slots

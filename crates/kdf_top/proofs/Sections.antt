@@ -3,7 +3,7 @@ use Rattle.std.proofs.Common.{◌≡◌, ℕ, List, [], ◌∷◌, ◌++◌, map
 use Rattle.std.specs.List.{flat_map}
 use Rattle.kdf_processor.specs.declared.registers.Registers.{Registers}
 use Rattle.kdf_processor.specs.State.{State}
-use Rattle.kdf_top.specs.declared.journal.Entry.{Entry}
+use Rattle.kdf_journal.specs.declared.entry.Entry.{Entry}
 use Rattle.kdf_top.specs.Job.{Job, SlotJob}
 use Rattle.kdf_text.specs.Text.{text}
 use Rattle.kdf_top.specs.Text.{entry_line, registers_lines, show_lines, section, report_lines}

@@ -2,10 +2,9 @@
 use Rattle.std.proofs.Common.{◌≡◌, ℕ, Bool, true, false, cond, List, [], ◌∷◌, map, Option, Some, None, unwrap_or, refl, ap, ◌∙◌, eqb}
 use Rattle.std.specs.Option.{option_map}
 use Rattle.kdf_processor.specs.declared.registers.Registers.{Registers}
-use Rattle.kdf_processor.specs.State.{State, begin}
-use Rattle.kdf_top.specs.Next.{Slot, own, slot_of}
-use Rattle.kdf_top.specs.MadeFrom.{state_at}
-use Rattle.kdf_top.specs.Shown.{Shown, ShowsLone, state_in, state_of}
+use Rattle.kdf_processor.specs.State.{Slot, State}
+use Rattle.kdf_top.specs.Next.{own, slot_of, start_of}
+use Rattle.kdf_top.specs.Shown.{Shown, ShowsLone, state_in, state_of, state_at}
 
 at_first : (f : Slot → State) (slot : Slot) (rest : Option State) (found : Option Slot) (b : Bool) → rest ≡ option_map f found
     → cond b (Some (f slot)) rest ≡ option_map f (cond b (Some slot) found)
@@ -23,6 +22,6 @@ state_of-lone m p lone = ap (λ states. state_in m.slots states p) lone ∙ stat
 -- the registers that are seen are those of the state
 pub registers_at : (m : Shown) (p : ℕ) (r : Registers) → Some r ≡ option_map (λ (s : State). s.registers) (state_of m p) → r ≡ (state_at m p).registers
 registers_at m p r e = of_state (state_of m p) e where
-  of_state : (o : Option State) → Some r ≡ option_map (λ (s : State). s.registers) o → r ≡ (unwrap_or o (begin 0 [])).registers
+  of_state : (o : Option State) → Some r ≡ option_map (λ (s : State). s.registers) o → r ≡ (unwrap_or o (start_of None)).registers
   of_state None e = cc
   of_state (Some s) e = cc

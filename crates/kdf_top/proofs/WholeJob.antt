@@ -3,7 +3,7 @@ use Rattle.std.proofs.Common.{◌≡◌, ℕ, ◌+◌, ◌-◌, Bool, List, [], 
 use Rattle.std.proofs.lemmas.List.{get_or-drop, drop-drop}
 use Rattle.kdf_top.specs.declared.job.JobError.{JobError}
 use Rattle.kdf_top.specs.declared.job.JobFault.{JobFault}
-use Rattle.kdf_top.specs.declared.job.Event.TheVariants.{Orders}
+use Rattle.kdf_schedule.specs.declared.event.Event.TheVariants.{Orders}
 use Rattle.kdf_text.specs.declared.lines.Lines.{Lines}
 use Rattle.kdf_text.specs.Lines.{line, lines}
 use Rattle.kdf_top.specs.Job.{Job, store_size, orders_of, show_range, size_in, show_in, shows_of, deck_lines, deck_in, behind_deck, deck_text, scheduled_orders, forms, head_forms, deck_forms, show_forms, schedule_forms, job, job_fault}

@@ -27,8 +27,8 @@ use Rattle.kdf_text.specs.Lines.{lines, words}
 use Rattle.kdf_text.specs.Numbers.{value}
 use Rattle.kdf_schedule.specs.Events.{event}
 use Rattle.kdf_top.specs.Job.{forms, job, job_fault}
-use Rattle.kdf_top.specs.Worked.{Looked, adding, seventeen_zeros, nothing, of_two_parts, alone, looked, job_text}
-use Rattle.kdf_top.specs.declared.job.Event.TheVariants.{Orders}
+use Rattle.kdf_top.specs.Worked.{Looked, adding, seventeen_zeros, nothing, of_two_parts, alone, looked, job_text, of_32}
+use Rattle.kdf_schedule.specs.declared.event.Event.TheVariants.{Orders}
 use Rattle.kdf_top.specs.declared.job.JobFault.TheVariants.{Header, NotYet}
 
 -- images
@@ -53,7 +53,7 @@ two_parts_image = refl
 
 -- a program in a store of 32 words, from the words of its image
 abbrev run : ℕ → ℕ → List ℕ → Looked
-run a n image = looked a (lone (begin 32 image) [] n)
+run a n image = looked a (lone (begin (of_32 image)) [] n)
 
 pub adding_ends : looked 3 (alone adding 7) ≡ record { life = Ended; ran = 7; at = 18; nest = []; v = false; word = 12 }
 unfolding arith arith_row decoded plain_row out_effect decision direct_effect guarded

@@ -1,6 +1,6 @@
 -- What `run` answers to its words and to the bytes of its source, and what it writes.
 use Rattle.std.specs.Prelude.{◌≡◌, ℕ, List, [], ◌∷◌, length, nat_lt, Bool, true, false, Option, Some, None, if◌then◌else◌}
-use Rattle.kdf_top.specs.declared.journal.Entry.{Entry}
+use Rattle.kdf_journal.specs.declared.entry.Entry.{Entry}
 use Rattle.kdf_top.specs.declared.job.JobFault.{JobFault}
 use Rattle.kdf_top.specs.declared.status.Status.{Status}
 use Rattle.kdf_top.specs.declared.status.Status.TheVariants as status

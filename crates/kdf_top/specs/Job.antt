@@ -1,10 +1,8 @@
 -- The jobs that are read today: which lines they have, the first line that is wrong, and what a job means.
 use Rattle.std.specs.Prelude.{ℕ, ◌+◌, ◌%◌, ◌==◌, ◌&&◌, nat_le, nat_lt, Bool, true, List, [], ◌∷◌, ◌++◌, length, drop, Option, Some, None, unwrap_or, is_some, Result, Ok, if◌then◌else◌, codes}
 use Rattle.std.specs.List.{flat_map}
-use Rattle.kdf_top.specs.declared.job.Event.{Event}
-use Rattle.kdf_top.specs.declared.job.Event.TheVariants.{Orders}
-use Rattle.kdf_schedule.specs.declared.event.Event.{Event as Told}
-use Rattle.kdf_schedule.specs.declared.event.Event.TheVariants as told
+use Rattle.kdf_schedule.specs.declared.event.Event.{Event}
+use Rattle.kdf_schedule.specs.declared.event.Event.TheVariants.{Orders}
 use Rattle.kdf_schedule.specs.declared.event.EventFault.{EventFault}
 use Rattle.kdf_schedule.specs.Events.{event}
 use Rattle.kdf_top.specs.declared.job.JobFault.{JobFault}
@@ -38,8 +36,8 @@ abbrev pub store_size : List ℕ → Option ℕ
 store_size l = number_of_words (codes "STORE") 32 8192 (words l) >>= if_in_groups
 
 -- the number of orders of an event, if it is one of orders: no other is read today
-abbrev pub orders_told : Result Told EventFault → Option ℕ
-orders_told (Ok (told.Orders n)) = Some n
+abbrev pub orders_told : Result Event EventFault → Option ℕ
+orders_told (Ok (Orders n)) = Some n
 orders_told _ = None
 
 -- the number of orders in `ORDERS n`

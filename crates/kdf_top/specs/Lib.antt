@@ -2,8 +2,7 @@ pub mod Options
 pub mod Limits
 pub mod Job
 pub mod Deck
-pub mod Joined
-pub mod Counts
+pub mod World
 pub mod Next
 pub mod Legal
 pub mod Follows
@@ -12,12 +11,10 @@ pub mod Commands
 pub mod Shown
 pub mod Answers
 pub mod Codes
-pub mod Kept
 pub mod Course
-pub mod Schedule
-pub mod Store
+pub mod Bench
 pub mod Loaded
-pub mod Took
+pub mod Advance
 pub mod Agrees
 pub mod Shows
 pub mod MadeFrom

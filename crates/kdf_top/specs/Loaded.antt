@@ -1,8 +1,8 @@
 -- The slots that a job and its images are loaded into.
 use Rattle.std.specs.Prelude.{◌≡◌, ◌≤◌, List, [], ◌∷◌, length}
 use Rattle.kdf_place.specs.declared.image.Image.{Image}
+use Rattle.kdf_processor.specs.State.{Slot}
 use Rattle.kdf_top.specs.declared.job.SlotJob.{SlotJob}
-use Rattle.kdf_top.specs.Next.{Slot}
 
 -- each slot with its image
 abbrev pub loaded : List SlotJob → List Image → List Slot

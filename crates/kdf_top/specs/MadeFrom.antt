@@ -1,13 +1,9 @@
 -- What a report is made from: a job, and a machine that was loaded from it.
-use Rattle.std.specs.Prelude.{ℕ, ◌<◌, [], unwrap_or, All, IsSomeAnd}
-use Rattle.kdf_processor.specs.State.{State, begin}
+use Rattle.std.specs.Prelude.{◌<◌, All, IsSomeAnd}
+pub use Rattle.kdf_top.specs.Shown.{state_at}
 use Rattle.kdf_top.specs.Job.{SlotJob}
 use Rattle.kdf_top.specs.Next.{slot_of}
-use Rattle.kdf_top.specs.Shown.{Shown, state_of}
-
--- the state of program p; where there is no such slot, one of an empty store
-abbrev pub state_at : Shown → ℕ → State
-state_at m p = unwrap_or (state_of m p) (begin 0 [])
+use Rattle.kdf_top.specs.Shown.{Shown}
 
 -- the machine has the slot, and its store has the words that are to be shown
 abbrev pub HasSlot : Shown → SlotJob → Type 0

@@ -9,8 +9,8 @@ use Rattle.kdf_processor.specs.declared.registers.Life.{Life}
 use Rattle.kdf_processor.specs.declared.registers.Life.TheVariants as life
 use Rattle.kdf_processor.specs.declared.registers.Registers.{Registers}
 use Rattle.kdf_processor.specs.State.{State, word_at}
-use Rattle.kdf_top.specs.declared.journal.Entry.{Entry}
-use Rattle.kdf_top.specs.declared.journal.Entry.TheVariants.{Ran, Fail, Ended}
+use Rattle.kdf_journal.specs.declared.entry.Entry.{Entry}
+use Rattle.kdf_journal.specs.declared.entry.Entry.TheVariants.{Ran, Start, Answer, Fail, Ended, Lov, Busy, Idle, Move, End, Clock}
 use Rattle.kdf_top.specs.declared.job.JobFault.{JobFault}
 use Rattle.kdf_top.specs.declared.job.JobFault.TheVariants.{Header, NotYet}
 use Rattle.kdf_top.specs.declared.command.TheConstants.{JOB_LIMIT}
@@ -21,8 +21,16 @@ use Rattle.kdf_usercode.specs.Faults.{name_of}
 -- an entry of the journal
 abbrev pub entry_line : Entry → List ℕ
 entry_line (Ran p n) = codes "RAN " ++ decimal p ++ codes " " ++ decimal n
+entry_line (Start p d k) = codes "START " ++ decimal p ++ codes " " ++ decimal d ++ codes " " ++ decimal k
+entry_line (Answer p v) = codes "ANSWER " ++ decimal p ++ codes " " ++ decimal v
 entry_line (Fail p kind) = codes "FAIL " ++ decimal p ++ codes " " ++ failure_name kind
 entry_line (Ended p) = codes "ENDED " ++ decimal p
+entry_line (Lov p group) = codes "LOV " ++ decimal p ++ codes " " ++ decimal group
+entry_line (Busy p d) = codes "BUSY " ++ decimal p ++ codes " " ++ decimal d
+entry_line (Idle n) = codes "IDLE " ++ decimal n
+entry_line (Move d n) = codes "MOVE " ++ decimal d ++ codes " " ++ decimal n
+entry_line (End d) = codes "END " ++ decimal d
+entry_line (Clock t) = codes "CLOCK " ++ decimal t
 
 abbrev pub life_line : Life → List ℕ
 life_line life.Live = codes "STATE LIVE"

@@ -1,8 +1,8 @@
 -- What holds of every job that is read.
 use Rattle.std.specs.Prelude.{◌≡◌, ℕ, ◌%◌, ◌<◌, ◌≤◌, [], ◌∷◌, length, All}
 use Rattle.kdf_schedule.specs.declared.event.TheConstants.{MOST_ORDERS}
+use Rattle.kdf_schedule.specs.declared.event.Event.TheVariants.{Orders}
 use Rattle.kdf_top.specs.declared.job.TheConstants.{TEXT_LIMIT}
-use Rattle.kdf_top.specs.declared.job.Event.TheVariants.{Orders}
 use Rattle.kdf_top.specs.declared.job.Job.{Job}
 use Rattle.kdf_top.specs.declared.job.SlotJob.{SlotJob}
 

@@ -1,7 +1,7 @@
 -- Programs and jobs that are worked out: decks as bytes, and what is looked at of a state.
 use Rattle.std.specs.Prelude.{ℕ, Bool, List, [], ◌∷◌, ◌++◌, codes}
 use Rattle.kdf_processor.specs.declared.registers.Life.{Life}
-use Rattle.kdf_processor.specs.State.{State, begin, word_at}
+use Rattle.kdf_processor.specs.State.{Slot, State, begin, word_at}
 use Rattle.kdf_processor.specs.Lone.{lone}
 use Rattle.kdf_top.specs.Deck.{image_words}
 
@@ -23,9 +23,13 @@ of_two_parts =
     ∷ codes "V0=37; V0; SET 5; J1P1; 2; ZERO; OUT;" ++ 10
     ∷ codes "P1; ZERO; 1; +; =Y0; J2P0; FINISH;" ++ 10 ∷ []
 
+-- slot 0, of 32 words, with this image
+abbrev pub of_32 : List ℕ → Slot
+of_32 image = record { p = 0; size = 32; words = image }
+
 -- the program of a deck in a store of 32 words by itself, after n orders
 abbrev pub alone : List ℕ → ℕ → State
-alone deck n = lone (begin 32 (image_words 32 deck)) [] n
+alone deck n = lone (begin (of_32 (image_words 32 deck))) [] n
 
 -- what is looked at: the life, the orders obeyed, the next syllable, the nest, V, and the word at one address
 pub record Looked : Type 0 where

@@ -24,10 +24,18 @@ fn write_entry(out: &mut String, entry: &Entry) -> Result<(), AllocError>
 {
     match *entry {
         Entry::Ran { p, n } => writeln!(out, "RAN {p} {n}"),
+        Entry::Start { p, d, k } => writeln!(out, "START {p} {d} {k}"),
+        Entry::Answer { p, v } => writeln!(out, "ANSWER {p} {v}"),
         Entry::Fail { p, kind } => {
             let name = kind.name();
             writeln!(out, "FAIL {p} {name}")
         }
         Entry::Ended { p } => writeln!(out, "ENDED {p}"),
+        Entry::Lov { p, group } => writeln!(out, "LOV {p} {group}"),
+        Entry::Busy { p, d } => writeln!(out, "BUSY {p} {d}"),
+        Entry::Idle { n } => writeln!(out, "IDLE {n}"),
+        Entry::Move { d, n } => writeln!(out, "MOVE {d} {n}"),
+        Entry::End { d } => writeln!(out, "END {d}"),
+        Entry::Clock { t } => writeln!(out, "CLOCK {t}"),
     }
 }

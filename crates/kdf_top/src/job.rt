@@ -4,6 +4,7 @@ ghost use Rattle.std.specs.Prelude.{◌≡◌};
 ghost use Rattle.kdf_top.specs.Text.{fault_name};
 ghost use Rattle.kdf_top.specs.declared.job.JobError.TheVariants.{Memory};
 
+use kdf_schedule::Event;
 use std::alloc::{AllocError, AllocFailed};
 use thiserror::Error;
 
@@ -30,13 +31,6 @@ pub struct SlotJob {
     pub deck: Vec<u8>,
     /// The first and the last address of each run of words that the report shows.
     pub shows: Vec<(u16, u16)>,
-}
-
-/// An event of the schedule.
-#[derive(Clone, Copy, Debug, PartialEq, Eq)]
-pub enum Event {
-    /// So many orders, 1 to 20,000,000.
-    Orders(u32),
 }
 
 /// What is wrong with a line of a job.

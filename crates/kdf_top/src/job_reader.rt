@@ -14,7 +14,8 @@ ghost use Rattle.kdf_top.specs.WellFormed.{IsShow, IsJob};
 mod tests;
 
 use crate::forms::{orders_of, show_range, store_size};
-use crate::job::{Event, Job, JobError, JobFault, SlotJob};
+use crate::job::{Job, JobError, JobFault, SlotJob};
+use kdf_schedule::Event;
 use kdf_text::{LINE_END, Lines};
 use std::alloc::{AllocError, Global};
 
