@@ -29,7 +29,10 @@ impl Model for Journal {
 
     ghost Value = { Recorded };
 
-    ghost view = { λ j. record { entries = j.entries.items; spare = vec_capacity j.entries - vec_len j.entries } };
+    ghost view = { λ j. record {
+      entries = j.entries.items;
+      spare = vec_capacity j.entries - vec_len j.entries;
+    } };
 
     ghost invariant = { λ j. IsTallied j.tally j.entries.items };
 }
@@ -54,7 +57,8 @@ impl Journal {
         self.entries.reserve(n as usize)
     }
 
-    /// Adds an entry. Orders of the program whose orders come last are added to those, and idle calls to idle calls. It takes no memory.
+    /// Adds an entry. Orders of the program whose orders come last are added to those, and idle calls to idle calls.
+    /// It takes no memory.
     pub fn push(&mut self, entry: Entry)
         requires room { 0 < self.old.spare }
         requires few_calls { calls self.old.entries + calls_in entry ≤ CALL_LIMIT }

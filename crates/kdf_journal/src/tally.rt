@@ -1,6 +1,7 @@
 //! What is counted as entries come, so that no question about it goes through them again.
-ghost use Rattle.std.specs.Prelude.{◌≡◌, ◌+◌, ◌<◌, ◌^◌, ◌==◌, if◌then◌else◌, ℕ, None, slice_index, slice_index_or};
-ghost use Rattle.kdf_journal.specs.Counts.{ran_in, calls_in, pending_after, clock_after};
+ghost use Rattle.std.specs.Prelude.{◌≡◌, ◌+◌, ◌<◌, ◌^◌, ◌==◌, if◌then◌else◌, ℕ, [], None, slice_index_or};
+ghost use Rattle.kdf_journal.specs.Counts.{calls_in, clock_after};
+ghost use Rattle.kdf_journal.specs.Tallies.{IsTallyOf, CountsOrders, CanCount, KeepsTransfers};
 
 use crate::Entry;
 
@@ -24,9 +25,6 @@ pub struct Tally {
 }
 
 impl Tally {
-    ghost use Rattle.kdf_journal.specs.Tallies.{IsTallyOf};
-    ghost use Rattle.std.specs.Prelude.{[]};
-
     /// The tally of no entries.
     pub fn new() -> Tally
         ensures { IsTallyOf result [] }
@@ -41,12 +39,11 @@ impl Tally {
 
     /// Counts an entry more.
     pub fn count(&mut self, entry: &Entry)
-        requires orders { (p : ℕ) → p < SLOTS → slice_index self.old.ran p + ran_in p entry.now < 2 ^ 32 }
+        requires orders { CanCount self.old.ran entry.now }
         requires calls { self.old.calls + calls_in entry.now < 2 ^ 32 }
-        ensures ran { (p : ℕ) → p < SLOTS → slice_index self.new.ran p ≡ slice_index self.old.ran p + ran_in p entry.now }
+        ensures ran { CountsOrders self.old.ran self.new.ran entry.now }
         ensures calls { self.new.calls ≡ self.old.calls + calls_in entry.now }
-        ensures pending { (d : ℕ) → d < DEVICES
-            → slice_index_or self.new.pending d None ≡ pending_after d (slice_index_or self.old.pending d None) entry.now }
+        ensures pending { KeepsTransfers self.old.pending self.new.pending entry.now }
         ensures clock { self.new.clock ≡ clock_after self.old.clock entry.now }
     {
         count_orders(&mut self.ran, entry);
@@ -57,8 +54,8 @@ impl Tally {
 }
 
 fn count_orders(ran: &mut [u32; SLOTS], entry: &Entry)
-    requires { (p : ℕ) → p < SLOTS → slice_index ran.old p + ran_in p entry.now < 2 ^ 32 }
-    ensures { (p : ℕ) → p < SLOTS → slice_index ran.new p ≡ slice_index ran.old p + ran_in p entry.now }
+    requires { CanCount ran.old entry.now }
+    ensures { CountsOrders ran.old ran.new entry.now }
 {
     if let Entry::Ran { p, n } = *entry {
         let slot = usize::from(p);
@@ -79,8 +76,7 @@ fn calls_of(entry: &Entry) -> u32
 }
 
 fn keep_transfer(pending: &mut [Option<(u8, u32)>; DEVICES], entry: &Entry)
-    ensures { (d : ℕ) → d < DEVICES
-        → slice_index_or pending.new d None ≡ pending_after d (slice_index_or pending.old d None) entry.now }
+    ensures { KeepsTransfers pending.old pending.new entry.now }
 {
     match *entry {
         Entry::Start { p, d, k } => set_transfer(pending, d, Some((p, k))),
@@ -91,8 +87,8 @@ fn keep_transfer(pending: &mut [Option<(u8, u32)>; DEVICES], entry: &Entry)
 
 // Of a device that there isn't, nothing is kept.
 fn set_transfer(pending: &mut [Option<(u8, u32)>; DEVICES], d: u8, transfer: Option<(u8, u32)>)
-    ensures { (e : ℕ) → e < DEVICES
-        → slice_index_or pending.new e None ≡ (if d == e then transfer else slice_index_or pending.old e None) }
+    ensures { (e : ℕ) → e < DEVICES → slice_index_or pending.new e None
+        ≡ (if d == e then transfer else slice_index_or pending.old e None) }
 {
     let device = usize::from(d);
     if device < DEVICES {

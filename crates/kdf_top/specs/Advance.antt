@@ -12,7 +12,8 @@ use Rattle.kdf_top.specs.Shown.{Shown, world_of}
 
 -- the states after program p obeyed its next order
 abbrev pub states_after : List Slot → List State → ℕ → List State
-states_after (slot ∷ slots) (state ∷ states) p = if slot.p == p then row state 0 ∷ states else state ∷ states_after slots states p
+states_after (slot ∷ slots) (state ∷ states) p =
+    if slot.p == p then row state 0 ∷ states else state ∷ states_after slots states p
 states_after _ states p = states
 
 -- program p, which is next and which nothing holds up, obeyed its next order, and the journal tells how that came out

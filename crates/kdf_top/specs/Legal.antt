@@ -21,10 +21,12 @@ note_for ending.Ends = Finished
 abbrev pub note_of : State → Note
 note_of s = note_for (next_of s 0).step
 
--- the step is as the rules have it in this world, after the journal J. A program that is next obeys, with the note with which its order
--- comes out, or is held by the first of its needs that is pending; a call finds all held where none is next; and no time is set back
+-- The step is as the rules have it in this world, after the journal J. A program that is next obeys, with the note with which
+-- its order comes out, or is held by the first of its needs that is pending; a call finds all held where none is next;
+-- and no time is set back.
 abbrev pub Meets : World → List Slot → List Entry → Step → Type 0
-Meets w slots J (Obeys p note) = (next w slots J ≡ Some p) × (first_need w p ≡ None) × (note ≡ note_of (w.state p))
+Meets w slots J (Obeys p note) =
+    (next w slots J ≡ Some p) × (first_need w p ≡ None) × (note ≡ note_of (w.state p))
 Meets w slots J (Holds p by) = (next w slots J ≡ Some p) × (first_need w p ≡ Some by)
 Meets w slots J Waits = (any_live slots J ≡ true) × (next w slots J ≡ None)
 Meets w slots J (Moves d n) = Unit {0}
@@ -36,9 +38,9 @@ abbrev pub EachMeets : List Slot → List Step → Type 0
 EachMeets slots [] = Unit {0}
 EachMeets slots (s ∷ P) = EachMeets slots P × Meets (lone_world slots (journal_of P)) slots (journal_of P) s
 
--- The journal is that of its steps, and each step meets the rules. The first alone guards the form: that entries which could be one are
--- joined, that each number of orders and of idle calls is at least 1, and that a note stands directly behind an order, with the order's
--- program, and nowhere else.
+-- The journal is that of its steps, and each step meets the rules. The first alone guards the form: that entries which could
+-- be one are joined, that each number of orders and of idle calls is at least 1, and that a note stands directly behind
+-- an order, with the order's program, and nowhere else.
 pub record IsLegal (slots : List Slot) (J : List Entry) : Type 0 where
   pub in_form : journal_of (steps J) ≡ J
   pub each : EachMeets slots (steps J)

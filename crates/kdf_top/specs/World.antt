@@ -20,7 +20,8 @@ hold_of (Group group) = ByGroup group
 unfoldable pub first_need : World → ℕ → Option Hold
 first_need w p = find (w.pending p) (map hold_of (needs (w.state p)))
 
--- what is pending after the journal J: a device with a transfer. No order that is built has an area, so no group is locked out
+-- what is pending after the journal J: a device with a transfer.
+-- No order that is built has an area, so no group is locked out
 abbrev pub is_pending_after : List Entry → Hold → Bool
 is_pending_after J (ByGroup group) = false
 is_pending_after J (ByDevice d) = is_some (pending d J)

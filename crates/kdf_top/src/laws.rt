@@ -15,7 +15,8 @@ pub use worked::{
 
 /// Slots have at most one journal under a schedule.
 pub fn one_journal()
-    ensures { (slots : List Slot) (events : List Event) (J K : List Entry) → IsJournal slots events J → IsJournal slots events K → J ≡ K }
+    ensures { (slots : List Slot) (events : List Event) (J K : List Entry)
+        → IsJournal slots events J → IsJournal slots events K → J ≡ K }
 {}
 
 /// Slots have a journal under each schedule that doesn't set the clock back.

@@ -58,7 +58,10 @@ impl Model for Machine {
       journal = m.journal.entries;
     } };
 
-    ghost invariant = { λ m. Agrees (record { p = 0; size = m.store.size; words = m.image.items }) (state_with m.registers m.store) m.journal.entries };
+    ghost invariant = { λ m. Agrees
+        (record { p = 0; size = m.store.size; words = m.image.items })
+        (state_with m.registers m.store)
+        m.journal.entries };
 }
 
 impl Machine {

@@ -14,7 +14,8 @@ use std::alloc::AllocError;
 
 /// Makes the calls of the schedule, and stops as soon as no program is live.
 ///
-/// The schedule has orders alone, at most 20,000,000 of them. Where there is no memory for the journal, it stops early.
+/// The schedule has orders alone, at most 20,000,000 of them. Where there is no memory for the journal,
+/// it stops early.
 pub fn follow(machine: &mut Machine, events: &[Event]) -> Result<(), AllocError>
     requires fresh { machine.old.journal ≡ [] }
     requires few { order_count events.now ≤ CALL_LIMIT }
@@ -37,7 +38,8 @@ pub fn follow(machine: &mut Machine, events: &[Event]) -> Result<(), AllocError>
 fn make_calls(machine: &mut Machine, event: Event) -> Result<(), AllocError>
     requires few { calls machine.old.journal + orders_in event ≤ CALL_LIMIT }
     requires orders { AreOrders (event ∷ []) }
-    ensures steps { OnOk result (steps machine.new.journal ≡ course machine.old.slots (steps machine.old.journal) (calls_of event)) }
+    ensures steps { OnOk result (steps machine.new.journal
+        ≡ course machine.old.slots (steps machine.old.journal) (calls_of event)) }
     ensures calls { OnOk result (calls machine.new.journal ≤ calls machine.old.journal + orders_in event) }
     ensures slots { machine.new.slots ≡ machine.old.slots }
 {
@@ -50,7 +52,8 @@ fn make_calls(machine: &mut Machine, event: Event) -> Result<(), AllocError>
 // So many orders, or fewer where no program is live any more.
 fn obey_orders(machine: &mut Machine, n: u32) -> Result<(), AllocError>
     requires { calls machine.old.journal + n ≤ CALL_LIMIT }
-    ensures steps { OnOk result (steps machine.new.journal ≡ course machine.old.slots (steps machine.old.journal) (replicate n AnOrder)) }
+    ensures steps { OnOk result (steps machine.new.journal
+        ≡ course machine.old.slots (steps machine.old.journal) (replicate n AnOrder)) }
     ensures calls { OnOk result (calls machine.new.journal ≤ calls machine.old.journal + n) }
     ensures slots { machine.new.slots ≡ machine.old.slots }
 {
