@@ -1,10 +1,11 @@
 -- The lines of a deck, one after the other.
 use Rattle.std.proofs.Common.{◌≡◌, ℕ, suc, ◌+◌, ◌<◌, false, List, [], ◌∷◌, ◌++◌, length, drop, codes, Option, Some, append_assoc, refl, sym, ap, ◌∙◌, arith}
-use Rattle.kdf_top.specs.declared.lines.Lines.{Lines}
+use Rattle.kdf_text.specs.declared.lines.Lines.{Lines}
 use Rattle.kdf_top.specs.Options.{◌>>=◌}
-use Rattle.kdf_top.specs.Lines.{line, is_text}
+use Rattle.kdf_text.specs.Lines.{line, is_text}
 use Rattle.kdf_top.specs.Job.{first_off, fault_at, deck_lines, deck_forms, deck_text}
-use Rattle.kdf_top.specs.Reading.{ahead, fault_from}
+use Rattle.kdf_text.specs.Ahead.{ahead}
+use Rattle.kdf_top.specs.Reading.{fault_from}
 use Rattle.kdf_top.proofs.PassLemmas.{Form}
 
 -- the next line isn't ENDDECK

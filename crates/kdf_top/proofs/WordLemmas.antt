@@ -3,9 +3,11 @@ use Rattle.std.proofs.Common.{◌≡◌, ℕ, Bool, true, false, cond, not, eqb,
 use Rattle.std.specs.List.{list_all}
 use Rattle.std.proofs.lemmas.Bool.{or_cases, cases_Bool, eqb-true, and_right}
 use Rattle.kdf_top.specs.Options.{◌>>=◌}
-use Rattle.kdf_top.specs.Lines.{words, is_text, is_digit, is_digits, number_in}
+use Rattle.kdf_text.specs.Lines.{words, is_text}
+use Rattle.kdf_text.specs.Numbers.{is_digit, is_digits, number_in}
 use Rattle.kdf_top.specs.Job.{number_of_words, show_of_words, addresses, if_shown}
-use Rattle.kdf_top.proofs.Cutting.{has, Many, words-parts, parts-whole, parts-many, parts-at}
+use Rattle.kdf_text.proofs.Cutting.{has}
+use Rattle.kdf_text.proofs.WordCuts.{words-whole, words-many, words-at}
 
 cond-same : {A : Type 0} (b : Bool) → cond {A = Option A} b None None ≡ None
 cond-same true = refl
@@ -24,16 +26,6 @@ pub no-number : (low high : ℕ) (text : List ℕ) → has 32 text ≡ true → 
 no-number low high text h =
     let none : is_digits text ≡ false = and_right (not (eqb (length text) 0)) (list_all is_digit text) (digits-apart text h) in
     rw none refl
-
-words-whole : (text : List ℕ) → has 32 text ≡ false → words text ≡ text ∷ []
-words-whole text whole = words-parts text ∙ parts-whole 32 text whole
-
-words-many : (text : List ℕ) → has 32 text ≡ true → Many (words text)
-words-many text h = rw (words-parts text) (parts-many 32 text h)
-
-words-at : (line front rest : List ℕ) → line ≡ front ++ 32 ∷ rest → has 32 front ≡ false → words line ≡ front ∷ words rest
-words-at line front rest e apart =
-    words-parts line ∙ parts-at 32 line front rest e apart ∙ ap (λ (ws : List (List ℕ)). front ∷ ws) (sym (words-parts rest))
 
 -- a name, and what stands behind the space
 number-cut : (name front rest : List ℕ) (low high : ℕ)

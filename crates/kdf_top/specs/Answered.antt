@@ -1,6 +1,8 @@
 -- What a call came to, from its answer and from what its source and its sink told before and after it.
-use Rattle.std.specs.Prelude.{◌≡◌, ◌≢◌, ℕ, ◌≤◌, List, length, true, false, Option, is_some, IfSome}
-use Rattle.kdf_io.specs.Outside.{HasRisen, Took, NothingLeft}
+use Rattle.std.specs.Prelude.{◌≡◌, ◌≢◌, ℕ, ◌+◌, ◌≤◌, List, length, true, false, Option, is_some, IfSome}
+use Rattle.kdf_io.specs.Outside.{HasRisen, Advances, NothingLeft}
+use Rattle.kdf_io.specs.Reading.{TakesAtMost}
+use Rattle.kdf_top.specs.declared.command.TheConstants.{JOB_LIMIT}
 use Rattle.kdf_top.specs.declared.status.Status.{Status}
 use Rattle.kdf_top.specs.declared.status.Status.TheVariants as status
 use Rattle.kdf_top.specs.Shown.{Shown}
@@ -53,10 +55,11 @@ pub record IsRun (words : List (List ℕ)) (given : Status) (kept : Option Shown
   pub wrote : Wrote given sink.written sink'.written
   pub machine : is_some kept ≡ is_done given
   pub ended : IfSome kept (λ m. NothingLeft source'.left)
-  pub done : IfSome kept (λ m. (bytes : List ℕ) × Took source.left bytes source'.left × IsReported bytes m sink.written sink'.written)
+  pub done : IfSome kept (λ m. (bytes : List ℕ) × Advances source.left bytes source'.left × IsReported bytes m sink.written sink'.written)
   pub told : IfSome kept (λ m. IfSome source.left (λ bytes. IsReported bytes m sink.written sink'.written))
   pub front : given ≡ status.WriteFault → IfSome source.left (λ bytes. WroteFront (called_for words bytes) bytes sink.written sink'.written)
   pub room_writes : IfSome source.left (λ bytes. (due : List ℕ) → IsDue (called_for words bytes) bytes due → length due ≤ sink.room → given ≢ status.WriteFault)
   pub room_count : IfSome source.left (λ bytes. (due : List ℕ) → IsDue (called_for words bytes) bytes due → length due ≤ sink.room → sink'.faults ≡ sink.faults)
+  pub taken : TakesAtMost (JOB_LIMIT + 1) source.left source'.left
   pub source_counts : source.faults ≤ source'.faults
   pub sink_counts : sink.faults ≤ sink'.faults

@@ -9,7 +9,7 @@ ghost use Rattle.kdf_top.specs.Answers.{called_for};
 ghost use Rattle.kdf_top.specs.Deck.{assembled};
 ghost use Rattle.kdf_top.specs.Job.{job, job_fault};
 ghost use Rattle.kdf_top.specs.Worked.{adding, seventeen_zeros, nothing, of_two_parts, alone, looked, job_text};
-ghost use Rattle.kdf_top.specs.declared.job.Event.TheVariants.{Orders};
+ghost use Rattle.kdf_schedule.specs.declared.event.Event.TheVariants.{Orders};
 ghost use Rattle.kdf_top.specs.declared.job.JobFault.TheVariants.{Header, NotYet};
 ghost use Rattle.kdf_top.specs.declared.status.Status.TheVariants as status;
 

@@ -1,6 +1,7 @@
 use Rattle.std.proofs.Common.{rules, None, sym, ◌∙◌}
 use Rattle.std.proofs.lemmas.Bool.{cond-true, cond-false}
-use Rattle.kdf_top.specs.Lines.{is_text, number_in}
+use Rattle.kdf_text.specs.Lines.{is_text}
+use Rattle.kdf_text.specs.Numbers.{number_in}
 use Rattle.kdf_top.proofs.WordLemmas.{number-at, number-nowhere}
 use Rattle.kdf_top.proofs.forms.number_behind.Goals as goal
 

@@ -1,6 +1,6 @@
 use Rattle.std.proofs.Common.{◌≡◌, rules, true, false, None, codes, sym, ◌∙◌}
 use Rattle.std.proofs.lemmas.Bool.{cond-true, cond-false}
-use Rattle.kdf_top.specs.Lines.{is_text}
+use Rattle.kdf_text.specs.Lines.{is_text}
 use Rattle.kdf_top.specs.Job.{addresses}
 use Rattle.kdf_top.proofs.WordLemmas.{show-at, show-one, show-nowhere}
 use Rattle.kdf_top.proofs.forms.show_range.Goals as goal

@@ -1,6 +1,7 @@
 use Rattle.std.proofs.Common.{◌≡◌, ◌+◌, ◌<◌, ◌≤◌, List, ◌++◌, length}
 use Rattle.kdf_top.specs.Job.{deck_lines, deck_forms, deck_text}
-use Rattle.kdf_top.specs.Reading.{ahead, fault_from}
+use Rattle.kdf_text.specs.Ahead.{ahead}
+use Rattle.kdf_top.specs.Reading.{fault_from}
 use Rattle.kdf_top.proofs.PassLemmas.{Form}
 use Rattle.kdf_top.proofs.DeckLines.{behind_end}
 use Rattle.kdf_top.proofs.job_reader.read_deck_lines.Given as goal
