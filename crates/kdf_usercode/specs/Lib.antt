@@ -5,6 +5,7 @@ pub mod Parse
 pub mod Range
 pub mod Octal
 pub mod Characters
+pub mod OrderNames
 pub mod Orders
 pub mod Stores
 pub mod Jumps

@@ -3,7 +3,6 @@ use Rattle.std.specs.Prelude.{ℕ, ◌-◌, Bool, true, false, ◌&&◌, nat_le,
 use Rattle.std.specs.Str.{bytes_eq}
 use lib.Chars.{codes}
 use Rattle.kdf_usercode.specs.declared.range.Range.{Range}
-use Rattle.kdf_usercode.specs.declared.range.TheConstants.{STORE, PART, Q}
 use Rattle.kdf_usercode.specs.declared.statement.Named.{Named}
 use Rattle.kdf_usercode.specs.declared.statement.Named.TheVariants as nameds
 use Rattle.kdf_usercode.specs.declared.statement.What.{What}
@@ -15,6 +14,7 @@ use Rattle.kdf_usercode.specs.declared.stores.StoreName.TheVariants.{Y, V, VOfPa
 use Rattle.kdf_usercode.specs.declared.stores.Suffix.{Suffix}
 use Rattle.kdf_usercode.specs.declared.stores.Suffix.TheVariants.{Nothing, M, MQ}
 use Rattle.kdf_usercode.specs.Parse.{◌>>=◌, ◌or◌, opt_map, strip}
+use Rattle.kdf_usercode.specs.Range.{q_range, store_range, part_range}
 
 -- ---- names
 
@@ -76,15 +76,15 @@ address_form shape = do
 -- ---- ranges
 
 abbrev pub store_ranges : StoreName → List Range
-store_ranges (Y group) = STORE ∷ []
-store_ranges V = STORE ∷ []
-store_ranges VOfPart = STORE ∷ PART ∷ []
-store_ranges E = STORE ∷ []
+store_ranges (Y group) = store_range ∷ []
+store_ranges V = store_range ∷ []
+store_ranges VOfPart = store_range ∷ part_range ∷ []
+store_ranges E = store_range ∷ []
 
 abbrev pub suffix_ranges : Suffix → List Range
 suffix_ranges Nothing = []
-suffix_ranges M = Q ∷ []
-suffix_ranges MQ = Q ∷ []
+suffix_ranges M = q_range ∷ []
+suffix_ranges MQ = q_range ∷ []
 
 abbrev pub access_ranges : StoreName → Suffix → List Range
 access_ranges name suffix = store_ranges name ++ suffix_ranges suffix

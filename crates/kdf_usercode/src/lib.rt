@@ -15,6 +15,7 @@ mod fault;
 mod forms;
 mod jumps;
 mod kept;
+pub mod laws;
 mod octal;
 mod order_names;
 mod orders;
