@@ -31,6 +31,7 @@ use Rattle.kdf_usercode.specs.declared.forms.Form.TheVariants as forms
 use Rattle.kdf_usercode.specs.declared.phase.Stage.{Stage}
 use Rattle.kdf_usercode.specs.declared.phase.Stage.TheVariants.{Heading, Constants, Body, Ended}
 use Rattle.kdf_usercode.specs.declared.statement.Named.{Named}
+use Rattle.kdf_usercode.specs.Bytes.{letter_b, letter_p}
 use Rattle.kdf_usercode.specs.Parse.{behind}
 use Rattle.kdf_usercode.specs.Range.{q_range, reference_range, part_range, opened_range, store_range, range_fault, range_faults}
 use Rattle.kdf_usercode.specs.Octal.{octal}
@@ -84,7 +85,7 @@ order-fits orders.ExitNone ns text f r o = lit< tt
 order-fits orders.Exit ns text f r o = let a = first exit_range [] ns r in omega (arith, a.1)
 order-fits orders.SetUp ns text f r o = let a = first up_range [] ns r in omega (arith, a.1)
 order-fits orders.SetDown ns text f r o = omega arith
-order-fits orders.SetOctal ns text f r o = let a = within-one octal_set_range (octal (behind 66 text)) o in omega (arith, a.1)
+order-fits orders.SetOctal ns text f r o = let a = within-one octal_set_range (octal (behind letter_b text)) o in omega (arith, a.1)
 
 order-alone : (form : OrderForm) (ns text : List ℕ) → has_code form ≡ true → StandsAlone (order_of form ns text)
 order-alone (orders.Plain code) ns text f = tt
@@ -206,8 +207,8 @@ word-below cs =
 value-fits : (form : ValueForm) (ns text : List ℕ) → IsValueForm form → range_faults (value_ranges form) ns ≡ [] → text_value_faults form text ≡ [] → IsValue (value_of form ns text)
 value-fits values.Up ns text f r o = let a = first word_up_range [] ns r in omega (arith, a.1)
 value-fits values.Down ns text f r o = omega arith
-value-fits values.Octal ns text f r o = let a = within-one octal_word_range (octal (behind 66 text)) o in omega (arith, a.1)
-value-fits values.Characters ns text f r o = word-below (behind 80 text)
+value-fits values.Octal ns text f r o = let a = within-one octal_word_range (octal (behind letter_b text)) o in omega (arith, a.1)
+value-fits values.Characters ns text f r o = word-below (behind letter_p text)
 value-fits (values.Triple c i m) ns text f r o = triple-fits c i m ns f r
 
 constant-fits : (form : ValueForm) (ns text : List ℕ) → IsValueForm form → range_faults (store_range ∷ value_ranges form) ns ≡ [] → text_value_faults form text ≡ [] → IsWhat (what_of Heading (forms.Constant form) ns text)

@@ -1,5 +1,5 @@
 -- What the tables and the names give: the codes and groups of each form.
-use Rattle.std.proofs.Common.{◌≡◌, ℕ, ◌-◌, ◌<◌, ◌≤◌, Bool, true, false, cond, not, ◌&&◌, leb, eqb, List, [], ◌∷◌, length, Option, Some, None, refl, arith, lit<}
+use Rattle.std.proofs.Common.{◌≡◌, ℕ, ◌+◌, ◌-◌, ◌<◌, ◌≤◌, Bool, true, false, cond, not, ◌&&◌, leb, eqb, List, [], ◌∷◌, length, Option, Some, None, refl, arith, lit<}
 use Rattle.std.specs.Prelude.{nat_le, ◌==◌}
 use Rattle.std.specs.List.{list_all}
 use Rattle.std.specs.Str.{bytes_eq}
@@ -20,6 +20,7 @@ use Rattle.kdf_usercode.specs.declared.constants.ValueForm.{ValueForm}
 use Rattle.kdf_usercode.specs.declared.constants.ValueForm.TheVariants as values
 use Rattle.kdf_usercode.specs.declared.forms.Form.{Form}
 use Rattle.kdf_usercode.specs.declared.forms.Form.TheVariants as forms
+use Rattle.kdf_usercode.specs.Bytes.{letter_a, letter_z, letter_b, letter_p}
 use Rattle.kdf_usercode.specs.Parse.{◌>>=◌, ◌or◌, opt_map, behind, row_in, strip}
 use Rattle.kdf_usercode.specs.Octal.{all_octal}
 use Rattle.kdf_usercode.specs.Characters.{are_characters}
@@ -57,7 +58,7 @@ unfolding order_form octal_order
 order-form shape text =
     holds-or (λ form. has_code form ≡ true) (row_in order_names shape) (octal_order shape text)
     (holds-row has_code order_names shape orders-have-codes)
-    (holds-if (λ form. has_code form ≡ true) (bytes_eq shape (codes "SETB0") && all_octal (behind 66 text)) orders.SetOctal refl)
+    (holds-if (λ form. has_code form ≡ true) (bytes_eq shape (codes "SETB0") && all_octal (behind letter_b text)) orders.SetOctal refl)
 
 -- ---- stores
 
@@ -70,16 +71,16 @@ abbrev pub IsAddressedName : StoreName → Type 0
 IsAddressedName names.E = ⊥
 IsAddressedName name = HasGroup name
 
-letter-small : (c : ℕ) → (nat_le 65 c && nat_le c 90) ≡ true → c - 64 ≤ 26
+letter-small : (c : ℕ) → (nat_le letter_a c && nat_le c letter_z) ≡ true → c - letter_a + 1 ≤ 26
 letter-small c e = grind (arith, nat_tests)
 
-letter-found : (c : ℕ) (rest : List ℕ) (b : Bool) → (nat_le 65 c && nat_le c 90) ≡ b → Holds (λ (x : ℕ × List ℕ). x.0 ≤ 26) (cond b (Some (c - 64, rest)) None)
+letter-found : (c : ℕ) (rest : List ℕ) (b : Bool) → (nat_le letter_a c && nat_le c letter_z) ≡ b → Holds (λ (x : ℕ × List ℕ). x.0 ≤ 26) (cond b (Some (c - letter_a + 1, rest)) None)
 letter-found c rest true e = letter-small c e
 letter-found c rest false e = tt
 
 letter-after : (shape : List ℕ) → Holds (λ (x : ℕ × List ℕ). x.0 ≤ 26) (letter_after shape)
 letter-after [] = tt
-letter-after (c ∷ rest) = letter-found c rest (nat_le 65 c && nat_le c 90) refl
+letter-after (c ∷ rest) = letter-found c rest (nat_le letter_a c && nat_le c letter_z) refl
 
 abbrev NameHas : (StoreName → Type 0) → StoreName × List ℕ → Type 0
 NameHas P x = P x.0
@@ -244,13 +245,13 @@ weaker P R (Some x) f h = f x h
 
 octal-value : (shape text : List ℕ) → Holds IsValueForm (octal_value shape text)
 unfolding octal_value
-octal-value shape text = holds-if IsValueForm (bytes_eq shape (codes "B0") && all_octal (behind 66 text)) values.Octal tt
+octal-value shape text = holds-if IsValueForm (bytes_eq shape (codes "B0") && all_octal (behind letter_b text)) values.Octal tt
 
 characters-value : (shape text : List ℕ) → Holds IsValueForm (characters_value shape text)
 unfolding characters_value
 characters-value shape text =
     holds-bind (λ x. Unit {0}) IsValueForm (strip (codes "P") shape) _ (any (strip (codes "P") shape))
-    (λ rest u. holds-if IsValueForm (are_characters (behind 80 text)) values.Characters tt)
+    (λ rest u. holds-if IsValueForm (are_characters (behind letter_p text)) values.Characters tt)
 
 value-form : (shape text : List ℕ) → Holds IsValueForm (value_form shape text)
 unfolding value_form

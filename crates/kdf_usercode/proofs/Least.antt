@@ -3,7 +3,8 @@ use Rattle.std.proofs.Common.{◌≡◌, ℕ, List, [], ◌∷◌, ◌++◌, Opt
 use Rattle.std.proofs.lemmas.List.{map-append}
 use Rattle.kdf_fault.proofs.Least as of_all
 use Rattle.kdf_usercode.specs.declared.fault.DeckFault.{DeckFault}
-use Rattle.kdf_usercode.specs.Faults.{Found, number_of, apart, lesser, least, founds}
+use Rattle.kdf_usercode.specs.Faults.{Found, number_of, lesser, least, founds}
+use Rattle.kdf_usercode.specs.Apart.{apart}
 
 pub some-stays : (x : Found) (later : Option Found) → (z : Found) × (lesser (Some x) later ≡ Some z)
 some-stays x later = of_all.some-stays number_of x later

@@ -31,7 +31,7 @@ pub holds-if : {A : Type 0} (P : A → Type 0) (b : Bool) (x : A) → P x → Ho
 holds-if P true x h = h
 holds-if P false x h = tt
 
-both-true : (a b : Bool) → (a && b) ≡ true → (a ≡ true) × (b ≡ true)
+pub both-true : (a b : Bool) → (a && b) ≡ true → (a ≡ true) × (b ≡ true)
 both-true true b e = (refl, e)
 both-true false b e = absurd cc
 

@@ -14,6 +14,7 @@ use Rattle.kdf_usercode.specs.declared.constants.ItemForm.TheVariants as item_fo
 use Rattle.kdf_usercode.specs.declared.constants.ValueForm.{ValueForm}
 use Rattle.kdf_usercode.specs.declared.constants.ValueForm.TheVariants.{Up, Down, Octal, Characters, Triple}
 use Rattle.kdf_usercode.specs.Characters.{are_characters, characters_word}
+use Rattle.kdf_usercode.specs.Bytes.{letter_b, letter_p}
 use Rattle.kdf_usercode.specs.Octal.{all_octal, octal}
 use Rattle.kdf_usercode.specs.Parse.{◌>>=◌, ◌or◌, opt_map, behind, row_in, strip}
 use Rattle.kdf_usercode.specs.Range.{between, range_fault}
@@ -54,13 +55,14 @@ triple_form shape = do
 
 -- `B` and octal digits
 unfoldable pub octal_value : List ℕ → List ℕ → Option ValueForm
-octal_value shape text = if bytes_eq shape (codes "B0") && all_octal (behind 66 text) then Some Octal else None
+octal_value shape text =
+    if bytes_eq shape (codes "B0") && all_octal (behind letter_b text) then Some Octal else None
 
 -- `P` and characters
 unfoldable pub characters_value : List ℕ → List ℕ → Option ValueForm
 characters_value shape text = do
   rest ← strip (codes "P") shape
-  if are_characters (behind 80 text) then Some Characters else None
+  if are_characters (behind letter_p text) then Some Characters else None
 
 -- constants that are one number
 abbrev pub value_names : List (List ℕ × ValueForm)
@@ -120,8 +122,8 @@ value_ranges Characters = []
 value_ranges (Triple c i m) = item_ranges c ++ (item_ranges i ++ item_ranges m)
 
 abbrev pub text_value_faults : ValueForm → List ℕ → List DeckFault
-text_value_faults Octal text = range_fault octal_word_range (octal (behind 66 text))
-text_value_faults Characters text = range_fault characters_range (length (behind 80 text))
+text_value_faults Octal text = range_fault octal_word_range (octal (behind letter_b text))
+text_value_faults Characters text = range_fault characters_range (length (behind letter_p text))
 text_value_faults form text = []
 
 abbrev pub is_triple : ValueForm → Bool
@@ -140,11 +142,13 @@ abbrev pub behind_item : ItemForm → List ℕ → List ℕ
 behind_item form ns = drop (length (item_ranges form)) ns
 
 abbrev pub triple_of : ItemForm → ItemForm → ItemForm → List ℕ → Value
-triple_of c i m ns = values.Triple (item_of c ns) (item_of i (behind_item c ns)) (item_of m (behind_item i (behind_item c ns)))
+triple_of c i m ns =
+    let behind_c = behind_item c ns in
+    values.Triple (item_of c ns) (item_of i behind_c) (item_of m (behind_item i behind_c))
 
 abbrev pub value_of : ValueForm → List ℕ → List ℕ → Value
 value_of Up ns text = values.Number (slice_index ns 0)
 value_of Down ns text = values.Number ((2 ^ 48 - slice_index ns 0) % 2 ^ 48)
-value_of Octal ns text = values.Number (octal (behind 66 text))
-value_of Characters ns text = values.Number (characters_word (behind 80 text))
+value_of Octal ns text = values.Number (octal (behind letter_b text))
+value_of Characters ns text = values.Number (characters_word (behind letter_p text))
 value_of (Triple c i m) ns text = triple_of c i m ns

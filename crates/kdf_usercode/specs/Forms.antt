@@ -1,4 +1,5 @@
--- The forms of statements, the faults of their numbers, and what they say. A shape has `0` in place of each number.
+-- The forms of statements, the faults of their numbers, and what they say. A shape has `0` in place of
+-- each number.
 use Rattle.std.specs.Prelude.{ℕ, Bool, true, false, List, [], ◌∷◌, ◌++◌, drop, slice_index, Option, Some, None}
 use lib.Chars.{codes}
 use Rattle.kdf_usercode.specs.declared.fault.DeckFault.{DeckFault}
@@ -80,7 +81,9 @@ declared_or Heading (Some group) n what = whats.Declare group n
 declared_or stage group n what = what
 
 abbrev pub store_of : Stage → Direction → StoreName → Suffix → List ℕ → What
-store_of stage direction name suffix ns = declared_or stage (declared_group direction name suffix) (slice_index ns 0) (access_of direction name suffix ns)
+store_of stage direction name suffix ns =
+    declared_or stage (declared_group direction name suffix) (slice_index ns 0)
+    (access_of direction name suffix ns)
 
 abbrev pub what_of : Stage → Form → List ℕ → List ℕ → What
 what_of stage Program ns text = whats.Program None
@@ -92,7 +95,8 @@ what_of stage Star ns text = whats.Star
 what_of stage Reference ns text = whats.Reference (slice_index ns 0)
 what_of stage Short ns text = whats.Short (slice_index ns 0) (slice_index ns 1)
 what_of stage (Plain order) ns text = whats.Plain (order_of order ns text)
-what_of stage (Constant value) ns text = whats.Constant (slice_index ns 0) (value_of value (drop 1 ns) text)
+what_of stage (Constant value) ns text =
+    whats.Constant (slice_index ns 0) (value_of value (drop 1 ns) text)
 what_of stage (Go test target) ns text = go_of test target ns
 what_of stage (Access direction name suffix) ns text = store_of stage direction name suffix ns
 what_of stage (SetAddress name) ns text = whats.SetAddress (named_of name ns)

@@ -1,5 +1,9 @@
 pub mod Faults
-pub mod Kept
+pub mod Apart
+pub mod Bytes
+pub mod Comments
+pub mod Pieces
+pub mod Capped
 pub mod Shape
 pub mod Parse
 pub mod Range
@@ -11,6 +15,7 @@ pub mod Stores
 pub mod Jumps
 pub mod Constants
 pub mod Forms
+pub mod Parsed
 pub mod Phase
 pub mod Grammar
 pub mod Reading

@@ -183,7 +183,8 @@ order_names =
     ++ exit_names
     ++ set_names
 
--- Names that are refused by a fault of their own: orders on floating numbers, which this machine hasn't.
+-- Names that are refused by a fault of their own: orders on floating numbers, which this machine
+-- hasn't.
 abbrev pub refused_names : List (List ℕ × DeckFault)
 refused_names =
     (codes "+F", Floating) ∷

@@ -1,4 +1,4 @@
--- Orders that name no store and no reference: their names, the ranges of their numbers, and what they say.
+-- Orders that name no store and no reference: the ranges of their numbers, and what they say.
 use Rattle.std.specs.Prelude.{ℕ, ◌-◌, ◌%◌, ◌&&◌, List, [], ◌∷◌, slice_index, pos, neg_ℤ, Option, Some, None, if◌then◌else◌}
 use Rattle.std.specs.Str.{bytes_eq}
 use lib.Chars.{codes}
@@ -10,6 +10,7 @@ use Rattle.kdf_syllable.specs.declared.amount.Amount.TheVariants as amounts
 use Rattle.kdf_usercode.specs.declared.order_names.OrderForm.{OrderForm}
 use Rattle.kdf_usercode.specs.declared.order_names.OrderForm.TheVariants.{Plain, Indirect, Single, Copies, ShiftUp, ShiftDown, ShiftCount, Device, Query, ExitNone, Exit, SetUp, SetDown, SetOctal}
 use Rattle.kdf_usercode.specs.declared.range.Range.{Range}
+use Rattle.kdf_usercode.specs.Bytes.{letter_b}
 use Rattle.kdf_usercode.specs.Octal.{all_octal, octal}
 use Rattle.kdf_usercode.specs.OrderNames.{order_names, refused_names}
 use Rattle.kdf_usercode.specs.Parse.{◌or◌, behind, row_in}
@@ -19,7 +20,8 @@ use Rattle.kdf_usercode.specs.Range.{between, q_range, range_fault}
 
 -- `SETB` and octal digits
 unfoldable pub octal_order : List ℕ → List ℕ → Option OrderForm
-octal_order shape text = if bytes_eq shape (codes "SETB0") && all_octal (behind 66 text) then Some SetOctal else None
+octal_order shape text =
+    if bytes_eq shape (codes "SETB0") && all_octal (behind letter_b text) then Some SetOctal else None
 
 -- the order of a statement, by its shape and its bytes
 unfoldable pub order_form : List ℕ → List ℕ → Option OrderForm
@@ -74,7 +76,7 @@ order_ranges SetDown = down_range ∷ []
 order_ranges SetOctal = []
 
 abbrev pub octal_order_faults : OrderForm → List ℕ → List DeckFault
-octal_order_faults SetOctal text = range_fault octal_set_range (octal (behind 66 text))
+octal_order_faults SetOctal text = range_fault octal_set_range (octal (behind letter_b text))
 octal_order_faults form text = []
 
 -- ---- what they say
@@ -93,4 +95,4 @@ order_of ExitNone ns text = orders.Exit 0
 order_of Exit ns text = orders.Exit (slice_index ns 0)
 order_of SetUp ns text = orders.Set (slice_index ns 0)
 order_of SetDown ns text = orders.Set ((65536 - slice_index ns 0) % 65536)
-order_of SetOctal ns text = orders.Set (octal (behind 66 text))
+order_of SetOctal ns text = orders.Set (octal (behind letter_b text))

@@ -1,5 +1,5 @@
 -- Stores: how each is named, the ranges of its numbers, and what is done with it.
-use Rattle.std.specs.Prelude.{ℕ, ◌-◌, Bool, true, false, ◌&&◌, nat_le, ◌==◌, List, [], ◌∷◌, ◌++◌, length, slice_index, Option, Some, None, if◌then◌else◌}
+use Rattle.std.specs.Prelude.{ℕ, ◌+◌, ◌-◌, Bool, true, false, ◌&&◌, nat_le, ◌==◌, List, [], ◌∷◌, ◌++◌, length, slice_index, Option, Some, None, if◌then◌else◌}
 use Rattle.std.specs.Str.{bytes_eq}
 use lib.Chars.{codes}
 use Rattle.kdf_usercode.specs.declared.range.Range.{Range}
@@ -13,6 +13,7 @@ use Rattle.kdf_usercode.specs.declared.stores.StoreName.{StoreName}
 use Rattle.kdf_usercode.specs.declared.stores.StoreName.TheVariants.{Y, V, VOfPart, E}
 use Rattle.kdf_usercode.specs.declared.stores.Suffix.{Suffix}
 use Rattle.kdf_usercode.specs.declared.stores.Suffix.TheVariants.{Nothing, M, MQ}
+use Rattle.kdf_usercode.specs.Bytes.{letter_a, letter_z}
 use Rattle.kdf_usercode.specs.Parse.{◌>>=◌, ◌or◌, opt_map, strip}
 use Rattle.kdf_usercode.specs.Range.{q_range, store_range, part_range}
 
@@ -21,7 +22,8 @@ use Rattle.kdf_usercode.specs.Range.{q_range, store_range, part_range}
 -- the number of the letter in front, A being 1, and what stands behind it
 abbrev pub letter_after : List ℕ → Option (ℕ × List ℕ)
 letter_after [] = None
-letter_after (c ∷ rest) = if nat_le 65 c && nat_le c 90 then Some (c - 64, rest) else None
+letter_after (c ∷ rest) =
+    if nat_le letter_a c && nat_le c letter_z then Some (c - letter_a + 1, rest) else None
 
 -- `YLn`
 unfoldable pub lettered : List ℕ → Option (StoreName × List ℕ)
@@ -121,7 +123,8 @@ done Keep place q u = whats.Keep place q u
 done Fetch place q u = whats.Fetch place q u
 
 abbrev pub access_of : Direction → StoreName → Suffix → List ℕ → What
-access_of direction name suffix ns = done direction (named_of name ns) (q_of name suffix ns) (is_stepped suffix)
+access_of direction name suffix ns =
+    done direction (named_of name ns) (q_of name suffix ns) (is_stepped suffix)
 
 -- the group that is declared where this stands before PROGRAM
 abbrev pub declared_group : Direction → StoreName → Suffix → Option ℕ

@@ -1,4 +1,5 @@
-//! The tables and ranges of the code are those of the definitions. Each law is the contract of a function that does nothing.
+//! The tables and ranges of the code are those of the definitions. Each law is the contract of a function
+//! that does nothing.
 
 ghost use Rattle.std.specs.Prelude.{◌≡◌, map};
 ghost use Rattle.kdf_usercode.specs.declared.constants.TheConstants.{VALUES, WORD_UP, WORD_DOWN, OCTAL_WORD, CHARACTERS, BITS_UP, BITS_DOWN};
@@ -33,7 +34,7 @@ pub fn ranges()
 {}
 
 /// The ranges of what an order takes.
-pub fn order_ranges()
+pub fn ranges_of_orders()
     ensures left { LEFT ≡ left_range }
     ensures right { RIGHT ≡ right_range }
     ensures exit { EXIT ≡ exit_range }
@@ -43,7 +44,7 @@ pub fn order_ranges()
 {}
 
 /// The ranges of constants.
-pub fn constant_ranges()
+pub fn ranges_of_constants()
     ensures word_up { WORD_UP ≡ word_up_range }
     ensures word_down { WORD_DOWN ≡ word_down_range }
     ensures octal { OCTAL_WORD ≡ octal_word_range }
