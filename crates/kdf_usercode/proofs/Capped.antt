@@ -1,5 +1,5 @@
 -- Numbers that the code holds as 2 ^ 48 at most have the faults of the numbers themselves, and where there is none they say the same.
-use Rattle.std.proofs.Common.{◌≡◌, ℕ, zero, suc, ◌+◌, ◌<◌, ◌^◌, Bool, true, ◌&&◌, ltb, ltb-true, List, [], ◌∷◌, ◌++◌, map, length, drop, refl, sym, ap, ◌∙◌, arith, lit<}
+use Rattle.std.proofs.Common.{◌≡◌, ℕ, zero, suc, ◌+◌, ◌<◌, ◌^◌, Bool, true, ltb, ltb-true, List, [], ◌∷◌, ◌++◌, map, length, drop, refl, ap, ◌∙◌, arith}
 use Rattle.std.specs.Prelude.{slice_index}
 use Rattle.std.specs.List.{list_all}
 use Rattle.std.proofs.lemmas.Bool.Decides.{nat_tests}
@@ -18,10 +18,7 @@ use Rattle.kdf_usercode.specs.declared.order_names.OrderForm.TheVariants as orde
 use Rattle.kdf_usercode.specs.declared.phase.Stage.{Stage}
 use Rattle.kdf_usercode.specs.declared.range.Range.{Range}
 use Rattle.kdf_usercode.specs.declared.statement.Named.{Named}
-use Rattle.kdf_usercode.specs.declared.statement.Value.TheVariants as given
-use Rattle.kdf_usercode.specs.declared.statement.Item.{Item}
 use Rattle.kdf_usercode.specs.declared.statement.What.{What}
-use Rattle.kdf_usercode.specs.declared.statement.What.TheVariants as whats
 use Rattle.kdf_usercode.specs.declared.stores.Direction.{Direction}
 use Rattle.kdf_usercode.specs.declared.stores.StoreName.{StoreName}
 use Rattle.kdf_usercode.specs.declared.stores.StoreName.TheVariants as names

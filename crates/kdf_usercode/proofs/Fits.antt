@@ -1,7 +1,6 @@
 -- What is said with numbers in range has its fields in range.
-use Rattle.std.proofs.Common.{◌≡◌, ℕ, ◌+◌, ◌-◌, ◌*◌, ◌%◌, ◌^◌, ◌<◌, ◌≤◌, Bool, true, false, not, ◌&&◌, leb, eqb, List, [], ◌∷◌, ◌++◌, length, drop, get_or, Option, Some, None, is_some, refl, arith, inl, inr, pos, neg_ℤ, ◌≤ℤ◌, lit<}
-use Rattle.std.specs.Prelude.{slice_index, ◌≢◌, nat_le, ◌==◌}
-use Rattle.std.specs.List.{list_all}
+use Rattle.std.proofs.Common.{◌≡◌, ℕ, ◌+◌, ◌^◌, ◌<◌, ◌≤◌, Bool, true, List, [], ◌∷◌, ◌++◌, drop, get_or, Option, Some, None, refl, arith, inl, lit<}
+use Rattle.std.specs.Prelude.{slice_index}
 use Rattle.std.proofs.lemmas.Bool.Decides.{nat_tests}
 use Rattle.std.proofs.lemmas.Int.{ints}
 use Rattle.std.proofs.lemmas.List.{get_or-drop}
@@ -37,11 +36,11 @@ use Rattle.kdf_usercode.specs.Range.{q_range, reference_range, part_range, opene
 use Rattle.kdf_usercode.specs.Octal.{octal}
 use Rattle.kdf_usercode.specs.Characters.{or_zero, code_at, half, characters_word}
 use Rattle.kdf_usercode.specs.Orders.{left_range, right_range, exit_range, up_range, octal_set_range, order_ranges, octal_order_faults, order_of}
-use Rattle.kdf_usercode.specs.Stores.{store_ranges, suffix_ranges, access_ranges, named_of, behind_name, q_of, is_stepped, done, access_of, declared_group}
+use Rattle.kdf_usercode.specs.Stores.{store_ranges, suffix_ranges, access_ranges, named_of, behind_name, q_of, is_stepped, done, access_of}
 use Rattle.kdf_usercode.specs.Jumps.{target_ranges, test_ranges, jump_ranges, target_of, behind_target, jump_code, go_of}
 use Rattle.kdf_usercode.specs.Constants.{word_up_range, octal_word_range, bits_up_range, item_ranges, value_ranges, text_value_faults, item_of, behind_item, triple_of, value_of}
-use Rattle.kdf_usercode.specs.Forms.{ranges_of, text_faults, declared_or, store_of, what_of}
-use Rattle.kdf_usercode.specs.WellFormed.{IsUpTo, IsNamed, IsAddressed, IsItem, IsValue, IsTarget, StandsAlone, IsWhat}
+use Rattle.kdf_usercode.specs.Forms.{ranges_of, text_faults, store_of, what_of}
+use Rattle.kdf_usercode.specs.WellFormed.{IsNamed, IsAddressed, IsItem, IsValue, IsTarget, StandsAlone, IsWhat}
 use Rattle.kdf_usercode.proofs.Ranges.{ranges-apart}
 use Rattle.kdf_usercode.proofs.InTables.{has_code, HasGroup, IsAddressedName, has_jump, IsItemForm, IsValueForm, IsForm}
 

@@ -10,7 +10,7 @@ use Rattle.kdf_usercode.specs.declared.statement.What.{What}
 use Rattle.kdf_usercode.specs.Capped.{capped}
 use Rattle.kdf_usercode.specs.Range.{range_faults}
 use Rattle.kdf_usercode.specs.Phase.{is_ended, is_in_place}
-use Rattle.kdf_usercode.specs.Forms.{ranges_of, text_faults, what_of}
+use Rattle.kdf_usercode.specs.Forms.{ranges_of, text_faults}
 use Rattle.kdf_usercode.specs.Parsed.{Parsed}
 use Rattle.kdf_usercode.specs.Orders.{formless}
 use Rattle.kdf_usercode.specs.Grammar.{formed_faults, statement_faults, phase_after, statements_of}

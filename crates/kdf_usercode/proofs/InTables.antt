@@ -1,5 +1,5 @@
 -- What the tables and the names give: the codes and groups of each form.
-use Rattle.std.proofs.Common.{◌≡◌, ℕ, ◌+◌, ◌-◌, ◌<◌, ◌≤◌, Bool, true, false, cond, not, ◌&&◌, leb, eqb, List, [], ◌∷◌, length, Option, Some, None, refl, arith, lit<}
+use Rattle.std.proofs.Common.{◌≡◌, ℕ, ◌+◌, ◌-◌, ◌≤◌, Bool, true, false, cond, not, ◌&&◌, List, [], ◌∷◌, length, Option, Some, None, refl, arith}
 use Rattle.std.specs.Prelude.{nat_le, ◌==◌}
 use Rattle.std.specs.List.{list_all}
 use Rattle.std.specs.Str.{bytes_eq}
@@ -21,7 +21,7 @@ use Rattle.kdf_usercode.specs.declared.constants.ValueForm.TheVariants as values
 use Rattle.kdf_usercode.specs.declared.forms.Form.{Form}
 use Rattle.kdf_usercode.specs.declared.forms.Form.TheVariants as forms
 use Rattle.kdf_usercode.specs.Bytes.{letter_a, letter_z, letter_b, letter_p}
-use Rattle.kdf_usercode.specs.Parse.{◌>>=◌, ◌or◌, opt_map, behind, row_in, strip}
+use Rattle.kdf_usercode.specs.Parse.{◌or◌, opt_map, behind, row_in, strip}
 use Rattle.kdf_usercode.specs.Octal.{all_octal}
 use Rattle.kdf_usercode.specs.Characters.{are_characters}
 use Rattle.kdf_usercode.specs.OrderNames.{order_names}

@@ -1,5 +1,5 @@
 -- The laws of the first fault, for the faults of a deck.
-use Rattle.std.proofs.Common.{◌≡◌, ℕ, List, [], ◌∷◌, ◌++◌, Option, Some, None, refl, sym, ap, ◌∙◌}
+use Rattle.std.proofs.Common.{◌≡◌, ℕ, List, [], ◌∷◌, ◌++◌, Option, Some, None, refl}
 use Rattle.std.proofs.lemmas.List.{map-append}
 use Rattle.kdf_fault.proofs.Least as of_all
 use Rattle.kdf_usercode.specs.declared.fault.DeckFault.{DeckFault}

@@ -11,7 +11,7 @@ use Rattle.std.proofs.lemmas.Bool.{ne_eqb}
 use Rattle.kdf_usercode.specs.Faults.{Found, lesser, least}
 use Rattle.kdf_usercode.specs.Parsed.{Parsed, statements_in, parses, parsed}
 use Rattle.kdf_usercode.specs.Pieces.{Cut, onto, in_front, cut_before, cut, codes_of}
-use Rattle.kdf_usercode.specs.Grammar.{byte_faults, comment_faults, statement_faults, phase_after, statements_of, faults_from, statements_from, verdict}
+use Rattle.kdf_usercode.specs.Grammar.{comment_faults, statement_faults, phase_after, statements_of, faults_from, statements_from, verdict}
 use Rattle.kdf_usercode.specs.Reading.{Reads, outcome, with_ahead}
 use Rattle.kdf_usercode.proofs.Least.{some-stays, least-between, least-front}
 

@@ -1,5 +1,5 @@
 -- A deck without a fault has its statements in their sequence, with all fields in range.
-use Rattle.std.proofs.Common.{◌≡◌, ℕ, ◌<◌, ◌≤◌, length, Bool, true, false, not, ◌&&◌, cond, eqb, List, [], ◌∷◌, ◌++◌, get_or, set, Option, Some, None, refl, sym, ap, subst, ◌∙◌, arith, inl, inr, zero, suc}
+use Rattle.std.proofs.Common.{◌≡◌, ℕ, ◌<◌, length, Bool, true, false, not, cond, eqb, List, [], ◌∷◌, ◌++◌, get_or, set, Option, Some, None, refl, sym, ap, subst, ◌∙◌, arith, inl, inr, zero, suc}
 use Rattle.std.proofs.lemmas.List.{length-set, get_or-set_same}
 use Rattle.std.specs.Prelude.{◌≢◌, ◌⊎◌}
 use Rattle.std.specs.List.{flat_map}
@@ -19,17 +19,16 @@ use Rattle.kdf_usercode.specs.declared.stores.Suffix.{Suffix}
 use Rattle.kdf_usercode.specs.declared.stores.Suffix.TheVariants as suffixes
 use Rattle.kdf_usercode.specs.declared.forms.Form.{Form}
 use Rattle.kdf_usercode.specs.declared.forms.Form.TheVariants as forms
-use Rattle.kdf_usercode.specs.Faults.{Found, least, founds}
+use Rattle.kdf_usercode.specs.Faults.{Found, founds}
 use Rattle.kdf_usercode.specs.Parsed.{Parsed, parsed, statements_in}
 use Rattle.kdf_usercode.specs.Pieces.{codes_of}
 use Rattle.kdf_usercode.specs.Shape.{shape}
 use Rattle.kdf_usercode.specs.Range.{range_faults}
 use Rattle.kdf_usercode.specs.Stores.{declared_group, access_of}
-use Rattle.kdf_usercode.specs.Jumps.{go_of}
 use Rattle.kdf_usercode.specs.Forms.{ranges_of, text_faults, what_of, store_of}
-use Rattle.kdf_usercode.specs.Phase.{ends, is_ended, is_new, is_heading, is_in_place, in_stage, stage_with, with_group, declared_with, phase_with}
-use Rattle.kdf_usercode.specs.Grammar.{form_faults, with_form, phase_with_form, statement_faults, phase_after, statements_of, end_faults, faults_from, statements_from}
-use Rattle.kdf_usercode.specs.WellFormed.{IsWhat, AreInRange, follows, IsSequence, group_of, NoneDeclares, DeclareOnce}
+use Rattle.kdf_usercode.specs.Phase.{ends, is_ended, is_new, is_in_place, in_stage, stage_with, with_group, declared_with, phase_with}
+use Rattle.kdf_usercode.specs.Grammar.{form_faults, statement_faults, phase_after, statements_of, faults_from, statements_from}
+use Rattle.kdf_usercode.specs.WellFormed.{AreInRange, follows, IsSequence, group_of, NoneDeclares, DeclareOnce}
 use Rattle.kdf_usercode.proofs.Ranges.{nil-append}
 use Rattle.kdf_usercode.proofs.Optional.{Holds, holds-found}
 use Rattle.kdf_usercode.proofs.InTables.{HasGroup, IsForm, form-in}

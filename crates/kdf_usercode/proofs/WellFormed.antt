@@ -1,5 +1,5 @@
 -- What is read of a deck is well formed.
-use Rattle.std.proofs.Common.{◌≡◌, ℕ, ◌≤◌, length, List, [], ◌++◌, Option, Some, None, Result, Ok, Err, IfOk, refl, sym, ap, subst, ◌∙◌}
+use Rattle.std.proofs.Common.{◌≡◌, ℕ, ◌≤◌, length, List, [], ◌++◌, Option, Some, None, Result, Ok, Err, IfOk, refl, sym, subst}
 use Rattle.std.specs.List.{flat_map}
 use Rattle.kdf_usercode.specs.declared.fault.DeckError.{DeckError}
 use Rattle.kdf_usercode.specs.declared.statement.Deck.{Deck}
@@ -12,7 +12,7 @@ use Rattle.kdf_usercode.specs.Pieces.{cut}
 use Rattle.kdf_usercode.specs.Phase.{start}
 use Rattle.kdf_usercode.specs.Grammar.{bytes_faults, comment_faults, faults_from, faults_of, early, statements, verdict, deck}
 use Rattle.kdf_usercode.specs.Reading.{Gives}
-use Rattle.kdf_usercode.specs.WellFormed.{AreInRange, IsSequence, DeclareOnce, AreWellFormed, IsWellFormed}
+use Rattle.kdf_usercode.specs.WellFormed.{IsSequence, DeclareOnce, AreWellFormed, IsWellFormed}
 use Rattle.kdf_usercode.proofs.Least.{least-none}
 use Rattle.kdf_usercode.proofs.Rises.{rising}
 use Rattle.kdf_usercode.proofs.Sequence.{none-there, pieces-forms, are-in-range, is-sequence, declare-once}

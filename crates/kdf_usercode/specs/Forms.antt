@@ -1,6 +1,6 @@
 -- The forms of statements, the faults of their numbers, and what they say. A shape has `0` in place of
 -- each number.
-use Rattle.std.specs.Prelude.{ℕ, Bool, true, false, List, [], ◌∷◌, ◌++◌, drop, slice_index, Option, Some, None}
+use Rattle.std.specs.Prelude.{ℕ, Bool, true, false, List, [], ◌∷◌, drop, slice_index, Option, Some, None}
 use lib.Chars.{codes}
 use Rattle.kdf_usercode.specs.declared.fault.DeckFault.{DeckFault}
 use Rattle.kdf_usercode.specs.declared.range.Range.{Range}

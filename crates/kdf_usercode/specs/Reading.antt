@@ -1,5 +1,5 @@
 -- What a reader answers, and what comes of a deck that is partly read.
-use Rattle.std.specs.Prelude.{◌≡◌, ℕ, List, [], ◌∷◌, ◌++◌, Option, Some, None, Result, Ok, Err}
+use Rattle.std.specs.Prelude.{◌≡◌, ℕ, List, [], ◌∷◌, ◌++◌, Option, None, Result, Ok, Err}
 use Rattle.std.specs.List.{flat_map}
 use Rattle.kdf_usercode.specs.declared.comments.ByteAt.{ByteAt}
 use Rattle.kdf_usercode.specs.declared.fault.DeckError.{DeckError}
@@ -11,7 +11,7 @@ use Rattle.kdf_usercode.specs.declared.statement.Statement.{Statement}
 use Rattle.kdf_usercode.specs.declared.reading.Reading.{Reading}
 use Rattle.kdf_usercode.specs.Faults.{Found, lesser, least, found, founds}
 use Rattle.kdf_usercode.specs.Grammar.{comment_faults, formed_faults, said, statement_faults, phase_after, statements_of, faults_from, statements_from, verdict}
-use Rattle.kdf_usercode.specs.Parsed.{Parsed, parsed, statements_in, parses}
+use Rattle.kdf_usercode.specs.Parsed.{Parsed, parses}
 use Rattle.kdf_usercode.specs.Phase.{phase_with}
 use Rattle.kdf_usercode.specs.Pieces.{in_front, cut}
 
