@@ -3,3 +3,10 @@ mod Piecewise
 mod Assembled
 pub mod Lengths
 pub mod Packed
+mod Settled
+mod Walks
+mod Syllables
+mod Untouched
+mod Meant
+mod Laid
+mod LaidOut
