@@ -3,3 +3,11 @@ mod Piecewise
 mod Assembled
 pub mod Lengths
 pub mod Packed
+mod Settled
+mod Walks
+mod Syllables
+mod Untouched
+mod Meant
+mod Stores
+mod Laid
+mod LaidOut

@@ -41,8 +41,10 @@ pub fn read_names(alloc: Global, statements: &[Statement]) -> Result<Known, Allo
     requires { length statements.now < 2 ^ 40 }
     ensures names { IfOk result (λ known. meaning known.meanings ≡ names statements.now) }
     ensures labels { IfOk result (λ known. known.labels.items ≡ labels front statements.now) }
-    ensures twice { IfOk result (λ known. known.twice ≡ least (twice PartTwice [] (openings front statements.now)
-        ++ twice ReferenceTwice [] (labels front statements.now) ++ twice VRange [] (constants front statements.now))) }
+    ensures twice { IfOk result (λ known. known.twice ≡ least (
+        twice PartTwice [] (openings front statements.now)
+        ++ twice ReferenceTwice [] (labels front statements.now)
+        ++ twice VRange [] (constants front statements.now))) }
     ensures small { IfOk result (λ known. known.meanings.behind < 2 ^ 60) }
 {
     let parts = openings(alloc, statements)?;
