@@ -59,6 +59,7 @@ impl Journal {
 
     /// Adds an entry. Orders of the program whose orders come last are added to those, and idle calls to idle calls.
     /// It takes no memory.
+    #[inline(always)]
     pub fn push(&mut self, entry: Entry)
         requires room { 0 < self.old.spare }
         requires few_calls { calls self.old.entries + calls_in entry ≤ CALL_LIMIT }

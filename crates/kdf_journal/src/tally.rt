@@ -38,6 +38,7 @@ impl Tally {
     }
 
     /// Counts an entry more.
+    #[inline(always)]
     pub fn count(&mut self, entry: &Entry)
         requires orders { CanCount self.old.ran entry.now }
         requires calls { self.old.calls + calls_in entry.now < 2 ^ 32 }
@@ -53,6 +54,7 @@ impl Tally {
     }
 }
 
+#[inline(always)]
 fn count_orders(ran: &mut [u32; SLOTS], entry: &Entry)
     requires { CanCount ran.old entry.now }
     ensures { CountsOrders ran.old ran.new entry.now }
@@ -65,6 +67,7 @@ fn count_orders(ran: &mut [u32; SLOTS], entry: &Entry)
     }
 }
 
+#[inline(always)]
 fn calls_of(entry: &Entry) -> u32
     ensures { result ≡ calls_in entry.now }
 {
@@ -75,6 +78,7 @@ fn calls_of(entry: &Entry) -> u32
     }
 }
 
+#[inline(always)]
 fn keep_transfer(pending: &mut [Option<(u8, u32)>; DEVICES], entry: &Entry)
     ensures { KeepsTransfers pending.old pending.new entry.now }
 {
@@ -96,6 +100,7 @@ fn set_transfer(pending: &mut [Option<(u8, u32)>; DEVICES], d: u8, transfer: Opt
     }
 }
 
+#[inline(always)]
 fn time_after(was: u64, entry: &Entry) -> u64
     ensures { result ≡ clock_after was entry.now }
 {
