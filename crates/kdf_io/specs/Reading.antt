@@ -12,7 +12,8 @@ IsTakenBefore Memory limit taken = taken ≤ limit
 
 -- some bytes were taken before this end, and what is left are the rest
 abbrev pub TookBefore : ReadEnd → ℕ → Option (List ℕ) → Option (List ℕ) → Type 0
-TookBefore end limit before after = (bytes : List ℕ) × IsTakenBefore end limit (length bytes) × Advances before bytes after
+TookBefore end limit before after =
+    (bytes : List ℕ) × IsTakenBefore end limit (length bytes) × Advances before bytes after
 
 -- at most so many bytes were taken, and what is left are the rest
 abbrev pub TakesAtMost : ℕ → Option (List ℕ) → Option (List ℕ) → Type 0

@@ -1,4 +1,5 @@
-//! Texts with their lines, words and numbers, each computed from the definitions, as the contract of a function that does nothing.
+//! Texts with their lines, words and numbers, each computed from the definitions, as the contract of a function
+//! that does nothing.
 #![tactic(auto, unfolding(crate::specs::Lines::lines, crate::specs::Lines::words, crate::specs::Numbers::value, crate::specs::Text::text, crate::specs::Text::octal))]
 
 ghost use Rattle.std.specs.Prelude.{◌≡◌, [], ◌∷◌, ◌++◌, Some, None, codes};

@@ -47,8 +47,10 @@ impl<'a> Lines<'a> {
         ensures number { result.number ≡ self.old.number }
         ensures rest { ahead self.new ≡ drop 1 (ahead self.old) }
         ensures next { 0 < length (ahead self.old) → self.new.number ≡ self.old.number + 1 }
-        ensures shorter { length self.new.rest.now + (if length self.old.rest.now == 0 then 0 else 1) ≤ length self.old.rest.now }
-        ensures within { 0 < length self.new.rest.now → length result.text.now + 1 + length self.new.rest.now ≤ length self.old.rest.now }
+        ensures shorter { length self.new.rest.now + (if length self.old.rest.now == 0 then 0 else 1)
+            ≤ length self.old.rest.now }
+        ensures within { 0 < length self.new.rest.now
+            → length result.text.now + 1 + length self.new.rest.now ≤ length self.old.rest.now }
     {
         let number = self.number;
         let behind = if self.rest.is_empty() {

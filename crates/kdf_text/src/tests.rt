@@ -1,6 +1,7 @@
 //! Texts that are cut, read as numbers, and written.
 
-use crate::{GREATEST, Lines, cut, number_in, write_octal};
+use crate::cuts::cut;
+use crate::{GREATEST, Lines, cut_word, number_in, write_octal};
 use std::test::Fail;
 
 #[test]
@@ -16,11 +17,12 @@ fn a_text_is_cut_at_its_first_byte(rt: HostRuntime) {
             Some((x, y)) => {
                 assert_eq!(rt; x, front.as_bytes(), "of {text:?}");
                 assert_eq!(rt; y, behind.as_bytes(), "of {text:?}");
+                assert!(rt; cut_word(text.as_bytes()).is_some());
             }
             None => assert!(rt; false, "{text:?} is whole"),
         }
     }
-    assert!(rt; cut(b"ENDJOB", b' ').is_none());
+    assert!(rt; cut_word(b"ENDJOB").is_none());
     assert!(rt; cut(b"", b' ').is_none());
 }
 

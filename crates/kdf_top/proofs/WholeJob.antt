@@ -5,8 +5,9 @@ use Rattle.kdf_top.specs.declared.job.JobError.{JobError}
 use Rattle.kdf_top.specs.declared.job.JobFault.{JobFault}
 use Rattle.kdf_schedule.specs.declared.event.Event.TheVariants.{Orders}
 use Rattle.kdf_text.specs.declared.lines.Lines.{Lines}
+use Rattle.kdf_text.specs.Text.{text}
 use Rattle.kdf_text.specs.Lines.{line, lines}
-use Rattle.kdf_top.specs.Job.{Job, store_size, orders_of, show_range, size_in, show_in, shows_of, deck_lines, deck_in, behind_deck, deck_text, scheduled_orders, forms, head_forms, deck_forms, show_forms, schedule_forms, job, job_fault}
+use Rattle.kdf_top.specs.Job.{Job, store_size, orders_of, show_range, size_in, show_in, shows_of, deck_lines, deck_in, behind_deck, scheduled_orders, forms, head_forms, deck_forms, show_forms, schedule_forms, job, job_fault}
 use Rattle.kdf_top.specs.WellFormed.{IsShow}
 use Rattle.kdf_text.specs.Ahead.{ahead}
 use Rattle.kdf_top.specs.Reading.{fault_from, Passes, Says, Stops}
@@ -97,13 +98,13 @@ module _ (bytes : List ℕ) (l0 l1 : Lines) (size : ℕ) (rest : l0.rest.now ≡
         ∙ ap (λ (l : List ℕ). unwrap_or (orders_of l) 0) (sym at) ∙ ap (λ (o : Option ℕ). unwrap_or o 0) is_calls
 
     pub same_job : (calls : ℕ) → ahead l3 ≡ drop (length (shows_of show)) (ahead l2) → orders_of (line (ahead l3) 2) ≡ Some calls
-        → made size (deck_text (deck_lines (ahead l1))) show calls ≡ job bytes
+        → made size (text (deck_lines (ahead l1))) show calls ≡ job bytes
     unfolding job
     same_job calls behind_show is_calls =
-        ap (λ n. made n (deck_text (deck_lines (ahead l1))) show calls) (sym same_size)
-        ∙ ap (λ (deck : List (List ℕ)). made (size_in all) (deck_text deck) show calls) (sym same_deck)
-        ∙ ap (λ (o : Option (ℕ × ℕ)). made (size_in all) (deck_text (deck_in all)) o calls) (sym same_show)
-        ∙ ap (λ n. made (size_in all) (deck_text (deck_in all)) (show_in all) n) (sym (same_calls calls behind_show is_calls))
+        ap (λ n. made n (text (deck_lines (ahead l1))) show calls) (sym same_size)
+        ∙ ap (λ (deck : List (List ℕ)). made (size_in all) (text deck) show calls) (sym same_deck)
+        ∙ ap (λ (o : Option (ℕ × ℕ)). made (size_in all) (text (deck_in all)) o calls) (sym same_show)
+        ∙ ap (λ n. made (size_in all) (text (deck_in all)) (show_in all) n) (sym (same_calls calls behind_show is_calls))
 
 -- what is shown is in the store
 all-shows : (size : ℕ) (show : Option (ℕ × ℕ)) → IfSome show (IsShow size) → All (IsShow size) (shows_of show)

@@ -1,6 +1,5 @@
 -- The jobs that are read today: which lines they have, the first line that is wrong, and what a job means.
 use Rattle.std.specs.Prelude.{ℕ, ◌+◌, ◌%◌, ◌==◌, ◌&&◌, nat_le, nat_lt, Bool, true, List, [], ◌∷◌, ◌++◌, length, drop, Option, Some, None, unwrap_or, is_some, Result, Ok, if◌then◌else◌, codes}
-use Rattle.std.specs.List.{flat_map}
 use Rattle.kdf_schedule.specs.declared.event.Event.{Event}
 use Rattle.kdf_schedule.specs.declared.event.Event.TheVariants.{Orders}
 use Rattle.kdf_schedule.specs.declared.event.EventFault.{EventFault}
@@ -8,8 +7,8 @@ use Rattle.kdf_schedule.specs.Events.{event}
 use Rattle.kdf_top.specs.declared.job.JobFault.{JobFault}
 use Rattle.kdf_top.specs.declared.job.JobFault.TheVariants.{Header, NotYet}
 use Rattle.kdf_top.specs.Options.{◌>>=◌}
-use Rattle.kdf_text.specs.declared.lines.TheConstants.{LINE_END}
 use Rattle.kdf_text.specs.Lines.{lines, words, line, is_text}
+use Rattle.kdf_text.specs.Text.{text}
 use Rattle.kdf_text.specs.Numbers.{number_in}
 
 -- a slot of a job
@@ -136,14 +135,10 @@ shows_of (Some x) = x ∷ []
 abbrev pub scheduled_orders : List (List ℕ) → ℕ
 scheduled_orders ls = unwrap_or (orders_of (line (behind_deck ls) (2 + length (shows_of (show_in ls))))) 0
 
--- the text of a deck: its lines, each with LINE_END behind it
-abbrev pub deck_text : List (List ℕ) → List ℕ
-deck_text ls = flat_map (λ l. l ++ LINE_END ∷ []) ls
-
 abbrev pub job_of_lines : List (List ℕ) → Job
 job_of_lines ls =
     record {
-      slots = record { p = 0; size = size_in ls; deck = deck_text (deck_in ls); shows = shows_of (show_in ls) } ∷ [];
+      slots = record { p = 0; size = size_in ls; deck = text (deck_in ls); shows = shows_of (show_in ls) } ∷ [];
       events = Orders (scheduled_orders ls) ∷ [];
     }
 

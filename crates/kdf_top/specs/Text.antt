@@ -54,13 +54,15 @@ show_lines s show = map (word_line s) (range_with_len show.0 (show.1 + 1 - show.
 -- the links, the top first, behind their number: of each the word and the syllable
 abbrev pub links_line : List ℕ → List ℕ
 links_line links =
-    codes "LINKS " ++ decimal (length links) ++ flat_map (λ l. codes " " ++ decimal (l % 8192) ++ codes "/" ++ decimal (l / 8192)) links
+    codes "LINKS " ++ decimal (length links)
+    ++ flat_map (λ l. codes " " ++ decimal (l % 8192) ++ codes "/" ++ decimal (l / 8192)) links
 
 -- a Q-store, unless all its parts are zero
 abbrev pub q_line : ℕ → Triple → List (List ℕ)
 q_line q t =
     if t.c == 0 && t.i == 0 && t.m == 0 then []
-    else (codes "Q " ++ decimal q ++ codes " " ++ decimal t.c ++ codes " " ++ decimal t.i ++ codes " " ++ decimal t.m) ∷ []
+    else (codes "Q " ++ decimal q ++ codes " " ++ decimal t.c ++ codes " " ++ decimal t.i
+    ++ codes " " ++ decimal t.m) ∷ []
 
 -- Q1 to Q15
 abbrev pub q_lines : List Triple → List (List ℕ)
@@ -97,7 +99,8 @@ abbrev pub job_fault_line : JobFault → ℕ → List ℕ
 job_fault_line fault line = codes "JOB " ++ fault_name fault ++ codes " " ++ decimal line
 
 abbrev pub deck_fault_line : ℕ → DeckFault → ℕ → List ℕ
-deck_fault_line slot fault place = codes "DECK " ++ decimal slot ++ codes " " ++ name_of fault ++ codes " " ++ decimal place
+deck_fault_line slot fault place =
+    codes "DECK " ++ decimal slot ++ codes " " ++ name_of fault ++ codes " " ++ decimal place
 
 abbrev pub usage_line : List ℕ
 usage_line = codes "USAGE kdf9 run, alone K, asm K, make N"

@@ -6,7 +6,7 @@ ghost use Rattle.kdf_top.specs.Limits.{IsOrders, IsSize};
 ghost use Rattle.kdf_text.specs.Lines.{words};
 
 use kdf_schedule::{Event, read_event};
-use kdf_text::{GREATEST, cut, number_in};
+use kdf_text::{GREATEST, cut_word, number_in};
 
 /// The words of a group, of which stores are made.
 const GROUP: u64 = 32;
@@ -23,7 +23,7 @@ fn number_behind(name: &[u8], low: u64, high: u64, line: &[u8]) -> Option<u64>
     ensures value { result ≡ number_of_words name.now low high (words line.now) }
     ensures within { IfSome result (λ n. (low ≤ n) × (n ≤ high)) }
 {
-    let (first, number) = cut(line, b' ')?;
+    let (first, number) = cut_word(line)?;
     if first == name {
         number_in(low, high, number)
     } else {
@@ -67,8 +67,8 @@ pub fn show_range(size: u16, line: &[u8]) -> Option<(u16, u16)>
     ensures value { result ≡ show_range size line.now }
     ensures within { IfSome result (λ x. (x.0 ≤ x.1) × (x.1 < size)) }
 {
-    let (name, behind) = cut(line, b' ')?;
-    let (first, last) = cut(behind, b' ')?;
+    let (name, behind) = cut_word(line)?;
+    let (first, last) = cut_word(behind)?;
     if name == b"SHOW".as_slice() {
         addresses(size, first, last)
     } else {

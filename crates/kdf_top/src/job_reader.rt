@@ -1,7 +1,8 @@
 //! Reading a job: once over its lines, in their order.
 
 ghost use Rattle.std.specs.Prelude.{◌≡◌, [], ◌∷◌, ◌++◌, ◌+◌, ◌%◌, ◌<◌, ◌≤◌, IfOk, OnOk, IfErr, IfSome, Some, None, drop, length};
-ghost use Rattle.kdf_top.specs.Job.{store_size, show_range, orders_of, has_size, has_orders, shows_of, deck_lines, deck_text, fault_at, head_forms, deck_forms, show_forms, schedule_forms, job, job_fault};
+ghost use Rattle.kdf_top.specs.Job.{store_size, show_range, orders_of, has_size, has_orders, shows_of, deck_lines, fault_at, head_forms, deck_forms, show_forms, schedule_forms, job, job_fault};
+ghost use Rattle.kdf_text.specs.Text.{text};
 ghost use Rattle.kdf_text.specs.Lines.{line, is_text};
 ghost use Rattle.kdf_text.specs.Ahead.{ahead};
 ghost use Rattle.kdf_top.specs.Reading.{fault_from, Passes, Says, Stops};
@@ -136,12 +137,13 @@ fn read_show(lines: &mut Lines, size: u16) -> Option<(u16, u16)>
     Some(show)
 }
 
-/// The text of the deck: the lines before ENDDECK, each with a byte 10.
+/// The text of the deck: the lines before ENDDECK, each with the byte that ends it.
+#[tactic(auto, unfolding(kdf_text::specs::Text::text))]
 fn read_deck_lines(alloc: Global, lines: &mut Lines) -> Result<Vec<u8>, JobError>
     ensures pass { OnOk result (Passes (deck_forms (deck_lines (ahead lines.old))) lines.old lines.new) }
     ensures stop { IfErr result (Stops (deck_forms (deck_lines (ahead lines.old))) lines.old) }
     ensures rest { OnOk result (ahead lines.new ≡ drop (1 + length (deck_lines (ahead lines.old))) (ahead lines.old)) }
-    ensures deck { IfOk result (λ v. v.items ≡ deck_text (deck_lines (ahead lines.old))) }
+    ensures deck { IfOk result (λ v. v.items ≡ text (deck_lines (ahead lines.old))) }
     ensures within { IfOk result (λ v. length v.items ≤ length lines.old.rest.now) }
 {
     let mut deck = Vec::new(alloc);
