@@ -21,3 +21,4 @@ pub mod Grammar
 pub mod Reading
 pub mod Rising
 pub mod WellFormed
+pub mod Examples

@@ -14,6 +14,7 @@
 mod characters;
 mod comments;
 mod constants;
+pub mod examples;
 mod fault;
 mod forms;
 mod jumps;
