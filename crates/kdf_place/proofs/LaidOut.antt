@@ -1,5 +1,5 @@
 -- The image of a deck without faults is laid out.
-use Rattle.std.proofs.Common.{◌≡◌, ℕ, Bool, true, false, cond, ltb, List, [], ◌∷◌, ◌++◌, length, Option, Some, None, Result, Ok, Err, refl, sym, ap, subst, ◌∙◌}
+use Rattle.std.proofs.Common.{◌≡◌, ℕ, Bool, true, false, cond, ltb, ◌+◌, List, [], ◌∷◌, ◌++◌, length, get_or, Option, Some, None, Result, Ok, Err, refl, sym, ap, subst, ◌∙◌}
 use Rattle.kdf_syllable.specs.Spelling.{spelling}
 use Rattle.kdf_usercode.specs.declared.fault.DeckFault.TheVariants.{PartTwice, ReferenceTwice, VRange, TooLarge}
 use Rattle.kdf_usercode.specs.declared.statement.Statement.{Statement}
@@ -9,10 +9,11 @@ use Rattle.kdf_usercode.proofs.Least.{least-none}
 use Rattle.kdf_place.specs.Layout.{walked, front}
 use Rattle.kdf_place.specs.Names.{names, openings, labels, constants}
 use Rattle.kdf_place.specs.Late.{twice, wrong, wrongs, late_faults}
-use Rattle.kdf_place.specs.Placement.{Picture, words, picture_of, sized, verdict, placed}
+use Rattle.kdf_place.specs.Placement.{Picture, value, words, picture_of, sized, verdict, placed}
 use Rattle.kdf_place.specs.Stands.{Stand, IsFilled, IsLaidOut}
 use Rattle.kdf_place.proofs.Laid.{stand-order, stand-filling, stand-last, stand-start}
 use Rattle.kdf_place.proofs.Meant.{reference-means, first-means}
+use Rattle.kdf_place.proofs.Stores.{stand-constant, stand-store}
 use Rattle.kdf_place.proofs.Walks.{nil-both, nil-founds, wrongs-append}
 
 verdict-ok : (o : Option Found) (rest : Result Picture Found) (image : Picture) → verdict o rest ≡ Ok image → (o ≡ None) × (rest ≡ Ok image)
@@ -31,7 +32,7 @@ placed-ok ss len size image e =
     (least-none (late_faults ss) both.0, roomy (ltb size (length (picture_of ss).words)) (found TooLarge len) (picture_of ss) image (sized (picture_of ss) len size) refl both.1)
 
 late-none : (ss : List Statement) → late_faults ss ≡ []
-    → (twice PartTwice [] (openings front ss) ≡ []) × (twice ReferenceTwice [] (labels front ss) ≡ []) × (wrongs (names ss) front ss ≡ [])
+    → (twice PartTwice [] (openings front ss) ≡ []) × (twice ReferenceTwice [] (labels front ss) ≡ []) × (wrongs (names ss) front ss ≡ []) × (twice VRange [] (constants front ss) ≡ [])
 late-none ss none =
     let parts = twice PartTwice [] (openings front ss) in
     let references = twice ReferenceTwice [] (labels front ss) in
@@ -39,7 +40,7 @@ late-none ss none =
     let all = nil-both (parts ++ references ++ stores) (wrongs (names ss) front ss) none in
     let three = nil-both (parts ++ references) stores all.0 in
     let two = nil-both parts references three.0 in
-    (two.0, two.1, all.1)
+    (two.0, two.1, all.1, three.1)
 
 named-each : (ss before behind : List Statement) (s : Statement) → wrongs (names ss) front ss ≡ [] → ss ≡ before ++ s ∷ behind → wrong (names ss) (walked front before) s.what ≡ []
 named-each ss before behind s ok e =
@@ -66,6 +67,13 @@ laid-out ss are none =
       filled_last = stand-last m ss are no.2;
       references = λ before between behind s r e what passed ends. reference-means ss before between behind s r no.1 e what passed ends;
       firsts = λ before between behind s p e what passed ends. first-means ss before between behind s p no.0 e what passed ends;
+      constants =
+          λ before behind s n constant e what.
+          let P : List Statement → Type 0 =
+          λ xs. wrong m (walked front before) s.what ≡ [] → twice VRange [] (constants front xs) ≡ []
+          → get_or (words m xs) ((walked front before).section.base + n) 0 ≡ value m (walked front before).section constant in
+          subst P (sym e) (λ ok once. stand-constant m before behind s n constant ok once what) (named-each ss before behind s no.2 e) no.3;
+      stores = λ before behind place a e other is. stand-store ss before behind place a e other is;
       start = stand-start m ss are no.2;
     }
 

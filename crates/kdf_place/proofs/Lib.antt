@@ -8,5 +8,6 @@ mod Walks
 mod Syllables
 mod Untouched
 mod Meant
+mod Stores
 mod Laid
 mod LaidOut

@@ -19,7 +19,7 @@ use Rattle.kdf_place.specs.Names.{first, part_opened, opening, openings, label_a
 use Rattle.kdf_place.specs.Stands.{AllPassed, EndsAt}
 use Rattle.kdf_place.proofs.Walks.{nil-both, walked-append, next_order-found, labels-append, openings-append}
 
-no-fault : (b : Bool) (f : Found) → cond b (f ∷ []) [] ≡ [] → b ≡ false
+pub no-fault : (b : Bool) (f : Found) → cond b (f ∷ []) [] ≡ [] → b ≡ false
 no-fault true f e = absurd cc
 no-fault false f e = refl
 

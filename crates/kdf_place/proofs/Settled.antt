@@ -16,9 +16,9 @@ settle-step ls now i at d is lt =
     let split : now ≡ front ++ x ∷ back = is ∙ ap (λ (es : List (Entry Mark)). front ++ es) (rw add-one (drop-cons ls i d lt)) in
     let long : length front ≡ i = length-map (take i ls) (settled_one at) ∙ length-take-le i ls (omega (arith, lt)) in
     let same : get_or now i d ≡ x =
-        ap (λ (es : List (Entry Mark)). get_or es i d) split ∙ ap (λ (j : ℕ). get_or (front ++ x ∷ back) j d) (sym long) ∙ get_or-append_seam front x back d in
+    ap (λ (es : List (Entry Mark)). get_or es i d) split ∙ ap (λ (j : ℕ). get_or (front ++ x ∷ back) j d) (sym long) ∙ get_or-append_seam front x back d in
     let more : settled (take (i + 1) ls) at ≡ front ++ settled_one at x ∷ [] =
-        ap (map (settled_one at)) (take_more ls i d lt) ∙ map-append (settled_one at) (take i ls) (x ∷ []) in
+    ap (map (settled_one at)) (take_more ls i d lt) ∙ map-append (settled_one at) (take i ls) (x ∷ []) in
     ap (λ (e : Entry Mark). set now i (settled_one at e)) same
     ∙ ap (λ (es : List (Entry Mark)). set es i (settled_one at x)) split
     ∙ ap (λ (j : ℕ). set (front ++ x ∷ back) j (settled_one at x)) (sym long)

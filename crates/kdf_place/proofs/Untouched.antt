@@ -20,7 +20,7 @@ use Rattle.kdf_place.proofs.Walks.{nil-both, nil-founds, after-above, walked-abo
 abbrev pub Misses : Section → ℕ → Type 0
 Misses section w = (section.base + section.stores ≤ w) ⊎ (w < section.base)
 
-store-there : (base count n : ℕ) → fault_in (store_at base count VRange n) ≡ [] → n < count
+pub store-there : (base count n : ℕ) → fault_in (store_at base count VRange n) ≡ [] → n < count
 store-there base count n ok =
     elim (cases_lt n count) [
       | inl lt ↦ lt

@@ -94,7 +94,7 @@ openings-append here (s ∷ before) behind =
     (one ++ rest.0, ap (λ (es : List (Entry Opening)). one ++ es) rest.1 ∙ sym (append_assoc one rest.0 (openings (walked (after here s) before) behind)))
 
 -- the V-stores of a part end before its statements
-stores_end-after : (here : Here) (place : ℕ) (what : What) → 6 * (here.section.base + here.section.stores) ≤ here.at
+pub stores_end-after : (here : Here) (place : ℕ) (what : What) → 6 * (here.section.base + here.section.stores) ≤ here.at
     → 6 * ((section_after here place what).base + (section_after here place what).stores) ≤ advance here.at what
 stores_end-after here place (Program v) end = omega arith
 stores_end-after here place (Part p v) end = omega arith

@@ -4,14 +4,17 @@ use Rattle.kdf_syllable.specs.declared.order.Order.{Order}
 use Rattle.kdf_syllable.specs.declared.order.Order.TheVariants.{Jump}
 use Rattle.kdf_syllable.specs.Packing.{syllable}
 use Rattle.kdf_syllable.specs.Spelling.{spelling}
+use Rattle.kdf_usercode.specs.declared.statement.Named.{Named}
+use Rattle.kdf_usercode.specs.declared.statement.Named.TheVariants.{E}
 use Rattle.kdf_usercode.specs.declared.statement.Statement.{Statement}
+use Rattle.kdf_usercode.specs.declared.statement.Value.{Value}
 use Rattle.kdf_usercode.specs.declared.statement.What.{What}
-use Rattle.kdf_usercode.specs.declared.statement.What.TheVariants.{Star, Reference}
+use Rattle.kdf_usercode.specs.declared.statement.What.TheVariants.{Star, Reference, Constant}
 use Rattle.kdf_place.specs.declared.here.Here.{Here}
 use Rattle.kdf_place.specs.Layout.{is_order, is_opening, round_up, walked, front}
-use Rattle.kdf_place.specs.Names.{part_opened, Names, names, reference, first_order}
+use Rattle.kdf_place.specs.Names.{part_opened, Names, names, address as address_of, reference, first_order}
 use Rattle.kdf_place.specs.Late.{wrong}
-use Rattle.kdf_place.specs.Placement.{syllable_number, order_of, Picture}
+use Rattle.kdf_place.specs.Placement.{syllable_number, order_of, value, Picture}
 
 -- ---- the syllables of an image
 
@@ -48,6 +51,11 @@ EndsAt (s ∷ ss) = ends_search s.what ≡ true
 
 -- ---- the law
 
+-- a store that is named by its address alone
+abbrev pub is_address : Named → Bool
+is_address (E n) = true
+is_address place = false
+
 -- what begins on a new word
 abbrev pub begins_word : What → Bool
 begins_word Star = true
@@ -81,5 +89,15 @@ pub record IsLaidOut (ss : List Statement) (image : Picture) : Type 0 where
       → ss ≡ before ++ s ∷ (between ++ behind) → part_opened s.what ≡ Some p
       → AllPassed between → EndsAt behind
       → first_order (names ss) p ≡ Ok (walked front (before ++ s ∷ between)).at
+  -- a constant is in its V-store
+  pub constants : (before behind : List Statement) (s : Statement) (n : ℕ) (constant : Value)
+      → ss ≡ before ++ s ∷ behind → s.what ≡ Constant n constant
+      → get_or image.words ((walked front before).section.base + n) 0
+      ≡ value (names ss) (walked front before).section constant
+  -- and a store that is named in a part, but for a bare address, is one of the image
+  pub stores : (before behind : List Statement) (place : Named) (address : ℕ)
+      → ss ≡ before ++ behind → is_address place ≡ false
+      → address_of (names ss) (walked front before).section place ≡ Ok address
+      → address < length image.words
   -- word 0 begins with a jump to the start
   pub start : Stand image.words 0 (spelling (Jump 0x20 image.start))
