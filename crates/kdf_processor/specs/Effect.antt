@@ -1,6 +1,6 @@
 -- What an order does, and what is done to a program beside its registers.
 use Rattle.std.specs.Prelude.{◌≡◌, ℕ, Bool, Result, MatchResult}
-use Rattle.kdf_processor.specs.declared.failure.Failure.{Failure}
+use Rattle.kdf_journal.specs.declared.failure.Failure.{Failure}
 use Rattle.kdf_processor.specs.declared.registers.Registers.{Registers}
 
 -- What an order does that reads and changes registers alone.

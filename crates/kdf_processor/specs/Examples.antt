@@ -4,7 +4,7 @@ use Rattle.kdf_qstore.specs.declared.triple.Triple.{Triple}
 use Rattle.kdf_qstore.specs.Triples.{zero_triples, with_triple}
 use Rattle.kdf_syllable.specs.declared.order.Order.{Order}
 use Rattle.kdf_syllable.specs.declared.order.Order.TheVariants as order
-use Rattle.kdf_processor.specs.declared.failure.Failure.{Failure}
+use Rattle.kdf_journal.specs.declared.failure.Failure.{Failure}
 use Rattle.kdf_processor.specs.declared.registers.Life.TheVariants.{Failed}
 use Rattle.kdf_processor.specs.declared.registers.Registers.{Registers}
 use Rattle.kdf_processor.specs.declared.step.Step.TheVariants.{Done, Fails}

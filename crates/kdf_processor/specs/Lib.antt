@@ -1,4 +1,3 @@
-pub mod Failures
 pub mod State
 pub mod Effect
 pub mod Table

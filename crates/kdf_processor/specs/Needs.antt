@@ -5,7 +5,7 @@ use Rattle.std.proofs.Common.{zero, suc}
 use Rattle.kdf_syllable.specs.declared.order.Order.{Order}
 use Rattle.kdf_syllable.specs.Packing.{syllable}
 use Rattle.kdf_syllable.specs.Spelling.{size_of_first}
-use Rattle.kdf_processor.specs.declared.failure.Failure.TheVariants.{Liv}
+use Rattle.kdf_journal.specs.declared.failure.Failure.TheVariants.{Liv}
 use Rattle.kdf_processor.specs.declared.step.Need.{Need}
 use Rattle.kdf_processor.specs.declared.step.Need.TheVariants.{Group}
 use Rattle.kdf_processor.specs.declared.registers.Registers.{Registers}

@@ -10,7 +10,7 @@ use Rattle.kdf_qstore.specs.declared.triple.Triple.{Triple}
 use Rattle.kdf_qstore.specs.Triples.{triple_at, with_triple, triple_of, word_of_triple, sum_of, sum_16, difference_16, counted_down, stepped}
 use Rattle.kdf_arith.specs.declared.order.ArithOrder.TheVariants as arithmetic
 use Rattle.kdf_arith.specs.Arith.{Arith, arith}
-use Rattle.kdf_processor.specs.declared.failure.Failure.TheVariants.{Liv, Nouv, Out, Reset}
+use Rattle.kdf_journal.specs.declared.failure.Failure.TheVariants.{Liv, Nouv, Out, Reset}
 use Rattle.kdf_processor.specs.declared.registers.Registers.{Registers}
 use Rattle.kdf_processor.specs.State.{Claims}
 use Rattle.kdf_processor.specs.Effect.{Change, Refused, Going, Decision, Undecided, Decided, of_change, Effect, Failing, Ending, Fetching, Keeping}

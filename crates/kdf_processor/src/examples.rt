@@ -4,7 +4,7 @@
 ghost use Rattle.std.specs.Prelude.{◌≡◌, ◌+◌, ◌-◌, ◌*◌, ◌^◌, [], ◌∷◌, replicate, true, false, pos, negsuc};
 ghost use Rattle.kdf_syllable.specs.declared.amount.Amount.TheVariants.{Fixed, Count};
 ghost use Rattle.kdf_syllable.specs.declared.order.Order.TheVariants as order;
-ghost use Rattle.kdf_processor.specs.declared.failure.Failure.TheVariants.{Liv, Nouv, Reset};
+ghost use Rattle.kdf_journal.specs.declared.failure.Failure.TheVariants.{Liv, Nouv, Reset};
 ghost use Rattle.kdf_processor.specs.Effect.{Going, Refused, Nothing, Writes};
 ghost use Rattle.kdf_processor.specs.Examples.{parts, linked, counted, single, leaves, moving, copy, makes, jump, taken, passed, word, obeyed, does, fails};
 ghost use Rattle.kdf_processor.specs.Table.{change_of, with_v, with_tr};

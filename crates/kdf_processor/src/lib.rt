@@ -10,7 +10,6 @@ mod conditions;
 mod copies;
 pub mod examples;
 mod exit;
-mod failure;
 mod fetch;
 mod jump;
 pub mod laws;
@@ -29,8 +28,8 @@ mod syllable_number;
 #[cfg(test)]
 mod tests;
 
-pub use failure::Failure;
 pub use kdf_arith::Flags;
+pub use kdf_journal::Failure;
 pub use kdf_nest::{Links, Nest};
 pub use kdf_qstore::QStores;
 pub use obeying::obey;

@@ -1,6 +1,6 @@
 -- Programs and jobs, worked out by computation.
 use Rattle.std.proofs.Common.{◌≡◌, ℕ, List, [], ◌∷◌, ◌++◌, false, None, Some, Err, codes, replicate, refl, ap}
-use Rattle.kdf_processor.specs.declared.failure.Failure.TheVariants.{Liv, Nouv}
+use Rattle.kdf_journal.specs.declared.failure.Failure.TheVariants.{Liv, Nouv}
 use Rattle.kdf_processor.specs.declared.registers.Life.TheVariants.{Live, Ended, Failed}
 use Rattle.kdf_arith.specs.Arith.{arith}
 use Rattle.kdf_arith.specs.Rows.{plain_row as arith_row}

@@ -1,6 +1,6 @@
 -- What makes a journal legal. It is read as steps, newest first: one order with its note.
 use Rattle.std.specs.Prelude.{◌≡◌, ℕ, List, [], ◌∷◌, ◌++◌, Some, fold, replicate}
-use Rattle.kdf_processor.specs.declared.failure.Failure.{Failure}
+use Rattle.kdf_journal.specs.declared.failure.Failure.{Failure}
 use Rattle.kdf_processor.specs.declared.step.Step.{Step as Ending}
 use Rattle.kdf_processor.specs.declared.step.Step.TheVariants as ending
 use Rattle.kdf_processor.specs.State.{State}

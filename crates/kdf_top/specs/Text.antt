@@ -3,8 +3,8 @@ use Rattle.std.specs.Prelude.{ℕ, ◌+◌, ◌-◌, ◌/◌, ◌%◌, ◌^◌, 
 use Rattle.std.specs.List.{flat_map, range_with_len}
 use Rattle.kdf_qstore.specs.declared.triple.Triple.{Triple}
 use Rattle.kdf_qstore.specs.Triples.{triple_at}
-use Rattle.kdf_processor.specs.declared.failure.Failure.{Failure}
-use Rattle.kdf_processor.specs.declared.failure.Failure.TheVariants.{Liv, Nouv, Out, Reset, Claim}
+use Rattle.kdf_journal.specs.declared.failure.Failure.{Failure}
+use Rattle.kdf_journal.specs.declared.failure.Failure.TheVariants.{Liv, Nouv, Out, Reset, Claim}
 use Rattle.kdf_processor.specs.declared.registers.Life.{Life}
 use Rattle.kdf_processor.specs.declared.registers.Life.TheVariants as life
 use Rattle.kdf_processor.specs.declared.registers.Registers.{Registers}

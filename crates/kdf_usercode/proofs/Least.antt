@@ -1,9 +1,10 @@
 -- The laws of the first fault, for the faults of a deck.
-use Rattle.std.proofs.Common.{◌≡◌, ℕ, List, [], ◌∷◌, ◌++◌, Option, Some, None, refl, sym, ap, ◌∙◌}
+use Rattle.std.proofs.Common.{◌≡◌, ℕ, List, [], ◌∷◌, ◌++◌, Option, Some, None, refl}
 use Rattle.std.proofs.lemmas.List.{map-append}
 use Rattle.kdf_fault.proofs.Least as of_all
 use Rattle.kdf_usercode.specs.declared.fault.DeckFault.{DeckFault}
-use Rattle.kdf_usercode.specs.Faults.{Found, number_of, apart, lesser, least, founds}
+use Rattle.kdf_usercode.specs.Faults.{Found, number_of, lesser, least, founds}
+use Rattle.kdf_usercode.specs.Apart.{apart}
 
 pub some-stays : (x : Found) (later : Option Found) → (z : Found) × (lesser (Some x) later ≡ Some z)
 some-stays x later = of_all.some-stays number_of x later

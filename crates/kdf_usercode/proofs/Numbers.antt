@@ -1,7 +1,8 @@
 -- Numbers that are read with a cap on the way.
 use Rattle.std.proofs.Common.{◌≡◌, ℕ, ◌+◌, ◌*◌, ◌-◌, ◌<◌, length, get_or, drop, map, Bool, true, false, cond, List, [], ◌∷◌, ◌++◌, refl, ap, ◌∙◌, arith}
 use Rattle.std.proofs.lemmas.List.{at_drop_more}
-use Rattle.kdf_usercode.specs.Shape.{is_digit, ends_number, value_after, values_from, capped}
+use Rattle.kdf_usercode.specs.Shape.{is_digit, ends_number, value_after, values_from}
+use Rattle.kdf_usercode.specs.Capped.{capped}
 
 capped-next : (d n m : ℕ) → capped n ≡ capped m → capped (10 * n + d) ≡ capped (10 * m + d)
 capped-next d n m e = omega arith

@@ -1,7 +1,7 @@
 -- Octal digits that are read with a cap on the way.
 use Rattle.std.proofs.Common.{◌≡◌, ℕ, ◌+◌, ◌*◌, ◌-◌, ◌<◌, length, get_or, drop, List, [], ◌∷◌, sym, ◌∙◌, arith}
 use Rattle.std.proofs.lemmas.List.{at_drop_more}
-use Rattle.kdf_usercode.specs.Shape.{capped}
+use Rattle.kdf_usercode.specs.Capped.{capped}
 use Rattle.kdf_usercode.specs.Octal.{octal_from}
 
 octal-next : (d n m : ℕ) → capped n ≡ capped m → capped (8 * n + d) ≡ capped (8 * m + d)

@@ -1,7 +1,7 @@
 //! What the definitions come to for a few programs and jobs, from their bytes on.
 
 ghost use Rattle.std.specs.Prelude.{◌≡◌, [], ◌∷◌, ◌++◌, false, None, Some, Err, codes, replicate};
-ghost use Rattle.kdf_processor.specs.declared.failure.Failure.TheVariants.{Liv, Nouv};
+ghost use Rattle.kdf_journal.specs.declared.failure.Failure.TheVariants.{Liv, Nouv};
 ghost use Rattle.kdf_processor.specs.declared.registers.Life.TheVariants.{Live, Ended, Failed};
 ghost use Rattle.kdf_usercode.specs.declared.fault.DeckFault.TheVariants.{NoFinish, BadNumber, YRange, TooLarge};
 ghost use Rattle.kdf_usercode.specs.Faults.{found};

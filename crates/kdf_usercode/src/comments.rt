@@ -1,11 +1,11 @@
 //! The bytes that stay once comments, spaces and line ends are taken out.
 
 ghost use Rattle.std.specs.Prelude.{◌≡◌, true, false};
-ghost use Rattle.kdf_usercode.specs.Kept.{closes, inside_after, is_kept};
+ghost use Rattle.kdf_usercode.specs.Comments.{closes, inside_after, is_kept};
 
 /// A byte that stays, with its offset in the deck.
 #[derive(Clone, Copy, Debug)]
-pub struct Kept {
+pub struct ByteAt {
     pub at: u32,
     pub byte: u8,
 }
