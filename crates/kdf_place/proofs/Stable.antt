@@ -7,9 +7,10 @@ use Rattle.std.specs.List.{filter}
 use Rattle.std.specs.List.Sorted.{ties, IsStableByKey}
 use Rattle.std.specs.Ordering.{is_lt, nat_cmp}
 use Rattle.kdf_fault.specs.Faults.{IsOneOf, NoneBefore, IsFirst, before}
-use Rattle.kdf_fault.proofs.Least.{lesser-comm, least-first}
+use Rattle.kdf_fault.proofs.Least.{least-first}
 use Rattle.kdf_usercode.specs.declared.fault.DeckFault.{DeckFault}
-use Rattle.kdf_usercode.specs.Faults.{Found, found, number_of, apart, lesser, least}
+use Rattle.kdf_usercode.specs.Faults.{Found, found, number_of, lesser, least}
+use Rattle.kdf_usercode.proofs.Least.{least-between}
 use Rattle.kdf_place.specs.declared.names.Entry.{Entry}
 use Rattle.kdf_place.specs.Keys.{key}
 use Rattle.kdf_place.specs.Late.{twice}
@@ -156,7 +157,8 @@ one-first (Some f) (Some g) fs gs a_is b_is to from =
     let f_late = not-before g f gs b_is.1 (to f a_is.0) in
     let left : lesser (Some f) (Some g) ≡ Some f = rw g_late refl in
     let right : lesser (Some g) (Some f) ≡ Some g = rw f_late refl in
-    sym left ∙ lesser-comm number_of apart (Some f) (Some g) ∙ right
+    let turned : lesser (Some g) (Some f) ≡ lesser (Some f) (Some g) = least-between None (f ∷ []) (g ∷ []) [] in
+    sym left ∙ sym turned ∙ right
 
 least-alike : (fs gs : List Found) → ((f : Found) → IsOneOf f fs → IsOneOf f gs) → ((f : Found) → IsOneOf f gs → IsOneOf f fs) → least fs ≡ least gs
 least-alike fs gs to from = one-first (least fs) (least gs) fs gs (least-first number_of fs) (least-first number_of gs) to from
