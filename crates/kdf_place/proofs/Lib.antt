@@ -1,3 +1,5 @@
+mod Said
+mod Stable
 mod Firsts
 mod Piecewise
 mod Assembled

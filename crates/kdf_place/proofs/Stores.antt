@@ -22,18 +22,11 @@ use Rattle.kdf_place.specs.Late.{fault_in, value_faults, wrong, wrongs, twice}
 use Rattle.kdf_place.specs.Names.{Names, names, first, part_opened, opening, openings, constant_at, constants, store_at, v_store, section_of, address}
 use Rattle.kdf_place.specs.Placement.{words_of, syllables, first_word, value, with_constant, with_constants, words}
 use Rattle.kdf_place.specs.Stands.{is_address}
+use Rattle.kdf_place.proofs.Said.{says, both-true}
 use Rattle.kdf_place.proofs.Lengths.{length-constants, words-image}
 use Rattle.kdf_place.proofs.Meant.{no-fault}
 use Rattle.kdf_place.proofs.Untouched.{store-there}
 use Rattle.kdf_place.proofs.Walks.{nil-both, nil-founds, after-above, walked-above, walked-append, wrongs-append, constants-append, stores_end-after, stores_end}
-
--- what an entry says of a number
-abbrev says : {T : Type 0} → ℕ → ℕ → Entry T → Bool
-says p n e = eqb e.section p && eqb e.number n
-
-both-true : (a b : Bool) → (a && b) ≡ true → (a ≡ true) × (b ≡ true)
-both-true true b e = (refl, e)
-both-true false b e = absurd cc
 
 -- ---- a number that stands once
 

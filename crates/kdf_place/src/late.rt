@@ -7,7 +7,7 @@ ghost use Rattle.kdf_place.specs.Tables.{meaning};
 
 use crate::here::{Here, Section};
 use crate::names::{Meanings, v_store};
-use crate::table::with_fault;
+use crate::twice::with_fault;
 use kdf_fault::Found;
 use kdf_usercode::{DeckFault, Item, Statement, Target, Value, What};
 

@@ -2,10 +2,11 @@
 //! first late fault.
 //!
 //! A deck is walked from its front with a place (`here`): the part, and the syllable that the sum of
-//! all sizes before has come to. The walk says what each name means (`entries`), and of each name the
-//! first meaning counts (`table`, `meanings`, `names`): parts, references, the stores of the groups.
-//! With these each statement is held against what it names (`late`), and where nothing is wrong, it
-//! is spelt into the image (`picture`, with `spell`, `words` and `constants`).
+//! all sizes before has come to. The walk says what each name means (`entries`). In the order of their
+//! numbers (`table`) those that stand twice are found (`twice`), and of each the first meaning counts
+//! (`meanings`, `names`): parts, references, the stores of the groups. With these each statement is
+//! held against what it names (`late`), and where nothing is wrong, it is spelt into the image
+//! (`picture`, with `spell`, `words` and `constants`).
 #![tactic(auto)]
 
 mod assembler;
@@ -23,6 +24,7 @@ mod spell;
 mod table;
 #[cfg(test)]
 mod tests;
+mod twice;
 mod words;
 
 pub use assembler::assemble;

@@ -1,12 +1,11 @@
 //! What the names of a deck mean.
-ghost use Rattle.std.specs.Prelude.{◌≡◌, ◌≤◌, ◌<◌, ◌^◌, length, sum, take};
-ghost use Rattle.std.specs.BTreeMap.{get};
+ghost use Rattle.std.specs.Prelude.{◌≡◌, ◌==◌, ◌&&◌, ◌≤◌, ◌<◌, ◌^◌, length, sum, take};
 ghost use Rattle.kdf_place.specs.Names.{store_at, v_store, y_store, section_named, address, reference, first_order, syllable_of};
-ghost use Rattle.kdf_place.specs.Tables.{key_cmp, meaning, kept};
+ghost use Rattle.kdf_place.specs.Tables.{meaning, kept};
 
 use crate::here::Section;
+use crate::table::Table;
 use kdf_usercode::{DeckFault, Named, Target};
-use std::collections::BTreeMap;
 
 /// What a number means in a section, and the place of the statement that says so.
 #[derive(Clone, Copy, Debug)]
@@ -16,6 +15,17 @@ pub struct Entry<T> {
     pub number: u16,
     pub means: T,
     pub place: u32,
+}
+
+impl<T> Entry<T> {
+    /// Whether it says what this number means in this section.
+    pub fn is_named(&self, section: u32, number: u16) -> bool
+        ensures value { result ≡ (self.now.section == section && self.now.number == number) }
+        ensures small { self.now.number < 2 ^ 16 }
+    {
+        let same = self.number == number;
+        self.section == section && same
+    }
 }
 
 /// A reference: the number of its part, and its syllable.
@@ -31,9 +41,6 @@ pub struct Opening {
     pub section: Section,
     pub first: u64,
 }
-
-/// What each number means in each section.
-pub type Table<T> = BTreeMap<(u32, u16), T>;
 
 /// What the names of a deck mean.
 #[derive(Drop)]
@@ -87,7 +94,7 @@ impl Meanings {
     fn opening(&self, part: u16) -> Option<Opening>
         ensures { result ≡ (meaning self.now).parts part }
     {
-        self.parts.get(&(0, part)).copied()
+        self.parts.find(0, part)
     }
 
     /// This part, or the first that bears the number.
@@ -142,7 +149,7 @@ impl Meanings {
         ensures { result ≡ reference (meaning self.now) section number }
     {
         let section = section.ok_or(DeckFault::PartMissing)?;
-        match self.labels.get(&(section.opened, number)).copied() {
+        match self.labels.find(section.opened, number) {
             None => Err(DeckFault::ReferenceMissing),
             Some(mark) => Ok(mark.at),
         }

@@ -31,7 +31,7 @@ fn words(
 }
 
 /// The references of an image.
-fn labels_of(alloc: Global, entries: &[Entry<Mark>]) -> Result<Vec<Label>, AllocError>
+pub fn labels_of(alloc: Global, entries: &[Entry<Mark>]) -> Result<Vec<Label>, AllocError>
     ensures { IfOk result (λ v. v.items ≡ map label_of entries.now) }
 {
     let mut labels = Vec::with_capacity(alloc, entries.len())?;
@@ -49,7 +49,7 @@ fn labels_of(alloc: Global, entries: &[Entry<Mark>]) -> Result<Vec<Label>, Alloc
 pub fn picture(
     alloc: Global,
     meanings: &Meanings,
-    labels: &[Entry<Mark>],
+    labels: Vec<Label>,
     statements: &[Statement],
 ) -> Result<Image, AllocError>
     requires few { length statements.now < 2 ^ 40 }
@@ -57,11 +57,11 @@ pub fn picture(
     ensures words { IfOk result (λ image.
         image.words.items ≡ words (meaning meanings.now) statements.now) }
     ensures start { IfOk result (λ image. image.start ≡ start_of (meaning meanings.now)) }
-    ensures labels { IfOk result (λ image. image.labels.items ≡ map label_of labels.now) }
+    ensures labels { IfOk result (λ image. image.labels.items ≡ labels.items) }
 {
     Ok(Image {
         words: words(alloc, meanings, statements)?,
         start: start_of(meanings),
-        labels: labels_of(alloc, labels)?,
+        labels,
     })
 }
