@@ -20,11 +20,13 @@ use Rattle.kdf_usercode.proofs.Ranges.{nil-append}
 use Rattle.kdf_usercode.proofs.Least.{none-before, none-behind, no-founds, least-front, founds-append}
 
 -- a fault more leaves no statements to speak of
-not-none : {A : Type 0} (best best' : Option Found) (x : Found) → best' ≡ lesser best (Some x) → best' ≡ None → A
+not-none : {A : Type 0} (best best' : Option Found) (x : Found) → best' ≡ lesser best (Some x)
+    → best' ≡ None → A
 not-none best best' x e none = let h : Some x ≡ None = none-behind best (Some x) (sym e ∙ none) in absurd cc
 
 pub reads-ended : (old : Reading) (best' : Option Found) (s : Parsed) → is_ended old.phase ≡ true
-    → best' ≡ lesser old.best (Some (record { fault = AfterFinish; place = s.place })) → Reads old (record old { best = best' }) s
+    → best' ≡ lesser old.best (Some (record { fault = AfterFinish; place = s.place }))
+    → Reads old (record old { best = best' }) s
 unfolding phase_after statement_faults
 reads-ended old best' s ended e = record {
   phase = rw ended refl;
@@ -32,8 +34,10 @@ reads-ended old best' s ended e = record {
   statements = λ none. not-none old.best best' (record { fault = AfterFinish; place = s.place }) e none;
 }
 
-pub reads-formless : (old : Reading) (best' : Option Found) (s : Parsed) → is_ended old.phase ≡ false → s.form ≡ None
-    → best' ≡ lesser old.best (Some (record { fault = formless s.shape; place = s.place })) → Reads old (record old { best = best' }) s
+pub reads-formless : (old : Reading) (best' : Option Found) (s : Parsed) → is_ended old.phase ≡ false
+    → s.form ≡ None
+    → best' ≡ lesser old.best (Some (record { fault = formless s.shape; place = s.place }))
+    → Reads old (record old { best = best' }) s
 unfolding phase_after statement_faults
 reads-formless old best' s goes none-of e = record {
   phase = rw (goes, none-of) refl;
@@ -41,19 +45,22 @@ reads-formless old best' s goes none-of e = record {
   statements = λ none. not-none old.best best' (record { fault = formless s.shape; place = s.place }) e none;
 }
 
-pub reads-form : (old new : Reading) (s : Parsed) (form : Form) → is_ended old.phase ≡ false → s.form ≡ Some form
+pub reads-form : (old new : Reading) (s : Parsed) (form : Form) → is_ended old.phase ≡ false
+    → s.form ≡ Some form
     → ReadsForm old new s.place form s.numbers s.text → Reads old new s
 unfolding phase_after statement_faults statements_of
 reads-form old new s form goes is-form h = rw (goes, is-form) h
 
 -- ---- numbers that are held
 
-faults-capped : (phase : Phase) (form : Form) (ns text : List ℕ) → formed_faults phase form (map capped ns) text ≡ formed_faults phase form ns text
+faults-capped : (phase : Phase) (form : Form) (ns text : List ℕ)
+    → formed_faults phase form (map capped ns) text ≡ formed_faults phase form ns text
 faults-capped phase form ns text =
     let there : List DeckFault = cond (is_in_place phase form) [] (BadHeading ∷ []) in
     ap (λ (fs : List DeckFault). (fs ++ text_faults form text) ++ there) (form-faults-capped form ns)
 
-none-out : (best new : Option Found) (place : ℕ) (a b c : List DeckFault) → new ≡ lesser best (least (founds place ((a ++ b) ++ c))) → new ≡ None → a ≡ []
+none-out : (best new : Option Found) (place : ℕ) (a b c : List DeckFault)
+    → new ≡ lesser best (least (founds place ((a ++ b) ++ c))) → new ≡ None → a ≡ []
 none-out best new place a b c e none =
     let all = no-founds place ((a ++ b) ++ c) (none-behind best (least (founds place ((a ++ b) ++ c))) (sym e ∙ none)) in
     (nil-append a b (nil-append (a ++ b) c all).0).0
@@ -73,8 +80,12 @@ reads-capped old new place form ns text h =
     }
 
 -- faults of two kinds at one place, one after the other
-pub two-kinds : (best : Option Found) (place : ℕ) (fs gs : List DeckFault) → lesser (lesser best (least (founds place fs))) (least (founds place gs)) ≡ lesser best (least (founds place (fs ++ gs)))
-two-kinds best place fs gs = least-front best (founds place fs) (founds place gs) ∙ ap (λ x. lesser best (least x)) (sym (founds-append place fs gs))
+pub two-kinds : (best : Option Found) (place : ℕ) (fs gs : List DeckFault)
+    → lesser (lesser best (least (founds place fs))) (least (founds place gs)) ≡ lesser best (least (founds place (fs ++ gs)))
+two-kinds best place fs gs =
+    least-front best (founds place fs) (founds place gs) ∙ ap (λ x. lesser best (least x)) (sym (founds-append place fs gs))
 
-pub no-fault : (best : Option Found) (place : ℕ) (fs gs : List DeckFault) → lesser (lesser best (least (founds place fs))) (least (founds place gs)) ≡ None → fs ≡ []
-no-fault best place fs gs none = no-founds place fs (none-behind best (least (founds place fs)) (none-before (lesser best (least (founds place fs))) (least (founds place gs)) none))
+pub no-fault : (best : Option Found) (place : ℕ) (fs gs : List DeckFault)
+    → lesser (lesser best (least (founds place fs))) (least (founds place gs)) ≡ None → fs ≡ []
+no-fault best place fs gs none =
+    no-founds place fs (none-behind best (least (founds place fs)) (none-before (lesser best (least (founds place fs))) (least (founds place gs)) none))

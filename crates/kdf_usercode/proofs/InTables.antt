@@ -74,7 +74,8 @@ IsAddressedName name = HasGroup name
 letter-small : (c : ℕ) → (nat_le letter_a c && nat_le c letter_z) ≡ true → c - letter_a + 1 ≤ 26
 letter-small c e = grind (arith, nat_tests)
 
-letter-found : (c : ℕ) (rest : List ℕ) (b : Bool) → (nat_le letter_a c && nat_le c letter_z) ≡ b → Holds (λ (x : ℕ × List ℕ). x.0 ≤ 26) (cond b (Some (c - letter_a + 1, rest)) None)
+letter-found : (c : ℕ) (rest : List ℕ) (b : Bool) → (nat_le letter_a c && nat_le c letter_z) ≡ b
+    → Holds (λ (x : ℕ × List ℕ). x.0 ≤ 26) (cond b (Some (c - letter_a + 1, rest)) None)
 letter-found c rest true e = letter-small c e
 letter-found c rest false e = tt
 
@@ -95,8 +96,10 @@ lettered-name shape =
     (λ rest u. holds-bind (λ (x : ℕ × List ℕ). x.0 ≤ 26) (NameHas HasGroup) (letter_after rest) _ (letter-after rest)
     (λ letter h. holds-bind (λ x. Unit {0}) (NameHas HasGroup) (strip (codes "0") letter.1) _ (any (strip (codes "0") letter.1)) (λ r v. h)))
 
-named : (name : StoreName) (prefix shape : List ℕ) → HasGroup name → Holds (NameHas HasGroup) (opt_map (λ rest. (name, rest)) (strip prefix shape))
-named name prefix shape h = holds-map (λ x. Unit {0}) (NameHas HasGroup) (λ rest. (name, rest)) (strip prefix shape) (any (strip prefix shape)) (λ x u. h)
+named : (name : StoreName) (prefix shape : List ℕ) → HasGroup name
+    → Holds (NameHas HasGroup) (opt_map (λ rest. (name, rest)) (strip prefix shape))
+named name prefix shape h =
+    holds-map (λ x. Unit {0}) (NameHas HasGroup) (λ rest. (name, rest)) (strip prefix shape) (any (strip prefix shape)) (λ x u. h)
 
 group-zero : HasGroup (names.Y 0)
 group-zero = omega arith
@@ -116,7 +119,8 @@ store-name shape =
     (named (names.Y 0) (codes "Y0") shape group-zero))
     (lettered-name shape)
 
-not-e : (name : StoreName) (rest : List ℕ) → HasGroup name → Holds (NameHas IsAddressedName) (not_e (name, rest))
+not-e : (name : StoreName) (rest : List ℕ) → HasGroup name
+    → Holds (NameHas IsAddressedName) (not_e (name, rest))
 not-e (names.Y group) rest h = h
 not-e names.V rest h = tt
 not-e names.VOfPart rest h = tt
@@ -124,7 +128,8 @@ not-e names.E rest h = tt
 
 addressed-name : (shape : List ℕ) → Holds (NameHas IsAddressedName) (addressed shape)
 unfolding addressed
-addressed-name shape = holds-bind (NameHas HasGroup) (NameHas IsAddressedName) (store_name shape) not_e (store-name shape) (λ x h. not-e x.0 x.1 h)
+addressed-name shape =
+    holds-bind (NameHas HasGroup) (NameHas IsAddressedName) (store_name shape) not_e (store-name shape) (λ x h. not-e x.0 x.1 h)
 
 abbrev AccessHas : Direction × StoreName × Suffix → Type 0
 AccessHas x = HasGroup x.1
@@ -176,7 +181,8 @@ test-form shape =
 
 jump-form : (shape : List ℕ) → Holds JumpHas (jump_form shape)
 unfolding jump_form
-jump-form shape = holds-or JumpHas (subroutine_form shape) (test_form shape) (subroutine-form shape) (test-form shape)
+jump-form shape =
+    holds-or JumpHas (subroutine_form shape) (test_form shape) (subroutine-form shape) (test-form shape)
 
 -- ---- constants
 
@@ -193,10 +199,13 @@ ItemHas x = IsItemForm x.0
 
 address-item : (shape : List ℕ) → Holds ItemHas (address_item shape)
 unfolding address_item
-address-item shape = holds-bind (NameHas IsAddressedName) ItemHas (addressed shape) _ (addressed-name shape) (λ name h. h)
+address-item shape =
+    holds-bind (NameHas IsAddressedName) ItemHas (addressed shape) _ (addressed-name shape) (λ name h. h)
 
-number : (form : ItemForm) (prefix shape : List ℕ) → IsItemForm form → Holds ItemHas (opt_map (λ rest. (form, rest)) (strip prefix shape))
-number form prefix shape h = holds-map (λ x. Unit {0}) ItemHas (λ rest. (form, rest)) (strip prefix shape) (any (strip prefix shape)) (λ x u. h)
+number : (form : ItemForm) (prefix shape : List ℕ) → IsItemForm form
+    → Holds ItemHas (opt_map (λ rest. (form, rest)) (strip prefix shape))
+number form prefix shape h =
+    holds-map (λ x. Unit {0}) ItemHas (λ rest. (form, rest)) (strip prefix shape) (any (strip prefix shape)) (λ x u. h)
 
 number-item : (shape : List ℕ) → Holds ItemHas (number_item shape)
 unfolding number_item
@@ -245,7 +254,8 @@ weaker P R (Some x) f h = f x h
 
 octal-value : (shape text : List ℕ) → Holds IsValueForm (octal_value shape text)
 unfolding octal_value
-octal-value shape text = holds-if IsValueForm (bytes_eq shape (codes "B0") && all_octal (behind letter_b text)) values.Octal tt
+octal-value shape text =
+    holds-if IsValueForm (bytes_eq shape (codes "B0") && all_octal (behind letter_b text)) values.Octal tt
 
 characters-value : (shape text : List ℕ) → Holds IsValueForm (characters_value shape text)
 unfolding characters_value

@@ -22,13 +22,16 @@ least-append xs ys = of_all.least-append number_of xs ys
 pub least-none : (fs : List Found) → least fs ≡ None → fs ≡ []
 least-none fs e = of_all.least-none number_of fs e
 
-pub least-front : (best : Option Found) (here later : List Found) → lesser (lesser best (least here)) (least later) ≡ lesser best (least (here ++ later))
+pub least-front : (best : Option Found) (here later : List Found)
+    → lesser (lesser best (least here)) (least later) ≡ lesser best (least (here ++ later))
 least-front best here later = of_all.least-front number_of best here later
 
-pub least-between : (best : Option Found) (front here later : List Found) → lesser (lesser best (least here)) (least (front ++ later)) ≡ lesser best (least (front ++ (here ++ later)))
+pub least-between : (best : Option Found) (front here later : List Found)
+    → lesser (lesser best (least here)) (least (front ++ later)) ≡ lesser best (least (front ++ (here ++ later)))
 least-between best front here later = of_all.least-between number_of apart best front here later
 
-pub founds-append : (place : ℕ) (fs gs : List DeckFault) → founds place (fs ++ gs) ≡ founds place fs ++ founds place gs
+pub founds-append : (place : ℕ) (fs gs : List DeckFault)
+    → founds place (fs ++ gs) ≡ founds place fs ++ founds place gs
 founds-append place fs gs = map-append _ fs gs
 
 founds-none : (place : ℕ) (fs : List DeckFault) → founds place fs ≡ [] → fs ≡ []

@@ -19,11 +19,13 @@ pub holds-or : {A : Type 0} (P : A → Type 0) (a b : Option A) → Holds P a �
 holds-or P None b h g = g
 holds-or P (Some x) b h g = h
 
-pub holds-map : {A B : Type 0} (P : A → Type 0) (R : B → Type 0) (f : A → B) (o : Option A) → Holds P o → ((x : A) → P x → R (f x)) → Holds R (opt_map f o)
+pub holds-map : {A B : Type 0} (P : A → Type 0) (R : B → Type 0) (f : A → B) (o : Option A) → Holds P o
+    → ((x : A) → P x → R (f x)) → Holds R (opt_map f o)
 holds-map P R f None h g = tt
 holds-map P R f (Some x) h g = g x h
 
-pub holds-bind : {A B : Type 0} (P : A → Type 0) (R : B → Type 0) (o : Option A) (f : A → Option B) → Holds P o → ((x : A) → P x → Holds R (f x)) → Holds R (o >>= f)
+pub holds-bind : {A B : Type 0} (P : A → Type 0) (R : B → Type 0) (o : Option A) (f : A → Option B)
+    → Holds P o → ((x : A) → P x → Holds R (f x)) → Holds R (o >>= f)
 holds-bind P R None f h g = tt
 holds-bind P R (Some x) f h g = g x h
 
@@ -36,7 +38,8 @@ both-true true b e = (refl, e)
 both-true false b e = absurd cc
 
 -- what holds of each row of a table holds of what is found in it
-pub holds-row : {A : Type 0} (p : A → Bool) (rows : List (List ℕ × A)) (text : List ℕ) → list_all (λ r. p r.1) rows ≡ true → Holds (λ x. p x ≡ true) (row_in rows text)
+pub holds-row : {A : Type 0} (p : A → Bool) (rows : List (List ℕ × A)) (text : List ℕ)
+    → list_all (λ r. p r.1) rows ≡ true → Holds (λ x. p x ≡ true) (row_in rows text)
 holds-row p [] text all = tt
 holds-row {A = A} p (r ∷ rows) text all =
     let h = both-true (p r.1) (list_all (λ r. p r.1) rows) all in

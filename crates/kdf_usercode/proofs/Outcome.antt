@@ -16,13 +16,15 @@ use Rattle.kdf_usercode.specs.Reading.{Reads, outcome, with_ahead}
 use Rattle.kdf_usercode.proofs.Least.{some-stays, least-between, least-front}
 
 -- a verdict where the statements are only known while there is no fault
-same-verdict : (best later : Option Found) (ss ss' : List Statement) → (best ≡ None → ss ≡ ss') → verdict (lesser best later) ss ≡ verdict (lesser best later) ss'
+same-verdict : (best later : Option Found) (ss ss' : List Statement) → (best ≡ None → ss ≡ ss')
+    → verdict (lesser best later) ss ≡ verdict (lesser best later) ss'
 same-verdict None None ss ss' h = ap (λ x. Ok x) (h refl)
 same-verdict None (Some y) ss ss' h = refl
 same-verdict (Some x) later ss ss' h = let z = some-stays x later in rw (z.1) refl
 
 -- one statement more was read
-pub outcome-statement : (old new : Reading) (w : Parsed) (len : ℕ) (front : List Found) (ws : List Parsed) (tail : List ByteAt) → Reads old new w
+pub outcome-statement : (old new : Reading) (w : Parsed) (len : ℕ) (front : List Found) (ws : List Parsed) (tail : List ByteAt)
+    → Reads old new w
     → outcome new.phase new.best new.statements.items len front ws tail ≡ outcome old.phase old.best old.statements.items len front (w ∷ ws) tail
 outcome-statement old new w len front ws tail h =
     let later = faults_from (phase_after old.phase w) len ws tail in
@@ -50,7 +52,8 @@ outcome-byte phase best ss len here front ws tail best' b =
 
 -- a byte, whether it stays or not
 pub with_ahead-byte : (r : Reading) (best' : Option Found) (here : List Found) (piece : List ByteAt) (len : ℕ) (bad : List Found) (ahead : List ByteAt)
-    → best' ≡ lesser r.best (least here) → with_ahead (record r { best = best' }) piece len bad ahead ≡ with_ahead r piece len (here ++ bad) ahead
+    → best' ≡ lesser r.best (least here)
+    → with_ahead (record r { best = best' }) piece len bad ahead ≡ with_ahead r piece len (here ++ bad) ahead
 with_ahead-byte r best' here piece len bad ahead b =
     let c = in_front piece (cut ahead) in
     let opened = flat_map comment_faults ahead in
@@ -75,20 +78,24 @@ outcome-comment phase best ss len k bad ahead ws tail best' b =
 
 -- ---- cutting
 
-onto-onto : (a b : List ByteAt) (ps : List (List ByteAt)) (tail : List ByteAt) → in_front a (onto b ps tail) ≡ onto (a ++ b) ps tail
+onto-onto : (a b : List ByteAt) (ps : List (List ByteAt)) (tail : List ByteAt)
+    → in_front a (onto b ps tail) ≡ onto (a ++ b) ps tail
 onto-onto a b [] tail = ap (λ (x : List ByteAt). onto [] [] x) (sym (append_assoc a b tail))
 onto-onto a b (p ∷ ps) tail = ap (λ (x : List ByteAt). onto [] (x ∷ ps) tail) (sym (append_assoc a b p))
 
-onto-nil : (ps : List (List ByteAt)) (tail : List ByteAt) → onto [] ps tail ≡ record { pieces = ps; tail = tail }
+onto-nil : (ps : List (List ByteAt)) (tail : List ByteAt)
+    → onto [] ps tail ≡ record { pieces = ps; tail = tail }
 onto-nil [] tail = refl
 onto-nil (p ∷ ps) tail = refl
 
 -- a byte that ends no statement goes to the begun one
-pub in_front-push : (piece : List ByteAt) (k : ByteAt) (c : Cut) → eqb k.byte 59 ≡ false → in_front (piece ++ k ∷ []) c ≡ in_front piece (cut_before k c)
+pub in_front-push : (piece : List ByteAt) (k : ByteAt) (c : Cut) → eqb k.byte 59 ≡ false
+    → in_front (piece ++ k ∷ []) c ≡ in_front piece (cut_before k c)
 in_front-push piece k c e = rw e (sym (onto-onto piece (k ∷ []) c.pieces c.tail))
 
 -- a `;` ends the begun statement
-pub in_front-end : (piece : List ByteAt) (k : ByteAt) (c : Cut) → eqb k.byte 59 ≡ true → in_front piece (cut_before k c) ≡ record { pieces = piece ∷ c.pieces; tail = c.tail }
+pub in_front-end : (piece : List ByteAt) (k : ByteAt) (c : Cut) → eqb k.byte 59 ≡ true
+    → in_front piece (cut_before k c) ≡ record { pieces = piece ∷ c.pieces; tail = c.tail }
 in_front-end piece k c e = rw (e, append-nil piece) refl
 
 pub in_front-nil : (c : Cut) → in_front [] c ≡ c
@@ -106,12 +113,14 @@ with_ahead-push r piece k best' len bad ahead b ne =
 -- ---- the statements of a piece
 
 -- a `*` in front
-pub statements_in-star : (piece : List ByteAt) (i : ℕ) (d : ByteAt) → i < length piece → (get_or piece i d).byte ≡ 42
+pub statements_in-star : (piece : List ByteAt) (i : ℕ) (d : ByteAt) → i < length piece
+    → (get_or piece i d).byte ≡ 42
     → statements_in (drop i piece) ≡ parsed (get_or piece i d).at (42 ∷ []) ∷ statements_in (drop (i + 1) piece)
 statements_in-star piece i d lt e = at_drop_more statements_in piece i d lt ∙ rw e refl
 
 -- the last statement of a piece
-pub statements_in-last : (piece : List ByteAt) (i : ℕ) (d : ByteAt) → i < length piece → ((get_or piece i d).byte ≡ 42 → ⊥)
+pub statements_in-last : (piece : List ByteAt) (i : ℕ) (d : ByteAt) → i < length piece
+    → ((get_or piece i d).byte ≡ 42 → ⊥)
     → statements_in (drop i piece) ≡ parsed (get_or piece i d).at (codes_of (drop i piece)) ∷ []
 statements_in-last piece i d lt ne =
     let made : List ℕ → List Parsed = λ cs. parsed (get_or piece i d).at cs ∷ [] in

@@ -19,24 +19,30 @@ abbrev ParsedRise : ℕ → List Parsed → ℕ → Type 0
 ParsedRise low [] high = Unit {0}
 ParsedRise low (w ∷ ws) high = (low ≤ w.place) × (w.place < high) × ParsedRise (w.place + 1) ws high
 
-bytes-lower : (low low' high : ℕ) (ks : List ByteAt) → low' ≤ low → BytesRise low ks high → BytesRise low' ks high
+bytes-lower : (low low' high : ℕ) (ks : List ByteAt) → low' ≤ low → BytesRise low ks high
+    → BytesRise low' ks high
 bytes-lower low low' high [] le h = tt
 bytes-lower low low' high (k ∷ ks) le h = (omega (arith, h.0), h.1, h.2)
 
-parsed-lower : (low low' high : ℕ) (ws : List Parsed) → low' ≤ low → ParsedRise low ws high → ParsedRise low' ws high
+parsed-lower : (low low' high : ℕ) (ws : List Parsed) → low' ≤ low → ParsedRise low ws high
+    → ParsedRise low' ws high
 parsed-lower low low' high [] le h = tt
 parsed-lower low low' high (w ∷ ws) le h = (omega (arith, h.0), h.1, h.2)
 
-rises-lower : (low low' high : ℕ) (ss : List Statement) → low' ≤ low → Rises low ss high → Rises low' ss high
+rises-lower : (low low' high : ℕ) (ss : List Statement) → low' ≤ low → Rises low ss high
+    → Rises low' ss high
 rises-lower low low' high [] le h = tt
 rises-lower low low' high (s ∷ ss) le h = (omega (arith, h.0), h.1, h.2)
 
 -- the first bytes may be left out
-bytes-skip : (low high : ℕ) (front ks : List ByteAt) → BytesRise low (front ++ ks) high → BytesRise low ks high
+bytes-skip : (low high : ℕ) (front ks : List ByteAt) → BytesRise low (front ++ ks) high
+    → BytesRise low ks high
 bytes-skip low high [] ks h = h
-bytes-skip low high (k ∷ front) ks h = bytes-lower (k.at + 1) low high ks (omega (arith, h.0)) (bytes-skip (k.at + 1) high front ks h.2)
+bytes-skip low high (k ∷ front) ks h =
+    bytes-lower (k.at + 1) low high ks (omega (arith, h.0)) (bytes-skip (k.at + 1) high front ks h.2)
 
-kept_from-rise : (inside : Bool) (at high : ℕ) (bytes : List ℕ) → at + length bytes ≤ high → BytesRise at (kept_from inside at bytes) high
+kept_from-rise : (inside : Bool) (at high : ℕ) (bytes : List ℕ) → at + length bytes ≤ high
+    → BytesRise at (kept_from inside at bytes) high
 kept_from-rise inside at high [] le = tt
 kept_from-rise inside at high (b ∷ bytes) le =
     let rest = kept_from-rise (inside_after inside b bytes) (at + 1) high bytes (omega arith) in
@@ -49,12 +55,14 @@ joined : List (List ByteAt) → List ByteAt → List ByteAt
 joined [] tail = tail
 joined (p ∷ ps) tail = p ++ joined ps tail
 
-onto-joined : (front : List ByteAt) (ps : List (List ByteAt)) (tail : List ByteAt) → joined (onto front ps tail).pieces (onto front ps tail).tail ≡ front ++ joined ps tail
+onto-joined : (front : List ByteAt) (ps : List (List ByteAt)) (tail : List ByteAt)
+    → joined (onto front ps tail).pieces (onto front ps tail).tail ≡ front ++ joined ps tail
 unfolding joined
 onto-joined front [] tail = refl
 onto-joined front (p ∷ ps) tail = append_assoc front p (joined ps tail)
 
-cut-rise : (low high : ℕ) (ks : List ByteAt) → BytesRise low ks high → BytesRise low (joined (cut ks).pieces (cut ks).tail) high
+cut-rise : (low high : ℕ) (ks : List ByteAt) → BytesRise low ks high
+    → BytesRise low (joined (cut ks).pieces (cut ks).tail) high
 unfolding joined
 cut-rise low high [] h = tt
 cut-rise low high (k ∷ ks) h =
@@ -65,7 +73,9 @@ cut-rise low high (k ∷ ks) h =
       | false ↦ subst (λ (x : List ByteAt). BytesRise low x high) (sym (onto-joined (k ∷ []) c.pieces c.tail)) (h.0, h.1, rest)
     ]
 
-piece-rise : (low high : ℕ) (piece rest : List ByteAt) (ws : List Parsed) → ((l : ℕ) → BytesRise l rest high → ParsedRise l ws high) → BytesRise low (piece ++ rest) high → ParsedRise low (statements_in piece ++ ws) high
+piece-rise : (low high : ℕ) (piece rest : List ByteAt) (ws : List Parsed)
+    → ((l : ℕ) → BytesRise l rest high → ParsedRise l ws high) → BytesRise low (piece ++ rest) high
+    → ParsedRise low (statements_in piece ++ ws) high
 piece-rise low high [] rest ws f h = f low h
 piece-rise low high (k ∷ ks) rest ws f h =
     elim (eqb k.byte 42) as (λ b. ParsedRise low (cond b (parsed k.at (42 ∷ []) ∷ statements_in ks) (parsed k.at (codes_of (k ∷ ks)) ∷ []) ++ ws) high) [
@@ -73,12 +83,16 @@ piece-rise low high (k ∷ ks) rest ws f h =
       | false ↦ (h.0, h.1, f (k.at + 1) (bytes-skip (k.at + 1) high ks rest h.2))
     ]
 
-pieces-rise : (low high : ℕ) (ps : List (List ByteAt)) (tail : List ByteAt) → BytesRise low (joined ps tail) high → ParsedRise low (parses (record { pieces = ps; tail = tail })) high
+pieces-rise : (low high : ℕ) (ps : List (List ByteAt)) (tail : List ByteAt)
+    → BytesRise low (joined ps tail) high
+    → ParsedRise low (parses (record { pieces = ps; tail = tail })) high
 unfolding joined
 pieces-rise low high [] tail h = tt
-pieces-rise low high (p ∷ ps) tail h = rw flat_map-cons (piece-rise low high p (joined ps tail) (parses (record { pieces = ps; tail = tail })) (λ l r. pieces-rise l high ps tail r) h)
+pieces-rise low high (p ∷ ps) tail h =
+    rw flat_map-cons (piece-rise low high p (joined ps tail) (parses (record { pieces = ps; tail = tail })) (λ l r. pieces-rise l high ps tail r) h)
 
-statements-rise : (low high : ℕ) (phase : Phase) (ws : List Parsed) → ParsedRise low ws high → Rises low (statements_from phase ws) high
+statements-rise : (low high : ℕ) (phase : Phase) (ws : List Parsed) → ParsedRise low ws high
+    → Rises low (statements_from phase ws) high
 unfolding statements_of
 statements-rise low high phase [] h = tt
 statements-rise low high phase (w ∷ ws) h =

@@ -65,7 +65,8 @@ sound-form phase w (Some form) g i e =
     (form, record { goes = g; is_form = i; ranges = b.0; text = b.1; placed = no-heading (is_in_place phase form) a.1 })
 
 sound-phase : (phase : Phase) (w : Parsed) (b : Bool) → is_ended phase ≡ b
-    → cond b (faults.AfterFinish ∷ []) (form_faults phase w w.form) ≡ [] → (form : Form) × Sound phase w form
+    → cond b (faults.AfterFinish ∷ []) (form_faults phase w w.form) ≡ []
+    → (form : Form) × Sound phase w form
 sound-phase phase w true g e = absurd cc
 sound-phase phase w false g e = sound-form phase w w.form g refl e
 
@@ -79,20 +80,23 @@ one-statement : (phase : Phase) (w : Parsed) (form : Form) → Sound phase w for
 unfolding statements_of
 one-statement phase w form s = rw s.is_form refl
 
-next-phase : (phase : Phase) (w : Parsed) (form : Form) → Sound phase w form → phase_after phase w ≡ phase_with phase form
+next-phase : (phase : Phase) (w : Parsed) (form : Form) → Sound phase w form
+    → phase_after phase w ≡ phase_with phase form
 unfolding phase_after
 next-phase phase w form s = rw (s.goes, s.is_form) refl
 
 -- ---- the stages
 
-access-follows : (stage : Stage) (direction : Direction) (name : StoreName) (suffix : Suffix) (ns : List ℕ) → stage ≡ Constants ⊎ stage ≡ Body
+access-follows : (stage : Stage) (direction : Direction) (name : StoreName) (suffix : Suffix) (ns : List ℕ)
+    → stage ≡ Constants ⊎ stage ≡ Body
     → follows stage (access_of direction name suffix ns) ≡ Some Body
 access-follows stage Keep name suffix ns (inl e) = rw e refl
 access-follows stage Keep name suffix ns (inr e) = rw e refl
 access-follows stage Fetch name suffix ns (inl e) = rw e refl
 access-follows stage Fetch name suffix ns (inr e) = rw e refl
 
-heading-follows : (declared : List Bool) (direction : Direction) (name : StoreName) (suffix : Suffix) (ns : List ℕ) → is_new declared (declared_group direction name suffix) ≡ true
+heading-follows : (declared : List Bool) (direction : Direction) (name : StoreName) (suffix : Suffix) (ns : List ℕ)
+    → is_new declared (declared_group direction name suffix) ≡ true
     → follows Heading (store_of Heading direction name suffix ns) ≡ Some Heading
 heading-follows declared Fetch (names.Y group) suffixes.Nothing ns e = refl
 heading-follows declared Fetch (names.Y group) suffixes.M ns e = absurd cc
@@ -103,7 +107,8 @@ heading-follows declared Fetch names.E suffix ns e = absurd cc
 heading-follows declared Keep name suffix ns e = absurd cc
 
 -- where a statement stands in its place, what it says is in its sequence
-stage-follows : (stage : Stage) (declared : List Bool) (form : Form) (ns text : List ℕ) → ends stage ≡ false → in_stage stage declared form ≡ true
+stage-follows : (stage : Stage) (declared : List Bool) (form : Form) (ns text : List ℕ) → ends stage ≡ false
+    → in_stage stage declared form ≡ true
     → follows stage (what_of stage form ns text) ≡ Some (stage_with stage form)
 stage-follows Ended declared form ns text g e = absurd cc
 stage-follows Heading declared forms.Program ns text g e = refl
@@ -117,7 +122,8 @@ stage-follows Heading declared forms.Short ns text g e = absurd cc
 stage-follows Heading declared (forms.Plain order) ns text g e = absurd cc
 stage-follows Heading declared (forms.Constant value) ns text g e = absurd cc
 stage-follows Heading declared (forms.Go test target) ns text g e = absurd cc
-stage-follows Heading declared (forms.Access direction name suffix) ns text g e = heading-follows declared direction name suffix ns e
+stage-follows Heading declared (forms.Access direction name suffix) ns text g e =
+    heading-follows declared direction name suffix ns e
 stage-follows Heading declared (forms.SetAddress name) ns text g e = absurd cc
 stage-follows Constants declared forms.Program ns text g e = absurd cc
 stage-follows Constants declared forms.ProgramStores ns text g e = absurd cc
@@ -130,7 +136,8 @@ stage-follows Constants declared forms.Short ns text g e = refl
 stage-follows Constants declared (forms.Plain order) ns text g e = refl
 stage-follows Constants declared (forms.Constant value) ns text g e = refl
 stage-follows Constants declared (forms.Go test target) ns text g e = refl
-stage-follows Constants declared (forms.Access direction name suffix) ns text g e = access-follows Constants direction name suffix ns (inl refl)
+stage-follows Constants declared (forms.Access direction name suffix) ns text g e =
+    access-follows Constants direction name suffix ns (inl refl)
 stage-follows Constants declared (forms.SetAddress name) ns text g e = refl
 stage-follows Body declared forms.Program ns text g e = absurd cc
 stage-follows Body declared forms.ProgramStores ns text g e = absurd cc
@@ -143,24 +150,28 @@ stage-follows Body declared forms.Short ns text g e = refl
 stage-follows Body declared (forms.Plain order) ns text g e = refl
 stage-follows Body declared (forms.Constant value) ns text g e = absurd cc
 stage-follows Body declared (forms.Go test target) ns text g e = refl
-stage-follows Body declared (forms.Access direction name suffix) ns text g e = access-follows Body direction name suffix ns (inr refl)
+stage-follows Body declared (forms.Access direction name suffix) ns text g e =
+    access-follows Body direction name suffix ns (inr refl)
 stage-follows Body declared (forms.SetAddress name) ns text g e = refl
 
 -- ---- the groups
 
-set-keeps : (declared : List Bool) (i g : ℕ) → get_or declared g false ≡ true → get_or (set declared i true) g false ≡ true
+set-keeps : (declared : List Bool) (i g : ℕ) → get_or declared g false ≡ true
+    → get_or (set declared i true) g false ≡ true
 set-keeps [] i g e = e
 set-keeps (x ∷ xs) zero zero e = refl
 set-keeps (x ∷ xs) zero (suc g) e = e
 set-keeps (x ∷ xs) (suc i) zero e = e
 set-keeps (x ∷ xs) (suc i) (suc g) e = set-keeps xs i g e
 
-group-keeps : (declared : List Bool) (o : Option ℕ) (g : ℕ) → get_or declared g false ≡ true → get_or (with_group declared o) g false ≡ true
+group-keeps : (declared : List Bool) (o : Option ℕ) (g : ℕ) → get_or declared g false ≡ true
+    → get_or (with_group declared o) g false ≡ true
 group-keeps declared None g e = e
 group-keeps declared (Some i) g e = set-keeps declared i g e
 
 -- a group stays declared
-stays-declared : (declared : List Bool) (form : Form) (g : ℕ) → get_or declared g false ≡ true → get_or (declared_with declared form) g false ≡ true
+stays-declared : (declared : List Bool) (form : Form) (g : ℕ) → get_or declared g false ≡ true
+    → get_or (declared_with declared form) g false ≡ true
 stays-declared declared forms.Program g e = e
 stays-declared declared forms.ProgramStores g e = e
 stays-declared declared forms.Part g e = e
@@ -172,7 +183,8 @@ stays-declared declared forms.Short g e = e
 stays-declared declared (forms.Plain order) g e = e
 stays-declared declared (forms.Constant value) g e = e
 stays-declared declared (forms.Go test target) g e = e
-stays-declared declared (forms.Access direction name suffix) g e = group-keeps declared (declared_group direction name suffix) g e
+stays-declared declared (forms.Access direction name suffix) g e =
+    group-keeps declared (declared_group direction name suffix) g e
 stays-declared declared (forms.SetAddress name) g e = e
 
 group-length : (declared : List Bool) (o : Option ℕ) → length (with_group declared o) ≡ length declared
@@ -191,7 +203,8 @@ same-length declared forms.Short = refl
 same-length declared (forms.Plain order) = refl
 same-length declared (forms.Constant value) = refl
 same-length declared (forms.Go test target) = refl
-same-length declared (forms.Access direction name suffix) = group-length declared (declared_group direction name suffix)
+same-length declared (forms.Access direction name suffix) =
+    group-length declared (declared_group direction name suffix)
 same-length declared (forms.SetAddress name) = refl
 
 -- a group that is declared here was not declared before, and is from here on
@@ -203,12 +216,15 @@ not-false : (b : Bool) → not b ≡ true → b ≡ false
 not-false true e = absurd cc
 not-false false e = refl
 
-access-none : (A : Type 0) (direction : Direction) (name : StoreName) (suffix : Suffix) (ns : List ℕ) (g : ℕ) → group_of (access_of direction name suffix ns) ≡ Some g → A
+access-none : (A : Type 0) (direction : Direction) (name : StoreName) (suffix : Suffix) (ns : List ℕ) (g : ℕ)
+    → group_of (access_of direction name suffix ns) ≡ Some g → A
 access-none A Keep name suffix ns g e = absurd cc
 access-none A Fetch name suffix ns g e = absurd cc
 
-store-declares : (stage : Stage) (declared : List Bool) (direction : Direction) (name : StoreName) (suffix : Suffix) (ns : List ℕ) (g : ℕ) → length declared ≡ 27 → HasGroup name
-    → in_stage stage declared (forms.Access direction name suffix) ≡ true → group_of (store_of stage direction name suffix ns) ≡ Some g
+store-declares : (stage : Stage) (declared : List Bool) (direction : Direction) (name : StoreName) (suffix : Suffix) (ns : List ℕ) (g : ℕ)
+    → length declared ≡ 27 → HasGroup name
+    → in_stage stage declared (forms.Access direction name suffix) ≡ true
+    → group_of (store_of stage direction name suffix ns) ≡ Some g
     → Declares declared (with_group declared (declared_group direction name suffix)) g
 store-declares Heading declared Fetch (names.Y group) suffixes.Nothing ns g len h e d =
     let same : group ≡ g = cc in
@@ -220,12 +236,17 @@ store-declares Heading declared Fetch names.V suffix ns g len h e d = absurd cc
 store-declares Heading declared Fetch names.VOfPart suffix ns g len h e d = absurd cc
 store-declares Heading declared Fetch names.E suffix ns g len h e d = absurd cc
 store-declares Heading declared Keep name suffix ns g len h e d = absurd cc
-store-declares Constants declared direction name suffix ns g len h e d = access-none (Declares declared (with_group declared (declared_group direction name suffix)) g) direction name suffix ns g d
-store-declares Body declared direction name suffix ns g len h e d = access-none (Declares declared (with_group declared (declared_group direction name suffix)) g) direction name suffix ns g d
-store-declares Ended declared direction name suffix ns g len h e d = access-none (Declares declared (with_group declared (declared_group direction name suffix)) g) direction name suffix ns g d
+store-declares Constants declared direction name suffix ns g len h e d =
+    access-none (Declares declared (with_group declared (declared_group direction name suffix)) g) direction name suffix ns g d
+store-declares Body declared direction name suffix ns g len h e d =
+    access-none (Declares declared (with_group declared (declared_group direction name suffix)) g) direction name suffix ns g d
+store-declares Ended declared direction name suffix ns g len h e d =
+    access-none (Declares declared (with_group declared (declared_group direction name suffix)) g) direction name suffix ns g d
 
-form-declares : (stage : Stage) (declared : List Bool) (form : Form) (ns text : List ℕ) (g : ℕ) → length declared ≡ 27 → IsForm form
-    → in_stage stage declared form ≡ true → group_of (what_of stage form ns text) ≡ Some g → Declares declared (declared_with declared form) g
+form-declares : (stage : Stage) (declared : List Bool) (form : Form) (ns text : List ℕ) (g : ℕ)
+    → length declared ≡ 27 → IsForm form
+    → in_stage stage declared form ≡ true → group_of (what_of stage form ns text) ≡ Some g
+    → Declares declared (declared_with declared form) g
 form-declares stage declared forms.Program ns text g len h e d = absurd cc
 form-declares stage declared forms.ProgramStores ns text g len h e d = absurd cc
 form-declares stage declared forms.Part ns text g len h e d = absurd cc
@@ -237,7 +258,8 @@ form-declares stage declared forms.Short ns text g len h e d = absurd cc
 form-declares stage declared (forms.Plain order) ns text g len h e d = absurd cc
 form-declares stage declared (forms.Constant value) ns text g len h e d = absurd cc
 form-declares stage declared (forms.Go test target) ns text g len h e d = absurd cc
-form-declares stage declared (forms.Access direction name suffix) ns text g len h e d = store-declares stage declared direction name suffix ns g len h e d
+form-declares stage declared (forms.Access direction name suffix) ns text g len h e d =
+    store-declares stage declared direction name suffix ns g len h e d
 form-declares stage declared (forms.SetAddress name) ns text g len h e d = absurd cc
 
 -- ---- all statements
@@ -259,7 +281,8 @@ piece-forms (b ∷ bs) =
 
 pub pieces-forms : (ps : List (List ByteAt)) → AreForms (flat_map statements_in ps)
 pieces-forms [] = tt
-pieces-forms (p ∷ ps) = rw flat_map-cons (forms-append (statements_in p) (flat_map statements_in ps) (piece-forms p) (pieces-forms ps))
+pieces-forms (p ∷ ps) =
+    rw flat_map-cons (forms-append (statements_in p) (flat_map statements_in ps) (piece-forms p) (pieces-forms ps))
 
 -- the first of the statements is sound, and there is no fault in those behind it
 record Goes (phase : Phase) (len : ℕ) (w : Parsed) (ws : List Parsed) (tail : List ByteAt) : Type 0 where
@@ -269,7 +292,8 @@ record Goes (phase : Phase) (len : ℕ) (w : Parsed) (ws : List Parsed) (tail : 
   pub later : faults_from (phase_with phase form) len ws tail ≡ []
   pub statements : statements_from phase (w ∷ ws) ≡ record { place = w.place; what = what_of phase.stage form w.numbers w.text } ∷ statements_from (phase_with phase form) ws
 
-goes : (phase : Phase) (len : ℕ) (w : Parsed) (ws : List Parsed) (tail : List ByteAt) → Holds IsForm w.form → faults_from phase len (w ∷ ws) tail ≡ [] → Goes phase len w ws tail
+goes : (phase : Phase) (len : ℕ) (w : Parsed) (ws : List Parsed) (tail : List ByteAt) → Holds IsForm w.form
+    → faults_from phase len (w ∷ ws) tail ≡ [] → Goes phase len w ws tail
 goes phase len w ws tail f e =
     let n = none-there (statement_faults phase w) (faults_from (phase_after phase w) len ws tail) e in
     let s = sound phase w n.0 in
@@ -282,18 +306,21 @@ goes phase len w ws tail f e =
       statements = ap (λ (ss : List Statement). ss ++ statements_from (phase_after phase w) ws) (one-statement phase w s.0 s.1) ∙ ap (λ (p : Phase). record { place = w.place; what = what_of phase.stage s.0 w.numbers w.text } ∷ statements_from p ws) next;
     }
 
-pub are-in-range : (phase : Phase) (len : ℕ) (ws : List Parsed) (tail : List ByteAt) → AreForms ws → faults_from phase len ws tail ≡ [] → AreInRange (statements_from phase ws)
+pub are-in-range : (phase : Phase) (len : ℕ) (ws : List Parsed) (tail : List ByteAt) → AreForms ws
+    → faults_from phase len ws tail ≡ [] → AreInRange (statements_from phase ws)
 are-in-range phase len [] tail f e = tt
 are-in-range phase len (w ∷ ws) tail f e =
     let g = goes phase len w ws tail f.0 e in
     subst AreInRange (sym g.statements)
     (what-fits phase.stage g.form w.numbers w.text g.is g.here.ranges g.here.text, are-in-range (phase_with phase g.form) len ws tail f.1 g.later)
 
-end-sound : (b : Bool) (front back : List Found) (last : Found) → cond b front (back ++ last ∷ []) ≡ [] → b ≡ true
+end-sound : (b : Bool) (front back : List Found) (last : Found) → cond b front (back ++ last ∷ []) ≡ []
+    → b ≡ true
 end-sound true front back last e = refl
 end-sound false front back last e = let h = none-there back (last ∷ []) e in absurd cc
 
-pub is-sequence : (phase : Phase) (len : ℕ) (ws : List Parsed) (tail : List ByteAt) → AreForms ws → faults_from phase len ws tail ≡ [] → IsSequence phase.stage (statements_from phase ws)
+pub is-sequence : (phase : Phase) (len : ℕ) (ws : List Parsed) (tail : List ByteAt) → AreForms ws
+    → faults_from phase len ws tail ≡ [] → IsSequence phase.stage (statements_from phase ws)
 is-sequence phase len [] tail f e = end-sound (is_ended phase) _ _ _ e
 is-sequence phase len (w ∷ ws) tail f e =
     let g = goes phase len w ws tail f.0 e in
@@ -301,7 +328,8 @@ is-sequence phase len (w ∷ ws) tail f e =
     (stage_with phase.stage g.form, stage-follows phase.stage phase.declared g.form w.numbers w.text g.here.goes g.here.placed, is-sequence (phase_with phase g.form) len ws tail f.1 g.later)
 
 -- a group that is declared isn't declared again
-none-again : (phase : Phase) (len : ℕ) (ws : List Parsed) (tail : List ByteAt) (g : ℕ) → AreForms ws → length phase.declared ≡ 27 → get_or phase.declared g false ≡ true
+none-again : (phase : Phase) (len : ℕ) (ws : List Parsed) (tail : List ByteAt) (g : ℕ) → AreForms ws
+    → length phase.declared ≡ 27 → get_or phase.declared g false ≡ true
     → faults_from phase len ws tail ≡ [] → NoneDeclares (Some g) (statements_from phase ws)
 none-again phase len [] tail g f l d e = tt
 none-again phase len (w ∷ ws) tail g f l d e =
@@ -311,11 +339,14 @@ none-again phase len (w ∷ ws) tail g f l d e =
     subst (NoneDeclares (Some g)) (sym s.statements)
     (here, none-again (phase_with phase s.form) len ws tail g f.1 (same-length phase.declared s.form ∙ l) (stays-declared phase.declared s.form g d) s.later)
 
-behind-group : (o : Option ℕ) (ss : List Statement) → ((g : ℕ) → o ≡ Some g → NoneDeclares (Some g) ss) → NoneDeclares o ss
+behind-group : (o : Option ℕ) (ss : List Statement) → ((g : ℕ) → o ≡ Some g → NoneDeclares (Some g) ss)
+    → NoneDeclares o ss
 behind-group None ss h = tt
 behind-group (Some g) ss h = h g refl
 
-pub declare-once : (phase : Phase) (len : ℕ) (ws : List Parsed) (tail : List ByteAt) → AreForms ws → length phase.declared ≡ 27 → faults_from phase len ws tail ≡ [] → DeclareOnce (statements_from phase ws)
+pub declare-once : (phase : Phase) (len : ℕ) (ws : List Parsed) (tail : List ByteAt) → AreForms ws
+    → length phase.declared ≡ 27 → faults_from phase len ws tail ≡ []
+    → DeclareOnce (statements_from phase ws)
 declare-once phase len [] tail f l e = tt
 declare-once phase len (w ∷ ws) tail f l e =
     let s = goes phase len w ws tail f.0 e in

@@ -18,19 +18,23 @@ use Rattle.kdf_usercode.proofs.Rises.{rising}
 use Rattle.kdf_usercode.proofs.Sequence.{none-there, pieces-forms, are-in-range, is-sequence, declare-once}
 
 -- a deck without a fault has none in its statements
-no-faults : (text : List ℕ) → early text ≡ None → faults_from start (length text) (parses (cut (kept text))) (cut (kept text)).tail ≡ []
+no-faults : (text : List ℕ) → early text ≡ None
+    → faults_from start (length text) (parses (cut (kept text))) (cut (kept text)).tail ≡ []
 no-faults text e =
     (none-there (bytes_faults 0 text ++ flat_map comment_faults (kept text)) (faults_from start (length text) (parses (cut (kept text))) (cut (kept text)).tail) (least-none (faults_of text) e)).1
 
 begins-sequence : (text : List ℕ) → early text ≡ None → IsSequence Heading (statements text)
 unfolding start
-begins-sequence text e = is-sequence start (length text) (parses (cut (kept text))) (cut (kept text)).tail (pieces-forms (cut (kept text)).pieces) (no-faults text e)
+begins-sequence text e =
+    is-sequence start (length text) (parses (cut (kept text))) (cut (kept text)).tail (pieces-forms (cut (kept text)).pieces) (no-faults text e)
 
 once : (text : List ℕ) → early text ≡ None → DeclareOnce (statements text)
 unfolding start
-once text e = declare-once start (length text) (parses (cut (kept text))) (cut (kept text)).tail (pieces-forms (cut (kept text)).pieces) refl (no-faults text e)
+once text e =
+    declare-once start (length text) (parses (cut (kept text))) (cut (kept text)).tail (pieces-forms (cut (kept text)).pieces) refl (no-faults text e)
 
-pub are-well-formed : (text : List ℕ) → length text ≤ 268435456 → early text ≡ None → AreWellFormed (statements text) (length text)
+pub are-well-formed : (text : List ℕ) → length text ≤ 268435456 → early text ≡ None
+    → AreWellFormed (statements text) (length text)
 are-well-formed text short e = record {
   short = short;
   rises = rising text;
@@ -39,11 +43,13 @@ are-well-formed text short e = record {
   once = once text e;
 }
 
-ok-verdict : (o : Option Found) (ss items : List Statement) → verdict o ss ≡ Ok items → (o ≡ None) × (ss ≡ items)
+ok-verdict : (o : Option Found) (ss items : List Statement) → verdict o ss ≡ Ok items
+    → (o ≡ None) × (ss ≡ items)
 ok-verdict None ss items e = (refl, cc)
 ok-verdict (Some f) ss items e = absurd cc
 
-pub gives-well-formed : (result : Result Deck DeckError) (text : List ℕ) → length text ≤ 268435456 → Gives result (length text) (deck text) → IfOk result IsWellFormed
+pub gives-well-formed : (result : Result Deck DeckError) (text : List ℕ) → length text ≤ 268435456
+    → Gives result (length text) (deck text) → IfOk result IsWellFormed
 gives-well-formed (Ok d) text short h =
     let v = ok-verdict (early text) (statements text) d.statements.items h.0 in
     subst (λ (n : ℕ). AreWellFormed d.statements.items n) (sym h.1) (subst (λ (ss : List Statement). AreWellFormed ss (length text)) v.1 (are-well-formed text short v.0))

@@ -109,6 +109,7 @@ fn bytes_of(alloc: Global, piece: &[ByteAt]) -> Result<Vec<u8>, AllocError>
 }
 
 impl Reading {
+    /// A statement of this form. It is kept where it has no fault and none came before it.
     fn form(
         &mut self,
         place: u32,
@@ -131,6 +132,7 @@ impl Reading {
         Ok(())
     }
 
+    /// A statement by its bytes.
     fn statement(&mut self, alloc: Global, place: u32, text: &[u8]) -> Result<(), AllocError>
         ensures { OnOk result (Reads self.old self.new (parsed place text.now)) }
     {
