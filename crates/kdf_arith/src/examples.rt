@@ -225,5 +225,6 @@ pub fn far_shifts()
     ensures shad_right { shifted 0x6D (negsuc 32767) (minus 1 ∷ 0 ∷ [])
         ≡ leaves (minus 1 ∷ greatest ∷ []) }
     ensures shld_left { shifted 0x6E (pos 32767) (minus 1 ∷ minus 1 ∷ []) ≡ leaves (0 ∷ 0 ∷ []) }
-    ensures shld_right { shifted 0x6E (negsuc 32767) (minus 1 ∷ minus 1 ∷ []) ≡ leaves (0 ∷ 0 ∷ []) }
+    ensures shld_right { shifted 0x6E (negsuc 32767) (minus 1 ∷ minus 1 ∷ [])
+        ≡ leaves (0 ∷ 0 ∷ []) }
 {}

@@ -13,7 +13,8 @@ pub fn lines_of_texts()
     ensures empty_line { lines (10 ∷ []) ≡ [] ∷ [] }
     ensures unended { lines (codes "ab") ≡ codes "ab" ∷ [] }
     ensures ended { lines (codes "ab" ++ 10 ∷ []) ≡ codes "ab" ∷ [] }
-    ensures several { lines (codes "a" ++ 10 ∷ 10 ∷ 13 ∷ codes "b") ≡ codes "a" ∷ [] ∷ (13 ∷ codes "b") ∷ [] }
+    ensures several { lines (codes "a" ++ 10 ∷ 10 ∷ 13 ∷ codes "b")
+        ≡ codes "a" ∷ [] ∷ (13 ∷ codes "b") ∷ [] }
 {}
 
 /// A line is cut at each space.
@@ -27,7 +28,8 @@ pub fn words_of_lines()
 /// A number is decimal without leading zeros.
 pub fn numbers_of_words()
     ensures zero { number_in 0 9 (codes "0") ≡ Some 0 }
-    ensures greatest { number_in 0 140737488355327 (codes "140737488355327") ≡ Some 140737488355327 }
+    ensures greatest { number_in 0 140737488355327 (codes "140737488355327")
+        ≡ Some 140737488355327 }
     ensures above { number_in 0 140737488355327 (codes "140737488355328") ≡ None }
     ensures below { number_in 1 4096 (codes "0") ≡ None }
     ensures leading_zero { number_in 0 9 (codes "07") ≡ None }

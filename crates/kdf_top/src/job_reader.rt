@@ -142,7 +142,8 @@ fn read_show(lines: &mut Lines, size: u16) -> Option<(u16, u16)>
 fn read_deck_lines(alloc: Global, lines: &mut Lines) -> Result<Vec<u8>, JobError>
     ensures pass { OnOk result (Passes (deck_forms (deck_lines (ahead lines.old))) lines.old lines.new) }
     ensures stop { IfErr result (Stops (deck_forms (deck_lines (ahead lines.old))) lines.old) }
-    ensures rest { OnOk result (ahead lines.new ≡ drop (1 + length (deck_lines (ahead lines.old))) (ahead lines.old)) }
+    ensures rest { OnOk result (ahead lines.new
+        ≡ drop (1 + length (deck_lines (ahead lines.old))) (ahead lines.old)) }
     ensures deck { IfOk result (λ v. v.items ≡ text (deck_lines (ahead lines.old))) }
     ensures within { IfOk result (λ v. length v.items ≤ length lines.old.rest.now) }
 {

@@ -109,7 +109,8 @@ impl Machine {
 
     /// The registers of program `p`; None where there is no such slot.
     pub fn seen(&self, p: u8) -> Option<&Registers>
-        ensures registers { option_copied result ≡ option_map (λ state. state.registers) (state_of self.now p) }
+        ensures registers { option_copied result
+            ≡ option_map (λ state. state.registers) (state_of self.now p) }
         ensures legal { IsLegal self.now.slots self.now.journal }
         ensures lone { ShowsLone self.now }
     {
@@ -155,7 +156,8 @@ fn is_on(life: Life) -> bool
 fn obey_next(registers: &mut Registers, store: &mut Bench) -> Step
     requires live { is_live registers.old.state ≡ true }
     requires ran { registers.old.ran < u32.MAX }
-    ensures state { state_with registers.new store.new ≡ row (state_with registers.old store.old) 0 }
+    ensures state { state_with registers.new store.new
+        ≡ row (state_with registers.old store.old) 0 }
     ensures step { result ≡ (next_of (state_with registers.old store.old) 0).step }
     ensures size { store.new.size ≡ store.old.size }
 {

@@ -81,7 +81,8 @@ fn write_shows(
     machine: &Machine,
     p: u8,
 ) -> Result<(), AllocError>
-    requires { IsSomeAnd (slot_of machine.now.slots p) (λ kept. All (λ show. show.1 < kept.size) shows.now) }
+    requires { IsSomeAnd (slot_of machine.now.slots p)
+        (λ kept. All (λ show. show.1 < kept.size) shows.now) }
     ensures { OnOk result (Adds out.old out.new (flat_map (show_lines (state_at machine.now p)) shows.now)) }
 {
     for (first, last) in shows {

@@ -55,9 +55,12 @@ pub fn run<S: Source, K: Sink>(
     ensures usage { is_command (map string_bytes words.now) ≡ false
         → Answers Status.Usage result.status ⊥ (HasRisen (K.faults sink.old) (K.faults sink.new)) }
     ensures unread { is_command (map string_bytes words.now) ≡ false → source.new ≡ source.old }
-    ensures command { is_command (map string_bytes words.now) ≡ true → result.status ≢ Status.Usage }
-    ensures read_fault { result.status ≡ Status.ReadFault → HasRisen (S.faults source.old) (S.faults source.new) }
-    ensures write_fault { result.status ≡ Status.WriteFault → HasRisen (K.faults sink.old) (K.faults sink.new) }
+    ensures command { is_command (map string_bytes words.now) ≡ true
+        → result.status ≢ Status.Usage }
+    ensures read_fault { result.status ≡ Status.ReadFault
+        → HasRisen (S.faults source.old) (S.faults source.new) }
+    ensures write_fault { result.status ≡ Status.WriteFault
+        → HasRisen (K.faults sink.old) (K.faults sink.new) }
 
     // Whatever is answered, at most one byte more is taken than a job may have.
     ensures taken { TakesAtMost (JOB_LIMIT + 1) (S.left source.old) (S.left source.new) }

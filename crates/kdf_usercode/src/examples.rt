@@ -21,10 +21,12 @@ pub fn forms()
 
 /// Numbers outside their ranges. None is too long to be read.
 pub fn numbers()
-    ensures long { deck (codes "PROGRAM; SET 18446744073709551617; FINISH;") ≡ Err (found BadNumber 9) }
+    ensures long { deck (codes "PROGRAM; SET 18446744073709551617; FINISH;")
+        ≡ Err (found BadNumber 9) }
     ensures shift { deck (codes "PROGRAM; SHL-65; FINISH;") ≡ Err (found BadNumber 9) }
     ensures q_store { deck (codes "PROGRAM; M1M16; FINISH;") ≡ Err (found QRange 9) }
-    ensures constant { deck (codes "PROGRAM V0; V0=-140737488355329; FINISH;") ≡ Err (found ConstantRange 12) }
+    ensures constant { deck (codes "PROGRAM V0; V0=-140737488355329; FINISH;")
+        ≡ Err (found ConstantRange 12) }
 {}
 
 /// Statements that aren't in their place, and the end of a deck.
