@@ -1,12 +1,22 @@
-"""What the benchmarks share: jobs of one deck, and runs of the program with their processor time and peak memory."""
+"""What the benchmarks share: jobs of one deck, and runs of the program with their processor time and peak memory. For Linux."""
+import ctypes
 import os
 import subprocess
+import sys
 import tempfile
 from collections import namedtuple
 
-PROGRAM = os.path.join(os.path.dirname(os.path.abspath(__file__)), "..", "crates", "kdf9", "out", "kdf9")
+BUILT = os.path.join(os.path.dirname(os.path.abspath(__file__)), "..", "crates", "kdf9", "out", "kdf9")
+RUNS = 15
+
+# What wait4 tells of a child's peak begins with that of this script, some 14 MB. So each run is stopped at its end, where the system still
+# tells the peak of its own memory. The job is written once the system knows that, so no run ends before.
+trace = ctypes.CDLL(None, use_errno=True).ptrace
+trace.argtypes = (ctypes.c_long, ctypes.c_int, ctypes.c_void_p, ctypes.c_void_p)
+PTRACE_SEIZE, PTRACE_O_TRACEEXIT, PTRACE_DETACH = 0x4206, 0x40, 17
 
 Run = namedtuple("Run", "seconds peak status report")
+Best = namedtuple("Best", "seconds peak runs")
 
 
 def job(deck, store, orders):
@@ -14,12 +24,38 @@ def job(deck, store, orders):
     return b"KDF9 JOB 1\nSLOT 0\nSTORE %d\nDECK\n%sENDDECK\nSCHEDULE\nORDERS %d\nENDJOB\n" % (store, deck, orders)
 
 
-def run(text):
+def programs():
+    """The programs that the command's words name, of which the second is compared with the first; without a word, the one built here."""
+    words = sys.argv[1:] or [BUILT]
+    if len(words) > 2 or not all(os.access(word, os.X_OK) for word in words):
+        sys.exit(f"usage: {sys.argv[0]} [PROGRAM [OTHER]]: each a program that is built, and the one of this repository if none is named")
+    return [os.path.abspath(word) for word in words]
+
+
+def peak_at_end(number):
+    """The peak in bytes of the memory of this process, read when it ends."""
+    os.waitpid(number, 0)
+    with open(f"/proc/{number}/status") as status:
+        peak = next(int(line.split()[1]) for line in status if line.startswith("VmHWM:"))
+    trace(PTRACE_DETACH, number, None, None)
+    return peak * 1024
+
+
+def run(program, text):
     """One run of the program: the seconds of the processor, the peak in bytes, the status, and what was written."""
-    with tempfile.TemporaryFile() as stdin, tempfile.TemporaryFile() as stdout:
-        stdin.write(text)
-        stdin.seek(0)
-        child = subprocess.Popen([PROGRAM, "run"], stdin=stdin, stdout=stdout)
+    with tempfile.TemporaryFile() as report:
+        child = subprocess.Popen([program, "run"], stdin=subprocess.PIPE, stdout=report)
+        if trace(PTRACE_SEIZE, child.pid, None, PTRACE_O_TRACEEXIT):
+            sys.exit(f"the peak of a run can't be read here: {os.strerror(ctypes.get_errno())}")
+        with child.stdin:
+            child.stdin.write(text)
+        peak = peak_at_end(child.pid)
         _, status, usage = os.wait4(child.pid, 0)
-        stdout.seek(0)
-        return Run(usage.ru_utime + usage.ru_stime, usage.ru_maxrss * 1024, os.waitstatus_to_exitcode(status), stdout.read())
+        report.seek(0)
+        return Run(usage.ru_utime + usage.ru_stime, peak, os.waitstatus_to_exitcode(status), report.read())
+
+
+def measure(programs, text):
+    """Runs each program fifteen times, in turn: for each its least time, its highest peak and its runs."""
+    runs = [[run(program, text) for program in programs] for _ in range(RUNS)]
+    return [Best(min(one.seconds for one in its), max(one.peak for one in its), its) for its in zip(*runs)]

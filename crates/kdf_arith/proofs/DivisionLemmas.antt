@@ -17,7 +17,9 @@ parts (negsuc n) k =
     let below = mod_below n (suc k) some in
     omega (arith, ints, whole, below)
 
-remainder_down : (v : ℤ) (k : ℕ) → neg_ℤ (pos (modulo (neg_ℤ v) (suc k))) ≡ v -ℤ floor_div (neg_ℤ v) (suc k) *ℤ negsuc k
+remainder_down : (v : ℤ) (k : ℕ) →
+    neg_ℤ (pos (modulo (neg_ℤ v) (suc k)))
+    ≡ v -ℤ floor_div (neg_ℤ v) (suc k) *ℤ negsuc k
 remainder_down v k = let e = parts (neg_ℤ v) k in omega (arith, ints, e)
 
 pub negative_fits : (z : ℤ) → unsigned_abs z ≤ 2 ^ 47 → FitsSigned w64 (pos 0 -ℤ z)
@@ -28,16 +30,29 @@ pub negative_remainder_fits : (z : ℤ) → IsNonNegative z → FitsSigned w64 z
 negative_remainder_fits (pos n) h f = let s : n < 2 ^ 63 = f.sfits in omega (arith, ints)
 negative_remainder_fits (negsuc n) h f = absurd h
 
--- a sign that the machine changes
-negated : (z : ℤ) → FitsSigned w64 z → FitsSigned w64 (pos 0 -ℤ z) → to_z w64 (of_z w64 (pos 0 -ℤ to_z w64 (of_z w64 z))) ≡ neg_ℤ z
+-- a value with its sign changed, as the machine does it
+abbrev pub machine_neg : ℤ → ℤ
+machine_neg z = to_z w64 (of_z w64 (pos 0 -ℤ to_z w64 (of_z w64 z)))
+
+negated : (z : ℤ) → FitsSigned w64 z → FitsSigned w64 (pos 0 -ℤ z) → machine_neg z ≡ neg_ℤ z
 negated z f g =
     let e : pos 0 -ℤ z ≡ neg_ℤ z = omega (arith, ints) in
-    ap (λ (x : ℤ). to_z w64 (of_z w64 (pos 0 -ℤ x))) (to_z-of_z w64 z f) ∙ to_z-of_z w64 (pos 0 -ℤ z) g ∙ e
+    ap (λ (x : ℤ). to_z w64 (of_z w64 (pos 0 -ℤ x))) (to_z-of_z w64 z f)
+    ∙ to_z-of_z w64 (pos 0 -ℤ z) g
+    ∙ e
 
-pub remainder_by_negative : (v d r : ℤ) → d <ℤ pos 0 → FitsSigned w64 v → FitsSigned w64 d → FitsSigned w64 r → FitsSigned w64 (pos 0 -ℤ v) → FitsSigned w64 (pos 0 -ℤ d) → FitsSigned w64 (pos 0 -ℤ r) → r ≡ int_rem_euclid (to_z w64 (of_z w64 (pos 0 -ℤ to_z w64 (of_z w64 v)))) (to_z w64 (of_z w64 (pos 0 -ℤ to_z w64 (of_z w64 d)))) → to_z w64 (of_z w64 (pos 0 -ℤ to_z w64 (of_z w64 r))) ≡ v -ℤ quotient v d *ℤ d
+pub remainder_by_negative : (v d r : ℤ) → d <ℤ pos 0 →
+    FitsSigned w64 v → FitsSigned w64 d → FitsSigned w64 r →
+    FitsSigned w64 (pos 0 -ℤ v) → FitsSigned w64 (pos 0 -ℤ d) → FitsSigned w64 (pos 0 -ℤ r) →
+    r ≡ int_rem_euclid (machine_neg v) (machine_neg d) →
+    machine_neg r ≡ v -ℤ quotient v d *ℤ d
 remainder_by_negative v (pos n) r h fv fd fr gv gd gr e = absurd (omega (arith, ints))
 remainder_by_negative v (negsuc k) r h fv fd fr gv gd gr e =
-    let first : int_rem_euclid (to_z w64 (of_z w64 (pos 0 -ℤ to_z w64 (of_z w64 v)))) (to_z w64 (of_z w64 (pos 0 -ℤ to_z w64 (of_z w64 (negsuc k))))) ≡ int_rem_euclid (neg_ℤ v) (to_z w64 (of_z w64 (pos 0 -ℤ to_z w64 (of_z w64 (negsuc k))))) = ap (λ (x : ℤ). int_rem_euclid x (to_z w64 (of_z w64 (pos 0 -ℤ to_z w64 (of_z w64 (negsuc k)))))) (negated v fv gv) in
-    let second : int_rem_euclid (neg_ℤ v) (to_z w64 (of_z w64 (pos 0 -ℤ to_z w64 (of_z w64 (negsuc k))))) ≡ int_rem_euclid (neg_ℤ v) (pos (suc k)) = ap (λ (x : ℤ). int_rem_euclid (neg_ℤ v) x) (negated (negsuc k) fd gd) in
-    let value : r ≡ pos (modulo (neg_ℤ v) (suc k)) = e ∙ first ∙ second ∙ remainder (neg_ℤ v) (suc k) in
+    let d : ℤ = negsuc k in
+    let first : int_rem_euclid (machine_neg v) (machine_neg d) ≡ int_rem_euclid (neg_ℤ v) (machine_neg d) =
+    ap (λ (x : ℤ). int_rem_euclid x (machine_neg d)) (negated v fv gv) in
+    let second : int_rem_euclid (neg_ℤ v) (machine_neg d) ≡ int_rem_euclid (neg_ℤ v) (pos (suc k)) =
+    ap (λ (x : ℤ). int_rem_euclid (neg_ℤ v) x) (negated d fd gd) in
+    let value : r ≡ pos (modulo (neg_ℤ v) (suc k)) =
+    e ∙ first ∙ second ∙ remainder (neg_ℤ v) (suc k) in
     negated r fr gr ∙ ap neg_ℤ value ∙ remainder_down v k

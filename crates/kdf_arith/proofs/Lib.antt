@@ -2,6 +2,7 @@ pub mod Capped
 pub mod DigitLemmas
 pub mod DivisionLemmas
 pub mod FitLemmas
+pub mod Ones
 pub mod PutLemmas
 pub mod PutOn
 pub mod Remainders

@@ -1,4 +1,5 @@
--- What an order of arithmetic does to the nest and the flags, or none where operands or room are missing.
+-- What an order of arithmetic does to the nest and the flags, or none where operands or room are
+-- missing.
 use Rattle.std.specs.Prelude.{ℕ, ℤ, ◌^◌, ◌≤◌, ◌≡◌, ◌⊎◌, ◌||◌, false, List, ◌∷◌, length, Option, Some, None, if◌then◌else◌, ◌==◌, nat_le}
 use Rattle.kdf_arith.specs.Rows.{After, plain_row}
 use Rattle.kdf_arith.specs.Shifts.{shift_row}
@@ -8,7 +9,9 @@ use Rattle.kdf_arith.specs.declared.order.ArithOrder.TheVariants.{Plain, Shift}
 
 -- the code is that of a plain order of arithmetic
 abbrev pub IsPlainCode : ℕ → Type 0
-IsPlainCode code = ((2 ≤ code) × (code ≤ 0x12)) ⊎ (((0x14 ≤ code) × (code ≤ 0x1C)) ⊎ ((code ≡ 0x1F) ⊎ (code ≡ 0x20)))
+IsPlainCode code =
+    ((2 ≤ code) × (code ≤ 0x12))
+    ⊎ (((0x14 ≤ code) × (code ≤ 0x1C)) ⊎ ((code ≡ 0x1F) ⊎ (code ≡ 0x20)))
 
 -- the code is that of a shift
 abbrev pub IsShiftCode : ℕ → Type 0
@@ -37,11 +40,13 @@ pub record Arith : Type 0 where
 -- V stays set, or is set
 abbrev pub with_v : Option After → Flags → Option Arith
 with_v None flags = None
-with_v (Some a) flags = Some (record { nest = a.nest; flags = record flags { v = flags.v || a.sets_v } })
+with_v (Some a) flags =
+    Some (record { nest = a.nest; flags = record flags { v = flags.v || a.sets_v } })
 
 -- =TR: TR becomes D0 of the top, which is erased
 abbrev pub to_tr : List ℕ → Flags → Option Arith
-to_tr (a ∷ below) flags = Some (record { nest = below; flags = record flags { tr = nat_le (2 ^ 47) a } })
+to_tr (a ∷ below) flags =
+    Some (record { nest = below; flags = record flags { tr = nat_le (2 ^ 47) a } })
 to_tr _ flags = None
 
 -- VR: V becomes 0
@@ -54,7 +59,10 @@ plain_arith code nest flags =
     else (if code == 0x20 then reset_v nest flags
     else with_v (plain code nest) flags)
 
+abbrev pub shift_arith : ℕ → ℤ → List ℕ → Flags → Option Arith
+shift_arith code n nest flags = with_v (shift code n nest) flags
+
 -- an order of arithmetic
 unfoldable pub arith : ArithOrder → List ℕ → Flags → Option Arith
 arith (Plain code) nest flags = plain_arith code nest flags
-arith (Shift code n) nest flags = with_v (shift code n nest) flags
+arith (Shift code n) nest flags = shift_arith code n nest flags

@@ -1,8 +1,8 @@
--- The five shifts as a table. An amount n is to the left, and a negative one to the right by m = -n.
-use Rattle.std.specs.Prelude.{ℕ, suc, ◌+◌, ◌-◌, ◌*◌, ◌/◌, ◌%◌, ◌^◌, List, ◌∷◌, Option, None, if◌then◌else◌, ◌==◌, ℤ, pos, negsuc, ◌+ℤ◌, ◌*ℤ◌}
+-- The five shifts as a table. An amount n is to the left, a negative one to the right by m = -n.
+use Rattle.std.specs.Prelude.{ℕ, suc, ◌+◌, ◌-◌, ◌*◌, ◌/◌, ◌%◌, ◌^◌, List, [], ◌∷◌, Option, None, if◌then◌else◌, ◌==◌, ℤ, pos, negsuc, ◌+ℤ◌, ◌*ℤ◌}
 use Rattle.kdf_word.specs.Words.{signed}
 use Rattle.kdf_word.specs.Doubles.{floor_div, modulo, double_of}
-use Rattle.kdf_arith.specs.Rows.{After, left, word, double, one, two}
+use Rattle.kdf_arith.specs.Rows.{After, words, as_word, as_double, one, two}
 
 -- a number times 2^n, or over 2^m rounded down. In the patterns m is suc k
 abbrev pub scaled : ℤ → ℤ → ℤ
@@ -27,21 +27,16 @@ turned n w = w % 2 ^ (48 - n) * 2 ^ n + w / 2 ^ (48 - n)
 abbrev pub joined : ℕ → ℕ → ℕ
 joined a b = a * 2 ^ 48 + b
 
--- the last 96 bits as two words on those below
-abbrev pub words : ℕ → List ℕ → After
-words w below = left (w / 2 ^ 48 % 2 ^ 48 ∷ w % 2 ^ 48 ∷ below)
+-- and the last 96 bits as two words
+abbrev pub parted : ℕ → List ℕ
+parted w = w / 2 ^ 48 % 2 ^ 48 ∷ w % 2 ^ 48 ∷ []
 
 -- the rows of the shifts
 unfoldable pub shift_row : ℕ → ℤ → List ℕ → Option After
 shift_row code n nest =
-    -- SHA
-    if code == 0x6A then one nest (λ a below. word (rounded (signed a) n) below)
-    -- SHL
-    else (if code == 0x6B then one nest (λ a below. left (moved a n % 2 ^ 48 ∷ below))
-    -- SHC
-    else (if code == 0x6C then one nest (λ a below. left (turned (modulo n 48) a ∷ below))
-    -- SHAD
-    else (if code == 0x6D then two nest (λ a b below. double (scaled (double_of a b) n) below)
-    -- SHLD
-    else (if code == 0x6E then two nest (λ a b below. words (moved (joined a b) n) below)
+    if code == 0x6A then one nest (λ a. as_word (rounded (signed a) n))  -- SHA
+    else (if code == 0x6B then one nest (λ a. words (moved a n % 2 ^ 48 ∷ []))  -- SHL
+    else (if code == 0x6C then one nest (λ a. words (turned (modulo n 48) a ∷ []))  -- SHC
+    else (if code == 0x6D then two nest (λ a b. as_double (scaled (double_of a b) n))  -- SHAD
+    else (if code == 0x6E then two nest (λ a b. words (parted (moved (joined a b) n)))  -- SHLD
     else None))))

@@ -9,7 +9,8 @@ use kdf_word::Word;
 pub(crate) fn divide(a: Word, divisor: Word) -> (i64, i64)
     requires { divisor ≢ 0 }
     ensures quotient { result.0 ≡ quotient (signed a) (signed divisor) }
-    ensures remainder { result.1 ≡ signed a -ℤ quotient (signed a) (signed divisor) *ℤ signed divisor }
+    ensures remainder { result.1
+        ≡ signed a -ℤ quotient (signed a) (signed divisor) *ℤ signed divisor }
 {
     let value = a.signed();
     let by = divisor.signed();

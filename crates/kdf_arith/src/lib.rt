@@ -4,8 +4,8 @@
 mod bits;
 mod digits;
 mod division;
+pub mod examples;
 mod flags;
-pub mod laws;
 mod nouv;
 mod obey;
 mod operands;

@@ -1,7 +1,8 @@
 //! Any order of arithmetic.
-ghost use Rattle.std.specs.Prelude.{◌≡◌, ◌≢◌, ◌≤◌, Some, None, IfOk, OnOk, OnErr};
-ghost use Rattle.kdf_arith.specs.Rows.{left};
-ghost use Rattle.kdf_arith.specs.Arith.{arith, plain, shift, plain_arith, to_tr, with_v, IsArithOrder, IsPlainCode, IsShiftCode};
+ghost use Rattle.std.specs.Prelude.{◌≡◌, ◌≢◌, Some, None, OnOk, OnErr};
+ghost use Rattle.std.specs.Int.{IsInRange};
+ghost use Rattle.kdf_arith.specs.Arith.{arith, plain, plain_arith, shift_arith, to_tr, IsArithOrder, IsPlainCode, IsShiftCode};
+ghost use Rattle.kdf_arith.specs.Outcome.{Makes, Obeys};
 
 use crate::operands::take_one;
 use crate::shifts::obey_shifts;
@@ -17,7 +18,8 @@ use kdf_nest::Nest;
 #[tactic(auto, unfolding(crate::specs::Arith::arith))]
 pub fn obey_arith(nest: &mut Nest, flags: &mut Flags, order: ArithOrder) -> Result<(), Nouv>
     requires { IsArithOrder order }
-    ensures ok { OnOk result (arith order nest.old flags.old ≡ Some (record { nest = nest.new; flags = flags.new })) }
+    ensures ok { OnOk result
+        (arith order nest.old flags.old ≡ Some (record { nest = nest.new; flags = flags.new })) }
     ensures err { OnErr result (arith order nest.old flags.old ≡ None) }
     ensures same_nest { OnErr result (nest.new ≡ nest.old) }
     ensures same_flags { OnErr result (flags.new ≡ flags.old) }
@@ -31,10 +33,7 @@ pub fn obey_arith(nest: &mut Nest, flags: &mut Flags, order: ArithOrder) -> Resu
 /// An order of one syllable.
 fn obey_plain(nest: &mut Nest, flags: &mut Flags, code: u8) -> Result<(), Nouv>
     requires { IsPlainCode code }
-    ensures ok { OnOk result (plain_arith code nest.old flags.old ≡ Some (record { nest = nest.new; flags = flags.new })) }
-    ensures err { OnErr result (plain_arith code nest.old flags.old ≡ None) }
-    ensures same_nest { OnErr result (nest.new ≡ nest.old) }
-    ensures same_flags { OnErr result (flags.new ≡ flags.old) }
+    ensures { Obeys (plain_arith code) nest.old flags.old nest.new flags.new result }
 {
     match code {
         0x1f => set_tr(nest, flags),
@@ -53,10 +52,7 @@ fn obey_plain(nest: &mut Nest, flags: &mut Flags, code: u8) -> Result<(), Nouv>
 /// A shift.
 fn obey_shift(nest: &mut Nest, flags: &mut Flags, code: u8, n: i16) -> Result<(), Nouv>
     requires { IsShiftCode code }
-    ensures ok { OnOk result (with_v (shift code n nest.old) flags.old ≡ Some (record { nest = nest.new; flags = flags.new })) }
-    ensures err { OnErr result (with_v (shift code n nest.old) flags.old ≡ None) }
-    ensures same_nest { OnErr result (nest.new ≡ nest.old) }
-    ensures same_flags { OnErr result (flags.new ≡ flags.old) }
+    ensures { Obeys (shift_arith code n) nest.old flags.old nest.new flags.new result }
 {
     let overflow = obey_shifts(nest, code, n)?;
     flags.note(overflow);
@@ -65,10 +61,7 @@ fn obey_shift(nest: &mut Nest, flags: &mut Flags, code: u8, n: i16) -> Result<()
 
 /// =TR.
 fn set_tr(nest: &mut Nest, flags: &mut Flags) -> Result<(), Nouv>
-    ensures ok { OnOk result (to_tr nest.old flags.old ≡ Some (record { nest = nest.new; flags = flags.new })) }
-    ensures err { OnErr result (to_tr nest.old flags.old ≡ None) }
-    ensures same_nest { OnErr result (nest.new ≡ nest.old) }
-    ensures same_flags { OnErr result (flags.new ≡ flags.old) }
+    ensures { Obeys to_tr nest.old flags.old nest.new flags.new result }
 {
     let a = take_one(nest)?;
     flags.tr = a.bits() >= 1 << 47;
@@ -77,12 +70,9 @@ fn set_tr(nest: &mut Nest, flags: &mut Flags) -> Result<(), Nouv>
 
 /// An order that changes no flag but V, which it tells whether it sets.
 fn obey_row(nest: &mut Nest, code: u8) -> Result<bool, Nouv>
-    requires least { 0x02 ≤ code }
-    requires greatest { code ≤ 0x1C }
+    requires codes { IsInRange 0x02 0x1C code }
     requires some { code ≢ 0x13 }
-    ensures ok { IfOk result (λ v. plain code nest.old ≡ Some (record { nest = nest.new; sets_v = v })) }
-    ensures err { OnErr result (plain code nest.old ≡ None) }
-    ensures same { OnErr result (nest.new ≡ nest.old) }
+    ensures { Makes (plain code nest.old) nest.old nest.new result }
 {
     if code < 0x0f {
         obey_words(nest, code)?;

@@ -1,5 +1,6 @@
 //! The words that an order takes from the nest.
-ghost use Rattle.std.specs.Prelude.{◌≡◌, ◌+◌, ◌<◌, ◌≤◌, ◌∷◌, length, IfOk, OnOk, OnErr};
+ghost use Rattle.std.specs.Prelude.{◌+◌, ◌<◌, ◌≤◌, [], ◌∷◌, length, OnOk, OnErr};
+ghost use Rattle.kdf_arith.specs.Outcome.{Takes};
 
 use crate::Nouv;
 use kdf_nest::{DEPTH, Nest};
@@ -7,10 +8,7 @@ use kdf_word::Word;
 
 /// Takes the top, a.
 pub(crate) fn take_one(nest: &mut Nest) -> Result<Word, Nouv>
-    ensures ok { IfOk result (λ a. nest.old ≡ a ∷ nest.new) }
-    ensures room { OnOk result (length nest.new ≤ 15) }
-    ensures err { OnErr result (length nest.old < 1) }
-    ensures same { OnErr result (nest.new ≡ nest.old) }
+    ensures { Takes 1 (λ a. a ∷ []) nest.old nest.new result }
 {
     if nest.depth() < 1 {
         return Err(Nouv);
@@ -20,10 +18,7 @@ pub(crate) fn take_one(nest: &mut Nest) -> Result<Word, Nouv>
 
 /// Takes a and b, the top first.
 pub(crate) fn take_two(nest: &mut Nest) -> Result<(Word, Word), Nouv>
-    ensures ok { IfOk result (λ w. nest.old ≡ w.0 ∷ w.1 ∷ nest.new) }
-    ensures room { OnOk result (length nest.new ≤ 14) }
-    ensures err { OnErr result (length nest.old < 2) }
-    ensures same { OnErr result (nest.new ≡ nest.old) }
+    ensures { Takes 2 (λ w. w.0 ∷ w.1 ∷ []) nest.old nest.new result }
 {
     if nest.depth() < 2 {
         return Err(Nouv);
@@ -35,10 +30,7 @@ pub(crate) fn take_two(nest: &mut Nest) -> Result<(Word, Word), Nouv>
 
 /// Takes a, b and c, the top first.
 pub(crate) fn take_three(nest: &mut Nest) -> Result<(Word, Word, Word), Nouv>
-    ensures ok { IfOk result (λ w. nest.old ≡ w.0 ∷ w.1 ∷ w.2 ∷ nest.new) }
-    ensures room { OnOk result (length nest.new ≤ 13) }
-    ensures err { OnErr result (length nest.old < 3) }
-    ensures same { OnErr result (nest.new ≡ nest.old) }
+    ensures { Takes 3 (λ w. w.0 ∷ w.1 ∷ w.2 ∷ []) nest.old nest.new result }
 {
     if nest.depth() < 3 {
         return Err(Nouv);
@@ -51,10 +43,7 @@ pub(crate) fn take_three(nest: &mut Nest) -> Result<(Word, Word, Word), Nouv>
 
 /// Takes a, b, c and d, the top first.
 pub(crate) fn take_four(nest: &mut Nest) -> Result<(Word, Word, Word, Word), Nouv>
-    ensures ok { IfOk result (λ w. nest.old ≡ w.0 ∷ w.1 ∷ w.2 ∷ w.3 ∷ nest.new) }
-    ensures room { OnOk result (length nest.new ≤ 12) }
-    ensures err { OnErr result (length nest.old < 4) }
-    ensures same { OnErr result (nest.new ≡ nest.old) }
+    ensures { Takes 4 (λ w. w.0 ∷ w.1 ∷ w.2 ∷ w.3 ∷ []) nest.old nest.new result }
 {
     if nest.depth() < 4 {
         return Err(Nouv);

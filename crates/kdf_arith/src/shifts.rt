@@ -1,9 +1,8 @@
 //! The five shifts. Each tells whether it sets V.
 #![tactic(auto, unfolding(crate::specs::Shifts::shift_row))]
 
-ghost use Rattle.std.specs.Prelude.{◌≡◌, Some, None, IfOk, OnErr};
-ghost use Rattle.kdf_arith.specs.Rows.{After};
 ghost use Rattle.kdf_arith.specs.Arith.{shift, IsShiftCode};
+ghost use Rattle.kdf_arith.specs.Outcome.{Makes};
 
 use crate::Nouv;
 use crate::bits::{moved, turned};
@@ -17,9 +16,7 @@ use kdf_word::{Double, Word};
 #[tactic(auto)]
 pub(crate) fn obey_shifts(nest: &mut Nest, code: u8, n: i16) -> Result<bool, Nouv>
     requires { IsShiftCode code }
-    ensures ok { IfOk result (λ v. shift code n nest.old ≡ Some (record { nest = nest.new; sets_v = v })) }
-    ensures err { OnErr result (shift code n nest.old ≡ None) }
-    ensures same { OnErr result (nest.new ≡ nest.old) }
+    ensures { Makes (shift code n nest.old) nest.old nest.new result }
 {
     match code {
         0x6a => sha(nest, n),
@@ -32,9 +29,7 @@ pub(crate) fn obey_shifts(nest: &mut Nest, code: u8, n: i16) -> Result<bool, Nou
 
 /// SHA.
 fn sha(nest: &mut Nest, n: i16) -> Result<bool, Nouv>
-    ensures ok { IfOk result (λ v. shift 0x6A n nest.old ≡ Some (record { nest = nest.new; sets_v = v })) }
-    ensures err { OnErr result (shift 0x6A n nest.old ≡ None) }
-    ensures same { OnErr result (nest.new ≡ nest.old) }
+    ensures { Makes (shift 0x6A n nest.old) nest.old nest.new result }
 {
     let a = take_one(nest)?;
     let (word, overflow) = rounded(a, n);
@@ -44,9 +39,7 @@ fn sha(nest: &mut Nest, n: i16) -> Result<bool, Nouv>
 
 /// SHL, which never sets V.
 fn shl(nest: &mut Nest, n: i16) -> Result<bool, Nouv>
-    ensures ok { IfOk result (λ v. shift 0x6B n nest.old ≡ Some (record { nest = nest.new; sets_v = v })) }
-    ensures err { OnErr result (shift 0x6B n nest.old ≡ None) }
-    ensures same { OnErr result (nest.new ≡ nest.old) }
+    ensures { Makes (shift 0x6B n nest.old) nest.old nest.new result }
 {
     let a = take_one(nest)?;
     let bits = moved(u128::from(a.bits()), n);
@@ -56,9 +49,7 @@ fn shl(nest: &mut Nest, n: i16) -> Result<bool, Nouv>
 
 /// SHC, which never sets V.
 fn shc(nest: &mut Nest, n: i16) -> Result<bool, Nouv>
-    ensures ok { IfOk result (λ v. shift 0x6C n nest.old ≡ Some (record { nest = nest.new; sets_v = v })) }
-    ensures err { OnErr result (shift 0x6C n nest.old ≡ None) }
-    ensures same { OnErr result (nest.new ≡ nest.old) }
+    ensures { Makes (shift 0x6C n nest.old) nest.old nest.new result }
 {
     let a = take_one(nest)?;
     nest.push(turned(a, n));
@@ -67,9 +58,7 @@ fn shc(nest: &mut Nest, n: i16) -> Result<bool, Nouv>
 
 /// SHAD.
 fn shad(nest: &mut Nest, n: i16) -> Result<bool, Nouv>
-    ensures ok { IfOk result (λ v. shift 0x6D n nest.old ≡ Some (record { nest = nest.new; sets_v = v })) }
-    ensures err { OnErr result (shift 0x6D n nest.old ≡ None) }
-    ensures same { OnErr result (nest.new ≡ nest.old) }
+    ensures { Makes (shift 0x6D n nest.old) nest.old nest.new result }
 {
     let (a, b) = take_two(nest)?;
     let (value, overflow) = scaled(Double::of(a, b), n);
@@ -79,9 +68,7 @@ fn shad(nest: &mut Nest, n: i16) -> Result<bool, Nouv>
 
 /// SHLD, which never sets V.
 fn shld(nest: &mut Nest, n: i16) -> Result<bool, Nouv>
-    ensures ok { IfOk result (λ v. shift 0x6E n nest.old ≡ Some (record { nest = nest.new; sets_v = v })) }
-    ensures err { OnErr result (shift 0x6E n nest.old ≡ None) }
-    ensures same { OnErr result (nest.new ≡ nest.old) }
+    ensures { Makes (shift 0x6E n nest.old) nest.old nest.new result }
 {
     let (a, b) = take_two(nest)?;
     let bits = moved(u128::from(a.bits()) * WORDS + u128::from(b.bits()), n);

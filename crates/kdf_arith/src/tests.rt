@@ -6,12 +6,21 @@ use kdf_nest::Nest;
 use kdf_word::Word;
 use std::process::Abort;
 
-mod values;
-
 /// All bits, and the first bit alone.
 const ALL: u64 = (1 << 48) - 1;
 
 const TOP: u64 = 1 << 47;
+
+/// Eight radices of ten.
+const TENS: u64 = 0o1212_1212_1212_1212;
+
+/// Three radices of ten, and noughts.
+const GAPS: u64 = 0o0012_0000_1200_0012;
+
+const CLEAR: Flags = Flags {
+    v: false,
+    tr: false,
+};
 
 /// A nest of four words, the top first.
 fn nest_of(rt: &impl Abort, words: [u64; 4]) -> Nest {
@@ -25,16 +34,15 @@ fn nest_of(rt: &impl Abort, words: [u64; 4]) -> Nest {
     nest
 }
 
-/// What an order leaves: so many words, the first of these, and V where it was clear before.
-#[derive(Clone, Copy)]
-struct Left {
+/// Obeys an order over four words. It leaves so many, of which these are the first, and V so where it was clear.
+fn check(
+    rt: &impl Abort,
+    order: ArithOrder,
+    before: [u64; 4],
     depth: usize,
-    words: [u64; 4],
+    after: [u64; 4],
     v: bool,
-}
-
-/// Obeys an order over four words.
-fn check(rt: &impl Abort, order: ArithOrder, before: [u64; 4], left: Left)
+)
     requires { IsArithOrder order }
 {
     let mut nest = nest_of(rt, before);
@@ -44,224 +52,91 @@ fn check(rt: &impl Abort, order: ArithOrder, before: [u64; 4], left: Left)
         Ok(()),
         "{order:?}"
     );
-    assert_eq!(rt; nest.depth(), left.depth, "{order:?}");
+    assert_eq!(rt; nest.depth(), depth, "{order:?}");
     for i in 0..4 {
         if i < nest.depth() {
-            assert_eq!(rt; nest.peek(i).bits(), left.words[i], "{order:?}");
+            assert_eq!(rt; nest.peek(i).bits(), after[i], "{order:?}");
         }
     }
-    assert_eq!(rt;
-        flags,
-        Flags {
-            v: left.v,
-            tr: true
-        },
-        "{order:?}"
-    );
+    assert_eq!(rt; flags, Flags { v, tr: true }, "{order:?}");
 }
 
 #[test]
 fn words(rt: HostRuntime) {
-    for (code, before, left) in [
-        (
-            0x02,
-            [1, 2, 3, 4],
-            Left {
-                depth: 3,
-                words: [2, 3, 4, 0],
-                v: false,
-            },
-        ),
-        (
-            0x03,
-            [1, 2, 3, 4],
-            Left {
-                depth: 5,
-                words: [1, 1, 2, 3],
-                v: false,
-            },
-        ),
-        (
-            0x04,
-            [1, 2, 3, 4],
-            Left {
-                depth: 6,
-                words: [1, 2, 1, 2],
-                v: false,
-            },
-        ),
-        (
-            0x05,
-            [1, 2, 3, 4],
-            Left {
-                depth: 4,
-                words: [2, 1, 3, 4],
-                v: false,
-            },
-        ),
-        (
-            0x06,
-            [1, 2, 3, 4],
-            Left {
-                depth: 4,
-                words: [3, 4, 1, 2],
-                v: false,
-            },
-        ),
-        (
-            0x07,
-            [1, 2, 3, 4],
-            Left {
-                depth: 4,
-                words: [3, 1, 2, 4],
-                v: false,
-            },
-        ),
-        (
-            0x08,
-            [1, 2, 3, 4],
-            Left {
-                depth: 4,
-                words: [2, 3, 1, 4],
-                v: false,
-            },
-        ),
-        (
-            0x09,
-            [1, 2, 3, 4],
-            Left {
-                depth: 5,
-                words: [0, 1, 2, 3],
-                v: false,
-            },
-        ),
-        (
-            0x0a,
-            [10, 12, 3, 4],
-            Left {
-                depth: 3,
-                words: [8, 3, 4, 0],
-                v: false,
-            },
-        ),
-        (
-            0x0b,
-            [10, 12, 3, 4],
-            Left {
-                depth: 3,
-                words: [14, 3, 4, 0],
-                v: false,
-            },
-        ),
-        (
-            0x0c,
-            [5, 2, 3, 4],
-            Left {
-                depth: 4,
-                words: [ALL - 5, 2, 3, 4],
-                v: false,
-            },
-        ),
-        (
-            0x0d,
-            [10, 12, 3, 4],
-            Left {
-                depth: 3,
-                words: [6, 3, 4, 0],
-                v: false,
-            },
-        ),
-        (
-            0x0e,
-            [ALL, 2, 3, 4],
-            Left {
-                depth: 4,
-                words: [48, 2, 3, 4],
-                v: false,
-            },
-        ),
-        (
-            0x0e,
-            [5, 2, 3, 4],
-            Left {
-                depth: 4,
-                words: [2, 2, 3, 4],
-                v: false,
-            },
-        ),
-        (
-            0x0f,
-            [TOP, 2, 3, 4],
-            Left {
-                depth: 4,
-                words: [TOP, 2, 3, 4],
-                v: true,
-            },
-        ),
-        (
-            0x0f,
-            [5, 2, 3, 4],
-            Left {
-                depth: 4,
-                words: [ALL - 4, 2, 3, 4],
-                v: false,
-            },
-        ),
-        (
-            0x10,
-            [TOP, 2, 3, 4],
-            Left {
-                depth: 4,
-                words: [TOP, 2, 3, 4],
-                v: true,
-            },
-        ),
-        (
-            0x10,
-            [ALL, 2, 3, 4],
-            Left {
-                depth: 4,
-                words: [1, 2, 3, 4],
-                v: false,
-            },
-        ),
-        (
-            0x11,
-            [ALL, TOP, 3, 4],
-            Left {
-                depth: 3,
-                words: [TOP - 1, 3, 4, 0],
-                v: true,
-            },
-        ),
-        (
-            0x11,
-            [ALL, 1, 3, 4],
-            Left {
-                depth: 3,
-                words: [0, 3, 4, 0],
-                v: false,
-            },
-        ),
-        (
-            0x12,
-            [ALL, TOP - 1, 3, 4],
-            Left {
-                depth: 3,
-                words: [TOP, 3, 4, 0],
-                v: true,
-            },
-        ),
+    for (code, before, depth, after, v) in [
+        (0x02, [1, 2, 3, 4], 3, [2, 3, 4, 0], false),
+        (0x03, [1, 2, 3, 4], 5, [1, 1, 2, 3], false),
+        (0x04, [1, 2, 3, 4], 6, [1, 2, 1, 2], false),
+        (0x05, [1, 2, 3, 4], 4, [2, 1, 3, 4], false),
+        (0x06, [1, 2, 3, 4], 4, [3, 4, 1, 2], false),
+        (0x07, [1, 2, 3, 4], 4, [3, 1, 2, 4], false),
+        (0x08, [1, 2, 3, 4], 4, [2, 3, 1, 4], false),
+        (0x09, [1, 2, 3, 4], 5, [0, 1, 2, 3], false),
+        (0x0a, [10, 12, 3, 4], 3, [8, 3, 4, 0], false),
+        (0x0b, [10, 12, 3, 4], 3, [14, 3, 4, 0], false),
+        (0x0c, [5, 2, 3, 4], 4, [ALL - 5, 2, 3, 4], false),
+        (0x0d, [10, 12, 3, 4], 3, [6, 3, 4, 0], false),
+        (0x0e, [ALL, 2, 3, 4], 4, [48, 2, 3, 4], false),
+        (0x0e, [5, 2, 3, 4], 4, [2, 2, 3, 4], false),
+        (0x0f, [TOP, 2, 3, 4], 4, [TOP, 2, 3, 4], true),
+        (0x0f, [5, 2, 3, 4], 4, [ALL - 4, 2, 3, 4], false),
+        (0x10, [TOP, 2, 3, 4], 4, [TOP, 2, 3, 4], true),
+        (0x10, [ALL, 2, 3, 4], 4, [1, 2, 3, 4], false),
+        (0x11, [ALL, TOP, 3, 4], 3, [TOP - 1, 3, 4, 0], true),
+        (0x11, [ALL, 1, 3, 4], 3, [0, 3, 4, 0], false),
+        (0x12, [ALL, TOP - 1, 3, 4], 3, [TOP, 3, 4, 0], true),
     ] {
         assert!(rt; code >= 0x02);
         assert!(rt; code <= 0x12);
-        check(&rt, ArithOrder::Plain { code }, before, left);
+        check(&rt, ArithOrder::Plain { code }, before, depth, after, v);
+    }
+}
+
+#[test]
+fn values(rt: HostRuntime) {
+    for (code, before, depth, after, v) in [
+        (0x14, [TOP, TOP, 3, 4], 4, [TOP, 0, 3, 4], true),
+        (0x14, [ALL - 4, 3, 3, 4], 4, [ALL, TOP - 15, 3, 4], false),
+        (0x15, [1, 0, 3, 4], 3, [TOP, 3, 4, 0], true),
+        (0x15, [ALL, ALL - 14, 3, 4], 3, [ALL - 14, 3, 4, 0], false),
+        (0x16, [3, 2, 3, 4], 5, [0, 3, 2, 3], false),
+        (0x17, [0, 1, 0, TOP - 1], 2, [1, 0, 0, 0], false),
+        (0x17, [0, 1, TOP - 1, TOP - 1], 2, [TOP, 0, 0, 0], true),
+        (0x18, [0, 2, 0, 1], 2, [ALL, TOP - 1, 0, 0], false),
+        (0x19, [TOP, 0, 3, 4], 4, [TOP, 0, 3, 4], true),
+        (0x19, [0, 1, 3, 4], 4, [ALL, TOP - 1, 3, 4], false),
+        (0x1a, [2, 7, 3, 4], 4, [1, 3, 3, 4], false),
+        (0x1a, [ALL - 1, 7, 3, 4], 4, [ALL, ALL - 3, 3, 4], false),
+        (0x1a, [ALL - 1, ALL - 6, 3, 4], 4, [ALL, 3, 3, 4], false),
+        (0x1a, [ALL, TOP, 3, 4], 4, [0, TOP, 3, 4], true),
+        (0x1a, [0, 7, 3, 4], 4, [0, 7, 3, 4], true),
+    ] {
+        assert!(rt; code >= 0x14);
+        assert!(rt; code <= 0x1a);
+        check(&rt, ArithOrder::Plain { code }, before, depth, after, v);
+    }
+}
+
+#[test]
+fn characters(rt: HostRuntime) {
+    for (code, radices, before, after, v) in [
+        (0x1b, TENS, 0o0102_0304_0506_0710, 12_345_678, false),
+        (0x1b, ALL, ALL, 252_158_292_852_480, true),
+        (0x1c, TENS, 12_345_678, 0o0102_0304_0506_0710, false),
+        (0x1c, 2, ALL, 1, true),
+        (0x1c, GAPS, 345, 0o0003_0000_0400_0005, false),
+    ] {
+        assert!(rt; code >= 0x1b);
+        assert!(rt; code <= 0x1c);
+        let before = [radices, before, 3, 4];
+        let after = [after, 3, 4, 0];
+        check(&rt, ArithOrder::Plain { code }, before, 3, after, v);
     }
 }
 
 #[test]
 fn shifts(rt: HostRuntime) {
-    for (code, n, before, words, v) in [
+    for (code, n, before, after, v) in [
         (0x6a, 63, [1, 2, 3, 4], [0, 2, 3, 4], true),
         (0x6a, 32_767, [0, 2, 3, 4], [0, 2, 3, 4], false),
         (0x6a, 1, [TOP / 2, 2, 3, 4], [TOP, 2, 3, 4], true),
@@ -289,12 +164,7 @@ fn shifts(rt: HostRuntime) {
     ] {
         assert!(rt; code >= 0x6a);
         assert!(rt; code <= 0x6e);
-        check(
-            &rt,
-            ArithOrder::Shift { code, n },
-            before,
-            Left { depth: 4, words, v },
-        );
+        check(&rt, ArithOrder::Shift { code, n }, before, 4, after, v);
     }
 }
 
@@ -314,13 +184,13 @@ fn flags(rt: HostRuntime) {
         obey_arith(&mut nest, &mut flags, ArithOrder::Plain { code: 0x20 }),
         Ok(())
     );
-    assert_eq!(rt;
-        flags,
-        Flags {
-            v: false,
-            tr: false
-        }
-    );
+    assert_eq!(rt; flags, CLEAR);
+}
+
+#[test]
+fn room(rt: HostRuntime) {
+    let mut nest = Nest::new();
+    let mut flags = CLEAR;
     for depth in 0..16 {
         assert_eq!(rt; nest.depth(), depth);
         assert_eq!(rt;

@@ -1,10 +1,11 @@
 //! The orders that take words as values. Each tells whether it sets V.
 #![tactic(auto, unfolding(crate::specs::Rows::plain_row))]
 
-ghost use Rattle.std.specs.Prelude.{◌≡◌, ◌≢◌, ◌≤◌, ◌∷◌, length, Some, None, IfOk, OnErr};
+ghost use Rattle.std.specs.Prelude.{◌≡◌, ◌≢◌, ◌≤◌, ◌∷◌, length};
+ghost use Rattle.std.specs.Int.{IsInRange};
 ghost use Rattle.kdf_word.specs.Doubles.{upper_of, lower_of};
-ghost use Rattle.kdf_arith.specs.Rows.{After};
 ghost use Rattle.kdf_arith.specs.Arith.{plain};
+ghost use Rattle.kdf_arith.specs.Outcome.{Makes};
 
 use crate::Nouv;
 use crate::digits::{from_binary, to_binary};
@@ -16,12 +17,9 @@ use kdf_word::{Double, Word};
 /// An order with a code from 0F to 12 or from 14 to 1C.
 #[tactic(auto)]
 pub(crate) fn obey_values(nest: &mut Nest, code: u8) -> Result<bool, Nouv>
-    requires least { 0x0F ≤ code }
-    requires greatest { code ≤ 0x1C }
+    requires codes { IsInRange 0x0F 0x1C code }
     requires some { code ≢ 0x13 }
-    ensures ok { IfOk result (λ v. plain code nest.old ≡ Some (record { nest = nest.new; sets_v = v })) }
-    ensures err { OnErr result (plain code nest.old ≡ None) }
-    ensures same { OnErr result (nest.new ≡ nest.old) }
+    ensures { Makes (plain code nest.old) nest.old nest.new result }
 {
     match code {
         0x0f => neg(nest),
@@ -53,9 +51,7 @@ pub(crate) fn push_double(nest: &mut Nest, value: Double)
 
 /// NEG.
 fn neg(nest: &mut Nest) -> Result<bool, Nouv>
-    ensures ok { IfOk result (λ v. plain 0x0F nest.old ≡ Some (record { nest = nest.new; sets_v = v })) }
-    ensures err { OnErr result (plain 0x0F nest.old ≡ None) }
-    ensures same { OnErr result (nest.new ≡ nest.old) }
+    ensures { Makes (plain 0x0F nest.old) nest.old nest.new result }
 {
     let a = take_one(nest)?;
     let (negative, overflow) = a.neg();
@@ -65,9 +61,7 @@ fn neg(nest: &mut Nest) -> Result<bool, Nouv>
 
 /// ABS.
 fn abs(nest: &mut Nest) -> Result<bool, Nouv>
-    ensures ok { IfOk result (λ v. plain 0x10 nest.old ≡ Some (record { nest = nest.new; sets_v = v })) }
-    ensures err { OnErr result (plain 0x10 nest.old ≡ None) }
-    ensures same { OnErr result (nest.new ≡ nest.old) }
+    ensures { Makes (plain 0x10 nest.old) nest.old nest.new result }
 {
     let a = take_one(nest)?;
     let (absolute, overflow) = a.abs();
@@ -77,9 +71,7 @@ fn abs(nest: &mut Nest) -> Result<bool, Nouv>
 
 /// +.
 fn plus(nest: &mut Nest) -> Result<bool, Nouv>
-    ensures ok { IfOk result (λ v. plain 0x11 nest.old ≡ Some (record { nest = nest.new; sets_v = v })) }
-    ensures err { OnErr result (plain 0x11 nest.old ≡ None) }
-    ensures same { OnErr result (nest.new ≡ nest.old) }
+    ensures { Makes (plain 0x11 nest.old) nest.old nest.new result }
 {
     let (a, b) = take_two(nest)?;
     let (sum, overflow) = b.add(a);
@@ -89,9 +81,7 @@ fn plus(nest: &mut Nest) -> Result<bool, Nouv>
 
 /// -.
 fn minus(nest: &mut Nest) -> Result<bool, Nouv>
-    ensures ok { IfOk result (λ v. plain 0x12 nest.old ≡ Some (record { nest = nest.new; sets_v = v })) }
-    ensures err { OnErr result (plain 0x12 nest.old ≡ None) }
-    ensures same { OnErr result (nest.new ≡ nest.old) }
+    ensures { Makes (plain 0x12 nest.old) nest.old nest.new result }
 {
     let (a, b) = take_two(nest)?;
     let (difference, overflow) = b.sub(a);
@@ -101,9 +91,7 @@ fn minus(nest: &mut Nest) -> Result<bool, Nouv>
 
 /// XD.
 fn xd(nest: &mut Nest) -> Result<bool, Nouv>
-    ensures ok { IfOk result (λ v. plain 0x14 nest.old ≡ Some (record { nest = nest.new; sets_v = v })) }
-    ensures err { OnErr result (plain 0x14 nest.old ≡ None) }
-    ensures same { OnErr result (nest.new ≡ nest.old) }
+    ensures { Makes (plain 0x14 nest.old) nest.old nest.new result }
 {
     let (a, b) = take_two(nest)?;
     let (product, overflow) = Double::times(b, a);
@@ -113,9 +101,7 @@ fn xd(nest: &mut Nest) -> Result<bool, Nouv>
 
 /// CONT.
 fn cont(nest: &mut Nest) -> Result<bool, Nouv>
-    ensures ok { IfOk result (λ v. plain 0x15 nest.old ≡ Some (record { nest = nest.new; sets_v = v })) }
-    ensures err { OnErr result (plain 0x15 nest.old ≡ None) }
-    ensures same { OnErr result (nest.new ≡ nest.old) }
+    ensures { Makes (plain 0x15 nest.old) nest.old nest.new result }
 {
     let (a, b) = take_two(nest)?;
     let (word, overflow) = Double::of(a, b).contract();
@@ -125,9 +111,7 @@ fn cont(nest: &mut Nest) -> Result<bool, Nouv>
 
 /// STR. A word always fits a double value.
 fn stretch(nest: &mut Nest) -> Result<bool, Nouv>
-    ensures ok { IfOk result (λ v. plain 0x16 nest.old ≡ Some (record { nest = nest.new; sets_v = v })) }
-    ensures err { OnErr result (plain 0x16 nest.old ≡ None) }
-    ensures same { OnErr result (nest.new ≡ nest.old) }
+    ensures { Makes (plain 0x16 nest.old) nest.old nest.new result }
 {
     need_room(nest, 1)?;
     let a = take_one(nest)?;
@@ -137,9 +121,7 @@ fn stretch(nest: &mut Nest) -> Result<bool, Nouv>
 
 /// +D.
 fn plus_d(nest: &mut Nest) -> Result<bool, Nouv>
-    ensures ok { IfOk result (λ v. plain 0x17 nest.old ≡ Some (record { nest = nest.new; sets_v = v })) }
-    ensures err { OnErr result (plain 0x17 nest.old ≡ None) }
-    ensures same { OnErr result (nest.new ≡ nest.old) }
+    ensures { Makes (plain 0x17 nest.old) nest.old nest.new result }
 {
     let (a, b, c, d) = take_four(nest)?;
     let (sum, overflow) = Double::of(c, d).add(Double::of(a, b));
@@ -149,9 +131,7 @@ fn plus_d(nest: &mut Nest) -> Result<bool, Nouv>
 
 /// -D.
 fn minus_d(nest: &mut Nest) -> Result<bool, Nouv>
-    ensures ok { IfOk result (λ v. plain 0x18 nest.old ≡ Some (record { nest = nest.new; sets_v = v })) }
-    ensures err { OnErr result (plain 0x18 nest.old ≡ None) }
-    ensures same { OnErr result (nest.new ≡ nest.old) }
+    ensures { Makes (plain 0x18 nest.old) nest.old nest.new result }
 {
     let (a, b, c, d) = take_four(nest)?;
     let (difference, overflow) = Double::of(c, d).sub(Double::of(a, b));
@@ -161,9 +141,7 @@ fn minus_d(nest: &mut Nest) -> Result<bool, Nouv>
 
 /// NEGD.
 fn negd(nest: &mut Nest) -> Result<bool, Nouv>
-    ensures ok { IfOk result (λ v. plain 0x19 nest.old ≡ Some (record { nest = nest.new; sets_v = v })) }
-    ensures err { OnErr result (plain 0x19 nest.old ≡ None) }
-    ensures same { OnErr result (nest.new ≡ nest.old) }
+    ensures { Makes (plain 0x19 nest.old) nest.old nest.new result }
 {
     let (a, b) = take_two(nest)?;
     let (negative, overflow) = Double::of(a, b).neg();
@@ -173,9 +151,7 @@ fn negd(nest: &mut Nest) -> Result<bool, Nouv>
 
 /// DIVI. Where the divisor is 0, V is set and both words stay.
 fn divi(nest: &mut Nest) -> Result<bool, Nouv>
-    ensures ok { IfOk result (λ v. plain 0x1A nest.old ≡ Some (record { nest = nest.new; sets_v = v })) }
-    ensures err { OnErr result (plain 0x1A nest.old ≡ None) }
-    ensures same { OnErr result (nest.new ≡ nest.old) }
+    ensures { Makes (plain 0x1A nest.old) nest.old nest.new result }
 {
     let (a, b) = take_two(nest)?;
     if a.bits() == 0 {
@@ -192,9 +168,7 @@ fn divi(nest: &mut Nest) -> Result<bool, Nouv>
 
 /// TOB.
 fn tob(nest: &mut Nest) -> Result<bool, Nouv>
-    ensures ok { IfOk result (λ v. plain 0x1B nest.old ≡ Some (record { nest = nest.new; sets_v = v })) }
-    ensures err { OnErr result (plain 0x1B nest.old ≡ None) }
-    ensures same { OnErr result (nest.new ≡ nest.old) }
+    ensures { Makes (plain 0x1B nest.old) nest.old nest.new result }
 {
     let (a, b) = take_two(nest)?;
     let (word, overflow) = Word::put(i128::from(to_binary(a, b)));
@@ -204,9 +178,7 @@ fn tob(nest: &mut Nest) -> Result<bool, Nouv>
 
 /// FRB.
 fn frb(nest: &mut Nest) -> Result<bool, Nouv>
-    ensures ok { IfOk result (λ v. plain 0x1C nest.old ≡ Some (record { nest = nest.new; sets_v = v })) }
-    ensures err { OnErr result (plain 0x1C nest.old ≡ None) }
-    ensures same { OnErr result (nest.new ≡ nest.old) }
+    ensures { Makes (plain 0x1C nest.old) nest.old nest.new result }
 {
     let (a, b) = take_two(nest)?;
     let (word, rest) = from_binary(a, b);

@@ -1,9 +1,9 @@
 //! The orders that move words of the nest and combine their bits. None of them changes a flag.
 #![tactic(auto, unfolding(crate::specs::Rows::plain_row))]
 
-ghost use Rattle.std.specs.Prelude.{◌≡◌, ◌≤◌, Some, None, OnOk, OnErr};
-ghost use Rattle.kdf_arith.specs.Rows.{left};
+ghost use Rattle.std.specs.Int.{IsInRange};
 ghost use Rattle.kdf_arith.specs.Arith.{plain};
+ghost use Rattle.kdf_arith.specs.Outcome.{Leaves};
 
 use crate::Nouv;
 use crate::operands::{need_room, take_four, take_one, take_three, take_two};
@@ -16,11 +16,8 @@ const ALL: u64 = (1 << 48) - 1;
 /// An order with a code from 02 to 0E.
 #[tactic(auto)]
 pub(crate) fn obey_words(nest: &mut Nest, code: u8) -> Result<(), Nouv>
-    requires least { 0x02 ≤ code }
-    requires greatest { code ≤ 0x0E }
-    ensures ok { OnOk result (plain code nest.old ≡ Some (left nest.new)) }
-    ensures err { OnErr result (plain code nest.old ≡ None) }
-    ensures same { OnErr result (nest.new ≡ nest.old) }
+    requires { IsInRange 0x02 0x0E code }
+    ensures { Leaves (plain code nest.old) nest.old nest.new result }
 {
     match code {
         0x02 => erase(nest),
@@ -41,9 +38,7 @@ pub(crate) fn obey_words(nest: &mut Nest, code: u8) -> Result<(), Nouv>
 
 /// ERASE.
 fn erase(nest: &mut Nest) -> Result<(), Nouv>
-    ensures ok { OnOk result (plain 0x02 nest.old ≡ Some (left nest.new)) }
-    ensures err { OnErr result (plain 0x02 nest.old ≡ None) }
-    ensures same { OnErr result (nest.new ≡ nest.old) }
+    ensures { Leaves (plain 0x02 nest.old) nest.old nest.new result }
 {
     take_one(nest)?;
     Ok(())
@@ -51,9 +46,7 @@ fn erase(nest: &mut Nest) -> Result<(), Nouv>
 
 /// DUP.
 fn dup(nest: &mut Nest) -> Result<(), Nouv>
-    ensures ok { OnOk result (plain 0x03 nest.old ≡ Some (left nest.new)) }
-    ensures err { OnErr result (plain 0x03 nest.old ≡ None) }
-    ensures same { OnErr result (nest.new ≡ nest.old) }
+    ensures { Leaves (plain 0x03 nest.old) nest.old nest.new result }
 {
     need_room(nest, 1)?;
     let a = take_one(nest)?;
@@ -64,9 +57,7 @@ fn dup(nest: &mut Nest) -> Result<(), Nouv>
 
 /// DUPD.
 fn dupd(nest: &mut Nest) -> Result<(), Nouv>
-    ensures ok { OnOk result (plain 0x04 nest.old ≡ Some (left nest.new)) }
-    ensures err { OnErr result (plain 0x04 nest.old ≡ None) }
-    ensures same { OnErr result (nest.new ≡ nest.old) }
+    ensures { Leaves (plain 0x04 nest.old) nest.old nest.new result }
 {
     need_room(nest, 2)?;
     let (a, b) = take_two(nest)?;
@@ -79,9 +70,7 @@ fn dupd(nest: &mut Nest) -> Result<(), Nouv>
 
 /// REV.
 fn rev(nest: &mut Nest) -> Result<(), Nouv>
-    ensures ok { OnOk result (plain 0x05 nest.old ≡ Some (left nest.new)) }
-    ensures err { OnErr result (plain 0x05 nest.old ≡ None) }
-    ensures same { OnErr result (nest.new ≡ nest.old) }
+    ensures { Leaves (plain 0x05 nest.old) nest.old nest.new result }
 {
     let (a, b) = take_two(nest)?;
     nest.push(a);
@@ -91,9 +80,7 @@ fn rev(nest: &mut Nest) -> Result<(), Nouv>
 
 /// REVD.
 fn revd(nest: &mut Nest) -> Result<(), Nouv>
-    ensures ok { OnOk result (plain 0x06 nest.old ≡ Some (left nest.new)) }
-    ensures err { OnErr result (plain 0x06 nest.old ≡ None) }
-    ensures same { OnErr result (nest.new ≡ nest.old) }
+    ensures { Leaves (plain 0x06 nest.old) nest.old nest.new result }
 {
     let (a, b, c, d) = take_four(nest)?;
     nest.push(b);
@@ -105,9 +92,7 @@ fn revd(nest: &mut Nest) -> Result<(), Nouv>
 
 /// CAB.
 fn cab(nest: &mut Nest) -> Result<(), Nouv>
-    ensures ok { OnOk result (plain 0x07 nest.old ≡ Some (left nest.new)) }
-    ensures err { OnErr result (plain 0x07 nest.old ≡ None) }
-    ensures same { OnErr result (nest.new ≡ nest.old) }
+    ensures { Leaves (plain 0x07 nest.old) nest.old nest.new result }
 {
     let (a, b, c) = take_three(nest)?;
     nest.push(b);
@@ -118,9 +103,7 @@ fn cab(nest: &mut Nest) -> Result<(), Nouv>
 
 /// PERM.
 fn perm(nest: &mut Nest) -> Result<(), Nouv>
-    ensures ok { OnOk result (plain 0x08 nest.old ≡ Some (left nest.new)) }
-    ensures err { OnErr result (plain 0x08 nest.old ≡ None) }
-    ensures same { OnErr result (nest.new ≡ nest.old) }
+    ensures { Leaves (plain 0x08 nest.old) nest.old nest.new result }
 {
     let (a, b, c) = take_three(nest)?;
     nest.push(a);
@@ -131,9 +114,7 @@ fn perm(nest: &mut Nest) -> Result<(), Nouv>
 
 /// ZERO.
 fn zero(nest: &mut Nest) -> Result<(), Nouv>
-    ensures ok { OnOk result (plain 0x09 nest.old ≡ Some (left nest.new)) }
-    ensures err { OnErr result (plain 0x09 nest.old ≡ None) }
-    ensures same { OnErr result (nest.new ≡ nest.old) }
+    ensures { Leaves (plain 0x09 nest.old) nest.old nest.new result }
 {
     need_room(nest, 1)?;
     nest.push(Word::default());
@@ -142,9 +123,7 @@ fn zero(nest: &mut Nest) -> Result<(), Nouv>
 
 /// AND.
 fn and(nest: &mut Nest) -> Result<(), Nouv>
-    ensures ok { OnOk result (plain 0x0A nest.old ≡ Some (left nest.new)) }
-    ensures err { OnErr result (plain 0x0A nest.old ≡ None) }
-    ensures same { OnErr result (nest.new ≡ nest.old) }
+    ensures { Leaves (plain 0x0A nest.old) nest.old nest.new result }
 {
     let (a, b) = take_two(nest)?;
     nest.push(Word::new(b.bits() & a.bits()));
@@ -153,9 +132,7 @@ fn and(nest: &mut Nest) -> Result<(), Nouv>
 
 /// OR.
 fn or(nest: &mut Nest) -> Result<(), Nouv>
-    ensures ok { OnOk result (plain 0x0B nest.old ≡ Some (left nest.new)) }
-    ensures err { OnErr result (plain 0x0B nest.old ≡ None) }
-    ensures same { OnErr result (nest.new ≡ nest.old) }
+    ensures { Leaves (plain 0x0B nest.old) nest.old nest.new result }
 {
     let (a, b) = take_two(nest)?;
     nest.push(Word::new(b.bits() | a.bits()));
@@ -164,9 +141,7 @@ fn or(nest: &mut Nest) -> Result<(), Nouv>
 
 /// NOT.
 fn not(nest: &mut Nest) -> Result<(), Nouv>
-    ensures ok { OnOk result (plain 0x0C nest.old ≡ Some (left nest.new)) }
-    ensures err { OnErr result (plain 0x0C nest.old ≡ None) }
-    ensures same { OnErr result (nest.new ≡ nest.old) }
+    ensures { Leaves (plain 0x0C nest.old) nest.old nest.new result }
 {
     let a = take_one(nest)?;
     nest.push(Word::new(ALL - a.bits()));
@@ -175,9 +150,7 @@ fn not(nest: &mut Nest) -> Result<(), Nouv>
 
 /// NEV.
 fn nev(nest: &mut Nest) -> Result<(), Nouv>
-    ensures ok { OnOk result (plain 0x0D nest.old ≡ Some (left nest.new)) }
-    ensures err { OnErr result (plain 0x0D nest.old ≡ None) }
-    ensures same { OnErr result (nest.new ≡ nest.old) }
+    ensures { Leaves (plain 0x0D nest.old) nest.old nest.new result }
 {
     let (a, b) = take_two(nest)?;
     nest.push(Word::new(b.bits() ^ a.bits()));
@@ -186,9 +159,7 @@ fn nev(nest: &mut Nest) -> Result<(), Nouv>
 
 /// BITS.
 fn bits(nest: &mut Nest) -> Result<(), Nouv>
-    ensures ok { OnOk result (plain 0x0E nest.old ≡ Some (left nest.new)) }
-    ensures err { OnErr result (plain 0x0E nest.old ≡ None) }
-    ensures same { OnErr result (nest.new ≡ nest.old) }
+    ensures { Leaves (plain 0x0E nest.old) nest.old nest.new result }
 {
     let a = take_one(nest)?;
     nest.push(Word::new(u64::from(a.bits().count_ones())));

@@ -1,9 +1,18 @@
 -- The codes of characters, and the bytes that the host has for them.
-use Rattle.std.specs.Prelude.{ℕ, ◌==◌, List, codes, Option, slice_index, position}
+use Rattle.std.specs.Prelude.{ℕ, ◌==◌, List, ◌++◌, codes, Option, slice_index, position}
 
--- the bytes that the host has for the codes 0 to 63; 2, 3 and 4 are the machine's new line, new page and tab, 61 is End Message
+-- The bytes that the host has for the codes 0 to 63, a row for each first octal digit. Codes 2, 3 and 4 are the machine's
+-- new line, new page and tab, 75 octal is End Message.
 abbrev pub bytes : List ℕ
-bytes = codes " \"~^_?%':=()$*,/0123456789`;+-.!@ABCDEFGHIJKLMNOPQRSTUVWXYZ[]|<>"
+bytes =
+    codes " \"~^_?%'"
+    ++ codes ":=()$*,/"
+    ++ codes "01234567"
+    ++ codes "89`;+-.!"
+    ++ codes "@ABCDEFG"
+    ++ codes "HIJKLMNO"
+    ++ codes "PQRSTUVW"
+    ++ codes "XYZ[]|<>"
 
 -- the host's byte of a code: the byte at that place of the table
 unfoldable pub host_of : ℕ → ℕ

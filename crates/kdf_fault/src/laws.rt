@@ -13,7 +13,8 @@ pub fn least_is_first<F: Numbered>()
 
 /// Of three, it doesn't matter which two are compared first.
 pub fn lesser_is_associative<F: Numbered>()
-    ensures { (a b c : Option (Found F)) → lesser F.number (lesser F.number a b) c ≡ lesser F.number a (lesser F.number b c) }
+    ensures { (a b c : Option (Found F)) →
+        lesser F.number (lesser F.number a b) c ≡ lesser F.number a (lesser F.number b c) }
 {}
 
 /// Of two, it doesn't matter which was found first.

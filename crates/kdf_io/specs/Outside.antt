@@ -6,8 +6,8 @@ abbrev pub HasRisen : ℕ → ℕ → Type 0
 HasRisen before after = (before < after) ⊎ (after ≡ 2 ^ 64 - 1)
 
 -- the bytes left before were these and then the bytes left after, where that is told
-abbrev pub Took : Option (List ℕ) → List ℕ → Option (List ℕ) → Type 0
-Took before bytes after = before ≡ option_map (λ rest. bytes ++ rest) after
+abbrev pub Advances : Option (List ℕ) → List ℕ → Option (List ℕ) → Type 0
+Advances before bytes after = before ≡ option_map (λ rest. bytes ++ rest) after
 
 -- no byte is left, where that is told
 abbrev pub NothingLeft : Option (List ℕ) → Type 0

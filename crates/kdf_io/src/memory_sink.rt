@@ -46,7 +46,8 @@ impl MemorySink {
         }) }
         ensures written { IfOk result (λ sink. ⟦<MemorySink as Sink>⟧.written sink ≡ Some []) }
         ensures faults { IfOk result (λ sink. ⟦<MemorySink as Sink>⟧.faults sink ≡ 0) }
-        ensures room { fail.items ≡ [] → IfOk result (λ sink. ⟦<MemorySink as Sink>⟧.room sink ≡ room) }
+        ensures room { fail.items ≡ []
+            → IfOk result (λ sink. ⟦<MemorySink as Sink>⟧.room sink ≡ room) }
     {
         Ok(MemorySink {
             bytes: Vec::with_capacity(alloc, room)?,
@@ -81,7 +82,8 @@ impl Sink for MemorySink {
     fn put(&mut self, piece: &[u8]) -> Result<usize, Failed>
         ensures fails { IsErr result
             ↔ (Contains (output_of self.old).fail (one_more (output_of self.old).calls)
-            ⊎ ((0 < length piece.now) × (length (output_of self.old).written ≡ (output_of self.old).room))) }
+            ⊎ ((0 < length piece.now)
+            × (length (output_of self.old).written ≡ (output_of self.old).room))) }
         ensures takes { IfOk result (λ n.
             n ≡ min (min (length piece.now) (output_of self.old).most)
             ((output_of self.old).room - length (output_of self.old).written)) }

@@ -62,8 +62,10 @@ impl Source for MemorySource {
             ↔ Contains (input_of self.old).fail (one_more (input_of self.old).calls) }
         ensures gives { IfOk result (λ n.
             n ≡ min (min (length into.old) (input_of self.old).most) (length (input_of self.old).left)) }
-        ensures took { IfOk result (λ n. (input_of self.old).left ≡ take n into.new ++ (input_of self.new).left) }
-        ensures ended { IfOk result (λ n. n ≡ 0 → 0 < length into.new → (input_of self.new).left ≡ []) }
+        ensures took { IfOk result
+            (λ n. (input_of self.old).left ≡ take n into.new ++ (input_of self.new).left) }
+        ensures ended { IfOk result
+            (λ n. n ≡ 0 → 0 < length into.new → (input_of self.new).left ≡ []) }
         ensures ok { IfOk result (λ n. input_of self.new ≡ record (input_of self.old) {
           left = drop n (input_of self.old).left;
           calls = one_more (input_of self.old).calls;

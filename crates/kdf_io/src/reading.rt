@@ -1,6 +1,6 @@
-ghost use Rattle.std.specs.Prelude.{◌≡◌, ◌≢◌, ◌≤◌, Err, length, take, IfOk, IfErr, IfSome, OnOk, IsErrOf};
-ghost use Rattle.kdf_io.specs.Outside.{HasRisen, Took, NothingLeft};
-ghost use Rattle.kdf_io.specs.Reading.{TookBefore};
+ghost use Rattle.std.specs.Prelude.{◌≡◌, ◌≢◌, ◌+◌, ◌≤◌, Err, length, take, IfOk, IfErr, IfSome, OnOk, IsErrOf};
+ghost use Rattle.kdf_io.specs.Outside.{HasRisen, Advances, NothingLeft};
+ghost use Rattle.kdf_io.specs.Reading.{TakesAtMost, TookBefore};
 
 use crate::{ReadEnd, Source};
 use std::alloc::Global;
@@ -20,13 +20,17 @@ const PIECE: usize = 4096;
 ///
 /// The bytes that came before are taken then, and are given up.
 pub fn read_all<S: Source>(alloc: Global, source: &mut S, limit: usize) -> Result<Vec<u8>, ReadEnd>
-    ensures took { IfOk result (λ bytes. Took (S.left source.old) bytes.items (S.left source.new)) }
+    ensures took { IfOk result
+        (λ bytes. Advances (S.left source.old) bytes.items (S.left source.new)) }
     ensures ended { OnOk result (NothingLeft (S.left source.new)) }
     ensures all { IfOk result (λ bytes. IfSome (S.left source.old) (λ all. bytes.items ≡ all)) }
     ensures within { IfOk result (λ bytes. length bytes.items ≤ limit) }
 
-    ensures fault { IsErrOf result ReadEnd.Fault → HasRisen (S.faults source.old) (S.faults source.new) }
-    ensures took_before { IfErr result (λ end. TookBefore end limit (S.left source.old) (S.left source.new)) }
+    ensures fault { IsErrOf result ReadEnd.Fault
+        → HasRisen (S.faults source.old) (S.faults source.new) }
+    ensures took_before { IfErr result
+        (λ end. TookBefore end limit (S.left source.old) (S.left source.new)) }
+    ensures at_most { TakesAtMost (limit + 1) (S.left source.old) (S.left source.new) }
     ensures never_falls { S.faults source.old ≤ S.faults source.new }
 
     // A steady source gives its bytes, and goes on so.
@@ -53,10 +57,13 @@ fn read_piece<S: Source>(
 ) -> Result<usize, ReadEnd>
     ensures fits { IfOk result (λ n. n ≤ PIECE) }
     ensures within { IfOk result (λ n. n ≤ allowed) }
-    ensures took { IfOk result (λ n. Took (S.left source.old) (take n buffer.new) (S.left source.new)) }
+    ensures took { IfOk result
+        (λ n. Advances (S.left source.old) (take n buffer.new) (S.left source.new)) }
     ensures ended { IfOk result (λ n. n ≡ 0 → NothingLeft (S.left source.new)) }
-    ensures fault { IsErrOf result ReadEnd.Fault → HasRisen (S.faults source.old) (S.faults source.new) }
-    ensures took_before { IfErr result (λ end. TookBefore end allowed (S.left source.old) (S.left source.new)) }
+    ensures fault { IsErrOf result ReadEnd.Fault
+        → HasRisen (S.faults source.old) (S.faults source.new) }
+    ensures took_before { IfErr result
+        (λ end. TookBefore end allowed (S.left source.old) (S.left source.new)) }
     ensures no_memory { result ≢ Err ReadEnd.Memory }
     ensures never_falls { S.faults source.old ≤ S.faults source.new }
     ensures steady_gives { S.steady source.old → result ≢ Err ReadEnd.Fault }

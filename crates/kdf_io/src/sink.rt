@@ -25,14 +25,16 @@ pub trait Sink {
     fn put(&mut self, piece: &[u8]) -> Result<usize, Failed>
         ensures within { IfOk result (λ n. n ≤ length piece.now) }
         ensures some { IfOk result (λ n. 0 < length piece.now → 0 < n) }
-        ensures added { IfOk result (λ n. Added (written self.old) (take n piece.now) (written self.new)) }
+        ensures added { IfOk result
+            (λ n. Added (written self.old) (take n piece.now) (written self.new)) }
         ensures failed { OnErr result (HasRisen (faults self.old) (faults self.new)) }
         ensures kept { OnErr result (written self.new ≡ written self.old) }
         ensures never_falls { faults self.old ≤ faults self.new }
 
         // A piece that there is room for goes without a fault, and takes no more room than it has bytes.
         ensures room_takes { 0 < length piece.now → length piece.now ≤ room self.old → IsOk result }
-        ensures room_count { 0 < length piece.now → length piece.now ≤ room self.old → faults self.new ≡ faults self.old }
+        ensures room_count { 0 < length piece.now → length piece.now ≤ room self.old
+            → faults self.new ≡ faults self.old }
         ensures room_left { IfOk result (λ n. room self.old ≤ room self.new + n) };
 
     // A count of faults is below 2^64.

@@ -1,5 +1,5 @@
 ghost use Rattle.std.specs.Prelude.{◌≡◌, ℕ, ◌^◌, ◌<◌, ◌≤◌, Option, List, length, take, IfOk, IsOk, OnErr};
-ghost use Rattle.kdf_io.specs.Outside.{HasRisen, Took, NothingLeft};
+ghost use Rattle.kdf_io.specs.Outside.{HasRisen, Advances, NothingLeft};
 
 use crate::Failed;
 
@@ -25,8 +25,10 @@ pub trait Source {
     /// `Failed` comes only where the count of faults rose, and takes no byte.
     fn read(&mut self, into: &mut [u8]) -> Result<usize, Failed>
         ensures fits { IfOk result (λ n. n ≤ length into.new) }
-        ensures took { IfOk result (λ n. Took (left self.old) (take n into.new) (left self.new)) }
-        ensures ended { IfOk result (λ n. n ≡ 0 → 0 < length into.new → NothingLeft (left self.new)) }
+        ensures took { IfOk result
+            (λ n. Advances (left self.old) (take n into.new) (left self.new)) }
+        ensures ended { IfOk result
+            (λ n. n ≡ 0 → 0 < length into.new → NothingLeft (left self.new)) }
         ensures failed { OnErr result (HasRisen (faults self.old) (faults self.new)) }
         ensures kept { OnErr result (left self.new ≡ left self.old) }
         ensures never_falls { faults self.old ≤ faults self.new }

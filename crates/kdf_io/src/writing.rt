@@ -16,7 +16,8 @@ pub fn write_all<K: Sink>(sink: &mut K, bytes: &[u8]) -> Result<(), Failed>
 
     // Bytes that there is room for go without a fault, and take no more room than they are.
     ensures room_takes { length bytes.now ≤ K.room sink.old → IsOk result }
-    ensures room_count { length bytes.now ≤ K.room sink.old → K.faults sink.new ≡ K.faults sink.old }
+    ensures room_count { length bytes.now ≤ K.room sink.old
+        → K.faults sink.new ≡ K.faults sink.old }
     ensures room_left { OnOk result (K.room sink.old ≤ K.room sink.new + length bytes.now) }
 {
     let mut done = 0;

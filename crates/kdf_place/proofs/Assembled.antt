@@ -1,7 +1,6 @@
 -- The answer for a deck as a whole.
-use Rattle.std.proofs.Common.{◌≡◌, ℕ, ◌+◌, ◌<◌, ◌≤◌, length, sum, List, [], ◌∷◌, ◌++◌, Option, Some, None, Ok, Err, refl, sym, ap, ◌∙◌, arith}
+use Rattle.std.proofs.Common.{◌≡◌, ℕ, ◌+◌, ◌<◌, ◌≤◌, length, map, sum, List, [], ◌∷◌, ◌++◌, Option, Some, None, Ok, Err, refl, sym, ap, ◌∙◌, arith}
 use Rattle.std.proofs.lemmas.Bool.{lt-ltb, le-ltb}
-use Rattle.std.specs.List.{flat_map}
 use Rattle.kdf_usercode.specs.declared.fault.DeckFault.TheVariants.{PartTwice, ReferenceTwice, VRange, TooLarge}
 use Rattle.kdf_usercode.specs.declared.statement.Statement.{Statement}
 use Rattle.kdf_usercode.specs.Faults.{Found, found, lesser, least}
@@ -50,22 +49,22 @@ has-room : (m : Meanings) (ss : List Statement) (y size : ℕ) → meaning m ≡
     → length (picture_of ss).words ≤ size
 has-room m ss y size e ye le = rw (← total m ss e, ← ye) le
 
-same-picture : (ss ss' : List Statement) (meant : Names) (entries : List (Entry Mark)) (image : Image) → ss' ≡ ss → meant ≡ names ss → entries ≡ labels front ss
-    → image.words.items ≡ words meant ss' → image.start ≡ start_of meant → image.labels.items ≡ flat_map label_of entries
+same-picture : (ss ss' : List Statement) (meant : Names) (refs : List Label) (image : Image) → ss' ≡ ss → meant ≡ names ss → refs ≡ map label_of (labels front ss)
+    → image.words.items ≡ words meant ss' → image.start ≡ start_of meant → image.labels.items ≡ refs
     → picture_of ss ≡ record { words = image.words.items; start = image.start; labels = image.labels.items }
-same-picture ss ss' meant entries image s m l w f r =
+same-picture ss ss' meant refs image s m l w f r =
     let made : List ℕ → ℕ → List Label → Picture = λ a b c. record { words = a; start = b; labels = c } in
     sym (ap (λ a. made a image.start image.labels.items) (w ∙ ap (λ ns. words ns ss') m ∙ ap (λ x. words (names ss) x) s)
     ∙ ap (λ b. made (words (names ss) ss) b image.labels.items) (f ∙ ap start_of m)
-    ∙ ap (λ c. made (words (names ss) ss) (start_of (names ss)) c) (r ∙ ap (flat_map label_of) l))
+    ∙ ap (λ c. made (words (names ss) ss) (start_of (names ss)) c) (r ∙ l))
 
-pub with-room : (m : Meanings) (ss ss' : List Statement) (entries : List (Entry Mark)) (image : Image) (y len size : ℕ) → ss' ≡ ss → meaning m ≡ names ss → entries ≡ labels front ss
-    → image.words.items ≡ words (meaning m) ss' → image.start ≡ start_of (meaning m) → image.labels.items ≡ flat_map label_of entries
+pub with-room : (m : Meanings) (ss ss' : List Statement) (refs : List Label) (image : Image) (y len size : ℕ) → ss' ≡ ss → meaning m ≡ names ss → refs ≡ map label_of (labels front ss)
+    → image.words.items ≡ words (meaning m) ss' → image.start ≡ start_of (meaning m) → image.labels.items ≡ refs
     → y ≡ sum m.groups → m.behind + y ≤ size
     → (sized (picture_of ss) len size ≡ Ok (record { words = image.words.items; start = image.start; labels = image.labels.items })) × (length image.words.items ≤ size)
-with-room m ss ss' entries image y len size s e l w f r ye le =
+with-room m ss ss' refs image y len size s e l w f r ye le =
     let room = has-room m ss y size e ye le in
-    let same = same-picture ss ss' (meaning m) entries image s e l w f r in (
+    let same = same-picture ss ss' (meaning m) refs image s e l w f r in (
       rw (le-ltb size (length (picture_of ss).words) room) (ap (λ (p : Picture). Ok p) same),
       omega (arith, ap (λ (p : Picture). length p.words) same, room),
     )

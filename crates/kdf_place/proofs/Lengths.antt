@@ -28,10 +28,10 @@ length-spelt names section (Short r q) = refl
 length-spelt names section (SetAddress place) = refl
 length-spelt names section Finish = refl
 
-round_up-above : (at : ℕ) → at ≤ round_up at
+pub round_up-above : (at : ℕ) → at ≤ round_up at
 round_up-above at = omega arith
 
-length-filling : (at : ℕ) → at + length (filling at) ≡ round_up at
+pub length-filling : (at : ℕ) → at + length (filling at) ≡ round_up at
 length-filling at = omega (arith, length-replicate {A = ℕ} (round_up at - at) 1, round_up-above at)
 
 length-opening : (at n : ℕ) → at + length (filling at ++ replicate (6 * n) 0) ≡ round_up at + 6 * n
@@ -89,11 +89,11 @@ length-constants names here [] ws = refl
 length-constants names here (s ∷ ss) ws =
     length-constants names (after here s) ss (with_constant names here.section s.what ws) ∙ length-constant names here.section s.what ws
 
-length-first : (names : Names) → length (first_word names) ≡ 6
+pub length-first : (names : Names) → length (first_word names) ≡ 6
 unfolding spelling
 length-first names = refl
 
-words-image : (m : Names) (ss : List Statement) → length (words m ss) ≡ words_for (end_of front ss) + sum m.groups
+pub words-image : (m : Names) (ss : List Statement) → length (words m ss) ≡ words_for (end_of front ss) + sum m.groups
 words-image m ss =
     let bytes = first_word m ++ syllables m front ss in
     let zeros : List ℕ = replicate (sum m.groups) 0 in

@@ -1,5 +1,15 @@
+mod Said
+mod Stable
 mod Firsts
 mod Piecewise
 mod Assembled
 pub mod Lengths
 pub mod Packed
+mod Settled
+mod Walks
+mod Syllables
+mod Untouched
+mod Meant
+mod Stores
+mod Laid
+mod LaidOut

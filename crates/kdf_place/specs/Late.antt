@@ -20,7 +20,8 @@ use Rattle.kdf_place.specs.Names.{first, openings, labels, constants, Names, nam
 abbrev pub twice : {T : Type 0} → DeckFault → List (Entry T) → List (Entry T) → List Found
 twice fault before [] = []
 twice fault before (e ∷ es) =
-    (if is_some (first e.section e.number before) then found fault e.place ∷ [] else []) ++ twice fault (before ++ e ∷ []) es
+    (if is_some (first e.section e.number before) then found fault e.place ∷ [] else [])
+    ++ twice fault (before ++ e ∷ []) es
 
 abbrev pub fault_in : Result ℕ DeckFault → List DeckFault
 fault_in (Ok at) = []
@@ -32,7 +33,8 @@ item_faults names section (Address place) = fault_in (address names section plac
 
 abbrev pub value_faults : Names → Section → Value → List DeckFault
 value_faults names section (Number word) = []
-value_faults names section (Triple c i m) = item_faults names section c ++ item_faults names section i ++ item_faults names section m
+value_faults names section (Triple c i m) =
+    item_faults names section c ++ item_faults names section i ++ item_faults names section m
 
 -- a short loop goes to the begin of the word before its own
 abbrev pub loop_faults : ℕ → Result ℕ DeckFault → List DeckFault
@@ -41,20 +43,24 @@ loop_faults at (Ok target) = if target + 6 == 6 * (at / 6) then [] else ShortLoo
 
 -- what is wrong with the names of a statement that stands here
 abbrev pub wrong : Names → Here → What → List DeckFault
-wrong names here (Constant n value) = fault_in (v_store (Some here.section) n) ++ value_faults names here.section value
+wrong names here (Constant n value) =
+    fault_in (v_store (Some here.section) n) ++ value_faults names here.section value
 wrong names here (Fetch place q u) = fault_in (address names here.section place)
 wrong names here (Keep place q u) = fault_in (address names here.section place)
 wrong names here (SetAddress place) = fault_in (address names here.section place)
 wrong names here (Go c target) = fault_in (syllable_of names here.section target)
-wrong names here (Short r q) = loop_faults here.at (syllable_of names here.section (record { r = Some r; p = None }))
+wrong names here (Short r q) =
+    loop_faults here.at (syllable_of names here.section (record { r = Some r; p = None }))
 wrong names here what = []
 
 abbrev pub wrongs : Names → Here → List Statement → List Found
 wrongs names here [] = []
-wrongs names here (s ∷ ss) = map (λ fault. found fault s.place) (wrong names here s.what) ++ wrongs names (after here s) ss
+wrongs names here (s ∷ ss) =
+    map (λ fault. found fault s.place) (wrong names here s.what) ++ wrongs names (after here s) ss
 
 -- all faults of a deck but its size
 abbrev pub late_faults : List Statement → List Found
 late_faults ss =
-    twice PartTwice [] (openings front ss) ++ twice ReferenceTwice [] (labels front ss) ++ twice VRange [] (constants front ss)
+    twice PartTwice [] (openings front ss) ++ twice ReferenceTwice [] (labels front ss)
+    ++ twice VRange [] (constants front ss)
     ++ wrongs (names ss) front ss

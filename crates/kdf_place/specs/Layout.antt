@@ -1,4 +1,4 @@
--- Where each statement stands: the sum of all sizes before it, in syllables from the begin of the image.
+-- Where each statement stands: the sum of all sizes before it, in syllables of the image.
 use Rattle.std.specs.Prelude.{ℕ, ◌+◌, ◌*◌, ◌/◌, Bool, true, false, ◌||◌, nat_lt, List, [], ◌∷◌, length, Option, Some, None, if◌then◌else◌}
 use Rattle.kdf_syllable.specs.Spelling.{spelling}
 use Rattle.kdf_usercode.specs.declared.statement.Statement.{Statement}
@@ -38,7 +38,7 @@ words_for syllables = (syllables + 5) / 6
 abbrev pub round_up : ℕ → ℕ
 round_up at = 6 * words_for at
 
--- the syllable behind a statement that stands at `at`: a part begins on a new word, with its V-stores
+-- the syllable behind a statement at `at`: a part begins on a new word, with its V-stores
 abbrev pub advance : ℕ → What → ℕ
 advance at Star = round_up at
 advance at (Program v) = round_up at + 6 * stores v
@@ -57,16 +57,21 @@ section_after here place what = here.section
 abbrev pub after : Here → Statement → Here
 after here s = record { section = section_after here s.place s.what; at = advance here.at s.what }
 
+-- where the walk over these statements has come to
+abbrev pub walked : Here → List Statement → Here
+walked here [] = here
+walked here (s ∷ ss) = walked (after here s) ss
+
 -- before the first part: word 0 is the jump to the first order
 abbrev pub front : Here
 front = record { section = record { opened = 0; part = 0; base = 0; stores = 0 }; at = 6 }
 
 -- the syllable behind all statements
 abbrev pub end_of : Here → List Statement → ℕ
-end_of here [] = here.at
-end_of here (s ∷ ss) = end_of (after here s) ss
+end_of here ss = (walked here ss).at
 
--- the next order of the part from `at` on, or where one would stand behind the part's last statement
+-- the next order of the part from `at` on, or where one would stand behind its last statement
 abbrev pub next_order : ℕ → List Statement → ℕ
 next_order at [] = at
-next_order at (s ∷ ss) = if is_order s.what || is_opening s.what then at else next_order (advance at s.what) ss
+next_order at (s ∷ ss) =
+    if is_order s.what || is_opening s.what then at else next_order (advance at s.what) ss

@@ -1,5 +1,5 @@
 -- What parts, references and stores mean: the first statement that says so.
-use Rattle.std.specs.Prelude.{ℕ, ◌+◌, ◌==◌, ◌&&◌, nat_lt, List, [], ◌∷◌, ◌++◌, get_or, set, replicate, take, sum, Option, Some, None, unwrap_or, Result, Ok, Err, if◌then◌else◌}
+use Rattle.std.specs.Prelude.{ℕ, ◌+◌, ◌==◌, ◌&&◌, nat_lt, List, [], ◌∷◌, ◌++◌, get_or, set, replicate, take, sum, Option, Some, None, Result, Ok, Err, if◌then◌else◌}
 use Rattle.kdf_usercode.specs.declared.fault.DeckFault.{DeckFault}
 use Rattle.kdf_usercode.specs.declared.fault.DeckFault.TheVariants.{ReferenceMissing, PartMissing, VRange, YRange}
 use Rattle.kdf_usercode.specs.declared.statement.Named.{Named}
@@ -12,12 +12,14 @@ use Rattle.kdf_place.specs.declared.here.Here.{Here}
 use Rattle.kdf_place.specs.declared.here.Section.{Section}
 use Rattle.kdf_place.specs.declared.names.Entry.{Entry}
 use Rattle.kdf_place.specs.declared.names.Mark.{Mark}
+use Rattle.kdf_place.specs.declared.names.Opening.{Opening}
 use Rattle.kdf_place.specs.Layout.{words_for, after, next_order, end_of, front}
 
 -- what a number means in a section: the first entry counts
 abbrev pub first : {T : Type 0} → ℕ → ℕ → List (Entry T) → Option T
 first section number [] = None
-first section number (e ∷ es) = if e.section == section && e.number == number then Some e.means else first section number es
+first section number (e ∷ es) =
+    if e.section == section && e.number == number then Some e.means else first section number es
 
 -- ---- parts
 
@@ -26,38 +28,38 @@ part_opened (Program v) = Some 0
 part_opened (Part p v) = Some p
 part_opened what = None
 
-abbrev pub opening : Option ℕ → Section → ℕ → List (Entry Section)
-opening None section place = []
-opening (Some p) section place = record { section = 0; number = p; means = section; place = place } ∷ []
+abbrev pub opening : Option ℕ → Section → ℕ → ℕ → List (Entry Opening)
+opening None section first place = []
+opening (Some p) section first place =
+    let means : Opening = record { section = section; first = first } in
+    record { section = 0; number = p; means = means; place = place } ∷ []
 
--- the parts by their numbers, in the order of the deck
-abbrev pub openings : Here → List Statement → List (Entry Section)
+-- the parts by their numbers, in the order of the deck, each with its first order
+abbrev pub openings : Here → List Statement → List (Entry Opening)
 openings here [] = []
-openings here (s ∷ ss) = opening (part_opened s.what) (after here s).section s.place ++ openings (after here s) ss
+openings here (s ∷ ss) =
+    opening (part_opened s.what) (after here s).section (next_order (after here s).at ss) s.place
+    ++ openings (after here s) ss
 
 -- ---- references
 
--- the number that a statement gives a meaning in its part: 0 is the part's first order
-abbrev pub labelled : What → Option ℕ
-labelled (Reference r) = Some r
-labelled (Program v) = Some 0
-labelled (Part p v) = Some 0
-labelled what = None
-
-abbrev pub label_at : Option ℕ → Section → ℕ → ℕ → List (Entry Mark)
-label_at None section at place = []
-label_at (Some number) section at place = record { section = section.opened; number = number; means = record { part = section.part; at = at }; place = place } ∷ []
+abbrev pub label_at : What → Section → ℕ → ℕ → List (Entry Mark)
+label_at (Reference r) section at place =
+    let means : Mark = record { part = section.part; at = at } in
+    record { section = section.opened; number = r; means = means; place = place } ∷ []
+label_at what section at place = []
 
 -- the references, each with the next order of its part
 abbrev pub labels : Here → List Statement → List (Entry Mark)
 labels here [] = []
 labels here (s ∷ ss) =
-    label_at (labelled s.what) (after here s).section (next_order (after here s).at ss) s.place ++ labels (after here s) ss
+    label_at s.what here.section (next_order (after here s).at ss) s.place ++ labels (after here s) ss
 
 -- ---- constants
 
 abbrev pub constant_at : What → Section → ℕ → List (Entry (Unit {0}))
-constant_at (Constant n value) section place = record { section = section.opened; number = n; means = tt; place = place } ∷ []
+constant_at (Constant n value) section place =
+    record { section = section.opened; number = n; means = tt; place = place } ∷ []
 constant_at what section place = []
 
 -- the V-stores that have a constant
@@ -83,7 +85,7 @@ groups ss = groups_from (replicate 27 0) ss
 -- ---- all names
 
 pub record Names : Type 0 where
-  pub parts : ℕ → Option Section
+  pub parts : ℕ → Option Opening
   pub labels : ℕ → ℕ → Option Mark
   pub groups : List ℕ
   -- the address of the first Y-store: they stand behind all parts
@@ -97,10 +99,14 @@ names ss = record {
   behind = words_for (end_of front ss);
 }
 
+abbrev pub section_of : Option Opening → Option Section
+section_of None = None
+section_of (Some opening) = Some opening.section
+
 -- this part, or the first that bears the number
 abbrev pub section_named : Names → Section → Option ℕ → Option Section
 section_named names section None = Some section
-section_named names section (Some p) = names.parts p
+section_named names section (Some p) = section_of (names.parts p)
 
 -- store n of so many, the first of which has the address `base`
 abbrev pub store_at : ℕ → ℕ → DeckFault → ℕ → Result ℕ DeckFault
@@ -112,7 +118,9 @@ v_store (Some section) n = store_at section.base section.stores VRange n
 
 -- the stores of a group stand behind those of all groups before it
 abbrev pub y_store : Names → ℕ → ℕ → Result ℕ DeckFault
-y_store names group n = store_at (names.behind + sum (take group names.groups)) (get_or names.groups group 0) YRange n
+y_store names group n =
+    let base = names.behind + sum (take group names.groups) in
+    store_at base (get_or names.groups group 0) YRange n
 
 -- the address that a store has in this part
 abbrev pub address : Names → Section → Named → Result ℕ DeckFault
@@ -128,6 +136,20 @@ abbrev pub reference : Names → Option Section → ℕ → Result ℕ DeckFault
 reference names None r = Err PartMissing
 reference names (Some section) r = found_mark (names.labels section.opened r)
 
+abbrev pub found_first : Option Opening → Result ℕ DeckFault
+found_first None = Err PartMissing
+found_first (Some opening) = Ok opening.first
+
+-- the first order of the part that bears the number
+abbrev pub first_order : Names → ℕ → Result ℕ DeckFault
+first_order names p = found_first (names.parts p)
+
+-- a reference of this part or of one that is named, or a part's first order; each target has one
+abbrev pub meant : Names → Section → Option ℕ → Option ℕ → Result ℕ DeckFault
+meant names section (Some r) p = reference names (section_named names section p) r
+meant names section None (Some p) = first_order names p
+meant names section None None = Err PartMissing
+
 -- the syllable that a target means in this part
 abbrev pub syllable_of : Names → Section → Target → Result ℕ DeckFault
-syllable_of names section target = reference names (section_named names section target.p) (unwrap_or target.r 0)
+syllable_of names section target = meant names section target.r target.p

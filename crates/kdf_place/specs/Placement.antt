@@ -1,6 +1,5 @@
 -- The image of a deck, and what `assemble` answers.
-use Rattle.std.specs.Prelude.{◌≡◌, ℕ, ◌+◌, ◌-◌, ◌*◌, ◌/◌, ◌%◌, ◌^◌, ◌==◌, nat_lt, true, false, List, [], ◌∷◌, ◌++◌, length, set, replicate, sum, Option, Some, None, Result, Ok, Err, if◌then◌else◌}
-use Rattle.std.specs.List.{flat_map}
+use Rattle.std.specs.Prelude.{◌≡◌, ℕ, ◌+◌, ◌-◌, ◌*◌, ◌/◌, ◌%◌, ◌^◌, ◌==◌, nat_lt, true, false, List, [], ◌∷◌, ◌++◌, length, map, set, replicate, sum, Option, Some, None, Result, Ok, Err, if◌then◌else◌}
 use Rattle.kdf_syllable.specs.declared.order.Order.{Order}
 use Rattle.kdf_syllable.specs.declared.order.Order.TheVariants as orders
 use Rattle.kdf_syllable.specs.Packing.{packed}
@@ -24,7 +23,7 @@ use Rattle.kdf_place.specs.declared.image.Label.{Label}
 use Rattle.kdf_place.specs.declared.names.Entry.{Entry}
 use Rattle.kdf_place.specs.declared.names.Mark.{Mark}
 use Rattle.kdf_place.specs.Layout.{stores, round_up, after, front}
-use Rattle.kdf_place.specs.Names.{labels, Names, names, address, syllable_of}
+use Rattle.kdf_place.specs.Names.{labels, Names, names, address, first_order, syllable_of}
 use Rattle.kdf_place.specs.Late.{late_faults}
 
 -- a number that was found; in a deck without a fault each one is
@@ -32,7 +31,7 @@ abbrev pub number : Result ℕ DeckFault → ℕ
 number (Ok n) = n
 number (Err fault) = 0
 
--- the syllable number of a place in an image: 8192 times the syllable, and the word; behind word 8191 it is 0
+-- the syllable number of a place: 8192 times the syllable, and the word; behind word 8191 it is 0
 abbrev pub syllable_number : ℕ → ℕ
 syllable_number at = if nat_lt (at / 6) 8192 then 8192 * (at % 6) + at / 6 else 0
 
@@ -41,10 +40,14 @@ syllable_number at = if nat_lt (at / 6) 8192 then 8192 * (at % 6) + at / 6 else 
 -- the order of a statement, with the numbers that its names mean
 abbrev pub order_of : Names → Section → What → Option Order
 order_of names section (Plain order) = Some order
-order_of names section (Fetch place q u) = Some (orders.Direct false u q (number (address names section place) % 2 ^ 15))
-order_of names section (Keep place q u) = Some (orders.Direct true u q (number (address names section place) % 2 ^ 15))
-order_of names section (SetAddress place) = Some (orders.Set (number (address names section place) % 2 ^ 16))
-order_of names section (Go c target) = Some (orders.Jump c (syllable_number (number (syllable_of names section target))))
+order_of names section (Fetch place q u) =
+    Some (orders.Direct false u q (number (address names section place) % 2 ^ 15))
+order_of names section (Keep place q u) =
+    Some (orders.Direct true u q (number (address names section place) % 2 ^ 15))
+order_of names section (SetAddress place) =
+    Some (orders.Set (number (address names section place) % 2 ^ 16))
+order_of names section (Go c target) =
+    Some (orders.Jump c (syllable_number (number (syllable_of names section target))))
 order_of names section (Short r q) = Some (orders.Single 0x6f q)
 order_of names section what = None
 
@@ -82,22 +85,25 @@ item names section (Address place) = number (address names section place) % 2 ^ 
 -- a Q-store has C in its first 16 bits, I in the next and M in the last
 abbrev pub value : Names → Section → Value → ℕ
 value names section (Number word) = word
-value names section (Triple c i m) = item names section c * 2 ^ 32 + item names section i * 2 ^ 16 + item names section m
+value names section (Triple c i m) =
+    item names section c * 2 ^ 32 + item names section i * 2 ^ 16 + item names section m
 
 abbrev pub with_constant : Names → Section → What → List ℕ → List ℕ
-with_constant names section (Constant n constant) words = set words (section.base + n) (value names section constant)
+with_constant names section (Constant n constant) words =
+    set words (section.base + n) (value names section constant)
 with_constant names section what words = words
 
 -- the words with the constants in their V-stores
 abbrev pub with_constants : Names → Here → List Statement → List ℕ → List ℕ
 with_constants names here [] words = words
-with_constants names here (s ∷ ss) words = with_constants names (after here s) ss (with_constant names here.section s.what words)
+with_constants names here (s ∷ ss) words =
+    with_constants names (after here s) ss (with_constant names here.section s.what words)
 
 -- ---- the image
 
 -- the first order of the main part
 abbrev pub start_of : Names → ℕ
-start_of names = syllable_number (number (syllable_of names front.section (record { r = None; p = Some 0 })))
+start_of names = syllable_number (number (first_order names 0))
 
 -- a jump to the first order, and three DUMMY
 abbrev pub first_word : Names → List ℕ
@@ -105,11 +111,12 @@ first_word names = spelling (orders.Jump 0x20 (start_of names)) ++ 1 ∷ 1 ∷ 1
 
 -- the words of a deck: word 0, the parts, and the stores of the groups, zero
 abbrev pub words : Names → List Statement → List ℕ
-words names ss = with_constants names front ss (words_of (first_word names ++ syllables names front ss) ++ replicate (sum names.groups) 0)
+words names ss =
+    let spelt_words = words_of (first_word names ++ syllables names front ss) in
+    with_constants names front ss (spelt_words ++ replicate (sum names.groups) 0)
 
--- number 0 is a part's first order, and no reference
-abbrev pub label_of : Entry Mark → List Label
-label_of e = if e.number == 0 then [] else record { part = e.means.part; number = e.number; at = syllable_number e.means.at } ∷ []
+abbrev pub label_of : Entry Mark → Label
+label_of e = record { part = e.means.part; number = e.number; at = syllable_number e.means.at }
 
 pub record Picture : Type 0 where
   pub words : List ℕ
@@ -117,12 +124,17 @@ pub record Picture : Type 0 where
   pub labels : List Label
 
 abbrev pub picture_of : List Statement → Picture
-picture_of ss = record { words = words (names ss) ss; start = start_of (names ss); labels = flat_map label_of (labels front ss) }
+picture_of ss = record {
+  words = words (names ss) ss;
+  start = start_of (names ss);
+  labels = map label_of (labels front ss);
+}
 
 -- ---- the answer
 
 abbrev pub sized : Picture → ℕ → ℕ → Result Picture Found
-sized picture len size = if nat_lt size (length picture.words) then Err (found TooLarge len) else Ok picture
+sized picture len size =
+    if nat_lt size (length picture.words) then Err (found TooLarge len) else Ok picture
 
 abbrev pub verdict : Option Found → Result Picture Found → Result Picture Found
 verdict None rest = rest
@@ -134,6 +146,7 @@ placed ss len size = verdict (least (late_faults ss)) (sized (picture_of ss) len
 
 -- what a function returned is this, unless memory ran out
 abbrev pub Gives : Result Image DeckError → Result Picture Found → Type 0
-Gives (Ok image) due = due ≡ Ok (record { words = image.words.items; start = image.start; labels = image.labels.items })
+Gives (Ok image) due =
+    due ≡ Ok (record { words = image.words.items; start = image.start; labels = image.labels.items })
 Gives (Err errors.Memory) due = Unit {0}
 Gives (Err (errors.Fault fault place)) due = due ≡ Err (found fault place)

@@ -1,20 +1,13 @@
 -- What the tables of the code mean.
 use Rattle.std.specs.Prelude.{ℕ, ◌%◌, ◌^◌, Result, Ok, Err}
-use Rattle.std.specs.BTreeMap.{get}
-use Rattle.std.specs.Ordering.{nat_cmp, ordering_then}
-use Rattle.std.specs.declared.cmp.Ordering.{Ordering}
 use Rattle.kdf_usercode.specs.declared.fault.DeckFault.{DeckFault}
 use Rattle.kdf_place.specs.declared.names.Meanings.{Meanings}
-use Rattle.kdf_place.specs.Names.{Names}
-
--- how keys are ordered
-abbrev pub key_cmp : ℕ × ℕ → ℕ × ℕ → Ordering
-key_cmp x y = ordering_then (nat_cmp x.0 y.0) (nat_cmp x.1 y.1)
+use Rattle.kdf_place.specs.Names.{first, Names}
 
 abbrev pub meaning : Meanings → Names
 meaning m = record {
-  parts = λ p. get key_cmp m.parts (0, p);
-  labels = λ section r. get key_cmp m.labels (section, r);
+  parts = λ p. first 0 p m.parts.entries.items;
+  labels = λ section r. first section r m.labels.entries.items;
   groups = m.groups;
   behind = m.behind;
 }

@@ -1,9 +1,9 @@
 //! From the statements of a deck to its image.
-ghost use Rattle.std.specs.Prelude.{◌≡◌, ◌≤◌, ◌<◌, ◌^◌, length, IfOk};
+ghost use Rattle.std.specs.Prelude.{◌≡◌, ◌≤◌, ◌<◌, ◌^◌, length, map, IfOk};
 ghost use Rattle.kdf_usercode.specs.WellFormed.{AreInRange, IsWellFormed};
 ghost use Rattle.kdf_place.specs.Layout.{front};
 ghost use Rattle.kdf_place.specs.Names.{names, labels};
-ghost use Rattle.kdf_place.specs.Placement.{Gives, picture_of, sized, placed};
+ghost use Rattle.kdf_place.specs.Placement.{Gives, label_of, picture_of, sized, placed};
 ghost use Rattle.kdf_place.specs.Tables.{meaning};
 
 use crate::image::Image;
@@ -13,20 +13,25 @@ use kdf_usercode::{Deck, DeckError, DeckFault};
 use std::alloc::Global;
 
 /// The image of a deck without a fault in its names, where the store has room for it.
-fn sized(alloc: Global, known: &Known, deck: &Deck, size: u16) -> Result<Image, DeckError>
+fn sized(alloc: Global, known: Known, deck: &Deck, size: u16) -> Result<Image, DeckError>
     requires few { length deck.now.statements.items < 2 ^ 40 }
     requires in_range { AreInRange deck.now.statements.items }
-    requires names { meaning known.now.meanings ≡ names deck.now.statements.items }
-    requires labels { known.now.labels.items ≡ labels front deck.now.statements.items }
-    requires behind { known.now.meanings.behind < 2 ^ 60 }
+    requires names { meaning known.meanings ≡ names deck.now.statements.items }
+    requires labels { known.labels.items
+        ≡ map label_of (labels front deck.now.statements.items) }
+    requires behind { known.meanings.behind < 2 ^ 60 }
     ensures answer { Gives result (sized (picture_of deck.now.statements.items) deck.now.length size) }
     ensures fits { IfOk result (λ image. length image.words.items ≤ size) }
 {
-    let meanings = &known.meanings;
+    let Known {
+        meanings,
+        labels,
+        ..
+    } = known;
     if meanings.behind + meanings.y_words() > u64::from(size) {
         return Err(DeckError::Fault(DeckFault::TooLarge, deck.length));
     }
-    Ok(picture(alloc, meanings, &known.labels, &deck.statements)?)
+    Ok(picture(alloc, &meanings, labels, &deck.statements)?)
 }
 
 /// The image of a deck for a store of `size` words, or the deck's first late fault.
@@ -39,6 +44,6 @@ pub fn assemble(alloc: Global, deck: &Deck, size: u16) -> Result<Image, DeckErro
     let known = read_names(alloc, &deck.statements)?;
     match known.meanings.first_wrong(known.twice, &deck.statements) {
         Some(found) => Err(DeckError::Fault(found.fault, found.place)),
-        None => sized(alloc, &known, deck, size),
+        None => sized(alloc, known, deck, size),
     }
 }

@@ -1,22 +1,13 @@
 //! What the statements of a deck give a meaning to, in the order of the deck.
-ghost use Rattle.std.specs.Prelude.{◌≡◌, ◌<◌, ◌≤◌, ◌^◌, ◌++◌, length, IfOk, OnOk};
-ghost use Rattle.kdf_place.specs.Layout.{end_of, front};
-ghost use Rattle.kdf_place.specs.Names.{part_opened, openings, labelled, labels, constants, with_group, groups};
+ghost use Rattle.std.specs.Prelude.{◌≡◌, ◌<◌, ◌≤◌, ◌^◌, ◌++◌, length, take, drop, IfOk};
+ghost use Rattle.kdf_place.specs.Layout.{end_of, next_order, front};
+ghost use Rattle.kdf_place.specs.Names.{part_opened, openings, labels, constants, with_group, groups};
 ghost use Rattle.kdf_place.specs.Pending.{settled};
 
-use crate::here::{Here, Section, is_opening, is_order};
-use crate::names::{Entry, Mark};
+use crate::here::{Here, advance, is_opening, is_order};
+use crate::names::{Entry, Mark, Opening};
 use kdf_usercode::{Statement, What};
 use std::alloc::{AllocError, Global};
-
-/// A reference whose order is still to come.
-#[derive(Clone, Copy, Debug)]
-pub struct Pending {
-    pub section: u32,
-    pub part: u16,
-    pub number: u16,
-    pub place: u32,
-}
 
 /// The number of the part that a statement opens.
 fn part_opened(what: &What) -> Option<u16>
@@ -29,20 +20,40 @@ fn part_opened(what: &What) -> Option<u16>
     }
 }
 
-/// The parts by their numbers.
-pub fn openings(alloc: Global, statements: &[Statement]) -> Result<Vec<Entry<Section>>, AllocError>
+/// The next order of the part from `at` on, or where one would stand behind its last statement.
+fn next_order(at: u64, statements: &[Statement]) -> u64
+    requires near { at < 2 ^ 61 }
+    requires few { length statements.now < 2 ^ 40 }
+    ensures { result ≡ next_order at statements.now }
+{
+    let mut at = at;
+    for statement in statements {
+        if is_order(&statement.what) || is_opening(&statement.what) {
+            return at;
+        }
+        at = advance(at, &statement.what);
+    }
+    at
+}
+
+/// The parts by their numbers, each with its first order.
+pub fn openings(alloc: Global, statements: &[Statement]) -> Result<Vec<Entry<Opening>>, AllocError>
     requires { length statements.now < 2 ^ 40 }
     ensures { IfOk result (λ v. v.items ≡ openings front statements.now) }
 {
     let mut openings = Vec::new(alloc);
     let mut here = Here::front();
-    for statement in statements {
+    for (i, statement) in statements.iter().enumerate() {
         here = here.after(statement);
         if let Some(number) = part_opened(&statement.what) {
+            let first = next_order(here.at, &statements[i + 1..]);
             openings.push(Entry {
                 section: 0,
                 number,
-                means: here.section,
+                means: Opening {
+                    section: here.section,
+                    first,
+                },
                 place: statement.place,
             })?;
         }
@@ -50,30 +61,21 @@ pub fn openings(alloc: Global, statements: &[Statement]) -> Result<Vec<Entry<Sec
     Ok(openings)
 }
 
-/// The number that a statement gives a meaning in its part: 0 is the part's first order.
-fn labelled(what: &What) -> Option<u16>
-    ensures { result ≡ labelled what.now }
+/// The order of these references stands at `at`.
+fn settle(labels: &mut [Entry<Mark>], at: u64)
+    ensures { labels.new ≡ settled labels.old at }
 {
-    match what {
-        What::Reference { r } => Some(*r),
-        What::Program { .. } | What::Part { .. } => Some(0),
-        _ => None,
+    for label in labels.iter_mut() {
+        label.means.at = at;
     }
 }
 
-/// The order of the pending references stands at `at`.
-fn settle(labels: &mut Vec<Entry<Mark>>, pending: &[Pending], at: u64) -> Result<(), AllocError>
-    ensures { OnOk result (labels.new.items ≡ labels.old.items ++ settled pending.now at) }
+/// The order of the references from number `known` on stands at `at`.
+fn settle_from(labels: &mut [Entry<Mark>], known: usize, at: u64)
+    requires { known ≤ length labels.old }
+    ensures { labels.new ≡ take known labels.old ++ settled (drop known labels.old) at }
 {
-    for p in pending {
-        labels.push(Entry {
-            section: p.section,
-            number: p.number,
-            means: Mark { part: p.part, at },
-            place: p.place,
-        })?;
-    }
-    Ok(())
+    settle(&mut labels[known..], at);
 }
 
 /// The references, each with the next order of its part.
@@ -82,24 +84,27 @@ pub fn labels(alloc: Global, statements: &[Statement]) -> Result<Vec<Entry<Mark>
     ensures { IfOk result (λ v. v.items ≡ labels front statements.now) }
 {
     let mut labels = Vec::new(alloc);
-    let mut pending = Vec::new(alloc);
+    let mut known = 0;
     let mut here = Here::front();
     for statement in statements {
         if is_order(&statement.what) || is_opening(&statement.what) {
-            settle(&mut labels, &pending, here.at)?;
-            pending.clear();
+            settle_from(&mut labels, known, here.at);
+            known = labels.len();
         }
-        here = here.after(statement);
-        if let Some(number) = labelled(&statement.what) {
-            pending.push(Pending {
+        if let What::Reference { r } = &statement.what {
+            labels.push(Entry {
                 section: here.section.opened,
-                part: here.section.part,
-                number,
+                number: *r,
+                means: Mark {
+                    part: here.section.part,
+                    at: here.at,
+                },
                 place: statement.place,
             })?;
         }
+        here = here.after(statement);
     }
-    settle(&mut labels, &pending, here.at)?;
+    settle_from(&mut labels, known, here.at);
     Ok(labels)
 }
 

@@ -82,7 +82,7 @@ pub fn round_up(at: u64) -> u64
 }
 
 /// The syllable behind a statement that stands at `at`.
-fn advance(at: u64, what: &What) -> u64
+pub fn advance(at: u64, what: &What) -> u64
     requires { at < 2 ^ 62 }
     ensures value { result ≡ advance at what.now }
     ensures near { result ≤ at + 400000 }

@@ -7,7 +7,7 @@ ghost use Rattle.kdf_place.specs.Tables.{meaning};
 
 use crate::here::{Here, Section};
 use crate::names::{Meanings, v_store};
-use crate::table::with_fault;
+use crate::twice::with_fault;
 use kdf_fault::Found;
 use kdf_usercode::{DeckFault, Item, Statement, Target, Value, What};
 
@@ -45,7 +45,8 @@ fn with_loop(best: Best, place: u32, at: u64, target: Result<u64, DeckFault>) ->
 impl Meanings {
     /// The fault of a part of a constant for a Q-store, after those before.
     fn with_item(&self, best: Best, place: u32, section: Section, item: Item) -> Best
-        ensures { result ≡ lesser best (least (founds place (item_faults (meaning self.now) section item))) }
+        ensures { let faults = item_faults (meaning self.now) section item in
+            result ≡ lesser best (least (founds place faults)) }
     {
         match item {
             Item::Bits { .. } => best,
@@ -57,7 +58,8 @@ impl Meanings {
 
     /// The faults of the value of a constant, after those before.
     fn with_value(&self, best: Best, place: u32, section: Section, value: &Value) -> Best
-        ensures { result ≡ lesser best (least (founds place (value_faults (meaning self.now) section value.now))) }
+        ensures { let faults = value_faults (meaning self.now) section value.now in
+            result ≡ lesser best (least (founds place faults)) }
     {
         match value {
             Value::Number { .. } => best,
@@ -71,7 +73,8 @@ impl Meanings {
 
     /// The faults of a statement that stands here, after those before.
     fn with_statement(&self, best: Best, here: Here, statement: &Statement) -> Best
-        ensures { result ≡ lesser best (least (founds statement.now.place (wrong (meaning self.now) here statement.now.what))) }
+        ensures { let faults = wrong (meaning self.now) here statement.now.what in
+            result ≡ lesser best (least (founds statement.now.place faults)) }
     {
         let place = statement.place;
         let section = here.section;

@@ -1,12 +1,11 @@
 //! What the names of a deck mean.
-ghost use Rattle.std.specs.Prelude.{◌≡◌, ◌≤◌, ◌<◌, ◌^◌, length, sum, take};
-ghost use Rattle.std.specs.BTreeMap.{get};
-ghost use Rattle.kdf_place.specs.Names.{store_at, v_store, y_store, section_named, address, reference, syllable_of};
-ghost use Rattle.kdf_place.specs.Tables.{key_cmp, meaning, kept};
+ghost use Rattle.std.specs.Prelude.{◌≡◌, ◌==◌, ◌&&◌, ◌≤◌, ◌<◌, ◌^◌, length, sum, take};
+ghost use Rattle.kdf_place.specs.Names.{store_at, v_store, y_store, section_named, address, reference, first_order, syllable_of};
+ghost use Rattle.kdf_place.specs.Tables.{meaning, kept};
 
 use crate::here::Section;
+use crate::table::Table;
 use kdf_usercode::{DeckFault, Named, Target};
-use std::collections::BTreeMap;
 
 /// What a number means in a section, and the place of the statement that says so.
 #[derive(Clone, Copy, Debug)]
@@ -18,6 +17,17 @@ pub struct Entry<T> {
     pub place: u32,
 }
 
+impl<T> Entry<T> {
+    /// Whether it says what this number means in this section.
+    pub fn is_named(&self, section: u32, number: u16) -> bool
+        ensures value { result ≡ (self.now.section == section && self.now.number == number) }
+        ensures small { self.now.number < 2 ^ 16 }
+    {
+        let same = self.number == number;
+        self.section == section && same
+    }
+}
+
 /// A reference: the number of its part, and its syllable.
 #[derive(Clone, Copy, Debug)]
 pub struct Mark {
@@ -25,15 +35,19 @@ pub struct Mark {
     pub at: u64,
 }
 
-/// What each number means in each section.
-pub type Table<T> = BTreeMap<(u32, u16), T>;
+/// What the number of a part means: the part, and the syllable of its first order.
+#[derive(Clone, Copy, Debug)]
+pub struct Opening {
+    pub section: Section,
+    pub first: u64,
+}
 
 /// What the names of a deck mean.
 #[derive(Drop)]
 pub struct Meanings {
     /// The parts by their numbers, in section 0.
-    pub parts: Table<Section>,
-    /// The references of each section. Number 0 is its first order.
+    pub parts: Table<Opening>,
+    /// The references of each section.
     pub labels: Table<Mark>,
     /// How many words each group of Y-stores has.
     pub groups: [u32; 27],
@@ -76,13 +90,20 @@ fn words_in(counts: &[u32]) -> u64
 }
 
 impl Meanings {
+    /// The first part that bears the number.
+    fn opening(&self, part: u16) -> Option<Opening>
+        ensures { result ≡ (meaning self.now).parts part }
+    {
+        self.parts.find(0, part)
+    }
+
     /// This part, or the first that bears the number.
     fn section_named(&self, section: Section, part: Option<u16>) -> Option<Section>
         ensures { result ≡ section_named (meaning self.now) section part }
     {
         match part {
             None => Some(section),
-            Some(part) => self.parts.get(&(0, part)).copied(),
+            Some(part) => Some(self.opening(part)?.section),
         }
     }
 
@@ -128,9 +149,19 @@ impl Meanings {
         ensures { result ≡ reference (meaning self.now) section number }
     {
         let section = section.ok_or(DeckFault::PartMissing)?;
-        match self.labels.get(&(section.opened, number)).copied() {
+        match self.labels.find(section.opened, number) {
             None => Err(DeckFault::ReferenceMissing),
             Some(mark) => Ok(mark.at),
+        }
+    }
+
+    /// The first order of the part that bears the number.
+    pub fn first_order(&self, part: u16) -> Result<u64, DeckFault>
+        ensures { result ≡ first_order (meaning self.now) part }
+    {
+        match self.opening(part) {
+            None => Err(DeckFault::PartMissing),
+            Some(opening) => Ok(opening.first),
         }
     }
 
@@ -138,6 +169,10 @@ impl Meanings {
     pub fn syllable_of(&self, section: Section, target: Target) -> Result<u64, DeckFault>
         ensures { result ≡ syllable_of (meaning self.now) section target }
     {
-        self.reference(self.section_named(section, target.p), target.r.unwrap_or(0))
+        match (target.r, target.p) {
+            (Some(r), part) => self.reference(self.section_named(section, part), r),
+            (None, Some(part)) => self.first_order(part),
+            (None, None) => Err(DeckFault::PartMissing),
+        }
     }
 }

@@ -1,6 +1,5 @@
 //! The image of a deck, once its names have their meanings.
-ghost use Rattle.std.specs.Prelude.{◌≡◌, ◌<◌, ◌^◌, length, IfOk};
-ghost use Rattle.std.specs.List.{flat_map};
+ghost use Rattle.std.specs.Prelude.{◌≡◌, ◌<◌, ◌^◌, length, map, IfOk};
 ghost use Rattle.kdf_usercode.specs.WellFormed.{AreInRange};
 ghost use Rattle.kdf_place.specs.Placement.{label_of, start_of, words};
 ghost use Rattle.kdf_place.specs.Tables.{meaning};
@@ -32,18 +31,16 @@ fn words(
 }
 
 /// The references of an image.
-fn labels_of(alloc: Global, entries: &[Entry<Mark>]) -> Result<Vec<Label>, AllocError>
-    ensures { IfOk result (λ v. v.items ≡ flat_map label_of entries.now) }
+pub fn labels_of(alloc: Global, entries: &[Entry<Mark>]) -> Result<Vec<Label>, AllocError>
+    ensures { IfOk result (λ v. v.items ≡ map label_of entries.now) }
 {
-    let mut labels = Vec::new(alloc);
+    let mut labels = Vec::with_capacity(alloc, entries.len())?;
     for entry in entries {
-        if entry.number != 0 {
-            labels.push(Label {
-                part: entry.means.part,
-                number: entry.number,
-                at: syllable_number(entry.means.at),
-            })?;
-        }
+        labels.push(Label {
+            part: entry.means.part,
+            number: entry.number,
+            at: syllable_number(entry.means.at),
+        })?;
     }
     Ok(labels)
 }
@@ -52,18 +49,19 @@ fn labels_of(alloc: Global, entries: &[Entry<Mark>]) -> Result<Vec<Label>, Alloc
 pub fn picture(
     alloc: Global,
     meanings: &Meanings,
-    labels: &[Entry<Mark>],
+    labels: Vec<Label>,
     statements: &[Statement],
 ) -> Result<Image, AllocError>
     requires few { length statements.now < 2 ^ 40 }
     requires in_range { AreInRange statements.now }
-    ensures words { IfOk result (λ image. image.words.items ≡ words (meaning meanings.now) statements.now) }
+    ensures words { IfOk result (λ image.
+        image.words.items ≡ words (meaning meanings.now) statements.now) }
     ensures start { IfOk result (λ image. image.start ≡ start_of (meaning meanings.now)) }
-    ensures labels { IfOk result (λ image. image.labels.items ≡ flat_map label_of labels.now) }
+    ensures labels { IfOk result (λ image. image.labels.items ≡ labels.items) }
 {
     Ok(Image {
         words: words(alloc, meanings, statements)?,
         start: start_of(meanings),
-        labels: labels_of(alloc, labels)?,
+        labels,
     })
 }

@@ -29,7 +29,7 @@ fn number(found: Result<u64, DeckFault>) -> u64
     found.unwrap_or(0)
 }
 
-/// The syllable number of a place in an image: 8192 times the syllable, and the word. Behind word 8191 it is 0.
+/// The syllable number of a place: 8192 times the syllable, and the word. Behind word 8191 it is 0.
 pub fn syllable_number(at: u64) -> u16
     ensures value { result ≡ syllable_number at }
     ensures small { result < 6 * 8192 }
@@ -51,7 +51,8 @@ pub fn address_of(meanings: &Meanings, section: Section, place: Named) -> u16
 
 /// The syllable number of a target in this part.
 fn target_of(meanings: &Meanings, section: Section, target: Target) -> u16
-    ensures value { result ≡ syllable_number (number (syllable_of (meaning meanings.now) section target)) }
+    ensures value { let found = syllable_of (meaning meanings.now) section target in
+        result ≡ syllable_number (number found) }
     ensures small { result < 6 * 8192 }
 {
     syllable_number(number(meanings.syllable_of(section, target)))
@@ -124,10 +125,11 @@ fn push_filling(syllables: &mut Vec<u8>, at: u64) -> Result<(), AllocError>
     push_copies(syllables, round_up(at) - at, DUMMY)
 }
 
-/// Puts the opening of a part behind the others: it begins on a new word, with its V-stores, which are zero.
+/// Puts the opening of a part behind the others: it begins on a new word, with its V-stores, zero.
 fn push_opening(syllables: &mut Vec<u8>, at: u64, last: Option<u16>) -> Result<(), AllocError>
     requires { at < 2 ^ 62 }
-    ensures { OnOk result (syllables.new.items ≡ syllables.old.items ++ (filling at ++ replicate (6 * stores last) 0)) }
+    ensures { OnOk result (syllables.new.items
+        ≡ syllables.old.items ++ (filling at ++ replicate (6 * stores last) 0)) }
 {
     push_filling(syllables, at)?;
     push_copies(syllables, 6 * stores(last), 0)
@@ -141,7 +143,8 @@ fn push_spelt(
     what: &What,
 ) -> Result<(), AllocError>
     requires { IsWhat what.now }
-    ensures { OnOk result (syllables.new.items ≡ syllables.old.items ++ spelt (order_of (meaning meanings.now) section what.now)) }
+    ensures { OnOk result (syllables.new.items
+        ≡ syllables.old.items ++ spelt (order_of (meaning meanings.now) section what.now)) }
 {
     match order_of(meanings, section, what) {
         Some(order) => push_order(syllables, &order),
@@ -158,7 +161,8 @@ fn push_statement(
 ) -> Result<(), AllocError>
     requires within { here.at < 2 ^ 62 }
     requires what { IsWhat what.now }
-    ensures { OnOk result (syllables.new.items ≡ syllables.old.items ++ syllables_of (meaning meanings.now) here what.now) }
+    ensures { OnOk result (syllables.new.items
+        ≡ syllables.old.items ++ syllables_of (meaning meanings.now) here what.now) }
 {
     match what {
         What::Star => push_filling(syllables, here.at),
@@ -172,16 +176,13 @@ pub fn start_of(meanings: &Meanings) -> u16
     ensures value { result ≡ start_of (meaning meanings.now) }
     ensures small { result < 6 * 8192 }
 {
-    let main = Target {
-        r: None,
-        p: Some(0),
-    };
-    target_of(meanings, Here::front().section, main)
+    syllable_number(number(meanings.first_order(0)))
 }
 
 /// Puts word 0 behind the others: a jump to the first order, and three DUMMY.
 fn push_first_word(syllables: &mut Vec<u8>, meanings: &Meanings) -> Result<(), AllocError>
-    ensures { OnOk result (syllables.new.items ≡ syllables.old.items ++ first_word (meaning meanings.now)) }
+    ensures { OnOk result (syllables.new.items
+        ≡ syllables.old.items ++ first_word (meaning meanings.now)) }
 {
     let jump = Order::Jump {
         c: ALWAYS,
@@ -199,7 +200,8 @@ pub fn syllables(
 ) -> Result<Vec<u8>, AllocError>
     requires few { length statements.now < 2 ^ 40 }
     requires in_range { AreInRange statements.now }
-    ensures { IfOk result (λ v. v.items ≡ first_word (meaning meanings.now) ++ syllables (meaning meanings.now) front statements.now) }
+    ensures { let names = meaning meanings.now in
+        IfOk result (λ v. v.items ≡ first_word names ++ syllables names front statements.now) }
 {
     let mut syllables = Vec::new(alloc);
     push_first_word(&mut syllables, meanings)?;

@@ -1,52 +1,58 @@
-//! The first meaning of each name, and the names that stand twice.
-ghost use Rattle.std.specs.Prelude.{◌≡◌, ℕ, [], is_some, Some, IfOk};
-ghost use Rattle.std.specs.BTreeMap.{get};
-ghost use Rattle.kdf_usercode.specs.Faults.{lesser, least, found};
+//! Entries in the order of their sections and numbers.
+ghost use Rattle.std.specs.Prelude.{◌≡◌, ℕ, [], OnOk};
+ghost use Rattle.std.specs.List.Sorted.{IsNonDecreasingBy};
+ghost use Rattle.std.proofs.Props.{props};
+ghost use Rattle.kdf_usercode.specs.declared.fault.DeckFault.{DeckFault};
+ghost use Rattle.kdf_usercode.specs.Faults.{least};
+ghost use Rattle.kdf_place.specs.Keys.{key_of, key};
 ghost use Rattle.kdf_place.specs.Late.{twice};
 ghost use Rattle.kdf_place.specs.Names.{first};
-ghost use Rattle.kdf_place.specs.Tables.{key_cmp};
 
-use crate::names::{Entry, Table};
-use kdf_fault::{Found, earlier};
-use kdf_usercode::DeckFault;
-use std::alloc::{AllocError, Global};
-use std::collections::BTreeMap;
+use crate::names::Entry;
+use std::alloc::AllocError;
 
-/// This fault as well.
-pub fn with_fault(
-    best: Option<Found<DeckFault>>,
-    fault: DeckFault,
-    place: u32,
-) -> Option<Found<DeckFault>>
-    ensures { result ≡ lesser best (Some (found fault place)) }
-{
-    earlier(best, Found { fault, place })
+/// What each number means in each section. Entries of one number stand in the order of the deck.
+#[derive(Drop)]
+pub struct Table<T> {
+    pub entries: Vec<Entry<T>>,
+    ghost rising: { IsNonDecreasingBy key entries.items } by { Prim.hlevel props },
 }
 
-/// Whether the number of an entry has a meaning in its section.
-fn stood_before<T: Copy + Drop>(table: &Table<T>, entry: &Entry<T>) -> bool
-    ensures { result ≡ is_some (get key_cmp table.now (entry.now.section, entry.now.number)) }
+/// A section and a number as one number.
+fn key_of(section: u32, number: u16) -> u64
+    ensures { result ≡ key_of section number }
 {
-    table.contains_key(&(entry.section, entry.number))
+    u64::from(section) * 65536 + u64::from(number)
 }
 
-/// What each number means in each section, and the fault of the entries whose number stood before.
-pub fn table<T: Copy + Drop>(
-    alloc: Global,
-    fault: DeckFault,
-    entries: &[Entry<T>],
-) -> Result<(Table<T>, Option<Found<DeckFault>>), AllocError>
-    ensures means { IfOk result (λ r. (p n : ℕ) → get key_cmp r.0 (p, n) ≡ first p n entries.now) }
-    ensures faults { IfOk result (λ r. r.1 ≡ least (twice fault [] entries.now)) }
+/// Puts entries in order.
+pub fn sort<T: Copy + Drop>(entries: &mut Vec<Entry<T>>) -> Result<(), AllocError>
+    ensures rising { OnOk result (IsNonDecreasingBy key entries.new.items) }
+    ensures means { OnOk result ((p n : ℕ)
+        → first p n entries.new.items ≡ first p n entries.old.items) }
+    ensures faults { OnOk result ((fault : DeckFault)
+        → least (twice fault [] entries.new.items) ≡ least (twice fault [] entries.old.items)) }
 {
-    let mut table = BTreeMap::new(alloc);
-    let mut best = None;
-    for entry in entries {
-        if stood_before(&table, entry) {
-            best = with_fault(best, fault, entry.place);
+    entries.sort_by_key(|entry| key_of(entry.section, entry.number))?;
+    Ok(())
+}
+
+impl<T: Copy + Drop> Table<T> {
+    /// The first meaning of a number in a section.
+    pub fn find(&self, section: u32, number: u16) -> Option<T>
+        ensures { result ≡ first section number self.now.entries.items }
+    {
+        let key = key_of(section, number);
+        let entries = self.entries.as_slice();
+        let place = entries.partition_point(|entry| key_of(entry.section, entry.number) < key);
+        if place == entries.len() {
+            return None;
+        }
+        let entry = &entries[place];
+        if entry.is_named(section, number) {
+            Some(entry.means)
         } else {
-            table.insert((entry.section, entry.number), entry.means)?;
+            None
         }
     }
-    Ok((table, best))
 }

@@ -6,7 +6,7 @@ use kdf_syllable::pack;
 use kdf_word::Word;
 use std::alloc::{AllocError, Global};
 
-/// The words of syllables, six to a word. Where fewer than six are left at the end, they make no word.
+/// The words of syllables, six to a word. Fewer than six that are left at the end make no word.
 pub fn words_of(alloc: Global, syllables: &[u8]) -> Result<Vec<Word>, AllocError>
     ensures { IfOk result (λ v. v.items ≡ words_of syllables.now) }
 {

@@ -258,7 +258,8 @@ pub fn signs()
     ensures not_positive { (jump 0x29 (linked 60 (0 ∷ []) []) ≡ taken (linked 60 [] []))
         × (jump 0x29 (linked 60 (1 ∷ []) []) ≡ passed (linked 60 [] []))
         × (jump 0x29 (linked 60 ((2 ^ 48 - 1) ∷ []) []) ≡ taken (linked 60 [] [])) }
-    ensures no_word { (jump 0x24 (linked 60 [] []) ≡ Refused Nouv) × (jump 0x29 (linked 60 [] []) ≡ Refused Nouv) }
+    ensures no_word { (jump 0x24 (linked 60 [] []) ≡ Refused Nouv)
+        × (jump 0x29 (linked 60 [] []) ≡ Refused Nouv) }
 {}
 
 /// A flag that a jump tests is cleared, whether or not the jump is taken.

@@ -23,7 +23,8 @@ pub fn frame()
     ensures same_needs { (hidden : Need → Bool) (s t : State) →
         Agrees hidden s t → HidesNone hidden (needs s) → needs t ≡ needs s }
     ensures same_row { (hidden : Need → Bool) (answer : ℕ) (s t : State) →
-        Agrees hidden s t → HidesNone hidden (needs s) → Agrees hidden (row s answer) (row t answer) }
+        Agrees hidden s t → HidesNone hidden (needs s)
+        → Agrees hidden (row s answer) (row t answer) }
     ensures left { (hidden : Need → Bool) (answer : ℕ) (s t : State) →
         Agrees hidden s t → HidesNone hidden (needs s) →
         Leaves hidden s (row s answer) × Leaves hidden t (row t answer) }

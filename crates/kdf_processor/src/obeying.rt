@@ -98,7 +98,8 @@ fn carry_out<P: Port>(registers: &mut Registers, port: &mut P, plan: Plan) -> St
     requires ran { registers.old.ran < u32.MAX }
     requires sound { IsSound (P.shows port.old).claims plan }
     requires operands { HasOperands registers.old.nest plan }
-    requires free { first_pending (P.shows port.old) (effect_needs (planned plan registers.old)) ≡ None }
+    requires free { first_pending (P.shows port.old) (effect_needs (planned plan registers.old))
+        ≡ None }
     requires room { P.room port.old (done_plan (P.shows port.old) registers.old plan).act }
     ensures { Obeyed P.acts (done_plan (P.shows port.old) registers.old plan)
         port.old port.new registers.new result }
@@ -220,7 +221,8 @@ pub fn obey<P: Port>(registers: &mut Registers, port: &mut P) -> Step
     ensures step { result ≡ (outcome (P.shows port.old) registers.old).step }
     ensures registers { registers.new ≡ (outcome (P.shows port.old) registers.old).registers }
     ensures acted { P.acts port.old (outcome (P.shows port.old) registers.old).act port.new }
-    ensures unchanged { (outcome (P.shows port.old) registers.old).act ≡ Nothing → port.new ≡ port.old }
+    ensures unchanged { (outcome (P.shows port.old) registers.old).act ≡ Nothing
+        → port.new ≡ port.old }
 {
     match fetch(port, registers.at) {
         Fetched::Held(group) => Step::Held(Need::Group(group)),

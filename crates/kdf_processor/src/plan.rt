@@ -128,7 +128,8 @@ pub fn plan_of<P: Port>(registers: &Registers, port: &P, order: Order) -> Option
     ensures plan { IfSome result (IsPlanOf (P.shows port.now).claims registers.now
         (effect (P.shows port.now).claims registers.now order)) }
     ensures change { IfNone result (
-        effect (P.shows port.now).claims registers.now order ≡ of_change (change_of registers.now order)) }
+        effect (P.shows port.now).claims registers.now order
+        ≡ of_change (change_of registers.now order)) }
     ensures quiet { IfNone result (IsChange order) }
 {
     match order {

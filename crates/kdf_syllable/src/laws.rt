@@ -16,7 +16,8 @@ pub fn packing()
 /// A spelling is one to three bytes.
 pub fn bytes()
     ensures length { (order : Order) → IsInRange 1 3 (length (spelling order)) }
-    ensures below { (order : Order) → IsOrder order → (k : ℕ) → slice_index (spelling order) k < 256 }
+    ensures below { (order : Order) → IsOrder order → (k : ℕ)
+        → slice_index (spelling order) k < 256 }
 {}
 
 /// The first syllable of a spelling tells how many there are.

@@ -1,23 +1,27 @@
 -- The one slot of a machine, whose fields agree with it and with the journal.
-use Rattle.std.proofs.Common.{◌≡◌, ℕ, ◌<◌, ◌≤◌, List, [], ◌∷◌, Some, Bool, true, false, ◌||◌, not, refl, sym, ◌∙◌, ap, arith}
+use Rattle.std.proofs.Common.{◌≡◌, ℕ, ◌<◌, ◌≤◌, List, [], ◌∷◌, Option, Some, None, Bool, true, false, ◌||◌, not, refl, sym, ◌∙◌, ap, arith}
 use Rattle.kdf_processor.specs.declared.registers.Registers.{Registers}
 use Rattle.kdf_processor.specs.declared.step.Step.{Step as Ending}
 use Rattle.kdf_processor.specs.Lone.{is_live}
 use Rattle.kdf_processor.specs.Row.{row, next_of}
-use Rattle.kdf_processor.specs.State.{State, Stock, begin, stocked, new_registers}
-use Rattle.kdf_top.specs.declared.journal.Entry.{Entry}
-use Rattle.kdf_top.specs.declared.port.Store.{Store}
+use Rattle.kdf_processor.specs.State.{Slot, State, Stock, begin, stocked, new_registers}
+use Rattle.kdf_journal.specs.declared.entry.Entry.{Entry}
+use Rattle.kdf_journal.specs.Counts.{calls, moves, Hold, last_hold, over}
+use Rattle.kdf_journal.specs.Steps.{Note, Obeys, added}
+use Rattle.kdf_journal.proofs.Added.{calls-added, moves-added}
+use Rattle.kdf_journal.proofs.Bounds.{ran-le-calls}
+use Rattle.kdf_top.specs.declared.bench.Bench.{Bench}
+use Rattle.kdf_top.specs.Bench.{stock_of, state_with}
+use Rattle.kdf_top.specs.World.{World}
+use Rattle.kdf_top.specs.Next.{own, lone_world, lives, stands, can_go, next, any_live}
+use Rattle.kdf_top.specs.Legal.{note_for, note_of}
+use Rattle.kdf_top.specs.Shown.{Shown, state_at, world_of}
 use Rattle.kdf_top.specs.Agrees.{Agrees}
-use Rattle.kdf_top.specs.Counts.{calls, over}
-use Rattle.kdf_top.specs.Legal.{Obeys, added, note_for, note_of}
-use Rattle.kdf_top.specs.Next.{Slot, own, lives, next, any_live}
-use Rattle.kdf_top.specs.Shown.{Shown}
-use Rattle.kdf_top.specs.Store.{stock_of, state_with}
-use Rattle.kdf_top.specs.Took.{Obeyed}
-use Rattle.kdf_top.proofs.Added.{calls-added}
-use Rattle.kdf_top.proofs.CallBounds.{ran-le-calls}
-use Rattle.kdf_top.proofs.LegalFacts.{legal_alive, legal-nil, legal-added}
+use Rattle.kdf_top.specs.Advance.{Obeyed}
+use Rattle.kdf_top.proofs.LegalFacts.{legal_alive, legal_unheld, legal-nil, legal-added}
+use Rattle.kdf_top.proofs.LoneRuns.{no_answer}
 use Rattle.kdf_top.proofs.Owns.{own-nil, own-ran, own-obeys}
+use Rattle.kdf_top.proofs.Worlds.{free}
 
 -- slot 0 with this program
 abbrev pub zeroth : ℕ → List ℕ → Slot
@@ -34,12 +38,16 @@ only_live : (size : ℕ) (words : List ℕ) (J : List Entry) → any_live (zerot
 unfolding any_live lives
 only_live size words J = or_nothing (not (over 0 J))
 
-only_next : (size : ℕ) (words : List ℕ) (J : List Entry) → not (over 0 J) ≡ true → next (zeroth size words ∷ []) J ≡ Some 0
-unfolding next lives
-only_next size words J on = rw on refl
+on_its_way : (w : World) (p : ℕ) (o : Option Hold) → o ≡ None → not (stands w p o) ≡ true
+on_its_way w p None e = refl
+on_its_way w p (Some by) e = cc
+
+only_next : (w : World) (size : ℕ) (words : List ℕ) (J : List Entry) → not (over 0 J) ≡ true → last_hold 0 J ≡ None → next w (zeroth size words ∷ []) J ≡ Some 0
+unfolding next can_go lives
+only_next w size words J on unheld = rw (on, on_its_way w 0 (last_hold 0 J) unheld) refl
 
 -- a program that is loaded agrees with a journal without entries
-pub agrees-loaded : (r : Registers) (store : Store) (size : ℕ) (front words : List ℕ) (J : List Entry) → r ≡ new_registers → stock_of store ≡ stocked size front → front ≡ words → J ≡ [] → Agrees (zeroth store.size words) (state_with r store) J
+pub agrees-loaded : (r : Registers) (store : Bench) (size : ℕ) (front words : List ℕ) (J : List Entry) → r ≡ new_registers → stock_of store ≡ stocked size front → front ≡ words → J ≡ [] → Agrees (zeroth store.size words) (state_with r store) J
 agrees-loaded r store size front words J fresh filled same none =
     let sizes : store.size ≡ size = ap (λ (k : Stock). k.claims.size) filled in
     let begun : state_with r store ≡ begin (zeroth size front) =
@@ -50,6 +58,7 @@ agrees-loaded r store size front words J fresh filled same none =
       legal = legal-nil (zeroth store.size words ∷ []);
       alone = begun ∙ (there ∙ sym (own-nil (zeroth store.size words ∷ []) 0));
       few_calls = omega arith;
+      few_moves = omega arith;
     })
 
 module _ (size : ℕ) (words : List ℕ) (s : State) (J : List Entry) (a : Agrees (zeroth size words) s J) where
@@ -60,8 +69,8 @@ module _ (size : ℕ) (words : List ℕ) (s : State) (J : List Entry) (a : Agree
   live-same = alive ∙ sym (only_live size words J)
 
   module _ (live : is_live s.registers.state ≡ true) where
-    pub next_is : next (zeroth size words ∷ []) J ≡ Some 0
-    next_is = only_next size words J (sym alive ∙ live)
+    next_is : (w : World) → next w (zeroth size words ∷ []) J ≡ Some 0
+    next_is w = only_next w size words J (sym alive ∙ live) (legal_unheld (zeroth size words ∷ []) J a.legal 0)
 
     own_live : is_live (own (zeroth size words ∷ []) J 0).registers.state ≡ true
     own_live = ap (λ (t : State). is_live t.registers.state) (sym a.alone) ∙ live
@@ -79,16 +88,25 @@ module _ (size : ℕ) (words : List ℕ) (s : State) (J : List Entry) (a : Agree
       few_more : calls J < 20000000 → calls K ≤ 20000000
       few_more few = omega (arith, ap calls k, calls-added J (Obeys 0 (note_for step)))
 
+      no_moves : moves K ≤ 2048000000
+      no_moves = omega (arith, a.few_moves, ap moves k, moves-added J (Obeys 0 (note_for step)))
+
       -- the program that obeys agrees with the journal that tells so
       obeys : calls J < 20000000 → Agrees (zeroth size words) t K
       obeys few = record {
-        legal = rw k (legal-added (zeroth size words ∷ []) J (Obeys 0 (note_for step)) a.legal (next_is, as_own));
-        alone = rw k (after ∙ (ap (λ (u : State). row u 0) a.alone ∙ sym (own-obeys (zeroth size words ∷ []) J 0 (note_for step) own_live)));
+        legal = rw k (legal-added (zeroth size words ∷ []) J (Obeys 0 (note_for step)) a.legal (next_is (lone_world (zeroth size words ∷ []) J), free (own (zeroth size words ∷ []) J) J 0, as_own));
+        alone = rw k (after ∙ (ap (λ (u : State). row u 0) a.alone ∙ sym (own-obeys (zeroth size words ∷ []) J 0 (note_for step) (no_answer step) own_live)));
         few_calls = few_more few;
+        few_moves = no_moves;
       }
 
       pub agrees-obeys : calls J < 20000000 → (n : ℕ) → n ≡ size → Agrees (zeroth n words) t K
       agrees-obeys few n same = rw same (obeys few)
 
       pub obeyed : (old : Shown) → viewed size words s J ≡ old → (n : ℕ) → Obeyed old (viewed n words t K) 0
-      obeyed old e n = rw (← e) (record { was_next = next_is; states = ap (λ (u : State). u ∷ []) after; journal = noted })
+      obeyed old e n = rw (← e) (record {
+        was_next = next_is (world_of (viewed size words s J));
+        free = free (state_at (viewed size words s J)) J 0;
+        states = ap (λ (u : State). u ∷ []) after;
+        journal = noted;
+      })

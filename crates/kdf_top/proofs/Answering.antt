@@ -12,7 +12,7 @@ use Rattle.kdf_top.specs.Follows.{IsJournal}
 use Rattle.kdf_top.specs.Deck.{deck_fault}
 use Rattle.kdf_top.specs.Job.{SlotJob, job, job_fault}
 use Rattle.kdf_top.specs.Shown.{Shown, slots_of}
-use Rattle.kdf_top.specs.Text.{text}
+use Rattle.kdf_text.specs.Text.{text}
 use Rattle.kdf_top.proofs.OneJournal.{one_journal_lem}
 
 -- one text is due

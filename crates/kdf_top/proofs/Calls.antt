@@ -1,51 +1,64 @@
 -- What one call of a machine makes of its journal, where its programs are as they are by themselves.
 use Rattle.std.proofs.Common.{◌≡◌, ℕ, ◌+◌, ◌≤◌, List, [], ◌∷◌, Option, Some, None, Bool, true, false, cond, eqb, refl, sym, ◌∙◌, ap, subst, arith}
-use Rattle.std.specs.Prelude.{replicate, map, IsSomeAnd}
+use Rattle.std.specs.Prelude.{replicate, map, is_some, unwrap_or}
 use Rattle.std.specs.Option.{option_map}
 use Rattle.std.proofs.lemmas.Bool.{true≢false, eqb-true}
-use Rattle.kdf_processor.specs.State.{State}
+use Rattle.kdf_processor.specs.State.{Slot, State}
+use Rattle.kdf_journal.specs.declared.entry.Entry.{Entry}
+use Rattle.kdf_journal.specs.Counts.{calls}
+use Rattle.kdf_journal.specs.Steps.{Step, Obeys, added, steps}
+use Rattle.kdf_journal.proofs.Added.{calls-added}
+use Rattle.kdf_schedule.specs.Calls.{AnOrder}
 use Rattle.kdf_top.specs.declared.machine.Progress.{Progress}
 use Rattle.kdf_top.specs.declared.machine.Progress.TheVariants as progress
-use Rattle.kdf_top.specs.Counts.{calls}
-use Rattle.kdf_top.specs.Course.{turn, course}
-use Rattle.kdf_top.specs.Follows.{AnOrder}
-use Rattle.kdf_top.specs.Legal.{Step, Obeys, added, steps, note_of, IsLegal}
-use Rattle.kdf_top.specs.Next.{Slot, slot_of, own, any_live}
-use Rattle.kdf_top.specs.Shown.{Shown, state_in, state_of, ShowsLone}
-use Rattle.kdf_top.specs.Took.{Obeyed, Took}
-use Rattle.kdf_top.proofs.Added.{calls-added}
+use Rattle.kdf_top.specs.Next.{slot_of, start_of, own, lone_world, next, any_live}
+use Rattle.kdf_top.specs.Legal.{note_of, IsLegal}
+use Rattle.kdf_top.specs.Course.{lone_step_at, course}
+use Rattle.kdf_top.specs.Shown.{Shown, state_in, state_of, state_at, world_of, ShowsLone}
+use Rattle.kdf_top.specs.Advance.{Obeyed, Advance}
 use Rattle.kdf_top.proofs.Courses.{went_on}
+use Rattle.kdf_top.proofs.Worlds.{free, next-world, next_slot}
 
-state_at : (slots : List Slot) (f : ℕ → State) (p : ℕ) → state_in slots (map (λ (s : Slot). f s.p) slots) p ≡ option_map (λ (s : Slot). f p) (slot_of slots p)
-state_at [] f p = refl
-state_at (s ∷ slots) f p = go (eqb s.p p) refl (state_at slots f p)
+state_in-map : (slots : List Slot) (f : ℕ → State) (p : ℕ) → state_in slots (map (λ (s : Slot). f s.p) slots) p ≡ option_map (λ (s : Slot). f p) (slot_of slots p)
+state_in-map [] f p = refl
+state_in-map (s ∷ slots) f p = go (eqb s.p p) refl (state_in-map slots f p)
   where
     go : (b : Bool) → eqb s.p p ≡ b → state_in slots (map (λ (s : Slot). f s.p) slots) p ≡ option_map (λ (s : Slot). f p) (slot_of slots p)
         → cond b (Some (f s.p)) (state_in slots (map (λ (s : Slot). f s.p) slots) p) ≡ option_map (λ (s : Slot). f p) (cond b (Some s) (slot_of slots p))
     go true e rest = ap (λ (n : ℕ). Some (f n)) (eqb-true s.p p e)
     go false e rest = rest
 
--- the state of a program, if there is one, is that of the program by itself
-pub state_lone : (m : Shown) (p : ℕ) → ShowsLone m → state_of m p ≡ option_map (λ (s : Slot). own m.slots m.journal p) (slot_of m.slots p)
-state_lone m p lone = ap (λ (S : List State). state_in m.slots S p) lone ∙ state_at m.slots (own m.slots m.journal) p
+there : (o : Option Slot) (x : State) → is_some o ≡ true → unwrap_or (option_map (λ (s : Slot). x) o) (start_of None) ≡ x
+there None x some = cc
+there (Some s) x some = refl
 
-is_own : (o : Option Slot) (x : State) (P : State → Type 0) → IsSomeAnd (option_map (λ (s : Slot). x) o) P → P x
-is_own None x P h = absurd h
-is_own (Some s) x P h = h
+-- the state of a program that is there is that of the program by itself
+state_lone : (m : Shown) (p : ℕ) → ShowsLone m → is_some (slot_of m.slots p) ≡ true → state_at m p ≡ own m.slots m.journal p
+state_lone m p lone some =
+    ap (λ (o : Option State). unwrap_or o (start_of None)) (ap (λ (S : List State). state_in m.slots S p) lone ∙ state_in-map m.slots (own m.slots m.journal) p)
+    ∙ there (slot_of m.slots p) (own m.slots m.journal p) some
 
--- the step is the turn of the program that obeyed
-turn_is : (m n : Shown) (p : ℕ) → ShowsLone m → Obeyed m n p → n.journal ≡ added m.journal (turn m.slots m.journal p)
-turn_is m n p lone o =
-    is_own (slot_of m.slots p) (own m.slots m.journal p) (λ (before : State). n.journal ≡ added m.journal (Obeys p (note_of before)))
-    (subst (λ (r : Option State). IsSomeAnd r (λ (before : State). n.journal ≡ added m.journal (Obeys p (note_of before)))) (state_lone m p lone) o.journal)
+-- the next program is the same in the machine's own world and in that of lone runs
+lone_next : (m : Shown) → next (lone_world m.slots m.journal) m.slots m.journal ≡ next (world_of m) m.slots m.journal
+lone_next m = next-world (own m.slots m.journal) (state_at m) m.slots m.journal
+
+obeys_is : (m : Shown) (p : ℕ) → next (lone_world m.slots m.journal) m.slots m.journal ≡ Some p → Obeys p (note_of (own m.slots m.journal p)) ≡ lone_step_at m.slots m.journal AnOrder
+obeys_is m p n = rw (n, free (own m.slots m.journal) m.journal p) refl
+
+-- the step is that of the call in the world of lone runs
+step_is : (m n : Shown) (p : ℕ) → ShowsLone m → Obeyed m n p → n.journal ≡ added m.journal (lone_step_at m.slots m.journal AnOrder)
+step_is m n p lone o =
+    let some : is_some (slot_of m.slots p) ≡ true = next_slot (world_of m) m.slots m.journal p o.was_next in
+    o.journal
+    ∙ (ap (λ (s : State). added m.journal (Obeys p (note_of s))) (state_lone m p lone some)
+    ∙ ap (added m.journal) (obeys_is m p (lone_next m ∙ o.was_next)))
 
 -- one call more of those that take this course
-pub took_on : (slots0 : List Slot) (P : List Step) (i : ℕ) (m n : Shown) (r : Progress) → IsLegal m.slots m.journal → ShowsLone m → m.slots ≡ slots0 → steps m.journal ≡ course slots0 P (replicate i AnOrder) → any_live m.slots m.journal ≡ true → Took m n r
+pub took_on : (slots0 : List Slot) (P : List Step) (i : ℕ) (m n : Shown) (r : Progress) → IsLegal m.slots m.journal → ShowsLone m → m.slots ≡ slots0 → steps m.journal ≡ course slots0 P (replicate i AnOrder) → any_live m.slots m.journal ≡ true → Advance m n r
     → steps n.journal ≡ course slots0 P (replicate (i + 1) AnOrder)
 took_on slots0 P i m n progress.AllEnded l lone same taken live took = absurd (true≢false (sym live ∙ took.0))
-took_on slots0 P i m n (progress.Ran p) l lone same taken live took =
-    went_on m.slots slots0 m.journal n.journal p P i l same taken live took.was_next (turn_is m n p lone took)
+took_on slots0 P i m n (progress.Ran p) l lone same taken live took = went_on m.slots slots0 m.journal n.journal P i l same taken live (step_is m n p lone took)
 
-pub calls-took : (m n : Shown) (r : Progress) → ShowsLone m → Took m n r → calls n.journal ≤ calls m.journal + 1
-calls-took m n progress.AllEnded lone took = omega (arith, ap (λ (x : Shown). calls x.journal) took.1)
-calls-took m n (progress.Ran p) lone took = omega (arith, ap calls (turn_is m n p lone took), calls-added m.journal (turn m.slots m.journal p))
+pub calls-took : (m n : Shown) (r : Progress) → Advance m n r → calls n.journal ≤ calls m.journal + 1
+calls-took m n progress.AllEnded took = omega (arith, ap (λ (x : Shown). calls x.journal) took.1)
+calls-took m n (progress.Ran p) took = omega (arith, ap calls took.journal, calls-added m.journal (Obeys p (note_of (state_at m p))))

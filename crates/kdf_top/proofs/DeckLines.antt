@@ -1,10 +1,12 @@
 -- The lines of a deck, one after the other.
 use Rattle.std.proofs.Common.{◌≡◌, ℕ, suc, ◌+◌, ◌<◌, false, List, [], ◌∷◌, ◌++◌, length, drop, codes, Option, Some, append_assoc, refl, sym, ap, ◌∙◌, arith}
-use Rattle.kdf_top.specs.declared.lines.Lines.{Lines}
+use Rattle.kdf_text.specs.declared.lines.Lines.{Lines}
 use Rattle.kdf_top.specs.Options.{◌>>=◌}
-use Rattle.kdf_top.specs.Lines.{line, is_text}
-use Rattle.kdf_top.specs.Job.{first_off, fault_at, deck_lines, deck_forms, deck_text}
-use Rattle.kdf_top.specs.Reading.{ahead, fault_from}
+use Rattle.kdf_text.specs.Text.{text}
+use Rattle.kdf_text.specs.Lines.{line, is_text}
+use Rattle.kdf_top.specs.Job.{first_off, fault_at, deck_lines, deck_forms}
+use Rattle.kdf_text.specs.Ahead.{ahead}
+use Rattle.kdf_top.specs.Reading.{fault_from}
 use Rattle.kdf_top.proofs.PassLemmas.{Form}
 
 -- the next line isn't ENDDECK
@@ -37,12 +39,13 @@ behind-on (l ∷ ls) next on rest =
     rw (rest, on.1) (ap (λ (k : ℕ). drop k (l ∷ ls)) e)
 
 -- the text that is read so far, and that of the lines ahead
-text-first : (ls : List (List ℕ)) → GoesOn ls → deck_text (deck_lines ls) ≡ (line ls 1 ++ 10 ∷ []) ++ deck_text (deck_lines (drop 1 ls))
+text-first : (ls : List (List ℕ)) → GoesOn ls → text (deck_lines ls) ≡ (line ls 1 ++ 10 ∷ []) ++ text (deck_lines (drop 1 ls))
+unfolding text
 text-first [] on = absurd (omega (arith, on.0))
 text-first (l ∷ ls) on = rw on.1 refl
 
 pub text-on : (read longer first : List ℕ) (ls next : List (List ℕ)) → GoesOn ls → first ≡ line ls 1 → next ≡ drop 1 ls → longer ≡ (read ++ first) ++ 10 ∷ []
-    → longer ++ deck_text (deck_lines next) ≡ read ++ deck_text (deck_lines ls)
+    → longer ++ text (deck_lines next) ≡ read ++ text (deck_lines ls)
 text-on read longer first ls next on is rest more =
-    let tail = deck_text (deck_lines (drop 1 ls)) in
+    let tail = text (deck_lines (drop 1 ls)) in
     rw (rest, more, is) (ap (λ (x : List ℕ). x ++ tail) (append_assoc read (line ls 1) (10 ∷ [])) ∙ append_assoc read (line ls 1 ++ 10 ∷ []) tail ∙ ap (λ (x : List ℕ). read ++ x) (sym (text-first ls on)))

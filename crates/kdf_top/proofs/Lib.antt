@@ -1,11 +1,6 @@
-pub mod OctalDigits
-pub mod Texts
-pub mod Pushed
-pub mod CallBounds
-pub mod Steps
-pub mod Added
 pub mod LoneRuns
 pub mod Owns
+pub mod Worlds
 pub mod LegalFacts
 pub mod Courses
 pub mod Schedules
@@ -18,8 +13,6 @@ pub mod Sections
 pub mod Reported
 pub mod Answering
 pub mod Runs
-pub mod Cutting
-pub mod Digits
 pub mod PassLemmas
 pub mod DeckLines
 pub mod LoadedDecks

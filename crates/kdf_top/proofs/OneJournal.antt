@@ -1,56 +1,77 @@
 -- Under a schedule, the slots have one journal.
-use Rattle.std.proofs.Common.{◌≡◌, ℕ, List, [], ◌∷◌, Some, Bool, true, false, cond, ◌||◌, refl, sym, ◌∙◌, ap}
-use Rattle.std.specs.Prelude.{find, unwrap_or}
-use Rattle.std.specs.List.{list_any}
-use Rattle.kdf_top.specs.declared.journal.Entry.{Entry}
-use Rattle.kdf_top.specs.declared.job.Event.{Event}
-use Rattle.kdf_top.specs.Course.{step_at, course}
-use Rattle.kdf_top.specs.Follows.{Call, AnOrder, calls_made, IsJournal}
-use Rattle.kdf_top.specs.Legal.{Step, written, Meets, EachMeets}
-use Rattle.kdf_top.specs.Next.{Slot, lives, next, any_live, priorities}
+use Rattle.std.proofs.Common.{◌≡◌, ℕ, ◌≤◌, List, [], ◌∷◌, Option, Some, None, Bool, true, false, cond, refl, sym, ◌∙◌, ap, subst}
+use Rattle.kdf_processor.specs.State.{Slot}
+use Rattle.kdf_journal.specs.declared.entry.Entry.{Entry}
+use Rattle.kdf_journal.specs.Counts.{Hold, clock}
+use Rattle.kdf_journal.specs.Steps.{Step, journal_of}
+use Rattle.kdf_journal.proofs.Added.{clock_by, clock-added}
+use Rattle.kdf_journal.proofs.Steps.{steps-journal_of}
+use Rattle.kdf_schedule.specs.declared.event.Event.{Event}
+use Rattle.kdf_schedule.specs.Calls.{Call, AnOrder, AMove, AnEnd, AClock, calls_made}
+use Rattle.kdf_top.specs.World.{World, first_need}
+use Rattle.kdf_top.specs.Next.{lone_world, next, any_live}
+use Rattle.kdf_top.specs.Legal.{Meets, EachMeets}
+use Rattle.kdf_top.specs.Course.{turn, turn_of, lone_step_at, course}
+use Rattle.kdf_top.specs.Follows.{IsJournal, IsRising}
 use Rattle.kdf_top.proofs.Courses.{Reaches, reaches, course-whole}
-use Rattle.kdf_top.proofs.Steps.{steps-written}
 
 pub one_journal_lem : (slots : List Slot) (events : List Event) (J K : List Entry) → IsJournal slots events J → IsJournal slots events K → J ≡ K
 one_journal_lem slots events J K j k =
     sym j.legal.in_form
-    ∙ (ap written (course-whole slots (calls_made events) J j.legal j.whole ∙ sym (course-whole slots (calls_made events) K k.legal k.whole)) ∙ k.legal.in_form)
+    ∙ (ap journal_of (course-whole slots (calls_made events) J j.legal j.whole ∙ sym (course-whole slots (calls_made events) K k.legal k.whole)) ∙ k.legal.in_form)
 
--- where some element passes a test, there is a first
-first_of_any : (f : ℕ → Bool) (xs : List ℕ) → list_any f xs ≡ true → find f xs ≡ Some (unwrap_or (find f xs) 0)
-first_of_any f [] any = cc
-first_of_any f (x ∷ xs) any = go (f x) (first_of_any f xs) any
-  where
-    go : (b : Bool) → (list_any f xs ≡ true → find f xs ≡ Some (unwrap_or (find f xs) 0)) → (b || list_any f xs) ≡ true → cond b (Some x) (find f xs) ≡ Some (unwrap_or (cond b (Some x) (find f xs)) 0)
-    go true rest any = refl
-    go false rest any = rest any
+meets-turn : (w : World) (slots : List Slot) (J : List Entry) (p : ℕ) (o : Option Hold) → next w slots J ≡ Some p → first_need w p ≡ o → Meets w slots J (turn w p o)
+meets-turn w slots J p None n need = (n, need, refl)
+meets-turn w slots J p (Some by) n need = (n, need)
 
-live_next : (slots : List Slot) (J : List Entry) → any_live slots J ≡ true → next slots J ≡ Some (unwrap_or (next slots J) 0)
-unfolding any_live next
-live_next slots J live = first_of_any (lives slots J) priorities live
+meets-turn_of : (w : World) (slots : List Slot) (J : List Entry) (o : Option ℕ) → any_live slots J ≡ true → next w slots J ≡ o → Meets w slots J (turn_of w o)
+meets-turn_of w slots J None live n = (live, n)
+meets-turn_of w slots J (Some p) live n = meets-turn w slots J p (first_need w p) n refl
 
-meets-step : (slots : List Slot) (J : List Entry) (c : Call) → any_live slots J ≡ true → Meets slots J (step_at slots J c)
-meets-step slots J AnOrder live = (live_next slots J live, refl)
+-- the step of a call meets the rules, where a program is live and the call doesn't set the clock back
+meets-step : (slots : List Slot) (J : List Entry) (c : Call) (cs : List Call) → any_live slots J ≡ true → IsRising (clock J) (c ∷ cs) → Meets (lone_world slots J) slots J (lone_step_at slots J c)
+meets-step slots J AnOrder cs live rises = meets-turn_of (lone_world slots J) slots J (next (lone_world slots J) slots J) live refl
+meets-step slots J (AMove d n) cs live rises = tt
+meets-step slots J (AnEnd d) cs live rises = tt
+meets-step slots J (AClock t) cs live rises = rises.0
+
+same_time-turn : (t : ℕ) (w : World) (p : ℕ) (o : Option Hold) → clock_by t (turn w p o) ≡ t
+same_time-turn t w p None = refl
+same_time-turn t w p (Some by) = refl
+
+same_time : (t : ℕ) (w : World) (o : Option ℕ) → clock_by t (turn_of w o) ≡ t
+same_time t w None = refl
+same_time t w (Some p) = same_time-turn t w p (first_need w p)
+
+-- and so do the calls behind it
+rises-on : (slots : List Slot) (J : List Entry) (t : ℕ) (c : Call) (cs : List Call) → IsRising t (c ∷ cs) → IsRising (clock_by t (lone_step_at slots J c)) cs
+rises-on slots J t AnOrder cs rises = subst (λ (u : ℕ). IsRising u cs) (sym (same_time t (lone_world slots J) (next (lone_world slots J) slots J))) rises
+rises-on slots J t (AMove d n) cs rises = rises
+rises-on slots J t (AnEnd d) cs rises = rises
+rises-on slots J t (AClock u) cs rises = rises.1
 
 -- each step of the course meets the rules
-course-meets : (slots : List Slot) (P : List Step) (cs : List Call) → EachMeets slots P → EachMeets slots (course slots P cs)
-course-meets slots P [] m = m
-course-meets slots P (c ∷ cs) m = go (any_live slots (written P)) refl (λ live. course-meets slots (step_at slots (written P) c ∷ P) cs (m, meets-step slots (written P) c live))
+course-meets : (slots : List Slot) (P : List Step) (cs : List Call) → IsRising (clock (journal_of P)) cs → EachMeets slots P → EachMeets slots (course slots P cs)
+course-meets slots P [] rises m = m
+course-meets slots P (c ∷ cs) rises m =
+    let s : Step = lone_step_at slots (journal_of P) c in
+    let on : IsRising (clock (journal_of (s ∷ P))) cs = subst (λ (u : ℕ). IsRising u cs) (sym (clock-added (journal_of P) s)) (rises-on slots (journal_of P) (clock (journal_of P)) c cs rises) in
+    go (any_live slots (journal_of P)) refl (λ live. course-meets slots (s ∷ P) cs on (m, meets-step slots (journal_of P) c cs live rises))
   where
-    go : (b : Bool) → any_live slots (written P) ≡ b → (any_live slots (written P) ≡ true → EachMeets slots (course slots (step_at slots (written P) c ∷ P) cs)) → EachMeets slots (cond b (course slots (step_at slots (written P) c ∷ P) cs) P)
+    go : (b : Bool) → any_live slots (journal_of P) ≡ b → (any_live slots (journal_of P) ≡ true → EachMeets slots (course slots (lone_step_at slots (journal_of P) c ∷ P) cs)) → EachMeets slots (cond b (course slots (lone_step_at slots (journal_of P) c ∷ P) cs) P)
     go true e rest = rest e
     go false e rest = m
 
-pub a_journal_lem : (slots : List Slot) (events : List Event) → (J : List Entry) × IsJournal slots events J
-a_journal_lem slots events =
+pub a_journal_lem : (slots : List Slot) (events : List Event) → IsRising 0 (calls_made events) → (J : List Entry) × IsJournal slots events J
+a_journal_lem slots events rises =
     let P : List Step = course slots [] (calls_made events) in
     let r : Reaches slots [] (calls_made events) P = reaches slots [] (calls_made events) tt in (
-      written P,
+      journal_of P,
       record {
-        legal = record { in_form = ap written (steps-written P); each = rw (steps-written P) (course-meets slots [] (calls_made events) tt) };
+        legal = record { in_form = ap journal_of (steps-journal_of P); each = rw (steps-journal_of P) (course-meets slots [] (calls_made events) rises tt) };
         whole = record {
           left = r.left;
-          follows = record { in_order = rw (steps-written P) r.in_order; lived = rw (steps-written P) r.lived };
+          follows = record { in_order = rw (steps-journal_of P) r.in_order; lived = rw (steps-journal_of P) r.lived };
           at_end = r.at_end;
         };
       },

@@ -4,11 +4,13 @@ use Rattle.std.proofs.lemmas.Bool.{true≢false, cond-true, cond-false}
 use Rattle.std.proofs.lemmas.List.{nil_from_length}
 use Rattle.kdf_top.specs.declared.job.JobError.{JobError}
 use Rattle.kdf_top.specs.declared.job.JobFault.{JobFault}
-use Rattle.kdf_top.specs.declared.lines.Lines.{Lines}
+use Rattle.kdf_text.specs.declared.lines.Lines.{Lines}
 use Rattle.kdf_top.specs.Options.{◌>>=◌}
-use Rattle.kdf_top.specs.Lines.{line, lines, words, in_first}
-use Rattle.kdf_top.specs.Job.{first_off, fault_at, has_size, has_show, has_calls}
-use Rattle.kdf_top.specs.Reading.{ahead, fault_from, Passes, Says, Stops}
+use Rattle.kdf_text.specs.Lines.{line, lines, words, in_first}
+use Rattle.kdf_top.specs.Job.{first_off, fault_at, has_size, has_show, has_orders}
+use Rattle.kdf_text.specs.Ahead.{ahead}
+use Rattle.kdf_schedule.specs.Events.{event}
+use Rattle.kdf_top.specs.Reading.{fault_from, Passes, Says, Stops}
 
 off-passed : (form : List ℕ → Bool) (left : List (List ℕ → Bool)) (ls ls' : List (List ℕ)) (n n' : ℕ) → form [] ≡ false → form (line ls 1) ≡ true → ls' ≡ drop 1 ls → (0 < length ls → n' ≡ n + 1)
     → first_off n (form ∷ left) ls ≡ first_off n' left ls'
@@ -29,9 +31,9 @@ pub no-size : has_size [] ≡ false
 unfolding words
 no-size = refl
 
-pub no-count : has_calls [] ≡ false
-unfolding words
-no-count = refl
+pub no-orders : has_orders [] ≡ false
+unfolding words event
+no-orders = refl
 
 pub no-show : (size : ℕ) → has_show size [] ≡ false
 unfolding words

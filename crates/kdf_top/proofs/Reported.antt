@@ -10,11 +10,13 @@ use Rattle.kdf_top.specs.declared.job.SlotJob.{SlotJob as ReadSlot}
 use Rattle.kdf_top.specs.Answers.{IsMachineOf, report_of}
 use Rattle.kdf_top.specs.Follows.{IsJournal}
 use Rattle.kdf_top.specs.Job.{Job, SlotJob, job}
-use Rattle.kdf_top.specs.Next.{Slot, own, slot_of, start_of}
-use Rattle.kdf_top.specs.Report.{state_at, HasSlot}
+use Rattle.kdf_processor.specs.State.{Slot}
+use Rattle.kdf_top.specs.Next.{own, slot_of, start_of}
+use Rattle.kdf_top.specs.MadeFrom.{state_at, HasSlot}
 use Rattle.kdf_top.specs.Shown.{Shown, ShowsLone, state_of, slot_of_job, slots_of}
 use Rattle.kdf_top.specs.Shows.{shown_job, shown_slot}
-use Rattle.kdf_top.specs.Text.{text, entry_line, section, report_lines}
+use Rattle.kdf_text.specs.Text.{text}
+use Rattle.kdf_top.specs.Text.{entry_line, section, report_lines}
 use Rattle.kdf_top.specs.WellFormed.{IsJob, IsSlot}
 use Rattle.kdf_top.proofs.States.{state_of-lone}
 

@@ -1,8 +1,8 @@
 -- How an answer to words comes of an answer over the bytes of a job.
-use Rattle.std.proofs.Common.{◌≡◌, ◌≢◌, ◌⊎◌, inl, inr, ℕ, ◌<◌, ◌≤◌, List, [], ◌++◌, length, length-append, true, false, Option, Some, None, IfSome, refl, sym, ◌∙◌, subst, arith}
+use Rattle.std.proofs.Common.{◌≡◌, ◌≢◌, ◌⊎◌, inl, inr, ℕ, ◌+◌, ◌<◌, ◌≤◌, List, [], ◌++◌, length, length-append, true, false, Option, Some, None, IfSome, refl, sym, ◌∙◌, subst, arith}
 use Rattle.std.proofs.lemmas.Bool.{lt-ltb, le-ltb}
-use Rattle.kdf_io.specs.Outside.{HasRisen, Took, NothingLeft}
-use Rattle.kdf_io.specs.Reading.{TookBefore}
+use Rattle.kdf_io.specs.Outside.{HasRisen, Advances, NothingLeft}
+use Rattle.kdf_io.specs.Reading.{TakesAtMost, TookBefore}
 use Rattle.kdf_io.specs.declared.read_end.ReadEnd.TheVariants.{Large}
 use Rattle.kdf_usercode.specs.Faults.{Found}
 use Rattle.kdf_top.specs.declared.job.JobFault.{JobFault}
@@ -14,7 +14,7 @@ use Rattle.kdf_top.specs.Commands.{is_command}
 use Rattle.kdf_top.specs.Deck.{deck_fault}
 use Rattle.kdf_top.specs.Job.{job, job_fault}
 use Rattle.kdf_top.specs.Shown.{Shown}
-use Rattle.kdf_top.specs.Text.{job_limit}
+use Rattle.kdf_top.specs.declared.command.TheConstants.{JOB_LIMIT}
 use Rattle.kdf_top.proofs.Answering.{given_memory, nothing_added, as_called, by_job_fault, by_deck_fault}
 
 -- where an answer is that of a source that didn't fail, it is that of one that may have
@@ -69,11 +69,11 @@ called_bytes : (words : List (List ℕ)) (bytes : List ℕ) → is_command words
 unfolding called_for
 called_bytes words bytes e = rw e refl
 
-called_large : (words : List (List ℕ)) (bytes : List ℕ) → is_command words ≡ true → job_limit < length bytes → called_for words bytes ≡ status.Large
-called_large words bytes e long = called_bytes words bytes e ∙ rw (lt-ltb job_limit (length bytes) long) refl
+called_large : (words : List (List ℕ)) (bytes : List ℕ) → is_command words ≡ true → JOB_LIMIT < length bytes → called_for words bytes ≡ status.Large
+called_large words bytes e long = called_bytes words bytes e ∙ rw (lt-ltb JOB_LIMIT (length bytes) long) refl
 
-called_job : (words : List (List ℕ)) (bytes : List ℕ) → is_command words ≡ true → length bytes ≤ job_limit → called_for words bytes ≡ status_of_job bytes
-called_job words bytes e short = called_bytes words bytes e ∙ rw (le-ltb job_limit (length bytes) short) refl
+called_job : (words : List (List ℕ)) (bytes : List ℕ) → is_command words ≡ true → length bytes ≤ JOB_LIMIT → called_for words bytes ≡ status_of_job bytes
+called_job words bytes e short = called_bytes words bytes e ∙ rw (le-ltb JOB_LIMIT (length bytes) short) refl
 
 fault_no_usage : (fault : Option (JobFault × ℕ)) (first : Option (ℕ × Found)) → status_of_faults fault first ≢ status.Usage
 fault_no_usage None None e = cc
@@ -84,9 +84,9 @@ fault_no_usage (Some x) first e = cc
 run_command : (words : List (List ℕ)) (called : Status) (read : List ℕ) (given : Status) (kept : Option Shown) (source source' : Inlet) (o n : Outlet)
     → is_command words ≡ true → called ≢ status.Usage → IsGiven called read given kept o n
     → IfSome source.left (λ bytes. IsGiven (called_for words bytes) bytes given kept o n)
-    → IfSome kept (λ m. NothingLeft source'.left) → IfSome kept (λ m. Took source.left read source'.left)
-    → source.faults ≤ source'.faults → IsRun words given kept source source' o n
-run_command words called read given kept source source' o n asked other one all ended took falls = record {
+    → IfSome kept (λ m. NothingLeft source'.left) → IfSome kept (λ m. Advances source.left read source'.left)
+    → TakesAtMost (JOB_LIMIT + 1) source.left source'.left → source.faults ≤ source'.faults → IsRun words given kept source source' o n
+run_command words called read given kept source source' o n asked other one all ended took taken falls = record {
   answer = map_some _ _ source.left (λ bytes h. answers_weaker (called_for words bytes) given (HasRisen source.faults source'.faults) (HasRisen o.faults n.faults) h.answer) all;
   usage = λ unasked. absurd (cc);
   command = λ _. no_usage called given _ other one.answer;
@@ -100,9 +100,19 @@ run_command words called read given kept source source' o n asked other one all 
   front = λ e. map_some _ _ source.left (λ bytes h. h.front e) all;
   room_writes = map_some _ _ source.left (λ bytes h. h.room_writes) all;
   room_count = map_some _ _ source.left (λ bytes h. h.room_count) all;
+  taken = taken;
   source_counts = falls;
   sink_counts = one.never_falls;
 }
+
+-- where nothing is read, nothing is taken
+none_taken : (most : ℕ) (left : Option (List ℕ)) → TakesAtMost most left left
+none_taken most None = ([], omega arith, refl)
+none_taken most (Some rest) = ([], omega arith, refl)
+
+-- the limit is that of a job
+pub taken_at_most : (limit : ℕ) (before after : Option (List ℕ)) → limit ≡ JOB_LIMIT → TakesAtMost (limit + 1) before after → TakesAtMost (JOB_LIMIT + 1) before after
+taken_at_most limit before after is taken = subst (λ n. TakesAtMost (n + 1) before after) is taken
 
 -- words that are no command
 pub run_usage : (words : List (List ℕ)) (given : Status) (kept : Option Shown) (source : Inlet) (o n : Outlet) → is_command words ≡ false → kept ≡ None
@@ -125,32 +135,34 @@ run_usage words given kept source o n unasked none given_usage =
       front = λ e. map_some _ _ source.left (λ bytes h. h.front e) all;
       room_writes = map_some _ _ source.left (λ bytes h. h.room_writes) all;
       room_count = map_some _ _ source.left (λ bytes h. h.room_count) all;
+      taken = none_taken (JOB_LIMIT + 1) source.left;
       source_counts = omega arith;
       sink_counts = one.never_falls;
     }
 
 -- all bytes were read
 pub run_read : (words : List (List ℕ)) (read : List ℕ) (given : Status) (kept : Option Shown) (source source' : Inlet) (o n : Outlet)
-    → is_command words ≡ true → length read ≤ job_limit → Took source.left read source'.left → NothingLeft source'.left
-    → IfSome source.left (λ bytes. read ≡ bytes) → source.faults ≤ source'.faults
+    → is_command words ≡ true → length read ≤ JOB_LIMIT → Advances source.left read source'.left → NothingLeft source'.left
+    → IfSome source.left (λ bytes. read ≡ bytes) → TakesAtMost (JOB_LIMIT + 1) source.left source'.left → source.faults ≤ source'.faults
     → IsGiven (status_of_job read) read given kept o n → IsRun words given kept source source' o n
-run_read words read given kept source source' o n asked short took ended whole falls one =
+run_read words read given kept source source' o n asked short took ended whole taken falls one =
     run_command words (status_of_job read) read given kept source source' o n asked (fault_no_usage (job_fault read) (deck_fault (job read).slots)) one
     (map_some _ _ source.left (λ bytes e. subst (λ x. IsGiven (called_for words x) x given kept o n) e
     (as_called _ _ read given kept o n (called_job words read asked short) one)) whole)
-    (all_some _ kept (λ m. ended)) (all_some _ kept (λ m. took)) falls
+    (all_some _ kept (λ m. ended)) (all_some _ kept (λ m. took)) taken falls
 
 -- more bytes came than a job may have
 pub run_large : (words : List (List ℕ)) (given : Status) (kept : Option Shown) (source source' : Inlet) (o n : Outlet)
-    → is_command words ≡ true → kept ≡ None → IfSome source.left (λ bytes. job_limit < length bytes) → source.faults ≤ source'.faults
+    → is_command words ≡ true → kept ≡ None → IfSome source.left (λ bytes. JOB_LIMIT < length bytes)
+    → TakesAtMost (JOB_LIMIT + 1) source.left source'.left → source.faults ≤ source'.faults
     → ((bytes : List ℕ) → IsGiven status.Large bytes given kept o n) → IsRun words given kept source source' o n
-run_large words given kept source source' o n asked none long falls given_large =
+run_large words given kept source source' o n asked none long taken falls given_large =
     run_command words status.Large [] given kept source source' o n asked (λ e. absurd (cc)) (given_large [])
     (map_some _ _ source.left (λ bytes h. as_called _ _ bytes given kept o n (called_large words bytes asked h) (given_large bytes)) long)
-    (nothing_kept kept _ none) (nothing_kept kept _ none) falls
+    (nothing_kept kept _ none) (nothing_kept kept _ none) taken falls
 
 -- as many bytes came, so more are told than a job may have
-pub large_told : (limit : ℕ) (before after : Option (List ℕ)) → limit ≡ job_limit → TookBefore Large limit before after → IfSome before (λ bytes. job_limit < length bytes)
+pub large_told : (limit : ℕ) (before after : Option (List ℕ)) → limit ≡ JOB_LIMIT → TookBefore Large limit before after → IfSome before (λ bytes. JOB_LIMIT < length bytes)
 large_told limit None after e t = tt {0}
 large_told limit (Some all) None e t = absurd (cc)
 large_told limit (Some all) (Some rest) e t =
@@ -158,16 +170,16 @@ large_told limit (Some all) (Some rest) e t =
     rw is (let long = t.1 in simp length-append (omega arith))
 
 -- there was no memory for the bytes
-pub run_no_memory : (words : List (List ℕ)) (source source' : Inlet) (o : Outlet) → is_command words ≡ true → source.faults ≤ source'.faults
-    → IsRun words status.Memory None source source' o o
-run_no_memory words source source' o asked falls =
+pub run_no_memory : (words : List (List ℕ)) (source source' : Inlet) (o : Outlet) → is_command words ≡ true
+    → TakesAtMost (JOB_LIMIT + 1) source.left source'.left → source.faults ≤ source'.faults → IsRun words status.Memory None source source' o o
+run_no_memory words source source' o asked taken falls =
     run_command words status.Large [] status.Memory None source source' o o asked (λ e. absurd (cc)) (given_memory status.Large [] o)
-    (all_some _ source.left (λ bytes. given_memory (called_for words bytes) bytes o)) (tt {0}) (tt {0}) falls
+    (all_some _ source.left (λ bytes. given_memory (called_for words bytes) bytes o)) (tt {0}) (tt {0}) taken falls
 
 -- the source failed
 pub run_read_fault : (words : List (List ℕ)) (source source' : Inlet) (o : Outlet) → is_command words ≡ true → HasRisen source.faults source'.faults
-    → source.faults ≤ source'.faults → IsRun words status.ReadFault None source source' o o
-run_read_fault words source source' o asked rose falls = record {
+    → TakesAtMost (JOB_LIMIT + 1) source.left source'.left → source.faults ≤ source'.faults → IsRun words status.ReadFault None source source' o o
+run_read_fault words source source' o asked rose taken falls = record {
   answer = all_some _ source.left (λ bytes. rose);
   usage = λ unasked. absurd (cc);
   command = λ _ e. absurd (cc);
@@ -181,6 +193,7 @@ run_read_fault words source source' o asked rose falls = record {
   front = λ e. absurd (cc);
   room_writes = all_some _ source.left (λ bytes due is h e. absurd (cc));
   room_count = all_some _ source.left (λ bytes due is h. refl);
+  taken = taken;
   source_counts = falls;
   sink_counts = omega arith;
 }
@@ -196,14 +209,14 @@ only_memory called status.ReadFault read_failed rose h f g = absurd (f h)
 only_memory called status.WriteFault read_failed rose h f g = absurd (g h)
 only_memory called status.Memory read_failed rose h f g = inr refl
 
-called_done : (words : List (List ℕ)) (bytes : List ℕ) → is_command words ≡ true → length bytes ≤ job_limit → job_fault bytes ≡ None → deck_fault (job bytes).slots ≡ None
+called_done : (words : List (List ℕ)) (bytes : List ℕ) → is_command words ≡ true → length bytes ≤ JOB_LIMIT → job_fault bytes ≡ None → deck_fault (job bytes).slots ≡ None
     → called_for words bytes ≡ status.Done
 called_done words bytes asked short faultless assembles =
     called_job words bytes asked short ∙ by_job_fault bytes None faultless ∙ by_deck_fault (job bytes).slots None assembles
 
 pub complete : (words : List (List ℕ)) (given : Status) (left : Option (List ℕ)) (read_failed rose : Type 0) → is_command words ≡ true
     → IfSome left (λ bytes. Answers (called_for words bytes) given read_failed rose)
-    → IfSome left (λ bytes. length bytes ≤ job_limit → job_fault bytes ≡ None → deck_fault (job bytes).slots ≡ None → ¬ read_failed → ¬ rose → (given ≡ status.Done) ⊎ (given ≡ status.Memory))
+    → IfSome left (λ bytes. length bytes ≤ JOB_LIMIT → job_fault bytes ≡ None → deck_fault (job bytes).slots ≡ None → ¬ read_failed → ¬ rose → (given ≡ status.Done) ⊎ (given ≡ status.Memory))
 complete words given left read_failed rose asked answers =
     map_some _ _ left (λ bytes h short faultless assembles f g.
     only_memory status.Done given read_failed rose (subst (λ x. Answers x given read_failed rose) (called_done words bytes asked short faultless assembles) h) f g) answers

@@ -1,28 +1,19 @@
 -- The events of a schedule, one after another.
-use Rattle.std.proofs.Common.{◌≡◌, ℕ, ◌+◌, ◌≤◌, ◌<◌, List, [], ◌∷◌, ◌++◌, false, refl, sym, ◌∙◌, ap, add-one, length, take, drop, get_or, drop-cons, append-nil}
-use Rattle.std.proofs.lemmas.Grind.{flat_map-append}
+use Rattle.std.proofs.Common.{◌≡◌, ℕ, ◌+◌, ◌≤◌, ◌<◌, List, [], ◌∷◌, ◌++◌, false, refl, sym, ◌∙◌, ap, length, take, drop, get_or, drop-cons, add-one, subst}
 use Rattle.std.proofs.lemmas.List.{take_all, take_more, take-append-drop}
-use Rattle.kdf_top.specs.declared.journal.Entry.{Entry}
-use Rattle.kdf_top.specs.declared.job.Event.{Event}
-use Rattle.kdf_top.specs.Next.{Slot, any_live}
-use Rattle.kdf_top.specs.Legal.{written, steps, IsLegal}
-use Rattle.kdf_top.specs.Follows.{Call, calls_of, calls_made, IsJournal}
+use Rattle.kdf_processor.specs.State.{Slot}
+use Rattle.kdf_journal.specs.declared.entry.Entry.{Entry}
+use Rattle.kdf_journal.specs.Steps.{journal_of, steps}
+use Rattle.kdf_journal.proofs.Steps.{steps-nil}
+use Rattle.kdf_schedule.specs.declared.event.Event.{Event}
+use Rattle.kdf_schedule.specs.declared.event.Event.TheVariants.{Orders, Move, End, Clock}
+use Rattle.kdf_schedule.specs.Calls.{Call, calls_of, calls_made}
+use Rattle.kdf_schedule.proofs.Schedules.{calls_made-append, calls_made-one, calls_made-nil}
+use Rattle.kdf_top.specs.Next.{any_live}
+use Rattle.kdf_top.specs.Legal.{IsLegal}
+use Rattle.kdf_top.specs.Follows.{AreOrders, IsJournal}
 use Rattle.kdf_top.specs.Course.{course}
-use Rattle.kdf_top.specs.Schedule.{orders_in, order_count}
 use Rattle.kdf_top.proofs.Courses.{course_dead, course-append, whole-course}
-use Rattle.kdf_top.proofs.Steps.{steps-nil}
-
-calls_made-append : (es fs : List Event) → calls_made (es ++ fs) ≡ calls_made es ++ calls_made fs
-unfolding calls_made
-calls_made-append es fs = flat_map-append calls_of es fs
-
-calls_made-one : (e : Event) → calls_made (e ∷ []) ≡ calls_of e
-unfolding calls_made
-calls_made-one e = append-nil (calls_of e)
-
-calls_made-nil : calls_made [] ≡ []
-unfolding calls_made
-calls_made-nil = refl
 
 -- before the first event
 pub begun : (slots : List Slot) (J : List Entry) → J ≡ [] → steps J ≡ course slots [] (calls_made [])
@@ -36,7 +27,7 @@ module _ (slots0 : List Slot) (es : List Event) (i : ℕ) where
     -- the events are over before their end, where no program is live
     pub ended_early : any_live slots J ≡ false → IsJournal slots es J
     ended_early dead =
-        let none : any_live slots0 (written (course slots0 [] (calls_made (take i es)))) ≡ false = rw (← taken, l.in_form, ← same) dead in
+        let none : any_live slots0 (journal_of (course slots0 [] (calls_made (take i es)))) ≡ false = rw (← taken, l.in_form, ← same) dead in
         let all : calls_made (take i es) ++ calls_made (drop i es) ≡ calls_made es = sym (calls_made-append (take i es) (drop i es)) ∙ ap calls_made (take-append-drop i es) in
         let reached : steps J ≡ course slots0 [] (calls_made es) =
         taken ∙ (sym (course_dead slots0 (course slots0 [] (calls_made (take i es))) (calls_made (drop i es)) none)
@@ -52,6 +43,18 @@ module _ (slots0 : List Slot) (es : List Event) (i : ℕ) where
         ap calls_made (take_more es i d lt) ∙ (calls_made-append (take i es) (get_or es i d ∷ []) ∙ ap (λ (cs : List Call). calls_made (take i es) ++ cs) (calls_made-one (get_or es i d))) in
         k ∙ rw (same, taken, next, course-append) refl
 
--- the orders of an event and of those behind it
-pub order_count-drop : (es : List Event) (i : ℕ) (d : Event) → i < length es → order_count (drop i es) ≡ orders_in (get_or es i d) + order_count (drop (i + 1) es)
-order_count-drop es i d lt = rw (add-one i, drop-cons es i d lt) refl
+-- events of orders alone, from the next on
+pub orders-from : (es : List Event) (i : ℕ) (d : Event) → i < length es → AreOrders (drop i es) → AreOrders (get_or es i d ∷ drop (i + 1) es)
+orders-from es i d lt orders = subst AreOrders (drop-cons es i d lt ∙ ap (λ (n : ℕ). get_or es i d ∷ drop n es) (sym (add-one i))) orders
+
+pub orders-first : (e : Event) (es : List Event) → AreOrders (e ∷ es) → AreOrders (e ∷ [])
+orders-first (Orders n) es orders = tt
+orders-first (Move d n) es orders = orders
+orders-first (End d) es orders = orders
+orders-first (Clock t) es orders = orders
+
+pub orders-rest : (e : Event) (es : List Event) → AreOrders (e ∷ es) → AreOrders es
+orders-rest (Orders n) es orders = orders
+orders-rest (Move d n) es orders = absurd orders
+orders-rest (End d) es orders = absurd orders
+orders-rest (Clock t) es orders = absurd orders

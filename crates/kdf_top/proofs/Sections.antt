@@ -3,10 +3,11 @@ use Rattle.std.proofs.Common.{◌≡◌, ℕ, List, [], ◌∷◌, ◌++◌, map
 use Rattle.std.specs.List.{flat_map}
 use Rattle.kdf_processor.specs.declared.registers.Registers.{Registers}
 use Rattle.kdf_processor.specs.State.{State}
-use Rattle.kdf_top.specs.declared.journal.Entry.{Entry}
+use Rattle.kdf_journal.specs.declared.entry.Entry.{Entry}
 use Rattle.kdf_top.specs.Job.{Job, SlotJob}
-use Rattle.kdf_top.specs.Text.{text, entry_line, registers_lines, show_lines, section, report_lines}
-use Rattle.kdf_top.proofs.Texts.{text_more}
+use Rattle.kdf_text.specs.Text.{text}
+use Rattle.kdf_top.specs.Text.{entry_line, registers_lines, show_lines, section, report_lines}
+use Rattle.kdf_text.proofs.Texts.{text_more}
 
 pub section_text : (slot : SlotJob) (s : State) (r : Registers) (shows : List (ℕ × ℕ)) (old slot_written registers_written new : List ℕ)
     → r ≡ s.registers → shows ≡ slot.shows

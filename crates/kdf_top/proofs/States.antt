@@ -2,10 +2,9 @@
 use Rattle.std.proofs.Common.{◌≡◌, ℕ, Bool, true, false, cond, List, [], ◌∷◌, map, Option, Some, None, unwrap_or, refl, ap, ◌∙◌, eqb}
 use Rattle.std.specs.Option.{option_map}
 use Rattle.kdf_processor.specs.declared.registers.Registers.{Registers}
-use Rattle.kdf_processor.specs.State.{State}
-use Rattle.kdf_top.specs.Next.{Slot, own, slot_of, start_of}
-use Rattle.kdf_top.specs.Report.{state_at}
-use Rattle.kdf_top.specs.Shown.{Shown, ShowsLone, state_in, state_of}
+use Rattle.kdf_processor.specs.State.{Slot, State}
+use Rattle.kdf_top.specs.Next.{own, slot_of, start_of}
+use Rattle.kdf_top.specs.Shown.{Shown, ShowsLone, state_in, state_of, state_at}
 
 at_first : (f : Slot → State) (slot : Slot) (rest : Option State) (found : Option Slot) (b : Bool) → rest ≡ option_map f found
     → cond b (Some (f slot)) rest ≡ option_map f (cond b (Some slot) found)

@@ -3,12 +3,14 @@ use Rattle.std.proofs.Common.{◌≡◌, ℕ, ◌+◌, ◌-◌, Bool, List, [], 
 use Rattle.std.proofs.lemmas.List.{get_or-drop, drop-drop}
 use Rattle.kdf_top.specs.declared.job.JobError.{JobError}
 use Rattle.kdf_top.specs.declared.job.JobFault.{JobFault}
-use Rattle.kdf_top.specs.declared.job.Event.TheVariants.{Orders}
-use Rattle.kdf_top.specs.declared.lines.Lines.{Lines}
-use Rattle.kdf_top.specs.Lines.{line, lines}
-use Rattle.kdf_top.specs.Job.{Job, store_size, order_count, show_range, size_in, show_in, shows_of, deck_lines, deck_in, behind_deck, deck_text, orders_in, forms, head_forms, deck_forms, show_forms, schedule_forms, job, job_fault}
+use Rattle.kdf_schedule.specs.declared.event.Event.TheVariants.{Orders}
+use Rattle.kdf_text.specs.declared.lines.Lines.{Lines}
+use Rattle.kdf_text.specs.Text.{text}
+use Rattle.kdf_text.specs.Lines.{line, lines}
+use Rattle.kdf_top.specs.Job.{Job, store_size, orders_of, show_range, size_in, show_in, shows_of, deck_lines, deck_in, behind_deck, scheduled_orders, forms, head_forms, deck_forms, show_forms, schedule_forms, job, job_fault}
 use Rattle.kdf_top.specs.WellFormed.{IsShow}
-use Rattle.kdf_top.specs.Reading.{ahead, fault_from, Passes, Says, Stops}
+use Rattle.kdf_text.specs.Ahead.{ahead}
+use Rattle.kdf_top.specs.Reading.{fault_from, Passes, Says, Stops}
 
 -- line k + 1 of those that are left behind n lines
 line-behind : (n k m : ℕ) (ls : List (List ℕ)) → m - 1 ≡ n + k → get_or (drop n ls) k [] ≡ line ls m
@@ -87,22 +89,22 @@ module _ (bytes : List ℕ) (l0 l1 : Lines) (size : ℕ) (rest : l0.rest.now ≡
         ∙ ap (λ (o : Option (ℕ × ℕ)). fault_from l2 (show_forms size o ++ schedule_forms)) same_show
         ∙ show_passes schedule_forms
 
-    pub same_calls : (calls : ℕ) → ahead l3 ≡ drop (length (shows_of show)) (ahead l2) → order_count (line (ahead l3) 2) ≡ Some calls → orders_in all ≡ calls
+    pub same_calls : (calls : ℕ) → ahead l3 ≡ drop (length (shows_of show)) (ahead l2) → orders_of (line (ahead l3) 2) ≡ Some calls → scheduled_orders all ≡ calls
     same_calls calls behind_show is_calls =
         let k = length (shows_of show) in
         let at : line (ahead l3) 2 ≡ line (ahead l2) (2 + k) = ap (λ (ls : List (List ℕ)). line ls 2) behind_show ∙ line-behind k 1 (2 + k) (ahead l2) (omega arith) in
-        ap (λ (o : Option (ℕ × ℕ)). unwrap_or (order_count (line (behind_deck all) (2 + length (shows_of o)))) 0) same_show
-        ∙ ap (λ (ls : List (List ℕ)). unwrap_or (order_count (line ls (2 + k))) 0) same_behind
-        ∙ ap (λ (l : List ℕ). unwrap_or (order_count l) 0) (sym at) ∙ ap (λ (o : Option ℕ). unwrap_or o 0) is_calls
+        ap (λ (o : Option (ℕ × ℕ)). unwrap_or (orders_of (line (behind_deck all) (2 + length (shows_of o)))) 0) same_show
+        ∙ ap (λ (ls : List (List ℕ)). unwrap_or (orders_of (line ls (2 + k))) 0) same_behind
+        ∙ ap (λ (l : List ℕ). unwrap_or (orders_of l) 0) (sym at) ∙ ap (λ (o : Option ℕ). unwrap_or o 0) is_calls
 
-    pub same_job : (calls : ℕ) → ahead l3 ≡ drop (length (shows_of show)) (ahead l2) → order_count (line (ahead l3) 2) ≡ Some calls
-        → made size (deck_text (deck_lines (ahead l1))) show calls ≡ job bytes
+    pub same_job : (calls : ℕ) → ahead l3 ≡ drop (length (shows_of show)) (ahead l2) → orders_of (line (ahead l3) 2) ≡ Some calls
+        → made size (text (deck_lines (ahead l1))) show calls ≡ job bytes
     unfolding job
     same_job calls behind_show is_calls =
-        ap (λ n. made n (deck_text (deck_lines (ahead l1))) show calls) (sym same_size)
-        ∙ ap (λ (deck : List (List ℕ)). made (size_in all) (deck_text deck) show calls) (sym same_deck)
-        ∙ ap (λ (o : Option (ℕ × ℕ)). made (size_in all) (deck_text (deck_in all)) o calls) (sym same_show)
-        ∙ ap (λ n. made (size_in all) (deck_text (deck_in all)) (show_in all) n) (sym (same_calls calls behind_show is_calls))
+        ap (λ n. made n (text (deck_lines (ahead l1))) show calls) (sym same_size)
+        ∙ ap (λ (deck : List (List ℕ)). made (size_in all) (text deck) show calls) (sym same_deck)
+        ∙ ap (λ (o : Option (ℕ × ℕ)). made (size_in all) (text (deck_in all)) o calls) (sym same_show)
+        ∙ ap (λ n. made (size_in all) (text (deck_in all)) (show_in all) n) (sym (same_calls calls behind_show is_calls))
 
 -- what is shown is in the store
 all-shows : (size : ℕ) (show : Option (ℕ × ℕ)) → IfSome show (IsShow size) → All (IsShow size) (shows_of show)

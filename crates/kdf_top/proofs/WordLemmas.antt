@@ -1,11 +1,13 @@
 -- Lines of a name and numbers, which are cut at each space.
-use Rattle.std.proofs.Common.{◌≡◌, ℕ, Bool, true, false, cond, not, eqb, List, [], ◌∷◌, ◌++◌, Option, Some, None, length, refl, sym, ap, ◌∙◌, ⊎_elim, codes}
+use Rattle.std.proofs.Common.{◌≡◌, ℕ, Bool, true, false, cond, not, eqb, List, [], ◌∷◌, Option, Some, None, length, refl, sym, ap, ◌∙◌, ⊎_elim, codes}
 use Rattle.std.specs.List.{list_all}
 use Rattle.std.proofs.lemmas.Bool.{or_cases, cases_Bool, eqb-true, and_right}
 use Rattle.kdf_top.specs.Options.{◌>>=◌}
-use Rattle.kdf_top.specs.Lines.{words, is_text, is_digit, is_digits, number_in}
+use Rattle.kdf_text.specs.Lines.{words, is_text}
+use Rattle.kdf_text.specs.Numbers.{is_digit, is_digits, number_in}
 use Rattle.kdf_top.specs.Job.{number_of_words, show_of_words, addresses, if_shown}
-use Rattle.kdf_top.proofs.Cutting.{has, Many, words-parts, parts-whole, parts-many, parts-at}
+use Rattle.kdf_text.proofs.Cutting.{has}
+use Rattle.kdf_text.proofs.WordCuts.{words-whole, words-many}
 
 cond-same : {A : Type 0} (b : Bool) → cond {A = Option A} b None None ≡ None
 cond-same true = refl
@@ -25,16 +27,6 @@ no-number low high text h =
     let none : is_digits text ≡ false = and_right (not (eqb (length text) 0)) (list_all is_digit text) (digits-apart text h) in
     rw none refl
 
-words-whole : (text : List ℕ) → has 32 text ≡ false → words text ≡ text ∷ []
-words-whole text whole = words-parts text ∙ parts-whole 32 text whole
-
-words-many : (text : List ℕ) → has 32 text ≡ true → Many (words text)
-words-many text h = rw (words-parts text) (parts-many 32 text h)
-
-words-at : (line front rest : List ℕ) → line ≡ front ++ 32 ∷ rest → has 32 front ≡ false → words line ≡ front ∷ words rest
-words-at line front rest e apart =
-    words-parts line ∙ parts-at 32 line front rest e apart ∙ ap (λ (ws : List (List ℕ)). front ∷ ws) (sym (words-parts rest))
-
 -- a name, and what stands behind the space
 number-cut : (name front rest : List ℕ) (low high : ℕ)
     → number_of_words name low high (front ∷ words rest) ≡ cond (is_text name front) (number_in low high rest) None
@@ -46,13 +38,12 @@ number-cut name front rest low high =
     (λ (whole : has 32 rest ≡ false). rw (words-whole rest whole) refl)
     (cases_Bool (has 32 rest))
 
-pub number-at : (name line front rest : List ℕ) (low high : ℕ) → line ≡ front ++ 32 ∷ rest → has 32 front ≡ false
+pub number-at : (name line front rest : List ℕ) (low high : ℕ) → words line ≡ front ∷ words rest
     → number_of_words name low high (words line) ≡ cond (is_text name front) (number_in low high rest) None
-number-at name line front rest low high e apart =
-    ap (number_of_words name low high) (words-at line front rest e apart) ∙ number-cut name front rest low high
+number-at name line front rest low high at = ap (number_of_words name low high) at ∙ number-cut name front rest low high
 
-pub number-nowhere : (name line : List ℕ) (low high : ℕ) → has 32 line ≡ false → number_of_words name low high (words line) ≡ None
-number-nowhere name line low high whole = ap (number_of_words name low high) (words-whole line whole)
+pub number-nowhere : (name line : List ℕ) (low high : ℕ) → words line ≡ line ∷ [] → number_of_words name low high (words line) ≡ None
+number-nowhere name line low high whole = ap (number_of_words name low high) whole
 
 no-address : (size : ℕ) (first last : List ℕ) → has 32 last ≡ true → addresses size first last ≡ None
 no-address size first last h =
@@ -68,16 +59,13 @@ show-cut size name first rest =
     (λ (whole : has 32 rest ≡ false). rw (words-whole rest whole) refl)
     (cases_Bool (has 32 rest))
 
-pub show-at : (size : ℕ) (line name behind first last : List ℕ) → line ≡ name ++ 32 ∷ behind → has 32 name ≡ false
-    → behind ≡ first ++ 32 ∷ last → has 32 first ≡ false
+pub show-at : (size : ℕ) (line name behind first last : List ℕ) → words line ≡ name ∷ words behind → words behind ≡ first ∷ words last
     → show_of_words size (words line) ≡ cond (is_text (codes "SHOW") name) (addresses size first last) None
-show-at size line name behind first last e apart e' apart' =
-    ap (show_of_words size) (words-at line name behind e apart ∙ ap (λ (ws : List (List ℕ)). name ∷ ws) (words-at behind first last e' apart'))
-    ∙ show-cut size name first last
+show-at size line name behind first last at at' =
+    ap (show_of_words size) (at ∙ ap (λ (ws : List (List ℕ)). name ∷ ws) at') ∙ show-cut size name first last
 
-pub show-nowhere : (size : ℕ) (line : List ℕ) → has 32 line ≡ false → show_of_words size (words line) ≡ None
-show-nowhere size line whole = ap (show_of_words size) (words-whole line whole)
+pub show-nowhere : (size : ℕ) (line : List ℕ) → words line ≡ line ∷ [] → show_of_words size (words line) ≡ None
+show-nowhere size line whole = ap (show_of_words size) whole
 
-pub show-one : (size : ℕ) (line name behind : List ℕ) → line ≡ name ++ 32 ∷ behind → has 32 name ≡ false → has 32 behind ≡ false → show_of_words size (words line) ≡ None
-show-one size line name behind e apart whole =
-    ap (show_of_words size) (words-at line name behind e apart ∙ ap (λ (ws : List (List ℕ)). name ∷ ws) (words-whole behind whole))
+pub show-one : (size : ℕ) (line name behind : List ℕ) → words line ≡ name ∷ words behind → words behind ≡ behind ∷ [] → show_of_words size (words line) ≡ None
+show-one size line name behind at whole = ap (show_of_words size) (at ∙ ap (λ (ws : List (List ℕ)). name ∷ ws) whole)

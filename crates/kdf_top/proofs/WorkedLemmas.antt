@@ -23,11 +23,13 @@ use Rattle.kdf_top.specs.declared.status.Status.TheVariants as status
 use Rattle.kdf_top.specs.Answers.{called_for}
 use Rattle.kdf_top.specs.Commands.{is_command}
 use Rattle.kdf_top.specs.Deck.{assembled, image_words}
-use Rattle.kdf_top.specs.Text.{job_limit}
-use Rattle.kdf_top.specs.Lines.{lines, words, value}
+use Rattle.kdf_text.specs.Lines.{lines, words}
+use Rattle.kdf_text.specs.Text.{text}
+use Rattle.kdf_text.specs.Numbers.{value}
+use Rattle.kdf_schedule.specs.Events.{event}
 use Rattle.kdf_top.specs.Job.{forms, job, job_fault}
 use Rattle.kdf_top.specs.Worked.{Looked, adding, seventeen_zeros, nothing, of_two_parts, alone, looked, job_text, of_32}
-use Rattle.kdf_top.specs.declared.job.Event.TheVariants.{Orders}
+use Rattle.kdf_schedule.specs.declared.event.Event.TheVariants.{Orders}
 use Rattle.kdf_top.specs.declared.job.JobFault.TheVariants.{Header, NotYet}
 
 -- images
@@ -95,31 +97,31 @@ word_too_many = refl
 -- jobs
 
 pub adding_faultless : job_fault (job_text (codes "STORE 32") adding (codes "SHOW 3 3") (codes "ORDERS 10")) ≡ None
-unfolding value lines words forms job_fault
+unfolding value lines words event forms job_fault
 adding_faultless = refl
 
 pub adding_job
     : job (job_text (codes "STORE 32") adding (codes "SHOW 3 3") (codes "ORDERS 10"))
     ≡ record { slots = record { p = 0; size = 32; deck = adding; shows = (3, 3) ∷ [] } ∷ []; events = Orders 10 ∷ [] }
-unfolding value lines words job
+unfolding value lines words event job text
 adding_job = refl
 
 pub no_job : job_fault [] ≡ Some (Header, 1)
-unfolding lines words forms job_fault
+unfolding lines words event forms job_fault
 no_job = refl
 
 pub store_33 : job_fault (job_text (codes "STORE 33") adding (codes "SHOW 3 3") (codes "ORDERS 10")) ≡ Some (NotYet, 3)
-unfolding value lines words forms job_fault
+unfolding value lines words event forms job_fault
 store_33 = refl
 
 pub shows_32 : job_fault (job_text (codes "STORE 32") adding (codes "SHOW 3 32") (codes "ORDERS 10")) ≡ Some (NotYet, 7)
-unfolding value lines words forms job_fault
+unfolding value lines words event forms job_fault
 shows_32 = refl
 
 pub job_first : called_for (codes "run" ∷ []) (job_text (codes "STORE 32") [] (codes "SHOW 3 32") (codes "ORDERS 10")) ≡ status.Job NotYet 6
-unfolding assembled lettered store_name addressed suffix_of access_form address_form condition_of target_form subroutine_form test_form jump_form form_in address_item number_item item_form triple_form octal_value characters_value value_form constant_form start octal_order order_form formless statement_faults phase_after statements_of placed spelling value lines words forms job job_fault job_limit is_command called_for
+unfolding assembled lettered store_name addressed suffix_of access_form address_form condition_of target_form subroutine_form test_form jump_form form_in address_item number_item item_form triple_form octal_value characters_value value_form constant_form start octal_order order_form formless statement_faults phase_after statements_of placed spelling value lines words event forms job job_fault is_command called_for text
 job_first = refl
 
 pub then_deck : called_for (codes "run" ∷ []) (job_text (codes "STORE 32") [] (codes "SHOW 3 3") (codes "ORDERS 10")) ≡ status.Deck 0 NoFinish 0
-unfolding assembled lettered store_name addressed suffix_of access_form address_form condition_of target_form subroutine_form test_form jump_form form_in address_item number_item item_form triple_form octal_value characters_value value_form constant_form start octal_order order_form formless statement_faults phase_after statements_of placed spelling value lines words forms job job_fault job_limit is_command called_for
+unfolding assembled lettered store_name addressed suffix_of access_form address_form condition_of target_form subroutine_form test_form jump_form form_in address_item number_item item_form triple_form octal_value characters_value value_form constant_form start octal_order order_form formless statement_faults phase_after statements_of placed spelling value lines words event forms job job_fault is_command called_for text
 then_deck = refl

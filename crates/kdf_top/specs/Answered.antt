@@ -1,6 +1,8 @@
 -- What a call came to, from its answer and from what its source and its sink told before and after it.
-use Rattle.std.specs.Prelude.{◌≡◌, ◌≢◌, ℕ, ◌≤◌, List, length, true, false, Option, is_some, IfSome}
-use Rattle.kdf_io.specs.Outside.{HasRisen, Took, NothingLeft}
+use Rattle.std.specs.Prelude.{◌≡◌, ◌≢◌, ℕ, ◌+◌, ◌≤◌, List, length, true, false, Option, is_some, IfSome}
+use Rattle.kdf_io.specs.Outside.{HasRisen, Advances, NothingLeft}
+use Rattle.kdf_io.specs.Reading.{TakesAtMost}
+use Rattle.kdf_top.specs.declared.command.TheConstants.{JOB_LIMIT}
 use Rattle.kdf_top.specs.declared.status.Status.{Status}
 use Rattle.kdf_top.specs.declared.status.Status.TheVariants as status
 use Rattle.kdf_top.specs.Shown.{Shown}
@@ -44,8 +46,10 @@ IsRefusal status.Large = Unit {0}
 IsRefusal _ = ⊥
 
 -- an answer to words, over a source and a sink
-pub record IsRun (words : List (List ℕ)) (given : Status) (kept : Option Shown) (source source' : Inlet) (sink sink' : Outlet) : Type 0 where
-  pub answer : IfSome source.left (λ bytes. Answers (called_for words bytes) given (HasRisen source.faults source'.faults) (HasRisen sink.faults sink'.faults))
+pub record IsRun (words : List (List ℕ)) (given : Status) (kept : Option Shown) (source source' : Inlet)
+    (sink sink' : Outlet) : Type 0 where
+  pub answer : IfSome source.left (λ bytes. Answers (called_for words bytes) given
+      (HasRisen source.faults source'.faults) (HasRisen sink.faults sink'.faults))
   pub usage : is_command words ≡ false → Answers status.Usage given ⊥ (HasRisen sink.faults sink'.faults)
   pub command : is_command words ≡ true → given ≢ status.Usage
   pub read_fault : given ≡ status.ReadFault → HasRisen source.faults source'.faults
@@ -53,10 +57,15 @@ pub record IsRun (words : List (List ℕ)) (given : Status) (kept : Option Shown
   pub wrote : Wrote given sink.written sink'.written
   pub machine : is_some kept ≡ is_done given
   pub ended : IfSome kept (λ m. NothingLeft source'.left)
-  pub done : IfSome kept (λ m. (bytes : List ℕ) × Took source.left bytes source'.left × IsReported bytes m sink.written sink'.written)
+  pub done : IfSome kept (λ m. (bytes : List ℕ) × Advances source.left bytes source'.left
+      × IsReported bytes m sink.written sink'.written)
   pub told : IfSome kept (λ m. IfSome source.left (λ bytes. IsReported bytes m sink.written sink'.written))
-  pub front : given ≡ status.WriteFault → IfSome source.left (λ bytes. WroteFront (called_for words bytes) bytes sink.written sink'.written)
-  pub room_writes : IfSome source.left (λ bytes. (due : List ℕ) → IsDue (called_for words bytes) bytes due → length due ≤ sink.room → given ≢ status.WriteFault)
-  pub room_count : IfSome source.left (λ bytes. (due : List ℕ) → IsDue (called_for words bytes) bytes due → length due ≤ sink.room → sink'.faults ≡ sink.faults)
+  pub front : given ≡ status.WriteFault
+      → IfSome source.left (λ bytes. WroteFront (called_for words bytes) bytes sink.written sink'.written)
+  pub room_writes : IfSome source.left (λ bytes. (due : List ℕ) → IsDue (called_for words bytes) bytes due
+      → length due ≤ sink.room → given ≢ status.WriteFault)
+  pub room_count : IfSome source.left (λ bytes. (due : List ℕ) → IsDue (called_for words bytes) bytes due
+      → length due ≤ sink.room → sink'.faults ≡ sink.faults)
+  pub taken : TakesAtMost (JOB_LIMIT + 1) source.left source'.left
   pub source_counts : source.faults ≤ source'.faults
   pub sink_counts : sink.faults ≤ sink'.faults

@@ -1,6 +1,6 @@
 -- What `run` answers to its words and to the bytes of its source, and what it writes.
 use Rattle.std.specs.Prelude.{◌≡◌, ℕ, List, [], ◌∷◌, length, nat_lt, Bool, true, false, Option, Some, None, if◌then◌else◌}
-use Rattle.kdf_top.specs.declared.journal.Entry.{Entry}
+use Rattle.kdf_journal.specs.declared.entry.Entry.{Entry}
 use Rattle.kdf_top.specs.declared.job.JobFault.{JobFault}
 use Rattle.kdf_top.specs.declared.status.Status.{Status}
 use Rattle.kdf_top.specs.declared.status.Status.TheVariants as status
@@ -12,7 +12,9 @@ use Rattle.kdf_top.specs.Deck.{deck_fault}
 use Rattle.kdf_top.specs.Next.{own}
 use Rattle.kdf_top.specs.Follows.{IsJournal}
 use Rattle.kdf_top.specs.Shown.{Shown, ShowsLone, slots_of}
-use Rattle.kdf_top.specs.Text.{text, report_lines, usage_line, large_line, job_fault_line, deck_fault_line, job_limit}
+use Rattle.kdf_text.specs.Text.{text}
+use Rattle.kdf_top.specs.Text.{report_lines, usage_line, large_line, job_fault_line, deck_fault_line}
+use Rattle.kdf_top.specs.declared.command.TheConstants.{JOB_LIMIT}
 
 -- the answer that a job calls for: a fault of the job comes before one of a deck
 abbrev pub status_of_decks : Option (ℕ × Found) → Status
@@ -27,7 +29,7 @@ abbrev pub status_of_job : List ℕ → Status
 status_of_job bytes = status_of_faults (job_fault bytes) (deck_fault (job bytes).slots)
 
 abbrev pub status_of_bytes : List ℕ → Status
-status_of_bytes bytes = if nat_lt job_limit (length bytes) then status.Large else status_of_job bytes
+status_of_bytes bytes = if nat_lt JOB_LIMIT (length bytes) then status.Large else status_of_job bytes
 
 -- the answer that the words and the bytes call for
 unfoldable pub called_for : List (List ℕ) → List ℕ → Status

@@ -1,6 +1,6 @@
 -- The words behind the program's name that are a command.
 use Rattle.std.specs.Prelude.{ℕ, Bool, false, List, [], ◌∷◌, codes}
-use Rattle.kdf_top.specs.Lines.{is_text}
+use Rattle.kdf_text.specs.Lines.{is_text}
 
 -- the word `run`, alone
 unfoldable pub is_command : List (List ℕ) → Bool

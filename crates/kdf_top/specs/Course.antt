@@ -1,19 +1,37 @@
 -- The one course that the programs in the slots take under a schedule, as a function.
-use Rattle.std.specs.Prelude.{ℕ, List, [], ◌∷◌, unwrap_or, if◌then◌else◌}
-use Rattle.kdf_top.specs.declared.journal.Entry.{Entry}
-use Rattle.kdf_top.specs.Next.{Slot, own, next, any_live}
-use Rattle.kdf_top.specs.Legal.{Step, Obeys, written, note_of}
-use Rattle.kdf_top.specs.Follows.{Call, AnOrder}
+use Rattle.std.specs.Prelude.{ℕ, List, [], ◌∷◌, Option, Some, None, if◌then◌else◌}
+use Rattle.kdf_processor.specs.State.{Slot}
+use Rattle.kdf_journal.specs.declared.entry.Entry.{Entry}
+use Rattle.kdf_journal.specs.Counts.{Hold}
+use Rattle.kdf_journal.specs.Steps.{Step, Obeys, Holds, Waits, Moves, Ends, Sets, journal_of}
+use Rattle.kdf_schedule.specs.Calls.{Call, AnOrder, AMove, AnEnd, AClock}
+use Rattle.kdf_top.specs.World.{World, first_need}
+use Rattle.kdf_top.specs.Next.{lone_world, next, any_live}
+use Rattle.kdf_top.specs.Legal.{note_of}
 
--- the step in which program p obeys its next order
-abbrev pub turn : List Slot → List Entry → ℕ → Step
-turn slots J p = Obeys p (note_of (own slots J p))
+-- the step in which it is the turn of program p, which this holds up
+abbrev pub turn : World → ℕ → Option Hold → Step
+turn w p None = Obeys p (note_of (w.state p))
+turn w p (Some by) = Holds p by
 
--- the step that a call makes after the journal J, where a program is live, and so one is next
-abbrev pub step_at : List Slot → List Entry → Call → Step
-step_at slots J AnOrder = turn slots J (unwrap_or (next slots J) 0)
+-- and of the program that is next, if one is
+abbrev pub turn_of : World → Option ℕ → Step
+turn_of w None = Waits
+turn_of w (Some p) = turn w p (first_need w p)
+
+-- the step that a call makes in this world, after the journal J, where a program is live
+abbrev pub step_at : World → List Slot → List Entry → Call → Step
+step_at w slots J AnOrder = turn_of w (next w slots J)
+step_at w slots J (AMove d n) = Moves d n
+step_at w slots J (AnEnd d) = Ends d
+step_at w slots J (AClock t) = Sets t
+
+-- and in the world of lone runs
+abbrev pub lone_step_at : List Slot → List Entry → Call → Step
+lone_step_at slots J c = step_at (lone_world slots J) slots J c
 
 -- the steps, the newest first, with those that these calls make; where no program is live, they make none
 abbrev pub course : List Slot → List Step → List Call → List Step
 course slots P [] = P
-course slots P (c ∷ cs) = if any_live slots (written P) then course slots (step_at slots (written P) c ∷ P) cs else P
+course slots P (c ∷ cs) =
+    if any_live slots (journal_of P) then course slots (lone_step_at slots (journal_of P) c ∷ P) cs else P

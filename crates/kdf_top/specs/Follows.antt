@@ -1,25 +1,22 @@
 -- What it is for a journal to answer a schedule.
-use Rattle.std.specs.Prelude.{◌≡◌, List, [], ◌∷◌, ◌++◌, ◌⊎◌, true, false, replicate}
-use Rattle.std.specs.List.{flat_map}
-use Rattle.kdf_top.specs.declared.journal.Entry.{Entry}
-use Rattle.kdf_top.specs.declared.job.Event.{Event}
-use Rattle.kdf_top.specs.declared.job.Event.TheVariants.{Orders}
-use Rattle.kdf_top.specs.Next.{Slot, any_live}
-use Rattle.kdf_top.specs.Legal.{Step, Obeys, written, steps, IsLegal}
+use Rattle.std.specs.Prelude.{◌≡◌, ℕ, ◌≤◌, List, [], ◌∷◌, ◌++◌, ◌⊎◌, true, false}
+use Rattle.kdf_processor.specs.State.{Slot}
+use Rattle.kdf_journal.specs.declared.entry.Entry.{Entry}
+use Rattle.kdf_journal.specs.Steps.{Step, Obeys, Holds, Waits, Moves, Ends, Sets, journal_of, steps}
+use Rattle.kdf_schedule.specs.declared.event.Event.{Event}
+use Rattle.kdf_schedule.specs.declared.event.Event.TheVariants.{Orders, Move, End, Clock}
+use Rattle.kdf_schedule.specs.Calls.{Call, AnOrder, AMove, AnEnd, AClock, calls_made}
+use Rattle.kdf_top.specs.Next.{any_live}
+use Rattle.kdf_top.specs.Legal.{IsLegal}
 
--- one call of the schedule
-pub data Call : Type 0 where
-  AnOrder : Call
-
+-- the call that a step answers
 abbrev pub call_of : Step → Call
 call_of (Obeys p note) = AnOrder
-
-abbrev pub calls_of : Event → List Call
-calls_of (Orders n) = replicate n AnOrder
-
--- the schedule's calls one by one
-unfoldable pub calls_made : List Event → List Call
-calls_made events = flat_map calls_of events
+call_of (Holds p by) = AnOrder
+call_of Waits = AnOrder
+call_of (Moves d n) = AMove d n
+call_of (Ends d) = AnEnd d
+call_of (Sets t) = AClock t
 
 -- the calls that the steps answer, the oldest first
 abbrev pub answered : List Step → List Call
@@ -29,7 +26,7 @@ answered (s ∷ P) = answered P ++ call_of s ∷ []
 -- a program was live before each step
 abbrev pub EachLive : List Slot → List Step → Type 0
 EachLive slots [] = Unit {0}
-EachLive slots (s ∷ P) = EachLive slots P × (any_live slots (written P) ≡ true)
+EachLive slots (s ∷ P) = EachLive slots P × (any_live slots (journal_of P) ≡ true)
 
 -- the journal answers the calls one for one, from the first, and only the last ones are left
 pub record Follows (slots : List Slot) (calls left : List Call) (J : List Entry) : Type 0 where
@@ -46,3 +43,15 @@ pub record IsWhole (slots : List Slot) (calls : List Call) (J : List Entry) : Ty
 pub record IsJournal (slots : List Slot) (events : List Event) (J : List Entry) : Type 0 where
   pub legal : IsLegal slots J
   pub whole : IsWhole slots (calls_made events) J
+
+-- where the time is t, no call sets it back
+abbrev pub IsRising : ℕ → List Call → Type 0
+IsRising t [] = Unit {0}
+IsRising t (AClock u ∷ cs) = (t ≤ u) × IsRising u cs
+IsRising t (c ∷ cs) = IsRising t cs
+
+-- events of orders alone: others are not read yet
+abbrev pub AreOrders : List Event → Type 0
+AreOrders [] = Unit {0}
+AreOrders (Orders n ∷ es) = AreOrders es
+AreOrders (e ∷ es) = ⊥

@@ -1,12 +1,15 @@
 -- The jobs that are read today: which lines they have, the first line that is wrong, and what a job means.
-use Rattle.std.specs.Prelude.{ℕ, ◌+◌, ◌%◌, ◌==◌, ◌&&◌, nat_le, nat_lt, Bool, true, List, [], ◌∷◌, ◌++◌, length, drop, Option, Some, None, unwrap_or, is_some, if◌then◌else◌, codes}
-use Rattle.std.specs.List.{flat_map}
-use Rattle.kdf_top.specs.declared.job.Event.{Event}
-use Rattle.kdf_top.specs.declared.job.Event.TheVariants.{Orders}
+use Rattle.std.specs.Prelude.{ℕ, ◌+◌, ◌%◌, ◌==◌, ◌&&◌, nat_le, nat_lt, Bool, true, List, [], ◌∷◌, ◌++◌, length, drop, Option, Some, None, unwrap_or, is_some, Result, Ok, if◌then◌else◌, codes}
+use Rattle.kdf_schedule.specs.declared.event.Event.{Event}
+use Rattle.kdf_schedule.specs.declared.event.Event.TheVariants.{Orders}
+use Rattle.kdf_schedule.specs.declared.event.EventFault.{EventFault}
+use Rattle.kdf_schedule.specs.Events.{event}
 use Rattle.kdf_top.specs.declared.job.JobFault.{JobFault}
 use Rattle.kdf_top.specs.declared.job.JobFault.TheVariants.{Header, NotYet}
 use Rattle.kdf_top.specs.Options.{◌>>=◌}
-use Rattle.kdf_top.specs.Lines.{lines, words, line, is_text, number_in}
+use Rattle.kdf_text.specs.Lines.{lines, words, line, is_text}
+use Rattle.kdf_text.specs.Text.{text}
+use Rattle.kdf_text.specs.Numbers.{number_in}
 
 -- a slot of a job
 pub record SlotJob : Type 0 where
@@ -31,9 +34,14 @@ if_in_groups n = if n % 32 == 0 then Some n else None
 abbrev pub store_size : List ℕ → Option ℕ
 store_size l = number_of_words (codes "STORE") 32 8192 (words l) >>= if_in_groups
 
--- the number of calls in `ORDERS n`
-abbrev pub order_count : List ℕ → Option ℕ
-order_count l = number_of_words (codes "ORDERS") 1 20000000 (words l)
+-- the number of orders of an event, if it is one of orders: no other is read today
+abbrev pub orders_told : Result Event EventFault → Option ℕ
+orders_told (Ok (Orders n)) = Some n
+orders_told _ = None
+
+-- the number of orders in `ORDERS n`
+abbrev pub orders_of : List ℕ → Option ℕ
+orders_of l = orders_told (event l)
 
 -- the addresses in `SHOW a b`, which don't fall and are below the size
 abbrev pub if_shown : ℕ → ℕ → ℕ → Option (ℕ × ℕ)
@@ -70,15 +78,15 @@ behind_deck ls = drop (5 + length (deck_in ls)) ls
 abbrev pub show_in : List (List ℕ) → Option (ℕ × ℕ)
 show_in ls = show_range (size_in ls) (line (behind_deck ls) 1)
 
--- the forms of lines with a size, with addresses to show, and with a number of calls
+-- the forms of lines with a size, with addresses to show, and with a number of orders
 abbrev pub has_size : List ℕ → Bool
 has_size l = is_some (store_size l)
 
 abbrev pub has_show : ℕ → List ℕ → Bool
 has_show size l = is_some (show_range size l)
 
-abbrev pub has_calls : List ℕ → Bool
-has_calls l = is_some (order_count l)
+abbrev pub has_orders : List ℕ → Bool
+has_orders l = is_some (orders_of l)
 
 -- the forms that the lines of a job have, in order
 abbrev pub head_forms : List (List ℕ → Bool)
@@ -97,7 +105,7 @@ show_forms size None = []
 show_forms size (Some x) = has_show size ∷ []
 
 abbrev pub schedule_forms : List (List ℕ → Bool)
-schedule_forms = is_text (codes "SCHEDULE") ∷ has_calls ∷ is_text (codes "ENDJOB") ∷ []
+schedule_forms = is_text (codes "SCHEDULE") ∷ has_orders ∷ is_text (codes "ENDJOB") ∷ []
 
 unfoldable pub forms : List (List ℕ) → List (List ℕ → Bool)
 forms ls = head_forms ++ (deck_forms (deck_in ls) ++ (show_forms (size_in ls) (show_in ls) ++ schedule_forms))
@@ -124,18 +132,14 @@ shows_of None = []
 shows_of (Some x) = x ∷ []
 
 -- the line of the schedule stands behind SCHEDULE
-abbrev pub orders_in : List (List ℕ) → ℕ
-orders_in ls = unwrap_or (order_count (line (behind_deck ls) (2 + length (shows_of (show_in ls))))) 0
-
--- the text of a deck: its lines, each with a byte 10
-abbrev pub deck_text : List (List ℕ) → List ℕ
-deck_text ls = flat_map (λ l. l ++ 10 ∷ []) ls
+abbrev pub scheduled_orders : List (List ℕ) → ℕ
+scheduled_orders ls = unwrap_or (orders_of (line (behind_deck ls) (2 + length (shows_of (show_in ls))))) 0
 
 abbrev pub job_of_lines : List (List ℕ) → Job
 job_of_lines ls =
     record {
-      slots = record { p = 0; size = size_in ls; deck = deck_text (deck_in ls); shows = shows_of (show_in ls) } ∷ [];
-      events = Orders (orders_in ls) ∷ [];
+      slots = record { p = 0; size = size_in ls; deck = text (deck_in ls); shows = shows_of (show_in ls) } ∷ [];
+      events = Orders (scheduled_orders ls) ∷ [];
     }
 
 -- what the lines of a job without a fault mean

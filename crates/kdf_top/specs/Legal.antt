@@ -1,53 +1,14 @@
--- What makes a journal legal. It is read as steps, newest first: one order with its note.
-use Rattle.std.specs.Prelude.{◌≡◌, ℕ, List, [], ◌∷◌, ◌++◌, Some, fold, replicate}
-use Rattle.kdf_journal.specs.declared.failure.Failure.{Failure}
+-- What makes a journal legal.
+use Rattle.std.specs.Prelude.{◌≡◌, ℕ, ◌≤◌, List, [], ◌∷◌, true, Some, None}
 use Rattle.kdf_processor.specs.declared.step.Step.{Step as Ending}
 use Rattle.kdf_processor.specs.declared.step.Step.TheVariants as ending
-use Rattle.kdf_processor.specs.State.{State}
+use Rattle.kdf_processor.specs.State.{Slot, State}
 use Rattle.kdf_processor.specs.Row.{next_of}
-use Rattle.kdf_top.specs.declared.journal.Entry.{Entry}
-use Rattle.kdf_top.specs.declared.journal.Entry.TheVariants.{Ran, Fail, Ended}
-use Rattle.kdf_top.specs.Joined.{pushed}
-use Rattle.kdf_top.specs.Next.{Slot, own, next}
-
--- what stands directly after an order
-pub data Note : Type 0 where
-  Quiet : Note
-  Failed : (kind : Failure) → Note
-  Finished : Note
-
--- program p obeyed an order
-pub data Step : Type 0 where
-  Obeys : (p : ℕ) (note : Note) → Step
-
--- writing a note, and a step, at the end of a journal
-abbrev pub noted : List Entry → ℕ → Note → List Entry
-noted J p Quiet = J
-noted J p (Failed kind) = pushed J (Fail p kind)
-noted J p Finished = pushed J (Ended p)
-
-abbrev pub added : List Entry → Step → List Entry
-added J (Obeys p note) = noted (pushed J (Ran p 1)) p note
-
--- the journal of these steps, the newest first
-abbrev pub written : List Step → List Entry
-written [] = []
-written (s ∷ P) = added (written P) s
-
--- reading an entry after these steps: Ran p n is n orders, and a note belongs to the order before it
-abbrev pub with_note : Note → List Step → List Step
-with_note note [] = []
-with_note note (Obeys p Quiet ∷ P) = Obeys p note ∷ P
-with_note note (s ∷ P) = s ∷ P
-
-abbrev pub read : List Step → Entry → List Step
-read P (Ran p n) = replicate n (Obeys p Quiet) ++ P
-read P (Fail p kind) = with_note (Failed kind) P
-read P (Ended p) = with_note Finished P
-
--- the steps of a journal, the newest first
-unfoldable pub steps : List Entry → List Step
-steps J = fold read [] J
+use Rattle.kdf_journal.specs.declared.entry.Entry.{Entry}
+use Rattle.kdf_journal.specs.Counts.{clock}
+use Rattle.kdf_journal.specs.Steps.{Note, Quiet, Failed, Finished, Step, Obeys, Holds, Waits, Moves, Ends, Sets, journal_of, steps}
+use Rattle.kdf_top.specs.World.{World, first_need}
+use Rattle.kdf_top.specs.Next.{lone_world, next, any_live}
 
 -- the note of an order that came out so
 abbrev pub note_for : Ending → Note
@@ -60,16 +21,26 @@ note_for ending.Ends = Finished
 abbrev pub note_of : State → Note
 note_of s = note_for (next_of s 0).step
 
--- the step is as the rules have it after the journal J: the program is the next one, and its order, to which nothing can be in the way while
--- there are no transfers, has the note with which it comes out
-abbrev pub Meets : List Slot → List Entry → Step → Type 0
-Meets slots J (Obeys p note) = (next slots J ≡ Some p) × (note ≡ note_of (own slots J p))
+-- The step is as the rules have it in this world, after the journal J. A program that is next obeys, with the note with which
+-- its order comes out, or is held by the first of its needs that is pending; a call finds all held where none is next;
+-- and no time is set back.
+abbrev pub Meets : World → List Slot → List Entry → Step → Type 0
+Meets w slots J (Obeys p note) =
+    (next w slots J ≡ Some p) × (first_need w p ≡ None) × (note ≡ note_of (w.state p))
+Meets w slots J (Holds p by) = (next w slots J ≡ Some p) × (first_need w p ≡ Some by)
+Meets w slots J Waits = (any_live slots J ≡ true) × (next w slots J ≡ None)
+Meets w slots J (Moves d n) = Unit {0}
+Meets w slots J (Ends d) = Unit {0}
+Meets w slots J (Sets t) = clock J ≤ t
 
+-- each step is so in the world of lone runs
 abbrev pub EachMeets : List Slot → List Step → Type 0
 EachMeets slots [] = Unit {0}
-EachMeets slots (s ∷ P) = EachMeets slots P × Meets slots (written P) s
+EachMeets slots (s ∷ P) = EachMeets slots P × Meets (lone_world slots (journal_of P)) slots (journal_of P) s
 
--- the journal is how its steps are written, and each step meets the rules
+-- The journal is that of its steps, and each step meets the rules. The first alone guards the form: that entries which could
+-- be one are joined, that each number of orders and of idle calls is at least 1, and that a note stands directly behind
+-- an order, with the order's program, and nowhere else.
 pub record IsLegal (slots : List Slot) (J : List Entry) : Type 0 where
-  pub in_form : written (steps J) ≡ J
+  pub in_form : journal_of (steps J) ≡ J
   pub each : EachMeets slots (steps J)

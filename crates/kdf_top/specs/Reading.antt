@@ -3,14 +3,10 @@ use Rattle.std.specs.Prelude.{◌≡◌, ℕ, Bool, List, ◌++◌, Option, Some
 use Rattle.kdf_top.specs.declared.job.JobError.{JobError}
 use Rattle.kdf_top.specs.declared.job.JobError.TheVariants.{Fault, Memory}
 use Rattle.kdf_top.specs.declared.job.JobFault.{JobFault}
-use Rattle.kdf_top.specs.declared.lines.Lines.{Lines}
+use Rattle.kdf_text.specs.declared.lines.Lines.{Lines}
 use Rattle.kdf_top.specs.Options.{◌>>=◌}
-use Rattle.kdf_top.specs.Lines.{lines}
+use Rattle.kdf_text.specs.Ahead.{ahead}
 use Rattle.kdf_top.specs.Job.{first_off, fault_at}
-
--- the lines that are still to be read
-abbrev pub ahead : Lines → List (List ℕ)
-ahead at = lines at.rest.now
 
 -- the fault of the lines ahead, where they are to have these forms
 abbrev pub fault_from : Lines → List (List ℕ → Bool) → Option (JobFault × ℕ)

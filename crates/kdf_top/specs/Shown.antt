@@ -1,10 +1,11 @@
 -- What a machine is to its callers.
-use Rattle.std.specs.Prelude.{◌≡◌, ℕ, ◌==◌, List, ◌∷◌, map, Option, Some, None, if◌then◌else◌}
-use Rattle.kdf_processor.specs.State.{State}
-use Rattle.kdf_top.specs.declared.journal.Entry.{Entry}
+use Rattle.std.specs.Prelude.{◌≡◌, ℕ, ◌==◌, List, ◌∷◌, map, Option, Some, None, unwrap_or, if◌then◌else◌}
+use Rattle.kdf_processor.specs.State.{Slot, State}
+use Rattle.kdf_journal.specs.declared.entry.Entry.{Entry}
 use Rattle.kdf_top.specs.Job.{Job, SlotJob}
 use Rattle.kdf_top.specs.Deck.{image_words}
-use Rattle.kdf_top.specs.Next.{Slot, own}
+use Rattle.kdf_top.specs.World.{World, is_pending_after}
+use Rattle.kdf_top.specs.Next.{start_of, own}
 
 -- the slots as they were loaded, the state of the program of each, and the journal
 pub record Shown : Type 0 where
@@ -19,6 +20,14 @@ state_in _ _ p = None
 
 abbrev pub state_of : Shown → ℕ → Option State
 state_of m p = state_in m.slots m.states p
+
+-- and where there is no such slot, one of an empty store
+abbrev pub state_at : Shown → ℕ → State
+state_at m p = unwrap_or (state_of m p) (start_of None)
+
+-- the machine's own states, and what its journal tells to be pending
+abbrev pub world_of : Shown → World
+world_of m = record { state = state_at m; pending = λ p. is_pending_after m.journal }
 
 -- each program is as it is by itself, after as many of its own orders
 abbrev pub ShowsLone : Shown → Type 0

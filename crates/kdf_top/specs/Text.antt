@@ -1,42 +1,36 @@
--- The texts that are written. A text is a list of lines, each without the byte 10 behind it.
-use Rattle.std.specs.Prelude.{ℕ, ◌+◌, ◌-◌, ◌/◌, ◌%◌, ◌^◌, List, [], ◌∷◌, ◌++◌, map, length, Bool, ◌==◌, ◌&&◌, if◌then◌else◌, codes, decimal}
+-- The lines that are written, each without the byte that ends it.
+use Rattle.std.specs.Prelude.{ℕ, ◌+◌, ◌-◌, ◌/◌, ◌%◌, List, [], ◌∷◌, ◌++◌, map, length, Bool, ◌==◌, ◌&&◌, if◌then◌else◌, codes, decimal}
 use Rattle.std.specs.List.{flat_map, range_with_len}
+use Rattle.kdf_text.specs.Text.{octal}
 use Rattle.kdf_qstore.specs.declared.triple.Triple.{Triple}
 use Rattle.kdf_qstore.specs.Triples.{triple_at}
-use Rattle.kdf_journal.specs.declared.failure.Failure.{Failure}
-use Rattle.kdf_journal.specs.declared.failure.Failure.TheVariants.{Liv, Nouv, Out, Reset, Claim}
+use Rattle.kdf_journal.specs.Failures.{name_of as failure_name}
 use Rattle.kdf_processor.specs.declared.registers.Life.{Life}
 use Rattle.kdf_processor.specs.declared.registers.Life.TheVariants as life
 use Rattle.kdf_processor.specs.declared.registers.Registers.{Registers}
 use Rattle.kdf_processor.specs.State.{State, word_at}
-use Rattle.kdf_top.specs.declared.journal.Entry.{Entry}
-use Rattle.kdf_top.specs.declared.journal.Entry.TheVariants.{Ran, Fail, Ended}
+use Rattle.kdf_journal.specs.declared.entry.Entry.{Entry}
+use Rattle.kdf_journal.specs.declared.entry.Entry.TheVariants.{Ran, Start, Answer, Fail, Ended, Lov, Busy, Idle, Move, End, Clock}
 use Rattle.kdf_top.specs.declared.job.JobFault.{JobFault}
 use Rattle.kdf_top.specs.declared.job.JobFault.TheVariants.{Header, NotYet}
+use Rattle.kdf_top.specs.declared.command.TheConstants.{JOB_LIMIT}
 use Rattle.kdf_top.specs.Job.{Job, SlotJob}
 use Rattle.kdf_usercode.specs.declared.fault.DeckFault.{DeckFault}
 use Rattle.kdf_usercode.specs.Faults.{name_of}
 
--- the bytes of the lines, each with a byte 10 behind it
-unfoldable pub text : List (List ℕ) → List ℕ
-text ls = flat_map (λ l. l ++ 10 ∷ []) ls
-
--- a word in 16 octal digits
-unfoldable pub octal : ℕ → List ℕ
-octal w = map (λ i. 48 + w / 8 ^ (15 - i) % 8) (range_with_len 0 16)
-
-abbrev pub failure_name : Failure → List ℕ
-failure_name Liv = codes "LIV"
-failure_name Nouv = codes "NOUV"
-failure_name Out = codes "OUT"
-failure_name Reset = codes "RESET"
-failure_name Claim = codes "CLAIM"
-
 -- an entry of the journal
 abbrev pub entry_line : Entry → List ℕ
 entry_line (Ran p n) = codes "RAN " ++ decimal p ++ codes " " ++ decimal n
+entry_line (Start p d k) = codes "START " ++ decimal p ++ codes " " ++ decimal d ++ codes " " ++ decimal k
+entry_line (Answer p v) = codes "ANSWER " ++ decimal p ++ codes " " ++ decimal v
 entry_line (Fail p kind) = codes "FAIL " ++ decimal p ++ codes " " ++ failure_name kind
 entry_line (Ended p) = codes "ENDED " ++ decimal p
+entry_line (Lov p group) = codes "LOV " ++ decimal p ++ codes " " ++ decimal group
+entry_line (Busy p d) = codes "BUSY " ++ decimal p ++ codes " " ++ decimal d
+entry_line (Idle n) = codes "IDLE " ++ decimal n
+entry_line (Move d n) = codes "MOVE " ++ decimal d ++ codes " " ++ decimal n
+entry_line (End d) = codes "END " ++ decimal d
+entry_line (Clock t) = codes "CLOCK " ++ decimal t
 
 abbrev pub life_line : Life → List ℕ
 life_line life.Live = codes "STATE LIVE"
@@ -60,13 +54,15 @@ show_lines s show = map (word_line s) (range_with_len show.0 (show.1 + 1 - show.
 -- the links, the top first, behind their number: of each the word and the syllable
 abbrev pub links_line : List ℕ → List ℕ
 links_line links =
-    codes "LINKS " ++ decimal (length links) ++ flat_map (λ l. codes " " ++ decimal (l % 8192) ++ codes "/" ++ decimal (l / 8192)) links
+    codes "LINKS " ++ decimal (length links)
+    ++ flat_map (λ l. codes " " ++ decimal (l % 8192) ++ codes "/" ++ decimal (l / 8192)) links
 
 -- a Q-store, unless all its parts are zero
 abbrev pub q_line : ℕ → Triple → List (List ℕ)
 q_line q t =
     if t.c == 0 && t.i == 0 && t.m == 0 then []
-    else (codes "Q " ++ decimal q ++ codes " " ++ decimal t.c ++ codes " " ++ decimal t.i ++ codes " " ++ decimal t.m) ∷ []
+    else (codes "Q " ++ decimal q ++ codes " " ++ decimal t.c ++ codes " " ++ decimal t.i
+    ++ codes " " ++ decimal t.m) ∷ []
 
 -- Q1 to Q15
 abbrev pub q_lines : List Triple → List (List ℕ)
@@ -103,14 +99,11 @@ abbrev pub job_fault_line : JobFault → ℕ → List ℕ
 job_fault_line fault line = codes "JOB " ++ fault_name fault ++ codes " " ++ decimal line
 
 abbrev pub deck_fault_line : ℕ → DeckFault → ℕ → List ℕ
-deck_fault_line slot fault place = codes "DECK " ++ decimal slot ++ codes " " ++ name_of fault ++ codes " " ++ decimal place
+deck_fault_line slot fault place =
+    codes "DECK " ++ decimal slot ++ codes " " ++ name_of fault ++ codes " " ++ decimal place
 
 abbrev pub usage_line : List ℕ
 usage_line = codes "USAGE kdf9 run, alone K, asm K, make N"
 
--- a job may have so many bytes
-unfoldable pub job_limit : ℕ
-job_limit = 4194304
-
 abbrev pub large_line : List ℕ
-large_line = codes "LARGE " ++ decimal job_limit
+large_line = codes "LARGE " ++ decimal JOB_LIMIT

@@ -1,7 +1,6 @@
 //! The commands of the program.
 ghost use Rattle.std.specs.Prelude.{◌≡◌, is_some, map, string_bytes};
 ghost use Rattle.kdf_top.specs.Commands.{is_command};
-ghost use Rattle.kdf_top.specs.Text.{job_limit};
 
 /// What the words behind the program's name ask for.
 #[derive(Clone, Copy, Debug, PartialEq, Eq)]
@@ -15,9 +14,8 @@ pub const JOB_LIMIT: usize = 4_194_304;
 
 impl Command {
     /// How many bytes of input the command takes at most.
-    #[tactic(auto, unfolding(crate::specs::Text::job_limit))]
     pub fn limit(self) -> usize
-        ensures { result ≡ job_limit }
+        ensures { result ≡ JOB_LIMIT }
     {
         match self {
             Command::Run => JOB_LIMIT,

@@ -48,7 +48,8 @@ pub fn assemble_decks(alloc: Global, slots: &[SlotJob]) -> Result<Vec<Image>, De
     ensures fault { IfErr result (λ e. Tells e (deck_fault (map shown_slot slots.now))) }
     ensures words { IfOk result (λ images. map (λ made. made.words.items) images.items
         ≡ map (λ slot. image_words slot.size slot.deck.items) slots.now) }
-    ensures fits { OnOk result (All (λ slot. length (image_words slot.size slot.deck.items) ≤ slot.size) slots.now) }
+    ensures fits { OnOk result (All
+        (λ slot. length (image_words slot.size slot.deck.items) ≤ slot.size) slots.now) }
 {
     let mut images = Vec::new(alloc);
     for slot in slots {

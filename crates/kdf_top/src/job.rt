@@ -4,8 +4,12 @@ ghost use Rattle.std.specs.Prelude.{◌≡◌};
 ghost use Rattle.kdf_top.specs.Text.{fault_name};
 ghost use Rattle.kdf_top.specs.declared.job.JobError.TheVariants.{Memory};
 
+use kdf_schedule::Event;
 use std::alloc::{AllocError, AllocFailed};
 use thiserror::Error;
+
+/// A job, and a deck, may have so many bytes.
+pub const TEXT_LIMIT: usize = 268_435_456;
 
 /// A job, as it was read.
 #[derive(Drop)]
@@ -23,17 +27,10 @@ pub struct SlotJob {
     pub p: u8,
     /// The size of the program's store, in words: 32 to 8,192, a multiple of 32.
     pub size: u16,
-    /// The lines of the deck, each with a byte 10.
+    /// The lines of the deck, each with the byte that ends it.
     pub deck: Vec<u8>,
     /// The first and the last address of each run of words that the report shows.
     pub shows: Vec<(u16, u16)>,
-}
-
-/// An event of the schedule.
-#[derive(Clone, Copy, Debug, PartialEq, Eq)]
-pub enum Event {
-    /// So many orders, 1 to 20,000,000.
-    Orders(u32),
 }
 
 /// What is wrong with a line of a job.

@@ -1,18 +1,23 @@
 //! Reading a job: once over its lines, in their order.
 
 ghost use Rattle.std.specs.Prelude.{◌≡◌, [], ◌∷◌, ◌++◌, ◌+◌, ◌%◌, ◌<◌, ◌≤◌, IfOk, OnOk, IfErr, IfSome, Some, None, drop, length};
-ghost use Rattle.kdf_top.specs.Job.{store_size, show_range, order_count, has_size, has_calls, shows_of, deck_lines, deck_text, fault_at, head_forms, deck_forms, show_forms, schedule_forms, job, job_fault};
-ghost use Rattle.kdf_top.specs.Lines.{line, is_text};
-ghost use Rattle.kdf_top.specs.Reading.{ahead, fault_from, Passes, Says, Stops};
+ghost use Rattle.kdf_top.specs.Job.{store_size, show_range, orders_of, has_size, has_orders, shows_of, deck_lines, fault_at, head_forms, deck_forms, show_forms, schedule_forms, job, job_fault};
+ghost use Rattle.kdf_text.specs.Text.{text};
+ghost use Rattle.kdf_text.specs.Lines.{line, is_text};
+ghost use Rattle.kdf_text.specs.Ahead.{ahead};
+ghost use Rattle.kdf_top.specs.Reading.{fault_from, Passes, Says, Stops};
 ghost use Rattle.kdf_top.specs.Shows.{shown_job};
+ghost use Rattle.kdf_top.specs.declared.job.TheConstants.{TEXT_LIMIT};
+ghost use Rattle.kdf_top.specs.Limits.{IsOrders, IsSize};
 ghost use Rattle.kdf_top.specs.WellFormed.{IsShow, IsJob};
 
 #[cfg(test)]
 mod tests;
 
-use crate::forms::{order_count, show_range, store_size};
-use crate::job::{Event, Job, JobError, JobFault, SlotJob};
-use crate::lines::Lines;
+use crate::forms::{orders_of, show_range, store_size};
+use crate::job::{Job, JobError, JobFault, SlotJob};
+use kdf_schedule::Event;
+use kdf_text::{LINE_END, Lines};
 use std::alloc::{AllocError, Global};
 
 /// The fault of the line of this number, which hasn't its form.
@@ -50,7 +55,7 @@ fn read_head(lines: &mut Lines) -> Result<u16, JobError>
     ensures rest { OnOk result (ahead lines.new ≡ drop 4 (ahead lines.old)) }
     ensures shorter { OnOk result (length lines.new.rest.now ≤ length lines.old.rest.now) }
     ensures size { IfOk result (λ n. store_size (line (ahead lines.old) 3) ≡ Some n) }
-    ensures within { IfOk result (λ n. (32 ≤ n) × (n ≤ 8192)) }
+    ensures within { IfOk result IsSize }
     ensures groups { IfOk result (λ n. n % 32 ≡ 0) }
 {
     expect(lines, b"KDF9 JOB 1")?;
@@ -67,7 +72,7 @@ fn read_size(lines: &mut Lines) -> Result<u16, JobError>
     ensures rest { OnOk result (ahead lines.new ≡ drop 1 (ahead lines.old)) }
     ensures shorter { length lines.new.rest.now ≤ length lines.old.rest.now }
     ensures size { IfOk result (λ n. store_size (line (ahead lines.old) 1) ≡ Some n) }
-    ensures within { IfOk result (λ n. (32 ≤ n) × (n ≤ 8192)) }
+    ensures within { IfOk result IsSize }
     ensures groups { IfOk result (λ n. n % 32 ≡ 0) }
 {
     let line = lines.take_line();
@@ -79,14 +84,14 @@ fn read_size(lines: &mut Lines) -> Result<u16, JobError>
 
 /// The number of calls in `ORDERS n`.
 fn read_calls(lines: &mut Lines) -> Result<u32, JobError>
-    ensures pass { OnOk result (Passes (has_calls ∷ []) lines.old lines.new) }
-    ensures stop { IfErr result (Stops (has_calls ∷ []) lines.old) }
+    ensures pass { OnOk result (Passes (has_orders ∷ []) lines.old lines.new) }
+    ensures stop { IfErr result (Stops (has_orders ∷ []) lines.old) }
     ensures rest { OnOk result (ahead lines.new ≡ drop 1 (ahead lines.old)) }
-    ensures calls { IfOk result (λ n. order_count (line (ahead lines.old) 1) ≡ Some n) }
-    ensures within { IfOk result (λ n. (1 ≤ n) × (n ≤ 20000000)) }
+    ensures calls { IfOk result (λ n. orders_of (line (ahead lines.old) 1) ≡ Some n) }
+    ensures within { IfOk result IsOrders }
 {
     let line = lines.take_line();
-    match order_count(line.text) {
+    match orders_of(line.text) {
         Some(calls) => Ok(calls),
         None => Err(fault(line.number)),
     }
@@ -108,8 +113,8 @@ fn expect_end(lines: &Lines) -> Result<(), JobError>
 fn read_schedule(lines: &mut Lines) -> Result<u32, JobError>
     ensures pass { OnOk result (fault_from lines.old schedule_forms ≡ None) }
     ensures stop { IfErr result (λ e. Says e (fault_from lines.old schedule_forms)) }
-    ensures calls { IfOk result (λ n. order_count (line (ahead lines.old) 2) ≡ Some n) }
-    ensures within { IfOk result (λ n. (1 ≤ n) × (n ≤ 20000000)) }
+    ensures calls { IfOk result (λ n. orders_of (line (ahead lines.old) 2) ≡ Some n) }
+    ensures within { IfOk result IsOrders }
 {
     expect(lines, b"SCHEDULE")?;
     let calls = read_calls(lines)?;
@@ -132,12 +137,14 @@ fn read_show(lines: &mut Lines, size: u16) -> Option<(u16, u16)>
     Some(show)
 }
 
-/// The text of the deck: the lines before ENDDECK, each with a byte 10.
+/// The text of the deck: the lines before ENDDECK, each with the byte that ends it.
+#[tactic(auto, unfolding(kdf_text::specs::Text::text))]
 fn read_deck_lines(alloc: Global, lines: &mut Lines) -> Result<Vec<u8>, JobError>
     ensures pass { OnOk result (Passes (deck_forms (deck_lines (ahead lines.old))) lines.old lines.new) }
     ensures stop { IfErr result (Stops (deck_forms (deck_lines (ahead lines.old))) lines.old) }
-    ensures rest { OnOk result (ahead lines.new ≡ drop (1 + length (deck_lines (ahead lines.old))) (ahead lines.old)) }
-    ensures deck { IfOk result (λ v. v.items ≡ deck_text (deck_lines (ahead lines.old))) }
+    ensures rest { OnOk result (ahead lines.new
+        ≡ drop (1 + length (deck_lines (ahead lines.old))) (ahead lines.old)) }
+    ensures deck { IfOk result (λ v. v.items ≡ text (deck_lines (ahead lines.old))) }
     ensures within { IfOk result (λ v. length v.items ≤ length lines.old.rest.now) }
 {
     let mut deck = Vec::new(alloc);
@@ -147,7 +154,7 @@ fn read_deck_lines(alloc: Global, lines: &mut Lines) -> Result<Vec<u8>, JobError
             return Ok(deck);
         }
         deck.extend_from_slice(line.text)?;
-        deck.push(b'\n')?;
+        deck.push(LINE_END)?;
     }
     Err(fault(lines.number))
 }
@@ -170,7 +177,7 @@ fn shows_of(alloc: Global, show: Option<(u16, u16)>) -> Result<Vec<(u16, u16)>, 
 /// `Fault` with the first faulty line, exactly where the job has one; `Memory` where there is none.
 #[tactic(auto, unfolding(crate::specs::Job::job, crate::specs::Job::job_fault))]
 pub fn read_job(alloc: Global, bytes: &[u8]) -> Result<Job, JobError>
-    requires { length bytes.now ≤ 268435456 }
+    requires { length bytes.now ≤ TEXT_LIMIT }
     ensures ok { OnOk result (job_fault bytes.now ≡ None) }
     ensures fault { IfErr result (λ e. Says e (job_fault bytes.now)) }
     ensures shown { IfOk result (λ j. shown_job j ≡ job bytes.now) }

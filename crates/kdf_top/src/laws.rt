@@ -1,9 +1,10 @@
 //! Laws of the definitions, each the contract of a function that does nothing.
 ghost use Rattle.std.specs.Prelude.{◌≡◌, List};
-ghost use Rattle.kdf_top.specs.declared.journal.Entry.{Entry};
-ghost use Rattle.kdf_top.specs.declared.job.Event.{Event};
-ghost use Rattle.kdf_top.specs.Follows.{IsJournal};
-ghost use Rattle.kdf_top.specs.Next.{Slot};
+ghost use Rattle.kdf_journal.specs.declared.entry.Entry.{Entry};
+ghost use Rattle.kdf_schedule.specs.declared.event.Event.{Event};
+ghost use Rattle.kdf_processor.specs.State.{Slot};
+ghost use Rattle.kdf_schedule.specs.Calls.{calls_made};
+ghost use Rattle.kdf_top.specs.Follows.{IsJournal, IsRising};
 
 mod worked;
 
@@ -14,10 +15,12 @@ pub use worked::{
 
 /// Slots have at most one journal under a schedule.
 pub fn one_journal()
-    ensures { (slots : List Slot) (events : List Event) (J K : List Entry) → IsJournal slots events J → IsJournal slots events K → J ≡ K }
+    ensures { (slots : List Slot) (events : List Event) (J K : List Entry)
+        → IsJournal slots events J → IsJournal slots events K → J ≡ K }
 {}
 
-/// Slots have a journal under each schedule.
+/// Slots have a journal under each schedule that doesn't set the clock back.
 pub fn a_journal()
-    ensures { (slots : List Slot) (events : List Event) → (J : List Entry) × IsJournal slots events J }
+    ensures { (slots : List Slot) (events : List Event) → IsRising 0 (calls_made events)
+        → (J : List Entry) × IsJournal slots events J }
 {}

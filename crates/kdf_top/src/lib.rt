@@ -1,21 +1,16 @@
 //! The top call: reads a job, assembles its decks, runs it, writes the report.
 #![tactic(auto)]
 
+mod bench;
 mod command;
-mod cuts;
 mod decks;
 mod entry_text;
 mod forms;
 mod job;
 mod job_reader;
-mod journal;
 pub mod laws;
-mod lines;
 mod machine;
-mod numbers;
-mod octal;
 mod outcome;
-mod port;
 mod refusal;
 mod registers_text;
 mod report;
@@ -25,9 +20,10 @@ mod top_call;
 
 pub use command::{Command, command_of};
 pub use decks::{DecksError, assemble_decks};
-pub use job::{Event, Job, JobError, JobFault, SlotJob};
+pub use job::{Job, JobError, JobFault, SlotJob};
 pub use job_reader::read_job;
-pub use journal::{Entry, Journal};
+pub use kdf_journal::{Entry, Journal};
+pub use kdf_schedule::Event;
 pub use machine::{Machine, Progress};
 pub use outcome::Outcome;
 pub use schedule::follow;

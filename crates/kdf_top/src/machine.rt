@@ -4,16 +4,18 @@ ghost use Rattle.std.specs.Option.{option_copied, option_map};
 ghost use Rattle.kdf_processor.specs.State.{begin, word_at};
 ghost use Rattle.kdf_processor.specs.Lone.{is_live};
 ghost use Rattle.kdf_processor.specs.Row.{row, next_of};
-ghost use Rattle.kdf_top.specs.Counts.{calls};
+ghost use Rattle.kdf_journal.specs.Counts.{calls, moves};
+ghost use Rattle.kdf_journal.specs.Steps.{noted, added, Obeys};
 ghost use Rattle.kdf_top.specs.Next.{slot_of, any_live};
-ghost use Rattle.kdf_top.specs.Legal.{noted, note_for, added, Obeys, IsLegal};
+ghost use Rattle.kdf_top.specs.Legal.{note_for, IsLegal};
 ghost use Rattle.kdf_top.specs.Loaded.{loaded, IsLoadable};
 ghost use Rattle.kdf_top.specs.Shown.{state_of, ShowsLone};
-ghost use Rattle.kdf_top.specs.Store.{state_with};
-ghost use Rattle.kdf_top.specs.Took.{Took};
+ghost use Rattle.kdf_top.specs.Bench.{state_with};
+ghost use Rattle.kdf_top.specs.Advance.{Advance};
 
-use crate::port::Store;
-use crate::{Entry, Job, Journal};
+use crate::Job;
+use crate::bench::Bench;
+use kdf_journal::{CALL_LIMIT, Entry, Journal, MOVE_LIMIT};
 use kdf_place::Image;
 use kdf_processor::{Life, Registers, Step, obey};
 use kdf_word::Word;
@@ -37,7 +39,7 @@ pub enum Progress {
 pub struct Machine {
     image: Vec<Word>,
     registers: Registers,
-    store: Store,
+    store: Bench,
     journal: Journal,
 }
 
@@ -48,7 +50,7 @@ impl Model for Machine {
 
     ghost use Rattle.std.specs.Prelude.{[], ◌∷◌};
     ghost use Rattle.kdf_top.specs.Agrees.{Agrees};
-    ghost use Rattle.kdf_top.specs.Store.{state_with};
+    ghost use Rattle.kdf_top.specs.Bench.{state_with};
 
     ghost view = { λ m. record {
       slots = record { p = 0; size = m.store.size; words = m.image.items } ∷ [];
@@ -56,7 +58,10 @@ impl Model for Machine {
       journal = m.journal.entries;
     } };
 
-    ghost invariant = { λ m. Agrees (record { p = 0; size = m.store.size; words = m.image.items }) (state_with m.registers m.store) m.journal.entries };
+    ghost invariant = { λ m. Agrees
+        (record { p = 0; size = m.store.size; words = m.image.items })
+        (state_with m.registers m.store)
+        m.journal.entries };
 }
 
 impl Machine {
@@ -68,7 +73,7 @@ impl Machine {
         ensures journal { IfOk result (λ m. m.journal ≡ []) }
     {
         let image = Vec::from_slice(alloc, &images[0].words)?;
-        let store = Store::new(alloc, job.slots[0].size, &image)?;
+        let store = Bench::new(alloc, job.slots[0].size, &image)?;
         Ok(Machine {
             image,
             registers: Registers::new(),
@@ -79,8 +84,8 @@ impl Machine {
 
     /// The live program of highest priority obeys its next order; where no program is live, nothing changes.
     pub fn order(&mut self) -> Result<Progress, AllocError>
-        requires { calls self.old.journal < 20000000 }
-        ensures took { IfOk result (Took self.old self.new) }
+        requires { calls self.old.journal < CALL_LIMIT }
+        ensures took { IfOk result (Advance self.old self.new) }
         ensures slots { self.new.slots ≡ self.old.slots }
         ensures err { OnErr result (self.new ≡ self.old) }
     {
@@ -104,7 +109,8 @@ impl Machine {
 
     /// The registers of program `p`; None where there is no such slot.
     pub fn seen(&self, p: u8) -> Option<&Registers>
-        ensures registers { option_copied result ≡ option_map (λ state. state.registers) (state_of self.now p) }
+        ensures registers { option_copied result
+            ≡ option_map (λ state. state.registers) (state_of self.now p) }
         ensures legal { IsLegal self.now.slots self.now.journal }
         ensures lone { ShowsLone self.now }
     {
@@ -147,10 +153,11 @@ fn is_on(life: Life) -> bool
 }
 
 // The next order of a live program by itself, which nothing holds up.
-fn obey_next(registers: &mut Registers, store: &mut Store) -> Step
+fn obey_next(registers: &mut Registers, store: &mut Bench) -> Step
     requires live { is_live registers.old.state ≡ true }
     requires ran { registers.old.ran < u32.MAX }
-    ensures state { state_with registers.new store.new ≡ row (state_with registers.old store.old) 0 }
+    ensures state { state_with registers.new store.new
+        ≡ row (state_with registers.old store.old) 0 }
     ensures step { result ≡ (next_of (state_with registers.old store.old) 0).step }
     ensures size { store.new.size ≡ store.old.size }
 {
@@ -160,7 +167,8 @@ fn obey_next(registers: &mut Registers, store: &mut Store) -> Step
 // Counts an order that came out so, with its note.
 fn write(journal: &mut Journal, step: Step)
     requires room { 2 ≤ journal.old.spare }
-    requires few { calls journal.old.entries < 20000000 }
+    requires few_calls { calls journal.old.entries < CALL_LIMIT }
+    requires few_moves { moves journal.old.entries ≤ MOVE_LIMIT }
     ensures { journal.new.entries ≡ added journal.old.entries (Obeys SLOT (note_for step)) }
 {
     journal.push(Entry::Ran { p: SLOT, n: 1 });

@@ -1,6 +1,6 @@
 //! The lines that say why there is no report.
-ghost use Rattle.std.specs.Prelude.{◌≡◌, ◌++◌, [], ◌∷◌, OnOk, IfOk, string_bytes, vec_items};
-ghost use Rattle.kdf_top.specs.Text.{text};
+ghost use Rattle.std.specs.Prelude.{◌≡◌, OnOk, IfOk, vec_items};
+ghost use Rattle.kdf_text.specs.Text.{text, Adds};
 ghost use Rattle.kdf_top.specs.Answers.{refusal_lines};
 
 use crate::Status;
@@ -18,9 +18,9 @@ pub fn refusal_text(alloc: Global, status: Status) -> Result<Vec<u8>, AllocError
     Ok(out.into_bytes())
 }
 
-#[tactic(auto, unfolding(crate::specs::Text::text, crate::specs::Text::job_limit))]
+#[tactic(auto, unfolding(kdf_text::specs::Text::text))]
 fn write_refusal(out: &mut String, status: Status) -> Result<(), AllocError>
-    ensures { OnOk result (string_bytes out.new ≡ string_bytes out.old ++ text (refusal_lines status)) }
+    ensures { OnOk result (Adds out.old out.new (refusal_lines status)) }
 {
     match status {
         Status::Usage => writeln!(out, "USAGE kdf9 run, alone K, asm K, make N"),

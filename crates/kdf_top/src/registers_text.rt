@@ -2,17 +2,18 @@
 ghost use Rattle.std.specs.Prelude.{◌≡◌, ◌<◌, ◌++◌, [], ◌∷◌, OnOk, string_bytes, codes, decimal, ◌/◌, ◌%◌, ◌==◌, ◌&&◌};
 ghost use Rattle.std.specs.List.{flat_map};
 ghost use Rattle.kdf_qstore.specs.Triples.{triple_at};
-ghost use Rattle.kdf_top.specs.Text.{text, octal, life_line, bit, nest_line, links_line, q_line, q_lines, registers_lines};
+ghost use Rattle.kdf_text.specs.Text.{octal, Adds};
+ghost use Rattle.kdf_top.specs.Text.{life_line, bit, nest_line, links_line, q_line, q_lines, registers_lines};
 
-use crate::octal::write_octal;
 use kdf_processor::{Flags, Life, Links, Nest, QStores, Registers};
 use kdf_qstore::Part;
+use kdf_text::write_octal;
 use std::alloc::AllocError;
 use std::fmt::Write;
 
 /// Writes what a section says of the registers.
 pub fn write_registers(out: &mut String, registers: &Registers) -> Result<(), AllocError>
-    ensures { OnOk result (string_bytes out.new ≡ string_bytes out.old ++ text (registers_lines registers.now)) }
+    ensures { OnOk result (Adds out.old out.new (registers_lines registers.now)) }
 {
     write_life(out, registers.state)?;
     write_place(out, registers.ran, registers.at)?;
@@ -22,9 +23,9 @@ pub fn write_registers(out: &mut String, registers: &Registers) -> Result<(), Al
     write_q_stores(out, &registers.q)
 }
 
-#[tactic(auto, unfolding(crate::specs::Text::text))]
+#[tactic(auto, unfolding(kdf_text::specs::Text::text))]
 fn write_life(out: &mut String, life: Life) -> Result<(), AllocError>
-    ensures { OnOk result (string_bytes out.new ≡ string_bytes out.old ++ text (life_line life ∷ [])) }
+    ensures { OnOk result (Adds out.old out.new (life_line life ∷ [])) }
 {
     match life {
         Life::Live => writeln!(out, "STATE LIVE"),
@@ -37,9 +38,9 @@ fn write_life(out: &mut String, life: Life) -> Result<(), AllocError>
 }
 
 // How many orders were obeyed, and the word and syllable of the next.
-#[tactic(auto, unfolding(crate::specs::Text::text))]
+#[tactic(auto, unfolding(kdf_text::specs::Text::text))]
 fn write_place(out: &mut String, ran: u32, at: u16) -> Result<(), AllocError>
-    ensures { OnOk result (string_bytes out.new ≡ string_bytes out.old ++ text (
+    ensures { OnOk result (Adds out.old out.new (
         (codes "ORDERS " ++ decimal ran) ∷ (codes "AT " ++ decimal (at / 6) ++ codes " " ++ decimal (at % 6)) ∷ [])) }
 {
     let word = at / 6;
@@ -48,9 +49,9 @@ fn write_place(out: &mut String, ran: u32, at: u16) -> Result<(), AllocError>
     writeln!(out, "AT {word} {syllable}")
 }
 
-#[tactic(auto, unfolding(crate::specs::Text::text))]
+#[tactic(auto, unfolding(kdf_text::specs::Text::text))]
 fn write_flags(out: &mut String, flags: Flags) -> Result<(), AllocError>
-    ensures { OnOk result (string_bytes out.new ≡ string_bytes out.old ++ text (
+    ensures { OnOk result (Adds out.old out.new (
         (codes "FLAGS " ++ bit flags.v ++ codes " " ++ bit flags.tr) ∷ [])) }
 {
     let v = digit(flags.v);
@@ -65,9 +66,9 @@ fn digit(flag: bool) -> &'static str
 }
 
 // The words of a nest, the top first, behind their number.
-#[tactic(auto, unfolding(crate::specs::Text::text))]
+#[tactic(auto, unfolding(kdf_text::specs::Text::text))]
 fn write_nest(out: &mut String, nest: &Nest) -> Result<(), AllocError>
-    ensures { OnOk result (string_bytes out.new ≡ string_bytes out.old ++ text (nest_line nest.now ∷ [])) }
+    ensures { OnOk result (Adds out.old out.new (nest_line nest.now ∷ [])) }
 {
     let depth = nest.depth();
     write!(out, "NEST {depth}")?;
@@ -82,15 +83,15 @@ fn write_words(out: &mut String, nest: &Nest) -> Result<(), AllocError>
 {
     for i in 0..nest.depth() {
         write!(out, " ")?;
-        write_octal(out, nest.peek(i))?;
+        write_octal(out, nest.peek(i).bits())?;
     }
     Ok(())
 }
 
 // The places of the links, the top first, behind their number.
-#[tactic(auto, unfolding(crate::specs::Text::text))]
+#[tactic(auto, unfolding(kdf_text::specs::Text::text))]
 fn write_links(out: &mut String, links: &Links) -> Result<(), AllocError>
-    ensures { OnOk result (string_bytes out.new ≡ string_bytes out.old ++ text (links_line links.now ∷ [])) }
+    ensures { OnOk result (Adds out.old out.new (links_line links.now ∷ [])) }
 {
     let depth = links.depth();
     write!(out, "LINKS {depth}")?;
@@ -113,9 +114,9 @@ fn write_places(out: &mut String, links: &Links) -> Result<(), AllocError>
 }
 
 // The Q-stores that aren't zero.
-#[tactic(auto, unfolding(crate::specs::Text::text))]
+#[tactic(auto, unfolding(kdf_text::specs::Text::text))]
 fn write_q_stores(out: &mut String, q_stores: &QStores) -> Result<(), AllocError>
-    ensures { OnOk result (string_bytes out.new ≡ string_bytes out.old ++ text (q_lines q_stores.now)) }
+    ensures { OnOk result (Adds out.old out.new (q_lines q_stores.now)) }
 {
     for q in 1..16 {
         write_q_store(out, q, q_stores)?;
@@ -124,10 +125,10 @@ fn write_q_stores(out: &mut String, q_stores: &QStores) -> Result<(), AllocError
 }
 
 // A Q-store, unless it is zero.
-#[tactic(auto, unfolding(crate::specs::Text::text))]
+#[tactic(auto, unfolding(kdf_text::specs::Text::text))]
 fn write_q_store(out: &mut String, q: u8, q_stores: &QStores) -> Result<(), AllocError>
     requires { q < 16 }
-    ensures { OnOk result (string_bytes out.new ≡ string_bytes out.old ++ text (q_line q (triple_at q_stores.now q))) }
+    ensures { OnOk result (Adds out.old out.new (q_line q (triple_at q_stores.now q))) }
 {
     let c = q_stores.part(q, Part::C);
     let i = q_stores.part(q, Part::I);

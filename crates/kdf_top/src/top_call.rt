@@ -1,6 +1,7 @@
 //! The call that reads a job, assembles its decks, runs it, and writes its report or why there is none.
 ghost use Rattle.std.specs.Prelude.{◌≡◌, ◌≢◌, ℕ, ◌+◌, ◌<◌, ◌≤◌, ◌⊎◌, List, None, length, true, false, All, OnOk, IfOk, IfSome, is_some, map, string_bytes};
-ghost use Rattle.kdf_io.specs.Outside.{HasRisen, Took, NothingLeft};
+ghost use Rattle.kdf_io.specs.Outside.{HasRisen, Advances, NothingLeft};
+ghost use Rattle.kdf_io.specs.Reading.{TakesAtMost};
 ghost use Rattle.kdf_top.specs.Answered.{inlet, outlet, IsGiven, IsRefusal, IsRun};
 ghost use Rattle.kdf_top.specs.Answers.{Answers, IsDue, IsReported, Wrote, WroteFront, called_for, is_done, status_of_decks, status_of_job};
 ghost use Rattle.kdf_top.specs.Commands.{is_command};
@@ -10,7 +11,7 @@ ghost use Rattle.kdf_top.specs.Job.{job as job_of, job_fault};
 ghost use Rattle.kdf_top.specs.Loaded.{loaded, IsLoadable};
 ghost use Rattle.kdf_top.specs.Shown.{ShowsLone, slots_of};
 ghost use Rattle.kdf_top.specs.Shows.{shown_job};
-ghost use Rattle.kdf_top.specs.Text.{job_limit};
+ghost use Rattle.kdf_top.specs.declared.command.TheConstants.{JOB_LIMIT};
 ghost use Rattle.kdf_top.specs.WellFormed.{IsJob};
 
 use crate::command::command_of;
@@ -35,43 +36,59 @@ pub fn run<S: Source, K: Sink>(
     // The answer is the one that the words and the bytes call for, unless reading or writing failed, or memory.
     ensures answer { let read_failed = HasRisen (S.faults source.old) (S.faults source.new) in
         let write_failed = HasRisen (K.faults sink.old) (K.faults sink.new) in
-        IfSome (S.left source.old) (λ bytes. Answers (called_for (map string_bytes words.now) bytes) result.status read_failed write_failed) }
+        IfSome (S.left source.old)
+        (λ bytes. Answers (called_for (map string_bytes words.now) bytes) result.status read_failed write_failed) }
 
-    // Where nothing fails, a job without a fault, no deck of which has one, is done, and other words are told how to use the program; or there was no memory.
+    // Where nothing fails, a job without a fault, no deck of which has one, is done, and other words are told how to
+    // use the program; or there was no memory.
     ensures complete { is_command (map string_bytes words.now) ≡ true
-        → IfSome (S.left source.old) (λ bytes. length bytes ≤ job_limit → job_fault bytes ≡ None → deck_fault (job_of bytes).slots ≡ None
-        → ¬ (HasRisen (S.faults source.old) (S.faults source.new)) → ¬ (HasRisen (K.faults sink.old) (K.faults sink.new))
+        → IfSome (S.left source.old) (λ bytes. length bytes ≤ JOB_LIMIT
+        → job_fault bytes ≡ None → deck_fault (job_of bytes).slots ≡ None
+        → ¬ (HasRisen (S.faults source.old) (S.faults source.new))
+        → ¬ (HasRisen (K.faults sink.old) (K.faults sink.new))
         → (result.status ≡ Status.Done) ⊎ (result.status ≡ Status.Memory)) }
-    ensures complete_usage { is_command (map string_bytes words.now) ≡ false → ¬ (HasRisen (K.faults sink.old) (K.faults sink.new))
+    ensures complete_usage { is_command (map string_bytes words.now) ≡ false
+        → ¬ (HasRisen (K.faults sink.old) (K.faults sink.new))
         → (result.status ≡ Status.Usage) ⊎ (result.status ≡ Status.Memory) }
 
     // Causes that hold also where the source tells nothing. Words that are no command read nothing.
     ensures usage { is_command (map string_bytes words.now) ≡ false
         → Answers Status.Usage result.status ⊥ (HasRisen (K.faults sink.old) (K.faults sink.new)) }
     ensures unread { is_command (map string_bytes words.now) ≡ false → source.new ≡ source.old }
-    ensures command { is_command (map string_bytes words.now) ≡ true → result.status ≢ Status.Usage }
-    ensures read_fault { result.status ≡ Status.ReadFault → HasRisen (S.faults source.old) (S.faults source.new) }
-    ensures write_fault { result.status ≡ Status.WriteFault → HasRisen (K.faults sink.old) (K.faults sink.new) }
+    ensures command { is_command (map string_bytes words.now) ≡ true
+        → result.status ≢ Status.Usage }
+    ensures read_fault { result.status ≡ Status.ReadFault
+        → HasRisen (S.faults source.old) (S.faults source.new) }
+    ensures write_fault { result.status ≡ Status.WriteFault
+        → HasRisen (K.faults sink.old) (K.faults sink.new) }
 
-    // The machine at Done: its journal is legal and whole, what it shows are the lone runs, and the sink took the report of them.
+    // Whatever is answered, at most one byte more is taken than a job may have.
+    ensures taken { TakesAtMost (JOB_LIMIT + 1) (S.left source.old) (S.left source.new) }
+
+    // The machine at Done: its journal is legal and whole, what it shows are the lone runs, and the sink took the
+    // report of them.
     ensures machine { is_some result.machine ≡ is_done result.status }
     ensures ended { IfSome result.machine (λ m. NothingLeft (S.left source.new)) }
     ensures done { IfSome result.machine (λ m. IfSome (S.left source.old)
         (λ bytes. IsReported bytes m (K.written sink.old) (K.written sink.new))) }
-    ensures done_untold { IfSome result.machine (λ m. (bytes : List ℕ) × Took (S.left source.old) bytes (S.left source.new)
+    ensures done_untold { IfSome result.machine (λ m. (bytes : List ℕ)
+        × Advances (S.left source.old) bytes (S.left source.new)
         × IsReported bytes m (K.written sink.old) (K.written sink.new)) }
 
     // What is written at the other answers.
     ensures wrote { Wrote result.status (K.written sink.old) (K.written sink.new) }
     ensures front { result.status ≡ Status.WriteFault → IfSome (S.left source.old)
-        (λ bytes. WroteFront (called_for (map string_bytes words.now) bytes) bytes (K.written sink.old) (K.written sink.new)) }
+        (λ bytes. WroteFront (called_for (map string_bytes words.now) bytes) bytes
+        (K.written sink.old) (K.written sink.new)) }
 
     // A steady source, and a sink with room for the text that is due, don't fail.
     ensures steady_reads { S.steady source.old → result.status ≢ Status.ReadFault }
     ensures steady_count { S.steady source.old → S.faults source.new ≡ S.faults source.old }
-    ensures room_writes { IfSome (S.left source.old) (λ bytes. (due : List ℕ) → IsDue (called_for (map string_bytes words.now) bytes) bytes due
+    ensures room_writes { IfSome (S.left source.old) (λ bytes. (due : List ℕ)
+        → IsDue (called_for (map string_bytes words.now) bytes) bytes due
         → length due ≤ K.room sink.old → result.status ≢ Status.WriteFault) }
-    ensures room_count { IfSome (S.left source.old) (λ bytes. (due : List ℕ) → IsDue (called_for (map string_bytes words.now) bytes) bytes due
+    ensures room_count { IfSome (S.left source.old) (λ bytes. (due : List ℕ)
+        → IsDue (called_for (map string_bytes words.now) bytes) bytes due
         → length due ≤ K.room sink.old → K.faults sink.new ≡ K.faults sink.old) }
     ensures source_counts { S.faults source.old ≤ S.faults source.new }
     ensures sink_counts { K.faults sink.old ≤ K.faults sink.new }
@@ -134,7 +151,7 @@ fn refuse<K: Sink>(alloc: Global, status: Status, sink: &mut K) -> Outcome
 
 // Answers a job of these bytes.
 fn answer<K: Sink>(alloc: Global, bytes: &[u8], sink: &mut K) -> Outcome
-    requires { length bytes.now ≤ job_limit }
+    requires { length bytes.now ≤ JOB_LIMIT }
     ensures { IsGiven (status_of_job bytes.now) bytes.now result.status result.machine
         (outlet (K.written sink.old) (K.faults sink.old) (K.room sink.old))
         (outlet (K.written sink.new) (K.faults sink.new) (K.room sink.new)) }
@@ -168,7 +185,8 @@ fn report_job<K: Sink>(alloc: Global, job: &Job, images: &[Image], sink: &mut K)
     requires job { IsJob job.now }
     requires loadable { IsLoadable job.now.slots.items images.now }
     requires loaded { loaded job.now.slots.items images.now ≡ slots_of (shown_job job.now) }
-    ensures { (bytes : List ℕ) → job_fault bytes ≡ None → deck_fault (job_of bytes).slots ≡ None → shown_job job.now ≡ job_of bytes
+    ensures { (bytes : List ℕ) → job_fault bytes ≡ None → deck_fault (job_of bytes).slots ≡ None
+        → shown_job job.now ≡ job_of bytes
         → IsGiven Status.Done bytes result.status result.machine
         (outlet (K.written sink.old) (K.faults sink.old) (K.room sink.old))
         (outlet (K.written sink.new) (K.faults sink.new) (K.room sink.new)) }

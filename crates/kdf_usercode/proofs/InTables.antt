@@ -1,5 +1,5 @@
 -- What the tables and the names give: the codes and groups of each form.
-use Rattle.std.proofs.Common.{◌≡◌, ℕ, ◌-◌, ◌<◌, ◌≤◌, Bool, true, false, cond, not, ◌&&◌, leb, eqb, List, [], ◌∷◌, map, length, Option, Some, None, refl, arith, lit<}
+use Rattle.std.proofs.Common.{◌≡◌, ℕ, ◌+◌, ◌-◌, ◌≤◌, Bool, true, false, cond, not, ◌&&◌, List, [], ◌∷◌, length, Option, Some, None, refl, arith}
 use Rattle.std.specs.Prelude.{nat_le, ◌==◌}
 use Rattle.std.specs.List.{list_all}
 use Rattle.std.specs.Str.{bytes_eq}
@@ -7,7 +7,6 @@ use Rattle.std.proofs.lemmas.Bool.Decides.{nat_tests}
 use lib.Chars.{codes}
 use Rattle.kdf_usercode.specs.declared.order_names.OrderForm.{OrderForm}
 use Rattle.kdf_usercode.specs.declared.order_names.OrderForm.TheVariants as orders
-use Rattle.kdf_usercode.specs.declared.order_names.TheConstants.{ORDERS}
 use Rattle.kdf_usercode.specs.declared.stores.Direction.{Direction}
 use Rattle.kdf_usercode.specs.declared.stores.StoreName.{StoreName}
 use Rattle.kdf_usercode.specs.declared.stores.StoreName.TheVariants as names
@@ -15,23 +14,22 @@ use Rattle.kdf_usercode.specs.declared.stores.Suffix.{Suffix}
 use Rattle.kdf_usercode.specs.declared.jumps.Test.{Test}
 use Rattle.kdf_usercode.specs.declared.jumps.Test.TheVariants as tests
 use Rattle.kdf_usercode.specs.declared.jumps.TargetForm.{TargetForm}
-use Rattle.kdf_usercode.specs.declared.jumps.TheConstants.{CONDITIONS}
 use Rattle.kdf_usercode.specs.declared.constants.ItemForm.{ItemForm}
 use Rattle.kdf_usercode.specs.declared.constants.ItemForm.TheVariants as items
 use Rattle.kdf_usercode.specs.declared.constants.ValueForm.{ValueForm}
 use Rattle.kdf_usercode.specs.declared.constants.ValueForm.TheVariants as values
-use Rattle.kdf_usercode.specs.declared.constants.TheConstants.{VALUES}
 use Rattle.kdf_usercode.specs.declared.forms.Form.{Form}
 use Rattle.kdf_usercode.specs.declared.forms.Form.TheVariants as forms
-use Rattle.kdf_usercode.specs.declared.forms.TheConstants.{STATEMENTS}
-use Rattle.kdf_usercode.specs.Parse.{◌>>=◌, ◌or◌, opt_map, behind, row_in, strip}
+use Rattle.kdf_usercode.specs.Bytes.{letter_a, letter_z, letter_b, letter_p}
+use Rattle.kdf_usercode.specs.Parse.{◌or◌, opt_map, behind, row_in, strip}
 use Rattle.kdf_usercode.specs.Octal.{all_octal}
 use Rattle.kdf_usercode.specs.Characters.{are_characters}
+use Rattle.kdf_usercode.specs.OrderNames.{order_names}
 use Rattle.kdf_usercode.specs.Orders.{octal_order, order_form}
 use Rattle.kdf_usercode.specs.Stores.{letter_after, lettered, store_name, not_e, addressed, suffix_of, direction_of, access_form, address_form}
-use Rattle.kdf_usercode.specs.Jumps.{condition_of, target_form, subroutine_form, test_form, jump_form}
-use Rattle.kdf_usercode.specs.Constants.{address_item, number_item, item_behind, item_form, triple_form, octal_value, characters_value, value_form, constant_form}
-use Rattle.kdf_usercode.specs.Forms.{form_in}
+use Rattle.kdf_usercode.specs.Jumps.{conditions, condition_of, target_form, subroutine_form, test_form, jump_form}
+use Rattle.kdf_usercode.specs.Constants.{value_names, address_item, number_item, item_behind, item_form, triple_form, octal_value, characters_value, value_form, constant_form}
+use Rattle.kdf_usercode.specs.Forms.{statement_names, form_in}
 use Rattle.kdf_usercode.proofs.Optional.{Holds, holds-any, holds-or, holds-map, holds-bind, holds-if, holds-row}
 
 -- ---- orders
@@ -52,15 +50,15 @@ has_code (orders.Device code) = within 112 125 code
 has_code (orders.Query b) = nat_le b 5
 has_code form = true
 
-orders-have-codes : list_all (λ (r : List ℕ × OrderForm). has_code r.1) (map (λ row. (row.0.now, row.1)) ORDERS) ≡ true
+orders-have-codes : list_all (λ (r : List ℕ × OrderForm). has_code r.1) order_names ≡ true
 orders-have-codes = refl
 
 order-form : (shape text : List ℕ) → Holds (λ form. has_code form ≡ true) (order_form shape text)
 unfolding order_form octal_order
 order-form shape text =
-    holds-or (λ form. has_code form ≡ true) (row_in (map (λ row. (row.0.now, row.1)) ORDERS) shape) (octal_order shape text)
-    (holds-row has_code (map (λ row. (row.0.now, row.1)) ORDERS) shape orders-have-codes)
-    (holds-if (λ form. has_code form ≡ true) (bytes_eq shape (codes "SETB0") && all_octal (behind 66 text)) orders.SetOctal refl)
+    holds-or (λ form. has_code form ≡ true) (row_in order_names shape) (octal_order shape text)
+    (holds-row has_code order_names shape orders-have-codes)
+    (holds-if (λ form. has_code form ≡ true) (bytes_eq shape (codes "SETB0") && all_octal (behind letter_b text)) orders.SetOctal refl)
 
 -- ---- stores
 
@@ -73,16 +71,17 @@ abbrev pub IsAddressedName : StoreName → Type 0
 IsAddressedName names.E = ⊥
 IsAddressedName name = HasGroup name
 
-letter-small : (c : ℕ) → (nat_le 65 c && nat_le c 90) ≡ true → c - 64 ≤ 26
+letter-small : (c : ℕ) → (nat_le letter_a c && nat_le c letter_z) ≡ true → c - letter_a + 1 ≤ 26
 letter-small c e = grind (arith, nat_tests)
 
-letter-found : (c : ℕ) (rest : List ℕ) (b : Bool) → (nat_le 65 c && nat_le c 90) ≡ b → Holds (λ (x : ℕ × List ℕ). x.0 ≤ 26) (cond b (Some (c - 64, rest)) None)
+letter-found : (c : ℕ) (rest : List ℕ) (b : Bool) → (nat_le letter_a c && nat_le c letter_z) ≡ b
+    → Holds (λ (x : ℕ × List ℕ). x.0 ≤ 26) (cond b (Some (c - letter_a + 1, rest)) None)
 letter-found c rest true e = letter-small c e
 letter-found c rest false e = tt
 
 letter-after : (shape : List ℕ) → Holds (λ (x : ℕ × List ℕ). x.0 ≤ 26) (letter_after shape)
 letter-after [] = tt
-letter-after (c ∷ rest) = letter-found c rest (nat_le 65 c && nat_le c 90) refl
+letter-after (c ∷ rest) = letter-found c rest (nat_le letter_a c && nat_le c letter_z) refl
 
 abbrev NameHas : (StoreName → Type 0) → StoreName × List ℕ → Type 0
 NameHas P x = P x.0
@@ -97,8 +96,10 @@ lettered-name shape =
     (λ rest u. holds-bind (λ (x : ℕ × List ℕ). x.0 ≤ 26) (NameHas HasGroup) (letter_after rest) _ (letter-after rest)
     (λ letter h. holds-bind (λ x. Unit {0}) (NameHas HasGroup) (strip (codes "0") letter.1) _ (any (strip (codes "0") letter.1)) (λ r v. h)))
 
-named : (name : StoreName) (prefix shape : List ℕ) → HasGroup name → Holds (NameHas HasGroup) (opt_map (λ rest. (name, rest)) (strip prefix shape))
-named name prefix shape h = holds-map (λ x. Unit {0}) (NameHas HasGroup) (λ rest. (name, rest)) (strip prefix shape) (any (strip prefix shape)) (λ x u. h)
+named : (name : StoreName) (prefix shape : List ℕ) → HasGroup name
+    → Holds (NameHas HasGroup) (opt_map (λ rest. (name, rest)) (strip prefix shape))
+named name prefix shape h =
+    holds-map (λ x. Unit {0}) (NameHas HasGroup) (λ rest. (name, rest)) (strip prefix shape) (any (strip prefix shape)) (λ x u. h)
 
 group-zero : HasGroup (names.Y 0)
 group-zero = omega arith
@@ -118,7 +119,8 @@ store-name shape =
     (named (names.Y 0) (codes "Y0") shape group-zero))
     (lettered-name shape)
 
-not-e : (name : StoreName) (rest : List ℕ) → HasGroup name → Holds (NameHas IsAddressedName) (not_e (name, rest))
+not-e : (name : StoreName) (rest : List ℕ) → HasGroup name
+    → Holds (NameHas IsAddressedName) (not_e (name, rest))
 not-e (names.Y group) rest h = h
 not-e names.V rest h = tt
 not-e names.VOfPart rest h = tt
@@ -126,7 +128,8 @@ not-e names.E rest h = tt
 
 addressed-name : (shape : List ℕ) → Holds (NameHas IsAddressedName) (addressed shape)
 unfolding addressed
-addressed-name shape = holds-bind (NameHas HasGroup) (NameHas IsAddressedName) (store_name shape) not_e (store-name shape) (λ x h. not-e x.0 x.1 h)
+addressed-name shape =
+    holds-bind (NameHas HasGroup) (NameHas IsAddressedName) (store_name shape) not_e (store-name shape) (λ x h. not-e x.0 x.1 h)
 
 abbrev AccessHas : Direction × StoreName × Suffix → Type 0
 AccessHas x = HasGroup x.1
@@ -152,12 +155,12 @@ abbrev pub has_jump : Test → Bool
 has_jump (tests.Of c) = nat_le c 49
 has_jump test = true
 
-conditions-have-jumps : list_all (λ (r : List ℕ × Test). has_jump r.1) (map (λ row. (row.0.now, row.1)) CONDITIONS) ≡ true
+conditions-have-jumps : list_all (λ (r : List ℕ × Test). has_jump r.1) conditions ≡ true
 conditions-have-jumps = refl
 
 condition-of : (shape : List ℕ) → Holds (λ test. has_jump test ≡ true) (condition_of shape)
 unfolding condition_of
-condition-of shape = holds-row has_jump (map (λ row. (row.0.now, row.1)) CONDITIONS) shape conditions-have-jumps
+condition-of shape = holds-row has_jump conditions shape conditions-have-jumps
 
 abbrev JumpHas : Test × TargetForm → Type 0
 JumpHas x = has_jump x.0 ≡ true
@@ -178,7 +181,8 @@ test-form shape =
 
 jump-form : (shape : List ℕ) → Holds JumpHas (jump_form shape)
 unfolding jump_form
-jump-form shape = holds-or JumpHas (subroutine_form shape) (test_form shape) (subroutine-form shape) (test-form shape)
+jump-form shape =
+    holds-or JumpHas (subroutine_form shape) (test_form shape) (subroutine-form shape) (test-form shape)
 
 -- ---- constants
 
@@ -195,10 +199,13 @@ ItemHas x = IsItemForm x.0
 
 address-item : (shape : List ℕ) → Holds ItemHas (address_item shape)
 unfolding address_item
-address-item shape = holds-bind (NameHas IsAddressedName) ItemHas (addressed shape) _ (addressed-name shape) (λ name h. h)
+address-item shape =
+    holds-bind (NameHas IsAddressedName) ItemHas (addressed shape) _ (addressed-name shape) (λ name h. h)
 
-number : (form : ItemForm) (prefix shape : List ℕ) → IsItemForm form → Holds ItemHas (opt_map (λ rest. (form, rest)) (strip prefix shape))
-number form prefix shape h = holds-map (λ x. Unit {0}) ItemHas (λ rest. (form, rest)) (strip prefix shape) (any (strip prefix shape)) (λ x u. h)
+number : (form : ItemForm) (prefix shape : List ℕ) → IsItemForm form
+    → Holds ItemHas (opt_map (λ rest. (form, rest)) (strip prefix shape))
+number form prefix shape h =
+    holds-map (λ x. Unit {0}) ItemHas (λ rest. (form, rest)) (strip prefix shape) (any (strip prefix shape)) (λ x u. h)
 
 number-item : (shape : List ℕ) → Holds ItemHas (number_item shape)
 unfolding number_item
@@ -238,7 +245,7 @@ simple values.Octal e = tt
 simple values.Characters e = tt
 simple (values.Triple c i m) e = absurd cc
 
-values-simple : list_all (λ (r : List ℕ × ValueForm). is_simple r.1) (map (λ row. (row.0.now, row.1)) VALUES) ≡ true
+values-simple : list_all (λ (r : List ℕ × ValueForm). is_simple r.1) value_names ≡ true
 values-simple = refl
 
 weaker : {A : Type 0} (P R : A → Type 0) (o : Option A) → ((x : A) → P x → R x) → Holds P o → Holds R o
@@ -247,22 +254,23 @@ weaker P R (Some x) f h = f x h
 
 octal-value : (shape text : List ℕ) → Holds IsValueForm (octal_value shape text)
 unfolding octal_value
-octal-value shape text = holds-if IsValueForm (bytes_eq shape (codes "B0") && all_octal (behind 66 text)) values.Octal tt
+octal-value shape text =
+    holds-if IsValueForm (bytes_eq shape (codes "B0") && all_octal (behind letter_b text)) values.Octal tt
 
 characters-value : (shape text : List ℕ) → Holds IsValueForm (characters_value shape text)
 unfolding characters_value
 characters-value shape text =
     holds-bind (λ x. Unit {0}) IsValueForm (strip (codes "P") shape) _ (any (strip (codes "P") shape))
-    (λ rest u. holds-if IsValueForm (are_characters (behind 80 text)) values.Characters tt)
+    (λ rest u. holds-if IsValueForm (are_characters (behind letter_p text)) values.Characters tt)
 
 value-form : (shape text : List ℕ) → Holds IsValueForm (value_form shape text)
 unfolding value_form
 value-form shape text =
-    let row = row_in (map (λ row. (row.0.now, row.1)) VALUES) shape in
+    let row = row_in value_names shape in
     holds-or IsValueForm (row or triple_form shape or octal_value shape text) (characters_value shape text)
     (holds-or IsValueForm (row or triple_form shape) (octal_value shape text)
     (holds-or IsValueForm row (triple_form shape)
-    (weaker (λ form. is_simple form ≡ true) IsValueForm row simple (holds-row is_simple (map (λ row. (row.0.now, row.1)) VALUES) shape values-simple))
+    (weaker (λ form. is_simple form ≡ true) IsValueForm row simple (holds-row is_simple value_names shape values-simple))
     (triple-form shape))
     (octal-value shape text))
     (characters-value shape text)
@@ -309,13 +317,13 @@ bare (forms.Go test target) e = absurd cc
 bare (forms.Access direction name suffix) e = absurd cc
 bare (forms.SetAddress name) e = absurd cc
 
-statements-bare : list_all (λ (r : List ℕ × Form). is_bare r.1) (map (λ row. (row.0.now, row.1)) STATEMENTS) ≡ true
+statements-bare : list_all (λ (r : List ℕ × Form). is_bare r.1) statement_names ≡ true
 statements-bare = refl
 
 pub form-in : (shape text : List ℕ) → Holds IsForm (form_in shape text)
 unfolding form_in
 form-in shape text =
-    let row = row_in (map (λ row. (row.0.now, row.1)) STATEMENTS) shape in
+    let row = row_in statement_names shape in
     let order = opt_map (λ order. forms.Plain order) (order_form shape text) in
     let constant = opt_map (λ value. forms.Constant value) (constant_form shape text) in
     let jump = opt_map (λ (jump : Test × TargetForm). forms.Go jump.0 jump.1) (jump_form shape) in
@@ -326,7 +334,7 @@ form-in shape text =
     (holds-or IsForm (row or order or constant) jump
     (holds-or IsForm (row or order) constant
     (holds-or IsForm row order
-    (weaker (λ form. is_bare form ≡ true) IsForm row bare (holds-row is_bare (map (λ row. (row.0.now, row.1)) STATEMENTS) shape statements-bare))
+    (weaker (λ form. is_bare form ≡ true) IsForm row bare (holds-row is_bare statement_names shape statements-bare))
     (holds-map (λ form. has_code form ≡ true) IsForm (λ order. forms.Plain order) (order_form shape text) (order-form shape text) (λ x h. h)))
     (holds-map IsValueForm IsForm (λ value. forms.Constant value) (constant_form shape text) (constant-form shape text) (λ x h. h)))
     (holds-map JumpHas IsForm (λ (jump : Test × TargetForm). forms.Go jump.0 jump.1) (jump_form shape) (jump-form shape) (λ x h. h)))

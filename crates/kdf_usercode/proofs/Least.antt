@@ -1,9 +1,10 @@
 -- The laws of the first fault, for the faults of a deck.
-use Rattle.std.proofs.Common.{◌≡◌, ℕ, List, [], ◌∷◌, ◌++◌, Option, Some, None, refl, sym, ap, ◌∙◌}
+use Rattle.std.proofs.Common.{◌≡◌, ℕ, List, [], ◌∷◌, ◌++◌, Option, Some, None, refl}
 use Rattle.std.proofs.lemmas.List.{map-append}
 use Rattle.kdf_fault.proofs.Least as of_all
 use Rattle.kdf_usercode.specs.declared.fault.DeckFault.{DeckFault}
-use Rattle.kdf_usercode.specs.Faults.{Found, number_of, apart, lesser, least, founds}
+use Rattle.kdf_usercode.specs.Faults.{Found, number_of, lesser, least, founds}
+use Rattle.kdf_usercode.specs.Apart.{apart}
 
 pub some-stays : (x : Found) (later : Option Found) → (z : Found) × (lesser (Some x) later ≡ Some z)
 some-stays x later = of_all.some-stays number_of x later
@@ -21,13 +22,16 @@ least-append xs ys = of_all.least-append number_of xs ys
 pub least-none : (fs : List Found) → least fs ≡ None → fs ≡ []
 least-none fs e = of_all.least-none number_of fs e
 
-pub least-front : (best : Option Found) (here later : List Found) → lesser (lesser best (least here)) (least later) ≡ lesser best (least (here ++ later))
+pub least-front : (best : Option Found) (here later : List Found)
+    → lesser (lesser best (least here)) (least later) ≡ lesser best (least (here ++ later))
 least-front best here later = of_all.least-front number_of best here later
 
-pub least-between : (best : Option Found) (front here later : List Found) → lesser (lesser best (least here)) (least (front ++ later)) ≡ lesser best (least (front ++ (here ++ later)))
+pub least-between : (best : Option Found) (front here later : List Found)
+    → lesser (lesser best (least here)) (least (front ++ later)) ≡ lesser best (least (front ++ (here ++ later)))
 least-between best front here later = of_all.least-between number_of apart best front here later
 
-pub founds-append : (place : ℕ) (fs gs : List DeckFault) → founds place (fs ++ gs) ≡ founds place fs ++ founds place gs
+pub founds-append : (place : ℕ) (fs gs : List DeckFault)
+    → founds place (fs ++ gs) ≡ founds place fs ++ founds place gs
 founds-append place fs gs = map-append _ fs gs
 
 founds-none : (place : ℕ) (fs : List DeckFault) → founds place fs ≡ [] → fs ≡ []

@@ -2,6 +2,7 @@ pub mod Least
 pub mod Numbers
 pub mod OctalDigits
 pub mod Ranges
+pub mod Capped
 pub mod Outcome
 pub mod Gain
 pub mod Scan

@@ -1,5 +1,5 @@
 -- What holds of all that is found.
-use Rattle.std.proofs.Common.{◌≡◌, ℕ, Bool, true, false, cond, ◌&&◌, List, [], ◌∷◌, Option, Some, None, refl, sym, ap, subst, ◌∙◌}
+use Rattle.std.proofs.Common.{◌≡◌, ℕ, Bool, true, false, cond, ◌&&◌, List, [], ◌∷◌, Option, Some, None, refl, subst}
 use Rattle.std.specs.List.{list_all}
 use Rattle.std.specs.Str.{bytes_eq}
 use Rattle.kdf_usercode.specs.Parse.{◌>>=◌, ◌or◌, opt_map, row_in}
@@ -19,11 +19,13 @@ pub holds-or : {A : Type 0} (P : A → Type 0) (a b : Option A) → Holds P a �
 holds-or P None b h g = g
 holds-or P (Some x) b h g = h
 
-pub holds-map : {A B : Type 0} (P : A → Type 0) (R : B → Type 0) (f : A → B) (o : Option A) → Holds P o → ((x : A) → P x → R (f x)) → Holds R (opt_map f o)
+pub holds-map : {A B : Type 0} (P : A → Type 0) (R : B → Type 0) (f : A → B) (o : Option A) → Holds P o
+    → ((x : A) → P x → R (f x)) → Holds R (opt_map f o)
 holds-map P R f None h g = tt
 holds-map P R f (Some x) h g = g x h
 
-pub holds-bind : {A B : Type 0} (P : A → Type 0) (R : B → Type 0) (o : Option A) (f : A → Option B) → Holds P o → ((x : A) → P x → Holds R (f x)) → Holds R (o >>= f)
+pub holds-bind : {A B : Type 0} (P : A → Type 0) (R : B → Type 0) (o : Option A) (f : A → Option B)
+    → Holds P o → ((x : A) → P x → Holds R (f x)) → Holds R (o >>= f)
 holds-bind P R None f h g = tt
 holds-bind P R (Some x) f h g = g x h
 
@@ -31,12 +33,13 @@ pub holds-if : {A : Type 0} (P : A → Type 0) (b : Bool) (x : A) → P x → Ho
 holds-if P true x h = h
 holds-if P false x h = tt
 
-both-true : (a b : Bool) → (a && b) ≡ true → (a ≡ true) × (b ≡ true)
+pub both-true : (a b : Bool) → (a && b) ≡ true → (a ≡ true) × (b ≡ true)
 both-true true b e = (refl, e)
 both-true false b e = absurd cc
 
 -- what holds of each row of a table holds of what is found in it
-pub holds-row : {A : Type 0} (p : A → Bool) (rows : List (List ℕ × A)) (text : List ℕ) → list_all (λ r. p r.1) rows ≡ true → Holds (λ x. p x ≡ true) (row_in rows text)
+pub holds-row : {A : Type 0} (p : A → Bool) (rows : List (List ℕ × A)) (text : List ℕ)
+    → list_all (λ r. p r.1) rows ≡ true → Holds (λ x. p x ≡ true) (row_in rows text)
 holds-row p [] text all = tt
 holds-row {A = A} p (r ∷ rows) text all =
     let h = both-true (p r.1) (list_all (λ r. p r.1) rows) all in

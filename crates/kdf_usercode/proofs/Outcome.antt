@@ -3,25 +3,28 @@ use Rattle.std.proofs.Common.{◌≡◌, ℕ, ◌+◌, ◌<◌, length, get_or, 
 use Rattle.std.proofs.lemmas.List.{append-nil, at_drop_more}
 use Rattle.std.proofs.lemmas.List.Concat.{flat_map-cons}
 use Rattle.std.specs.List.{flat_map}
-use Rattle.kdf_usercode.specs.declared.kept.Kept.{Kept}
+use Rattle.kdf_usercode.specs.declared.comments.ByteAt.{ByteAt}
 use Rattle.kdf_usercode.specs.declared.phase.Phase.{Phase}
 use Rattle.kdf_usercode.specs.declared.statement.Statement.{Statement}
 use Rattle.kdf_usercode.specs.declared.reading.Reading.{Reading}
 use Rattle.std.proofs.lemmas.Bool.{ne_eqb}
 use Rattle.kdf_usercode.specs.Faults.{Found, lesser, least}
-use Rattle.kdf_usercode.specs.Kept.{Cut, onto, in_front, cut_before, cut, Written, codes_of, statements_in, written}
-use Rattle.kdf_usercode.specs.Grammar.{byte_faults, comment_faults, statement_faults, phase_after, statements_of, faults_from, statements_from, verdict}
+use Rattle.kdf_usercode.specs.Parsed.{Parsed, statements_in, parses, parsed}
+use Rattle.kdf_usercode.specs.Pieces.{Cut, onto, in_front, cut_before, cut, codes_of}
+use Rattle.kdf_usercode.specs.Grammar.{comment_faults, statement_faults, phase_after, statements_of, faults_from, statements_from, verdict}
 use Rattle.kdf_usercode.specs.Reading.{Reads, outcome, with_ahead}
 use Rattle.kdf_usercode.proofs.Least.{some-stays, least-between, least-front}
 
 -- a verdict where the statements are only known while there is no fault
-same-verdict : (best later : Option Found) (ss ss' : List Statement) → (best ≡ None → ss ≡ ss') → verdict (lesser best later) ss ≡ verdict (lesser best later) ss'
+same-verdict : (best later : Option Found) (ss ss' : List Statement) → (best ≡ None → ss ≡ ss')
+    → verdict (lesser best later) ss ≡ verdict (lesser best later) ss'
 same-verdict None None ss ss' h = ap (λ x. Ok x) (h refl)
 same-verdict None (Some y) ss ss' h = refl
 same-verdict (Some x) later ss ss' h = let z = some-stays x later in rw (z.1) refl
 
 -- one statement more was read
-pub outcome-statement : (old new : Reading) (w : Written) (len : ℕ) (front : List Found) (ws : List Written) (tail : List Kept) → Reads old new w
+pub outcome-statement : (old new : Reading) (w : Parsed) (len : ℕ) (front : List Found) (ws : List Parsed) (tail : List ByteAt)
+    → Reads old new w
     → outcome new.phase new.best new.statements.items len front ws tail ≡ outcome old.phase old.best old.statements.items len front (w ∷ ws) tail
 outcome-statement old new w len front ws tail h =
     let later = faults_from (phase_after old.phase w) len ws tail in
@@ -36,7 +39,7 @@ outcome-statement old new w len front ws tail h =
     step1 ∙ step2 ∙ step3
 
 -- one byte more was looked at
-pub outcome-byte : (phase : Phase) (best : Option Found) (ss : List Statement) (len : ℕ) (here front : List Found) (ws : List Written) (tail : List Kept) (best' : Option Found)
+pub outcome-byte : (phase : Phase) (best : Option Found) (ss : List Statement) (len : ℕ) (here front : List Found) (ws : List Parsed) (tail : List ByteAt) (best' : Option Found)
     → best' ≡ lesser best (least here)
     → outcome phase best' ss len front ws tail ≡ outcome phase best ss len (here ++ front) ws tail
 outcome-byte phase best ss len here front ws tail best' b =
@@ -48,16 +51,17 @@ outcome-byte phase best ss len here front ws tail best' b =
     ap (λ o. verdict o (ss ++ statements_from phase ws)) e
 
 -- a byte, whether it stays or not
-pub with_ahead-byte : (r : Reading) (best' : Option Found) (here : List Found) (piece : List Kept) (len : ℕ) (bad : List Found) (ahead : List Kept)
-    → best' ≡ lesser r.best (least here) → with_ahead (record r { best = best' }) piece len bad ahead ≡ with_ahead r piece len (here ++ bad) ahead
+pub with_ahead-byte : (r : Reading) (best' : Option Found) (here : List Found) (piece : List ByteAt) (len : ℕ) (bad : List Found) (ahead : List ByteAt)
+    → best' ≡ lesser r.best (least here)
+    → with_ahead (record r { best = best' }) piece len bad ahead ≡ with_ahead r piece len (here ++ bad) ahead
 with_ahead-byte r best' here piece len bad ahead b =
     let c = in_front piece (cut ahead) in
     let opened = flat_map comment_faults ahead in
-    outcome-byte r.phase r.best r.statements.items len here (bad ++ opened) (written c) c.tail best' b
-    ∙ ap (λ x. outcome r.phase r.best r.statements.items len x (written c) c.tail) (sym (append_assoc here bad opened))
+    outcome-byte r.phase r.best r.statements.items len here (bad ++ opened) (parses c) c.tail best' b
+    ∙ ap (λ x. outcome r.phase r.best r.statements.items len x (parses c) c.tail) (sym (append_assoc here bad opened))
 
 -- a comment that isn't closed is found before the bytes ahead
-pub outcome-comment : (phase : Phase) (best : Option Found) (ss : List Statement) (len : ℕ) (k : Kept) (bad : List Found) (ahead : List Kept) (ws : List Written) (tail : List Kept) (best' : Option Found)
+pub outcome-comment : (phase : Phase) (best : Option Found) (ss : List Statement) (len : ℕ) (k : ByteAt) (bad : List Found) (ahead : List ByteAt) (ws : List Parsed) (tail : List ByteAt) (best' : Option Found)
     → best' ≡ lesser best (least (comment_faults k))
     → outcome phase best' ss len (bad ++ flat_map comment_faults ahead) ws tail ≡ outcome phase best ss len (bad ++ flat_map comment_faults (k ∷ ahead)) ws tail
 outcome-comment phase best ss len k bad ahead ws tail best' b =
@@ -74,44 +78,50 @@ outcome-comment phase best ss len k bad ahead ws tail best' b =
 
 -- ---- cutting
 
-onto-onto : (a b : List Kept) (ps : List (List Kept)) (tail : List Kept) → in_front a (onto b ps tail) ≡ onto (a ++ b) ps tail
-onto-onto a b [] tail = ap (λ (x : List Kept). onto [] [] x) (sym (append_assoc a b tail))
-onto-onto a b (p ∷ ps) tail = ap (λ (x : List Kept). onto [] (x ∷ ps) tail) (sym (append_assoc a b p))
+onto-onto : (a b : List ByteAt) (ps : List (List ByteAt)) (tail : List ByteAt)
+    → in_front a (onto b ps tail) ≡ onto (a ++ b) ps tail
+onto-onto a b [] tail = ap (λ (x : List ByteAt). onto [] [] x) (sym (append_assoc a b tail))
+onto-onto a b (p ∷ ps) tail = ap (λ (x : List ByteAt). onto [] (x ∷ ps) tail) (sym (append_assoc a b p))
 
-onto-nil : (ps : List (List Kept)) (tail : List Kept) → onto [] ps tail ≡ record { pieces = ps; tail = tail }
+onto-nil : (ps : List (List ByteAt)) (tail : List ByteAt)
+    → onto [] ps tail ≡ record { pieces = ps; tail = tail }
 onto-nil [] tail = refl
 onto-nil (p ∷ ps) tail = refl
 
 -- a byte that ends no statement goes to the begun one
-pub in_front-push : (piece : List Kept) (k : Kept) (c : Cut) → eqb k.byte 59 ≡ false → in_front (piece ++ k ∷ []) c ≡ in_front piece (cut_before k c)
+pub in_front-push : (piece : List ByteAt) (k : ByteAt) (c : Cut) → eqb k.byte 59 ≡ false
+    → in_front (piece ++ k ∷ []) c ≡ in_front piece (cut_before k c)
 in_front-push piece k c e = rw e (sym (onto-onto piece (k ∷ []) c.pieces c.tail))
 
 -- a `;` ends the begun statement
-pub in_front-end : (piece : List Kept) (k : Kept) (c : Cut) → eqb k.byte 59 ≡ true → in_front piece (cut_before k c) ≡ record { pieces = piece ∷ c.pieces; tail = c.tail }
+pub in_front-end : (piece : List ByteAt) (k : ByteAt) (c : Cut) → eqb k.byte 59 ≡ true
+    → in_front piece (cut_before k c) ≡ record { pieces = piece ∷ c.pieces; tail = c.tail }
 in_front-end piece k c e = rw (e, append-nil piece) refl
 
 pub in_front-nil : (c : Cut) → in_front [] c ≡ c
 in_front-nil c = onto-nil c.pieces c.tail
 
 -- a begun statement goes on
-pub with_ahead-push : (r : Reading) (piece : List Kept) (k : Kept) (best' : Option Found) (len : ℕ) (bad : List Found) (ahead : List Kept)
+pub with_ahead-push : (r : Reading) (piece : List ByteAt) (k : ByteAt) (best' : Option Found) (len : ℕ) (bad : List Found) (ahead : List ByteAt)
     → best' ≡ lesser r.best (least (comment_faults k)) → (k.byte ≡ 59 → ⊥)
     → with_ahead (record r { best = best' }) (piece ++ k ∷ []) len bad ahead ≡ with_ahead r piece len bad (k ∷ ahead)
 with_ahead-push r piece k best' len bad ahead b ne =
     let c = in_front piece (cut_before k (cut ahead)) in
-    ap (λ (x : Cut). outcome r.phase best' r.statements.items len (bad ++ flat_map comment_faults ahead) (written x) x.tail) (in_front-push piece k (cut ahead) (ne_eqb k.byte 59 ne))
-    ∙ outcome-comment r.phase r.best r.statements.items len k bad ahead (written c) c.tail best' b
+    ap (λ (x : Cut). outcome r.phase best' r.statements.items len (bad ++ flat_map comment_faults ahead) (parses x) x.tail) (in_front-push piece k (cut ahead) (ne_eqb k.byte 59 ne))
+    ∙ outcome-comment r.phase r.best r.statements.items len k bad ahead (parses c) c.tail best' b
 
 -- ---- the statements of a piece
 
 -- a `*` in front
-pub statements_in-star : (piece : List Kept) (i : ℕ) (d : Kept) → i < length piece → (get_or piece i d).byte ≡ 42
-    → statements_in (drop i piece) ≡ record { place = (get_or piece i d).at; codes = 42 ∷ [] } ∷ statements_in (drop (i + 1) piece)
+pub statements_in-star : (piece : List ByteAt) (i : ℕ) (d : ByteAt) → i < length piece
+    → (get_or piece i d).byte ≡ 42
+    → statements_in (drop i piece) ≡ parsed (get_or piece i d).at (42 ∷ []) ∷ statements_in (drop (i + 1) piece)
 statements_in-star piece i d lt e = at_drop_more statements_in piece i d lt ∙ rw e refl
 
 -- the last statement of a piece
-pub statements_in-last : (piece : List Kept) (i : ℕ) (d : Kept) → i < length piece → ((get_or piece i d).byte ≡ 42 → ⊥)
-    → statements_in (drop i piece) ≡ record { place = (get_or piece i d).at; codes = codes_of (drop i piece) } ∷ []
+pub statements_in-last : (piece : List ByteAt) (i : ℕ) (d : ByteAt) → i < length piece
+    → ((get_or piece i d).byte ≡ 42 → ⊥)
+    → statements_in (drop i piece) ≡ parsed (get_or piece i d).at (codes_of (drop i piece)) ∷ []
 statements_in-last piece i d lt ne =
-    let made : List ℕ → List Written = λ cs. record { place = (get_or piece i d).at; codes = cs } ∷ [] in
+    let made : List ℕ → List Parsed = λ cs. parsed (get_or piece i d).at cs ∷ [] in
     at_drop_more statements_in piece i d lt ∙ rw (ne_eqb (get_or piece i d).byte 42 ne) (sym (ap made (at_drop_more codes_of piece i d lt)))

@@ -7,7 +7,8 @@ use Rattle.kdf_usercode.specs.Faults.{Found, lesser, least, founds}
 use Rattle.kdf_usercode.specs.Range.{range_fault, range_faults}
 use Rattle.kdf_usercode.proofs.Least.{least-front}
 
-pub ranges-step : (best best' : Option Found) (place i n : ℕ) (rs : List Range) (ns : List ℕ) (d : Range) → i < length rs → n ≡ get_or ns i 0
+pub ranges-step : (best best' : Option Found) (place i n : ℕ) (rs : List Range) (ns : List ℕ) (d : Range)
+    → i < length rs → n ≡ get_or ns i 0
     → best' ≡ lesser best (least (founds place (range_fault (get_or rs i d) n)))
     → lesser best' (least (founds place (range_faults (drop (i + 1) rs) (drop (i + 1) ns)))) ≡ lesser best (least (founds place (range_faults (drop i rs) (drop i ns))))
 ranges-step best best' place i n rs ns d lt e b =
@@ -25,7 +26,8 @@ ranges-step best best' place i n rs ns d lt e b =
 drop-suc : (n : ℕ) (ns : List ℕ) → drop n (drop 1 ns) ≡ drop (suc n) ns
 drop-suc n ns = let e : 1 + n ≡ suc n = omega arith in drop-drop n 1 ns ∙ ap (λ (k : ℕ). drop k ns) e
 
-pub range_faults-append : (a b : List Range) (ns : List ℕ) → range_faults (a ++ b) ns ≡ range_faults a ns ++ range_faults b (drop (length a) ns)
+pub range_faults-append : (a b : List Range) (ns : List ℕ)
+    → range_faults (a ++ b) ns ≡ range_faults a ns ++ range_faults b (drop (length a) ns)
 range_faults-append [] b ns = refl
 range_faults-append (r ∷ rs) b ns =
     let here = range_fault r (slice_index ns 0) in
@@ -37,8 +39,10 @@ nil-append [] ys e = (refl, e)
 nil-append (x ∷ xs) ys e = absurd cc
 
 -- where all numbers are in range, those of each part are
-pub ranges-apart : (a b : List Range) (ns : List ℕ) → range_faults (a ++ b) ns ≡ [] → (range_faults a ns ≡ []) × (range_faults b (drop (length a) ns) ≡ [])
-ranges-apart a b ns e = nil-append (range_faults a ns) (range_faults b (drop (length a) ns)) (sym (range_faults-append a b ns) ∙ e)
+pub ranges-apart : (a b : List Range) (ns : List ℕ) → range_faults (a ++ b) ns ≡ []
+    → (range_faults a ns ≡ []) × (range_faults b (drop (length a) ns) ≡ [])
+ranges-apart a b ns e =
+    nil-append (range_faults a ns) (range_faults b (drop (length a) ns)) (sym (range_faults-append a b ns) ∙ e)
 
 -- the faults of two parts, one after the other
 pub ranges-then : (best : Option Found) (place : ℕ) (a b : List Range) (ns : List ℕ)

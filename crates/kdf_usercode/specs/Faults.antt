@@ -1,6 +1,5 @@
 -- The order of a deck's faults: the least place, and at one place the least number.
-use Rattle.std.specs.Prelude.{ℕ, ◌≡◌, ◌==◌, List, [], ◌∷◌, Option, map, if◌then◌else◌}
-use Rattle.std.proofs.Common.{refl, sym, ap, ◌∙◌}
+use Rattle.std.specs.Prelude.{ℕ, List, Option, map}
 use lib.Chars.{codes}
 use Rattle.kdf_fault.specs.declared.found.Found.{Found as FoundOf}
 use Rattle.kdf_fault.specs.Faults as faults_in
@@ -11,6 +10,7 @@ use Rattle.kdf_usercode.specs.declared.fault.DeckFault.TheVariants.{BadByte, Com
 abbrev pub Found : Type 0
 Found = FoundOf DeckFault
 
+-- At one place the least number comes first.
 abbrev pub number_of : DeckFault → ℕ
 number_of BadByte = 1
 number_of CommentOpen = 2
@@ -32,6 +32,7 @@ number_of YRange = 17
 number_of ShortLoopFar = 18
 number_of TooLarge = 19
 
+-- as it is printed
 abbrev pub name_of : DeckFault → List ℕ
 name_of BadByte = codes "BadByte"
 name_of CommentOpen = codes "CommentOpen"
@@ -53,7 +54,7 @@ name_of YRange = codes "YRange"
 name_of ShortLoopFar = codes "ShortLoopFar"
 name_of TooLarge = codes "TooLarge"
 
--- x comes before y
+-- the earlier of two, where there are any
 abbrev pub lesser : Option Found → Option Found → Option Found
 lesser x y = faults_in.lesser number_of x y
 
@@ -68,32 +69,3 @@ found fault place = record { fault = fault; place = place }
 -- these faults at one place
 abbrev pub founds : ℕ → List DeckFault → List Found
 founds place fs = map (λ f. record { fault = f; place = place }) fs
-
--- the fault of a number
-abbrev fault_at : ℕ → DeckFault
-fault_at n = if n == 1 then BadByte else (if n == 2 then CommentOpen else (if n == 3 then NoSemicolon else (if n == 4 then UnknownOrder else (if n == 5 then Floating else (if n == 6 then BadNumber else (if n == 7 then QRange else (if n == 8 then ConstantRange else (if n == 9 then BadHeading else (if n == 10 then NoFinish else (if n == 11 then AfterFinish else (if n == 12 then ReferenceTwice else (if n == 13 then ReferenceMissing else (if n == 14 then PartTwice else (if n == 15 then PartMissing else (if n == 16 then VRange else (if n == 17 then YRange else (if n == 18 then ShortLoopFar else (TooLarge))))))))))))))))))
-
-fault_at-number_of : (f : DeckFault) → fault_at (number_of f) ≡ f
-fault_at-number_of BadByte = refl
-fault_at-number_of CommentOpen = refl
-fault_at-number_of NoSemicolon = refl
-fault_at-number_of UnknownOrder = refl
-fault_at-number_of Floating = refl
-fault_at-number_of BadNumber = refl
-fault_at-number_of QRange = refl
-fault_at-number_of ConstantRange = refl
-fault_at-number_of BadHeading = refl
-fault_at-number_of NoFinish = refl
-fault_at-number_of AfterFinish = refl
-fault_at-number_of ReferenceTwice = refl
-fault_at-number_of ReferenceMissing = refl
-fault_at-number_of PartTwice = refl
-fault_at-number_of PartMissing = refl
-fault_at-number_of VRange = refl
-fault_at-number_of YRange = refl
-fault_at-number_of ShortLoopFar = refl
-fault_at-number_of TooLarge = refl
-
--- each fault has a number of its own
-pub apart : (x y : DeckFault) → number_of x ≡ number_of y → x ≡ y
-apart x y e = sym (fault_at-number_of x) ∙ ap fault_at e ∙ fault_at-number_of y

@@ -1,8 +1,7 @@
 -- Jumps: targets, conditions, and what they say.
-use Rattle.std.specs.Prelude.{ℕ, ◌+◌, ◌==◌, List, [], ◌∷◌, ◌++◌, length, slice_index, Option, Some, None, map, if◌then◌else◌}
+use Rattle.std.specs.Prelude.{ℕ, ◌+◌, ◌==◌, List, [], ◌∷◌, ◌++◌, length, slice_index, Option, Some, None, if◌then◌else◌}
 use lib.Chars.{codes}
 use Rattle.kdf_usercode.specs.declared.range.Range.{Range}
-use Rattle.kdf_usercode.specs.declared.range.TheConstants.{REFERENCE, PART, Q}
 use Rattle.kdf_usercode.specs.declared.statement.Target.{Target}
 use Rattle.kdf_usercode.specs.declared.statement.What.{What}
 use Rattle.kdf_usercode.specs.declared.statement.What.TheVariants as whats
@@ -10,14 +9,38 @@ use Rattle.kdf_usercode.specs.declared.jumps.Test.{Test}
 use Rattle.kdf_usercode.specs.declared.jumps.Test.TheVariants.{Of, CountZero, CountNotZero}
 use Rattle.kdf_usercode.specs.declared.jumps.TargetForm.{TargetForm}
 use Rattle.kdf_usercode.specs.declared.jumps.TargetForm.TheVariants.{Reference, Part, Both}
-use Rattle.kdf_usercode.specs.declared.jumps.TheConstants.{CONDITIONS}
 use Rattle.kdf_usercode.specs.Parse.{◌>>=◌, ◌or◌, opt_map, row_in, strip}
+use Rattle.kdf_usercode.specs.Range.{q_range, reference_range, part_range}
 
 -- ---- forms
 
+-- what may stand behind the target, with `0` where a number stands
+abbrev pub conditions : List (List ℕ × Test)
+conditions =
+    (codes "", Of 0x20) ∷
+    (codes "=", Of 0x22) ∷
+    (codes "#", Of 0x23) ∷
+    (codes "=Z", Of 0x24) ∷
+    (codes "#Z", Of 0x25) ∷
+    (codes "GTZ", Of 0x26) ∷
+    (codes "LTZ", Of 0x27) ∷
+    (codes "GEZ", Of 0x28) ∷
+    (codes "LEZ", Of 0x29) ∷
+    (codes "V", Of 0x2a) ∷
+    (codes "NV", Of 0x2b) ∷
+    (codes "TR", Of 0x2c) ∷
+    (codes "NTR", Of 0x2d) ∷
+    (codes "EN", Of 0x2e) ∷
+    (codes "NEN", Of 0x2f) ∷
+    (codes "EJ", Of 0x30) ∷
+    (codes "NEJ", Of 0x31) ∷
+    (codes "C0Z", CountZero) ∷
+    (codes "C0NZ", CountNotZero) ∷
+    []
+
 -- what stands behind the target
 unfoldable pub condition_of : List ℕ → Option Test
-condition_of shape = row_in (map (λ row. (row.0.now, row.1)) CONDITIONS) shape
+condition_of shape = row_in conditions shape
 
 -- the target in front, and what stands behind it
 unfoldable pub target_form : List ℕ → Option (TargetForm × List ℕ)
@@ -48,14 +71,14 @@ jump_form shape = subroutine_form shape or test_form shape
 -- ---- ranges
 
 abbrev pub target_ranges : TargetForm → List Range
-target_ranges Reference = REFERENCE ∷ []
-target_ranges Part = PART ∷ []
-target_ranges Both = REFERENCE ∷ PART ∷ []
+target_ranges Reference = reference_range ∷ []
+target_ranges Part = part_range ∷ []
+target_ranges Both = reference_range ∷ part_range ∷ []
 
 abbrev pub test_ranges : Test → List Range
 test_ranges (Of c) = []
-test_ranges CountZero = Q ∷ []
-test_ranges CountNotZero = Q ∷ []
+test_ranges CountZero = q_range ∷ []
+test_ranges CountNotZero = q_range ∷ []
 
 abbrev pub jump_ranges : Test → TargetForm → List Range
 jump_ranges test target = target_ranges target ++ test_ranges test

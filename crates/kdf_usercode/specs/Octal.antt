@@ -1,9 +1,9 @@
 -- Octal digits: what stands behind a `B`.
 use Rattle.std.specs.Prelude.{ℕ, ◌+◌, ◌-◌, ◌*◌, Bool, true, ◌&&◌, nat_le, List, [], ◌∷◌}
-use Rattle.kdf_usercode.specs.Shape.{capped}
+use Rattle.kdf_usercode.specs.Bytes.{digit_0, digit_7}
 
 abbrev pub is_octal : ℕ → Bool
-is_octal c = nat_le 48 c && nat_le c 55
+is_octal c = nat_le digit_0 c && nat_le c digit_7
 
 abbrev pub all_octal : List ℕ → Bool
 all_octal [] = true
@@ -12,7 +12,7 @@ all_octal (c ∷ cs) = is_octal c && all_octal cs
 -- the value of octal digits behind digits of the value n
 abbrev pub octal_from : ℕ → List ℕ → ℕ
 octal_from n [] = n
-octal_from n (c ∷ cs) = octal_from (8 * n + (c - 48)) cs
+octal_from n (c ∷ cs) = octal_from (8 * n + (c - digit_0)) cs
 
 abbrev pub octal : List ℕ → ℕ
-octal cs = capped (octal_from 0 cs)
+octal cs = octal_from 0 cs

@@ -1,31 +1,31 @@
--- Orders that name no store and no reference: their names, the ranges of their numbers, and what they say.
-use Rattle.std.specs.Prelude.{ℕ, ◌-◌, ◌%◌, Bool, true, false, ◌&&◌, List, [], ◌∷◌, slice_index, pos, neg_ℤ, Option, Some, None, map, if◌then◌else◌}
+-- Orders that name no store and no reference: the ranges of their numbers, and what they say.
+use Rattle.std.specs.Prelude.{ℕ, ◌-◌, ◌%◌, ◌&&◌, List, [], ◌∷◌, slice_index, pos, neg_ℤ, Option, Some, None, if◌then◌else◌}
 use Rattle.std.specs.Str.{bytes_eq}
 use lib.Chars.{codes}
 use Rattle.kdf_usercode.specs.declared.fault.DeckFault.{DeckFault}
-use Rattle.kdf_usercode.specs.declared.fault.DeckFault.TheVariants.{UnknownOrder}
+use Rattle.kdf_usercode.specs.declared.fault.DeckFault.TheVariants.{UnknownOrder, BadNumber}
 use Rattle.kdf_syllable.specs.declared.order.Order.{Order}
 use Rattle.kdf_syllable.specs.declared.order.Order.TheVariants as orders
 use Rattle.kdf_syllable.specs.declared.amount.Amount.TheVariants as amounts
 use Rattle.kdf_usercode.specs.declared.order_names.OrderForm.{OrderForm}
 use Rattle.kdf_usercode.specs.declared.order_names.OrderForm.TheVariants.{Plain, Indirect, Single, Copies, ShiftUp, ShiftDown, ShiftCount, Device, Query, ExitNone, Exit, SetUp, SetDown, SetOctal}
-use Rattle.kdf_usercode.specs.declared.order_names.TheConstants.{ORDERS, REFUSED}
-use Rattle.kdf_usercode.specs.declared.orders.TheConstants.{LEFT, RIGHT, EXIT, UP, DOWN, OCTAL_SET}
 use Rattle.kdf_usercode.specs.declared.range.Range.{Range}
-use Rattle.kdf_usercode.specs.declared.range.TheConstants.{Q}
+use Rattle.kdf_usercode.specs.Bytes.{letter_b}
 use Rattle.kdf_usercode.specs.Octal.{all_octal, octal}
+use Rattle.kdf_usercode.specs.OrderNames.{order_names, refused_names}
 use Rattle.kdf_usercode.specs.Parse.{◌or◌, behind, row_in}
-use Rattle.kdf_usercode.specs.Range.{range_fault}
+use Rattle.kdf_usercode.specs.Range.{between, q_range, range_fault}
 
 -- ---- names
 
 -- `SETB` and octal digits
 unfoldable pub octal_order : List ℕ → List ℕ → Option OrderForm
-octal_order shape text = if bytes_eq shape (codes "SETB0") && all_octal (behind 66 text) then Some SetOctal else None
+octal_order shape text =
+    if bytes_eq shape (codes "SETB0") && all_octal (behind letter_b text) then Some SetOctal else None
 
 -- the order of a statement, by its shape and its bytes
 unfoldable pub order_form : List ℕ → List ℕ → Option OrderForm
-order_form shape text = row_in (map (λ row. (row.0.now, row.1)) ORDERS) shape or octal_order shape text
+order_form shape text = row_in order_names shape or octal_order shape text
 
 abbrev or_unknown : Option DeckFault → DeckFault
 or_unknown None = UnknownOrder
@@ -33,28 +33,50 @@ or_unknown (Some fault) = fault
 
 -- the fault of a statement that has no form
 unfoldable pub formless : List ℕ → DeckFault
-formless shape = or_unknown (row_in (map (λ row. (row.0.now, row.1)) REFUSED) shape)
+formless shape = or_unknown (row_in refused_names shape)
 
 -- ---- ranges
 
+-- a shift to the left
+abbrev pub left_range : Range
+left_range = between 0 63 BadNumber
+
+-- a shift to the right
+abbrev pub right_range : Range
+right_range = between 0 64 BadNumber
+
+-- how many half words an exit goes on
+abbrev pub exit_range : Range
+exit_range = between 0 255 BadNumber
+
+-- what SET takes without a sign or with `+`, with `-`, and behind a `B`
+abbrev pub up_range : Range
+up_range = between 0 32767 BadNumber
+
+abbrev pub down_range : Range
+down_range = between 0 32768 BadNumber
+
+abbrev pub octal_set_range : Range
+octal_set_range = between 0 0o177777 BadNumber
+
 abbrev pub order_ranges : OrderForm → List Range
 order_ranges (Plain code) = []
-order_ranges (Indirect code) = Q ∷ Q ∷ []
-order_ranges (Single code) = Q ∷ []
-order_ranges (Copies code) = Q ∷ Q ∷ []
-order_ranges (ShiftUp code) = LEFT ∷ []
-order_ranges (ShiftDown code) = RIGHT ∷ []
-order_ranges (ShiftCount code) = Q ∷ []
-order_ranges (Device code) = Q ∷ []
-order_ranges (Query b) = Q ∷ []
+order_ranges (Indirect code) = q_range ∷ q_range ∷ []
+order_ranges (Single code) = q_range ∷ []
+order_ranges (Copies code) = q_range ∷ q_range ∷ []
+order_ranges (ShiftUp code) = left_range ∷ []
+order_ranges (ShiftDown code) = right_range ∷ []
+order_ranges (ShiftCount code) = q_range ∷ []
+order_ranges (Device code) = q_range ∷ []
+order_ranges (Query b) = q_range ∷ []
 order_ranges ExitNone = []
-order_ranges Exit = EXIT ∷ []
-order_ranges SetUp = UP ∷ []
-order_ranges SetDown = DOWN ∷ []
+order_ranges Exit = exit_range ∷ []
+order_ranges SetUp = up_range ∷ []
+order_ranges SetDown = down_range ∷ []
 order_ranges SetOctal = []
 
 abbrev pub octal_order_faults : OrderForm → List ℕ → List DeckFault
-octal_order_faults SetOctal text = range_fault OCTAL_SET (octal (behind 66 text))
+octal_order_faults SetOctal text = range_fault octal_set_range (octal (behind letter_b text))
 octal_order_faults form text = []
 
 -- ---- what they say
@@ -73,4 +95,4 @@ order_of ExitNone ns text = orders.Exit 0
 order_of Exit ns text = orders.Exit (slice_index ns 0)
 order_of SetUp ns text = orders.Set (slice_index ns 0)
 order_of SetDown ns text = orders.Set ((65536 - slice_index ns 0) % 65536)
-order_of SetOctal ns text = orders.Set (octal (behind 66 text))
+order_of SetOctal ns text = orders.Set (octal (behind letter_b text))

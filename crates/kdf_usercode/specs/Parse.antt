@@ -25,7 +25,9 @@ row_in (row ∷ rows) text = if bytes_eq row.0 text then Some row.1 else row_in 
 
 -- what stands behind a prefix
 abbrev pub strip : List ℕ → List ℕ → Option (List ℕ)
-strip prefix text = if nat_le (length prefix) (length text) && bytes_eq (take (length prefix) text) prefix then Some (drop (length prefix) text) else None
+strip prefix text =
+    if nat_le (length prefix) (length text) && bytes_eq (take (length prefix) text) prefix
+    then Some (drop (length prefix) text) else None
 
 -- what stands behind the first such byte
 abbrev pub behind : ℕ → List ℕ → List ℕ

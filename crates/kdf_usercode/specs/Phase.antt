@@ -30,7 +30,8 @@ is_new declared (Some group) = not (get_or declared group false)
 abbrev pub is_heading : List Bool → Form → Bool
 is_heading declared Program = true
 is_heading declared ProgramStores = true
-is_heading declared (Access direction name suffix) = is_new declared (declared_group direction name suffix)
+is_heading declared (Access direction name suffix) =
+    is_new declared (declared_group direction name suffix)
 is_heading declared form = false
 
 abbrev pub is_program : Form → Bool
@@ -67,8 +68,12 @@ with_group declared None = declared
 with_group declared (Some group) = set declared group true
 
 abbrev pub declared_with : List Bool → Form → List Bool
-declared_with declared (Access direction name suffix) = with_group declared (declared_group direction name suffix)
+declared_with declared (Access direction name suffix) =
+    with_group declared (declared_group direction name suffix)
 declared_with declared form = declared
 
 abbrev pub phase_with : Phase → Form → Phase
-phase_with phase form = record { stage = stage_with phase.stage form; declared = declared_with phase.declared form }
+phase_with phase form = record {
+  stage = stage_with phase.stage form;
+  declared = declared_with phase.declared form;
+}

@@ -1,9 +1,8 @@
 -- Stores: how each is named, the ranges of its numbers, and what is done with it.
-use Rattle.std.specs.Prelude.{ℕ, ◌-◌, Bool, true, false, ◌&&◌, nat_le, ◌==◌, List, [], ◌∷◌, ◌++◌, length, slice_index, Option, Some, None, if◌then◌else◌}
+use Rattle.std.specs.Prelude.{ℕ, ◌+◌, ◌-◌, Bool, true, false, ◌&&◌, nat_le, ◌==◌, List, [], ◌∷◌, ◌++◌, length, slice_index, Option, Some, None, if◌then◌else◌}
 use Rattle.std.specs.Str.{bytes_eq}
 use lib.Chars.{codes}
 use Rattle.kdf_usercode.specs.declared.range.Range.{Range}
-use Rattle.kdf_usercode.specs.declared.range.TheConstants.{STORE, PART, Q}
 use Rattle.kdf_usercode.specs.declared.statement.Named.{Named}
 use Rattle.kdf_usercode.specs.declared.statement.Named.TheVariants as nameds
 use Rattle.kdf_usercode.specs.declared.statement.What.{What}
@@ -14,14 +13,17 @@ use Rattle.kdf_usercode.specs.declared.stores.StoreName.{StoreName}
 use Rattle.kdf_usercode.specs.declared.stores.StoreName.TheVariants.{Y, V, VOfPart, E}
 use Rattle.kdf_usercode.specs.declared.stores.Suffix.{Suffix}
 use Rattle.kdf_usercode.specs.declared.stores.Suffix.TheVariants.{Nothing, M, MQ}
+use Rattle.kdf_usercode.specs.Bytes.{letter_a, letter_z}
 use Rattle.kdf_usercode.specs.Parse.{◌>>=◌, ◌or◌, opt_map, strip}
+use Rattle.kdf_usercode.specs.Range.{q_range, store_range, part_range}
 
 -- ---- names
 
 -- the number of the letter in front, A being 1, and what stands behind it
 abbrev pub letter_after : List ℕ → Option (ℕ × List ℕ)
 letter_after [] = None
-letter_after (c ∷ rest) = if nat_le 65 c && nat_le c 90 then Some (c - 64, rest) else None
+letter_after (c ∷ rest) =
+    if nat_le letter_a c && nat_le c letter_z then Some (c - letter_a + 1, rest) else None
 
 -- `YLn`
 unfoldable pub lettered : List ℕ → Option (StoreName × List ℕ)
@@ -76,15 +78,15 @@ address_form shape = do
 -- ---- ranges
 
 abbrev pub store_ranges : StoreName → List Range
-store_ranges (Y group) = STORE ∷ []
-store_ranges V = STORE ∷ []
-store_ranges VOfPart = STORE ∷ PART ∷ []
-store_ranges E = STORE ∷ []
+store_ranges (Y group) = store_range ∷ []
+store_ranges V = store_range ∷ []
+store_ranges VOfPart = store_range ∷ part_range ∷ []
+store_ranges E = store_range ∷ []
 
 abbrev pub suffix_ranges : Suffix → List Range
 suffix_ranges Nothing = []
-suffix_ranges M = Q ∷ []
-suffix_ranges MQ = Q ∷ []
+suffix_ranges M = q_range ∷ []
+suffix_ranges MQ = q_range ∷ []
 
 abbrev pub access_ranges : StoreName → Suffix → List Range
 access_ranges name suffix = store_ranges name ++ suffix_ranges suffix
@@ -121,7 +123,8 @@ done Keep place q u = whats.Keep place q u
 done Fetch place q u = whats.Fetch place q u
 
 abbrev pub access_of : Direction → StoreName → Suffix → List ℕ → What
-access_of direction name suffix ns = done direction (named_of name ns) (q_of name suffix ns) (is_stepped suffix)
+access_of direction name suffix ns =
+    done direction (named_of name ns) (q_of name suffix ns) (is_stepped suffix)
 
 -- the group that is declared where this stands before PROGRAM
 abbrev pub declared_group : Direction → StoreName → Suffix → Option ℕ

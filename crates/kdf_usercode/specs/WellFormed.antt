@@ -1,5 +1,5 @@
 -- Well-formed decks: what every deck is that was read.
-use Rattle.std.specs.Prelude.{◌≡◌, ◌≢◌, ℕ, ◌+◌, ◌<◌, ◌≤◌, ◌^◌, true, List, [], ◌∷◌, Option, Some, None}
+use Rattle.std.specs.Prelude.{◌≡◌, ◌≢◌, ℕ, ◌<◌, ◌≤◌, ◌^◌, true, List, [], ◌∷◌, Option, Some, None}
 use Rattle.std.specs.Int.{IsInRange}
 use Rattle.kdf_syllable.specs.declared.order.Order.{Order}
 use Rattle.kdf_syllable.specs.declared.order.Order.TheVariants as orders
@@ -90,8 +90,9 @@ AreInRange (s ∷ ss) = IsWhat s.what × AreInRange ss
 
 -- ---- the sequence of the statements
 
--- The stage behind a statement, where it stands in its place. Headings come first, then PROGRAM; behind PROGRAM and
--- behind the opening of a part its constants; then what else the part has; FINISH ends the last part.
+-- The stage behind a statement, where it stands in its place. Headings come first, then PROGRAM; behind
+-- PROGRAM and behind the opening of a part its constants; then what else the part has; FINISH ends the
+-- last part.
 abbrev pub follows : Stage → What → Option Stage
 follows Ended what = None
 follows Heading (Declare group n) = Some Heading
@@ -108,7 +109,8 @@ follows stage what = Some Body
 -- the statements from a stage on stand in their places, and FINISH is the last
 abbrev pub IsSequence : Stage → List Statement → Type 0
 IsSequence stage [] = ends stage ≡ true
-IsSequence stage (s ∷ ss) = (next : Stage) × (follows stage s.what ≡ Some next) × IsSequence next ss
+IsSequence stage (s ∷ ss) =
+    (next : Stage) × (follows stage s.what ≡ Some next) × IsSequence next ss
 
 -- the group that a statement declares
 abbrev pub group_of : What → Option ℕ

@@ -50,6 +50,7 @@ pub const VALUES: [(&str, ValueForm); 3] = [
     ("-0", ValueForm::Down),
 ];
 
+/// What a number takes without a sign or with `+`, and with `-`.
 pub const WORD_UP: Range = Range {
     low: 0,
     high: 140_737_488_355_327,
@@ -62,6 +63,7 @@ pub const WORD_DOWN: Range = Range {
     fault: DeckFault::ConstantRange,
 };
 
+/// What octal digits take.
 pub const OCTAL_WORD: Range = Range {
     low: 0,
     high: 281_474_976_710_655,
@@ -75,6 +77,7 @@ pub const CHARACTERS: Range = Range {
     fault: DeckFault::ConstantRange,
 };
 
+/// What a part of a constant for a Q-store takes without a sign or with `+`, and with `-`.
 pub const BITS_UP: Range = Range {
     low: 0,
     high: 65535,
@@ -221,7 +224,8 @@ fn with_item(
     item: ItemForm,
     numbers: &[u64],
 ) -> Option<Found<DeckFault>>
-    ensures { result ≡ lesser best (least (founds place (range_faults (item_ranges item) numbers.now))) }
+    ensures { result ≡ lesser best (least (founds place
+        (range_faults (item_ranges item) numbers.now))) }
 {
     with_ranges(best, place, item_ranges(item), numbers)
 }
@@ -234,7 +238,8 @@ fn with_triple(
     m: ItemForm,
     numbers: &[u64],
 ) -> Option<Found<DeckFault>>
-    ensures { result ≡ lesser best (least (founds place (range_faults (item_ranges c ++ (item_ranges i ++ item_ranges m)) numbers.now))) }
+    ensures { result ≡ lesser best (least (founds place
+        (range_faults (item_ranges c ++ (item_ranges i ++ item_ranges m)) numbers.now))) }
 {
     let behind_c = behind_item(c, numbers);
     let behind_i = behind_item(i, behind_c);
@@ -250,7 +255,8 @@ pub fn with_value(
     form: ValueForm,
     numbers: &[u64],
 ) -> Option<Found<DeckFault>>
-    ensures { result ≡ lesser best (least (founds place (range_faults (value_ranges form) numbers.now))) }
+    ensures { result ≡ lesser best (least (founds place
+        (range_faults (value_ranges form) numbers.now))) }
 {
     match form {
         ValueForm::Triple { c, i, m } => with_triple(best, place, c, i, m, numbers),

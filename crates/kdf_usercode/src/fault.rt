@@ -81,7 +81,8 @@ impl DeckFault {
 }
 
 impl Numbered for DeckFault {
-    ghost use Rattle.kdf_usercode.specs.Faults.{number_of, apart};
+    ghost use Rattle.kdf_usercode.specs.Faults.{number_of};
+    ghost use Rattle.kdf_usercode.specs.Apart.{apart};
 
     ghost number = { number_of };
 

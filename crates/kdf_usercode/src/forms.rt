@@ -3,7 +3,7 @@
 ghost use Rattle.std.specs.Prelude.{false, ◌≡◌, []};
 ghost use Rattle.kdf_usercode.specs.Faults.{lesser, least, founds};
 ghost use Rattle.kdf_usercode.specs.Range.{range_faults};
-ghost use Rattle.kdf_usercode.specs.Stores.{access_ranges};
+ghost use Rattle.kdf_usercode.specs.Stores.{store_ranges, access_ranges, named_of};
 ghost use Rattle.kdf_usercode.specs.Forms.{form_in, is_constant, ranges_of, text_faults, store_of, what_of};
 
 use crate::constants::{ValueForm, constant_form, value_of, with_value, with_value_text};
@@ -129,7 +129,8 @@ pub fn with_numbers(
     form: Form,
     numbers: &[u64],
 ) -> Option<Found<DeckFault>>
-    ensures { result ≡ lesser best (least (founds place (range_faults (ranges_of form) numbers.now))) }
+    ensures { result ≡ lesser best (least (founds place
+        (range_faults (ranges_of form) numbers.now))) }
 {
     match form {
         Form::Constant { value } => {
@@ -178,41 +179,42 @@ fn store_of(
     access_of(direction, name, suffix, numbers)
 }
 
+fn set_address(name: StoreName, numbers: &[u64]) -> What
+    requires { range_faults (store_ranges name) numbers.now ≡ [] }
+    ensures { result ≡ What.SetAddress (named_of name numbers.now) }
+{
+    What::SetAddress {
+        place: named_of(name, numbers),
+    }
+}
+
 /// What a statement says, where each number is in its range.
 pub fn what_of(stage: Stage, form: Form, numbers: &[u64], text: &[u8]) -> What
     requires numbers { range_faults (ranges_of form) numbers.now ≡ [] }
     requires text { text_faults form text.now ≡ [] }
     ensures { result ≡ what_of stage form numbers.now text.now }
 {
+    let n = short_at(numbers, 0);
     match form {
         Form::Program => What::Program { v: None },
-        Form::ProgramStores => What::Program {
-            v: Some(short_at(numbers, 0)),
-        },
-        Form::Part => What::Part {
-            p: short_at(numbers, 0),
-            v: None,
-        },
+        Form::ProgramStores => What::Program { v: Some(n) },
+        Form::Part => What::Part { p: n, v: None },
         Form::PartStores => {
-            let p = short_at(numbers, 0);
-            let v = short_at(numbers, 1);
-            What::Part { p, v: Some(v) }
+            let v = Some(short_at(numbers, 1));
+            What::Part { p: n, v }
         }
         Form::Finish => What::Finish,
         Form::Star => What::Star,
-        Form::Reference => What::Reference {
-            r: short_at(numbers, 0),
-        },
+        Form::Reference => What::Reference { r: n },
         Form::Short => {
-            let r = short_at(numbers, 0);
             let q = q_at(numbers, 1);
-            What::Short { r, q }
+            What::Short { r: n, q }
         }
-        Form::Plain { order } => What::Plain {
-            order: order_of(order, numbers, text),
-        },
+        Form::Plain { order } => {
+            let order = order_of(order, numbers, text);
+            What::Plain { order }
+        }
         Form::Constant { value } => {
-            let n = short_at(numbers, 0);
             let value = value_of(value, behind_first(numbers, 1), text);
             What::Constant { n, value }
         }
@@ -222,8 +224,6 @@ pub fn what_of(stage: Stage, form: Form, numbers: &[u64], text: &[u8]) -> What
             name,
             suffix,
         } => store_of(stage, direction, name, suffix, numbers),
-        Form::SetAddress { name } => What::SetAddress {
-            place: named_of(name, numbers),
-        },
+        Form::SetAddress { name } => set_address(name, numbers),
     }
 }

@@ -1,20 +1,24 @@
 //! Reads a deck of Usercode: its statements with their places, or its first fault.
 //!
-//! A deck goes through these steps. Comments, spaces and line ends are taken out (`kept`), and what stays is cut at each
-//! `;` into statements. A statement has a shape, in which each number is one `0`, and its numbers (`shape`). The shape tells the
-//! form (`forms`, with `orders`, `stores`, `jumps` and `constants`), the form tells the range of each number
-//! (`range`), and form and numbers tell what is said (`statement`). Where a form may stand is said by `phase`.
+//! A deck goes through these steps. Comments, spaces and line ends are taken out (`comments`), and what
+//! stays is cut at each `;` into statements. A statement has a shape, in which each number is one `0`, and
+//! its numbers (`shape`). The shape tells the form (`forms`, with `orders`, `stores`, `jumps` and
+//! `constants`), the form tells the range of each number (`range`), and form and numbers tell what is said
+//! (`statement`). Where a form may stand is said by `phase`.
 //!
-//! What is wrong is listed as faults with their places, in any order, and the answer is the first of them. `read_deck` goes
-//! over the bytes once, and keeps the first fault so far, and the statements while there is none.
+//! What is wrong is listed as faults with their places, in any order, and the answer is the first of them.
+//! `read_deck` goes over the bytes once, and keeps the first fault so far, and the statements while there is
+//! none.
 #![tactic(auto)]
 
 mod characters;
+mod comments;
 mod constants;
+pub mod examples;
 mod fault;
 mod forms;
 mod jumps;
-mod kept;
+pub mod laws;
 mod octal;
 mod order_names;
 mod orders;
@@ -26,10 +30,6 @@ mod reading;
 mod shape;
 mod statement;
 mod stores;
-#[cfg(test)]
-mod test_faults;
-#[cfg(test)]
-mod test_forms;
 #[cfg(test)]
 mod tests;
 

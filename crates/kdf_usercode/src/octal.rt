@@ -1,8 +1,9 @@
 //! Octal digits: what stands behind a `B`.
 
-ghost use Rattle.std.specs.Prelude.{◌≡◌, ◌+◌, ◌-◌, ◌*◌, ◌≤◌};
+ghost use Rattle.std.specs.Prelude.{◌≡◌, ◌+◌, ◌-◌, ◌*◌, ◌^◌, ◌≤◌};
 ghost use Rattle.kdf_usercode.specs.Octal.{is_octal, all_octal, octal};
-ghost use Rattle.kdf_usercode.specs.Shape.{capped};
+ghost use Rattle.kdf_usercode.specs.Bytes.{digit_0};
+ghost use Rattle.kdf_usercode.specs.Capped.{capped};
 
 use crate::shape::MANY;
 
@@ -25,15 +26,15 @@ pub fn all_octal(text: &[u8]) -> bool
 }
 
 fn octal_after(value: u64, byte: u8) -> u64
-    requires { value ≤ 281474976710656 }
-    ensures { result ≡ capped (8 * value + (byte - 48)) }
+    requires { value ≤ 2 ^ 48 }
+    ensures { result ≡ capped (8 * value + (byte - digit_0)) }
 {
     (8 * value + u64::from(byte.saturating_sub(b'0'))).min(MANY)
 }
 
-/// The value of octal digits.
+/// The value of octal digits, at most `MANY`.
 pub fn octal(text: &[u8]) -> u64
-    ensures { result ≡ octal text.now }
+    ensures { result ≡ capped (octal text.now) }
 {
     let mut value = 0u64;
     for b in text {

@@ -1,4 +1,4 @@
-//! Orders that name no store and no reference: their names, the ranges of their numbers, and what they say.
+//! Orders that name no store and no reference: the ranges of their numbers, and what they say.
 
 ghost use Rattle.std.specs.Prelude.{◌≡◌, ◌-◌, ◌%◌, ◌<◌, [], pos, ◌≤ℤ◌};
 ghost use Rattle.kdf_usercode.specs.Faults.{lesser, least, founds};
@@ -9,7 +9,7 @@ use crate::fault::DeckFault;
 use crate::octal::{all_octal, octal};
 use crate::order_names::{ORDERS, OrderForm, REFUSED};
 use crate::parse::{behind, row_in};
-use crate::range::{Q, Range, number, q_at, short, short_at, with_range};
+use crate::range::{Q, Range, number, q_at, short, with_range};
 use kdf_fault::Found;
 use kdf_syllable::{Amount, Order};
 
@@ -135,10 +135,31 @@ fn fixed(code: u8, n: i8) -> Order
     }
 }
 
+fn set(constant: u16) -> Order
+    ensures { result ≡ Order.Set constant }
+{
+    Order::Set { constant }
+}
+
 fn negative(n: u64) -> u16
     ensures { n < 65536 → result ≡ (65536 - n) % 65536 }
 {
     0u16.wrapping_sub(short(n))
+}
+
+fn counted(code: u8, q: u8) -> Order
+    ensures { result ≡ Order.Shift code (Amount.Count q) }
+{
+    Order::Shift {
+        code,
+        by: Amount::Count { q },
+    }
+}
+
+fn exit(n: u64) -> Order
+    ensures { n < 256 → result ≡ Order.Exit n }
+{
+    Order::Exit { n: (n % 256) as u8 }
 }
 
 /// The order, where each number is in its range.
@@ -147,50 +168,29 @@ pub fn order_of(form: OrderForm, numbers: &[u64], text: &[u8]) -> Order
     requires digits { octal_order_faults form text.now ≡ [] }
     ensures { result ≡ order_of form numbers.now text.now }
 {
+    let n = number(numbers, 0);
+    let q = q_at(numbers, 0);
+    let second = q_at(numbers, 1);
     match form {
         OrderForm::Plain { code } => Order::Plain { code },
         OrderForm::Indirect { code } => {
-            let k = q_at(numbers, 0);
-            let q = q_at(numbers, 1);
+            let (k, q) = (q, second);
             Order::Indirect { code, k, q }
         }
-        OrderForm::Single { code } => Order::Single {
-            code,
-            q: q_at(numbers, 0),
-        },
+        OrderForm::Single { code } => Order::Single { code, q },
         OrderForm::Copies { code } => {
-            let q = q_at(numbers, 0);
-            let k = q_at(numbers, 1);
+            let k = second;
             Order::Copies { code, q, k }
         }
-        OrderForm::ShiftUp { code } => fixed(code, amount(number(numbers, 0))),
-        OrderForm::ShiftDown { code } => fixed(code, 0 - amount(number(numbers, 0))),
-        OrderForm::ShiftCount { code } => Order::Shift {
-            code,
-            by: Amount::Count {
-                q: q_at(numbers, 0),
-            },
-        },
-        OrderForm::Device { code } => Order::Device {
-            code,
-            q: q_at(numbers, 0),
-        },
-        OrderForm::Query { b } => Order::Query {
-            b,
-            q: q_at(numbers, 0),
-        },
-        OrderForm::ExitNone => Order::Exit { n: 0 },
-        OrderForm::Exit => Order::Exit {
-            n: (number(numbers, 0) % 256) as u8,
-        },
-        OrderForm::SetUp => Order::Set {
-            constant: short_at(numbers, 0),
-        },
-        OrderForm::SetDown => Order::Set {
-            constant: negative(number(numbers, 0)),
-        },
-        OrderForm::SetOctal => Order::Set {
-            constant: short(octal(behind(text, b'B'))),
-        },
+        OrderForm::ShiftUp { code } => fixed(code, amount(n)),
+        OrderForm::ShiftDown { code } => fixed(code, 0 - amount(n)),
+        OrderForm::ShiftCount { code } => counted(code, q),
+        OrderForm::Device { code } => Order::Device { code, q },
+        OrderForm::Query { b } => Order::Query { b, q },
+        OrderForm::ExitNone => exit(0),
+        OrderForm::Exit => exit(n),
+        OrderForm::SetUp => set(short(n)),
+        OrderForm::SetDown => set(negative(n)),
+        OrderForm::SetOctal => set(short(octal(behind(text, b'B')))),
     }
 }

@@ -5,8 +5,8 @@ ghost use Rattle.kdf_usercode.specs.Grammar.{deck};
 ghost use Rattle.kdf_usercode.specs.Reading.{Gives};
 ghost use Rattle.kdf_usercode.specs.WellFormed.{IsWellFormed};
 
+use crate::comments::{ByteAt, Comments};
 use crate::fault::DeckError;
-use crate::kept::{Comments, Kept};
 use crate::phase::{Phase, Stage};
 use crate::reading::Reading;
 use crate::statement::Deck;
@@ -37,7 +37,7 @@ pub fn read_deck(alloc: Global, text: &[u8]) -> Result<Deck, DeckError>
         let at = i as u32;
         reading.see(at, byte);
         if comments.keeps(byte, &text[i + 1..]) {
-            reading.take(alloc, &mut piece, Kept { at, byte })?;
+            reading.take(alloc, &mut piece, ByteAt { at, byte })?;
         }
     }
     reading.finish(&piece, text.len() as u32)

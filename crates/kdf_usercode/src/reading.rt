@@ -2,14 +2,15 @@
 
 ghost use Rattle.std.specs.Prelude.{◌≡◌, ℕ, List, [], ◌∷◌, ◌++◌, OnOk, IfOk, if◌then◌else◌};
 ghost use Rattle.kdf_usercode.specs.Faults.{Found as FoundFault, lesser, least, founds};
-ghost use Rattle.kdf_usercode.specs.Kept.{Written, codes_of, statements_in};
-ghost use Rattle.kdf_usercode.specs.Phase.{is_in_place, phase_with};
-ghost use Rattle.kdf_usercode.specs.Grammar.{byte_faults, comment_faults, form_faults, with_form, at_first, end_faults};
-ghost use Rattle.kdf_usercode.specs.Reading.{Gains, Reads, Gives, outcome, with_ahead};
+ghost use Rattle.kdf_usercode.specs.Parsed.{parsed, statements_in};
+ghost use Rattle.kdf_usercode.specs.Pieces.{codes_of};
+ghost use Rattle.kdf_usercode.specs.Phase.{is_in_place};
+ghost use Rattle.kdf_usercode.specs.Grammar.{byte_faults, comment_faults, at_first, end_faults};
+ghost use Rattle.kdf_usercode.specs.Reading.{ReadsForm, Reads, ReadsAll, Gives, with_ahead};
 
+use crate::comments::ByteAt;
 use crate::fault::{DeckError, DeckFault};
 use crate::forms::{Form, form_in, what_of, with_numbers, with_text};
-use crate::kept::Kept;
 use crate::orders::formless;
 use crate::phase::{Phase, is_in_place, phase_with};
 use crate::shape::{numbers_of, shape_of};
@@ -36,7 +37,7 @@ fn with(best: Option<Found<DeckFault>>, fault: DeckFault, place: u32) -> Option<
 fn with_byte(best: Option<Found<DeckFault>>, at: u32, byte: u8) -> Option<Found<DeckFault>>
     ensures { result ≡ lesser best (least (byte_faults at byte)) }
 {
-    if byte == b'\n' || (byte >= 0x20 && byte < 0x7f) {
+    if byte == b'\n' || (byte >= 0x20 && byte <= 0x7e) {
         best
     } else {
         with(best, DeckFault::BadByte, at)
@@ -44,7 +45,7 @@ fn with_byte(best: Option<Found<DeckFault>>, at: u32, byte: u8) -> Option<Found<
 }
 
 /// The fault of a comment that isn't closed, after those before.
-fn with_comment(best: Option<Found<DeckFault>>, kept: Kept) -> Option<Found<DeckFault>>
+fn with_comment(best: Option<Found<DeckFault>>, kept: ByteAt) -> Option<Found<DeckFault>>
     ensures { result ≡ lesser best (least (comment_faults kept)) }
 {
     if kept.byte == b'(' {
@@ -58,7 +59,7 @@ fn with_comment(best: Option<Found<DeckFault>>, kept: Kept) -> Option<Found<Deck
 fn with_first(
     best: Option<Found<DeckFault>>,
     fault: DeckFault,
-    tail: &[Kept],
+    tail: &[ByteAt],
 ) -> Option<Found<DeckFault>>
     ensures { result ≡ lesser best (least (at_first fault tail.now)) }
 {
@@ -72,7 +73,7 @@ fn with_first(
 fn with_end(
     phase: Phase,
     best: Option<Found<DeckFault>>,
-    tail: &[Kept],
+    tail: &[ByteAt],
     length: u32,
 ) -> Option<Found<DeckFault>>
     ensures { result ≡ lesser best (least (end_faults phase length tail.now)) }
@@ -91,7 +92,8 @@ fn with_heading(
     phase: Phase,
     form: Form,
 ) -> Option<Found<DeckFault>>
-    ensures { result ≡ lesser best (least (founds place (if is_in_place phase form then [] else DeckFault.BadHeading ∷ []))) }
+    ensures { result ≡ lesser best (least (founds place
+        (if is_in_place phase form then [] else DeckFault.BadHeading ∷ []))) }
 {
     if is_in_place(phase, form) {
         best
@@ -100,13 +102,14 @@ fn with_heading(
     }
 }
 
-fn bytes_of(alloc: Global, piece: &[Kept]) -> Result<Vec<u8>, AllocError>
+fn bytes_of(alloc: Global, piece: &[ByteAt]) -> Result<Vec<u8>, AllocError>
     ensures { IfOk result (λ v. v.items ≡ codes_of piece.now) }
 {
     piece.iter().map(|k| k.byte).collect(alloc)
 }
 
 impl Reading {
+    /// A statement of this form. It is kept where it has no fault and none came before it.
     fn form(
         &mut self,
         place: u32,
@@ -114,8 +117,7 @@ impl Reading {
         numbers: &[u64],
         text: &[u8],
     ) -> Result<(), AllocError>
-        ensures { OnOk result ((shape : List ℕ) → Gains self.old self.new (phase_with self.old.phase form)
-            (founds place (form_faults self.old.phase shape (Some form) numbers.now text.now)) (with_form self.old.phase place (Some form) numbers.now text.now)) }
+        ensures { OnOk result (ReadsForm self.old self.new place form numbers.now text.now) }
     {
         let best = with_numbers(self.best, place, form, numbers);
         let best = with_text(best, place, form, text);
@@ -130,8 +132,9 @@ impl Reading {
         Ok(())
     }
 
+    /// A statement by its bytes.
     fn statement(&mut self, alloc: Global, place: u32, text: &[u8]) -> Result<(), AllocError>
-        ensures { OnOk result (Reads self.old self.new (record { place = place; codes = text.now })) }
+        ensures { OnOk result (Reads self.old self.new (parsed place text.now)) }
     {
         if self.phase.is_ended() {
             self.best = with(self.best, DeckFault::AfterFinish, place);
@@ -149,10 +152,8 @@ impl Reading {
     }
 
     /// A piece that a `;` ends.
-    fn piece(&mut self, alloc: Global, piece: &[Kept]) -> Result<(), AllocError>
-        ensures { OnOk result ((len : ℕ) (front : List FoundFault) (ws : List Written) (tail : List Kept) →
-            outcome self.new.phase self.new.best self.new.statements.items len front ws tail
-            ≡ outcome self.old.phase self.old.best self.old.statements.items len front (statements_in piece.now ++ ws) tail) }
+    fn piece(&mut self, alloc: Global, piece: &[ByteAt]) -> Result<(), AllocError>
+        ensures { OnOk result (ReadsAll self.old self.new (statements_in piece.now)) }
     {
         for (i, k) in piece.iter().enumerate() {
             if k.byte != b'*' {
@@ -166,8 +167,9 @@ impl Reading {
 
     /// A byte of the deck, whether it stays or not.
     pub fn see(&mut self, at: u32, byte: u8)
-        ensures { (piece : List Kept) (len : ℕ) (bad : List FoundFault) (ahead : List Kept) →
-            with_ahead self.new piece len bad ahead ≡ with_ahead self.old piece len (byte_faults at byte ++ bad) ahead }
+        ensures { (piece : List ByteAt) (len : ℕ) (bad : List FoundFault) (ahead : List ByteAt) →
+            with_ahead self.new piece len bad ahead
+            ≡ with_ahead self.old piece len (byte_faults at byte ++ bad) ahead }
     {
         self.best = with_byte(self.best, at, byte);
     }
@@ -176,11 +178,12 @@ impl Reading {
     pub fn take(
         &mut self,
         alloc: Global,
-        piece: &mut Vec<Kept>,
-        kept: Kept,
+        piece: &mut Vec<ByteAt>,
+        kept: ByteAt,
     ) -> Result<(), AllocError>
-        ensures { OnOk result ((len : ℕ) (bad : List FoundFault) (ahead : List Kept) →
-            with_ahead self.new piece.new.items len bad ahead ≡ with_ahead self.old piece.old.items len bad (kept ∷ ahead)) }
+        ensures { OnOk result ((len : ℕ) (bad : List FoundFault) (ahead : List ByteAt) →
+            with_ahead self.new piece.new.items len bad ahead
+            ≡ with_ahead self.old piece.old.items len bad (kept ∷ ahead)) }
     {
         self.best = with_comment(self.best, kept);
         if kept.byte == b';' {
@@ -193,7 +196,7 @@ impl Reading {
     }
 
     /// The end of the deck. `piece` is what stands after the last `;`.
-    pub fn finish(self, piece: &[Kept], length: u32) -> Result<Deck, DeckError>
+    pub fn finish(self, piece: &[ByteAt], length: u32) -> Result<Deck, DeckError>
         ensures { Gives result length (with_ahead self piece.now length [] []) }
     {
         match with_end(self.phase, self.best, piece, length) {

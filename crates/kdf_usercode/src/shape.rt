@@ -1,11 +1,12 @@
 //! The shape of a statement and its numbers.
 
-ghost use Rattle.std.specs.Prelude.{◌≡◌, ◌≤◌, IfOk};
-ghost use Rattle.kdf_usercode.specs.Shape.{is_digit, begins_with_digit, ends_number, shape, value_after, capped, numbers};
+ghost use Rattle.std.specs.Prelude.{◌≡◌, ◌^◌, ◌≤◌, IfOk, map};
+ghost use Rattle.kdf_usercode.specs.Capped.{capped};
+ghost use Rattle.kdf_usercode.specs.Shape.{is_digit, begins_with_digit, ends_number, shape, value_after, numbers};
 
 use std::alloc::{AllocError, Global};
 
-/// As good as any greater number: it is outside every range.
+/// 2 ^ 48, as which every greater number is held: it is outside every range.
 pub const MANY: u64 = 281_474_976_710_656;
 
 fn is_digit(byte: u8) -> bool
@@ -39,7 +40,7 @@ pub fn shape_of(alloc: Global, text: &[u8]) -> Result<Vec<u8>, AllocError>
 }
 
 fn value_after(value: u64, byte: u8) -> u64
-    requires { value ≤ 281474976710656 }
+    requires { value ≤ 2 ^ 48 }
     ensures { result ≡ capped (value_after value byte) }
 {
     if is_digit(byte) {
@@ -55,9 +56,9 @@ fn ends_number(byte: u8, rest: &[u8]) -> bool
     is_digit(byte) && !begins_with_digit(rest)
 }
 
-/// The numbers of the statement.
+/// The numbers of the statement, each at most `MANY`.
 pub fn numbers_of(alloc: Global, text: &[u8]) -> Result<Vec<u64>, AllocError>
-    ensures { IfOk result (λ v. v.items ≡ numbers text.now) }
+    ensures { IfOk result (λ v. v.items ≡ map capped (numbers text.now)) }
 {
     let mut numbers = Vec::new(alloc);
     let mut value = 0u64;

@@ -1,12 +1,15 @@
 //! Decks of every kind, with what the language says of each.
 
+mod faults;
+mod forms;
+
+use self::faults::{
+    BYTES, FLOATING, FORMLESS_HERE, FORMLESS_TOO, NUMBERS_HERE, NUMBERS_TOO, SEQUENCE, SOUND,
+};
+use self::forms::{DEVICES, JUMPS, NUMBERS, PARTS, PLAIN, REGISTERS, SHIFTS, STORES};
 use crate::fault::DeckError;
 use crate::reader::read_deck;
 use crate::statement::Deck;
-use crate::test_faults::{
-    BYTES, FLOATING, FORMLESS_HERE, FORMLESS_TOO, NUMBERS_HERE, NUMBERS_TOO, SEQUENCE, SOUND,
-};
-use crate::test_forms::{DEVICES, JUMPS, NUMBERS, PARTS, PLAIN, REGISTERS, SHIFTS, STORES};
 use std::string::String;
 use std::test::Fail;
 

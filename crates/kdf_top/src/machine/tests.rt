@@ -4,7 +4,7 @@ ghost use Rattle.kdf_top.specs.Next.{slot_of};
 
 use super::*;
 use crate::{Event, SlotJob, follow};
-use kdf_processor::Failure;
+use kdf_journal::Failure;
 use std::process::Abort;
 use std::test::Fail;
 

@@ -3,9 +3,9 @@ use Rattle.kdf_arith.specs.Rows.{plain_row}
 use Rattle.kdf_arith.proofs.PutOn.{put_on}
 use Rattle.kdf_arith.proofs.values.minus_d.Goals as goal
 
-pub returns-clause-ok : goal.returns-clause-ok
+pub returns : goal.returns
 unfolding plain_row
-returns-clause-ok c =
+returns c =
     let value = rw (c.of.ensures, c.of-2.ensures) at c.sub-difference.ensures.value in
     let flag = rw (c.of.ensures, c.of-2.ensures) at c.sub-difference.ensures.overflow in
-    rw c.in_ok-a.ensures.ok (put_on _ c.sub-difference.result.0 _ _ _ (omega (arith, c.in_ok-a.ensures.room)) value flag c.push_double.ensures)
+    rw c.in_ok-a.ensures.0 (put_on _ c.sub-difference.result.0 _ _ _ (omega (arith, c.in_ok-a.ensures.1)) value flag c.push_double.ensures)

@@ -21,8 +21,8 @@ returns-in-Some-clause-answer c =
     (c.in_ok-known.ensures.names ∙ ap names c.deref.ensures.value) (rw (← c.deref.ensures.value) c.in_ok-known.ensures.twice) c.first_wrong.ensures in
     placed-fault ss c.args.deck.now.length c.args.size c.in-Some.found (sym late ∙ c.in-Some.is)
 
-pub returns-clause-answer : goal.returns-clause-answer
-returns-clause-answer c =
+pub returns-in-None-clause-answer : goal.returns-in-None-clause-answer
+returns-in-None-clause-answer c =
     let ss = c.args.deck.now.statements.items in
     let known = c.in_ok-known.known in
     let late = first-late ss c.deref-2.result.now (meaning known.meanings) known.twice c.first_wrong.result c.deref-2.ensures.value

@@ -1,6 +1,6 @@
-use Rattle.std.proofs.Common.{◌≡◌, ◌++◌, drop}
+use Rattle.std.proofs.Common.{◌≡◌, ◌++◌, take, drop}
 use Rattle.kdf_place.specs.Pending.{settled}
 use Rattle.kdf_place.proofs.entries.settle.Given as goal
 
-abbrev pub invariant-loop-p : goal.invariant-loop-p
-invariant-loop-p l = l.labels.items ++ settled (drop l.p-index l.pending) l.at ≡ l.fn.labels.items ++ settled l.pending l.at
+abbrev pub invariant-loop-label : goal.invariant-loop-label
+invariant-loop-label l = l.labels ≡ settled (take l.label-index l.fn.labels) l.at ++ drop l.label-index l.fn.labels

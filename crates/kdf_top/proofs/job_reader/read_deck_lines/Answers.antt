@@ -1,8 +1,8 @@
 use Rattle.std.proofs.Common.{◌≡◌, ◌++◌, ◌∷◌, [], eqb, true, false, codes, length, rules, ◌∙◌, arith}
 use Rattle.std.proofs.lemmas.Grind.{common_steps}
-use Rattle.kdf_top.specs.Lines.{line, is_text}
-use Rattle.kdf_top.specs.Reading.{ahead}
-use Rattle.kdf_top.proofs.Cutting.{some-lines, no-lines}
+use Rattle.kdf_text.specs.Lines.{line, is_text}
+use Rattle.kdf_text.specs.Ahead.{ahead}
+use Rattle.kdf_text.proofs.Cutting.{some-lines, no-lines}
 use Rattle.kdf_top.proofs.DeckLines.{GoesOn, passed-on, stopped, behind-on, text-on}
 use Rattle.kdf_top.proofs.job_reader.read_deck_lines.Goals as goal
 

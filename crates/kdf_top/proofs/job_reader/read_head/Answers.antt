@@ -1,8 +1,8 @@
 use Rattle.std.proofs.Common.{[], ◌∷◌, codes}
 use Rattle.std.proofs.lemmas.Result.{err_from_is_err_and}
-use Rattle.kdf_top.specs.Lines.{is_text}
+use Rattle.kdf_text.specs.Lines.{is_text}
 use Rattle.kdf_top.specs.Job.{has_size}
-use Rattle.kdf_top.specs.Reading.{ahead}
+use Rattle.kdf_text.specs.Ahead.{ahead}
 use Rattle.kdf_top.proofs.PassLemmas.{pass-pass, pass-stop, stop-first, line-behind_two}
 use Rattle.kdf_top.proofs.job_reader.read_head.Goals as goal
 

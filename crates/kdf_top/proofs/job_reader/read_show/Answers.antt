@@ -1,7 +1,7 @@
 use Rattle.std.proofs.Common.{ℕ, Some, Option, is_some, ap, rules}
 use Rattle.kdf_top.specs.Job.{show_range, has_show}
-use Rattle.kdf_top.specs.Lines.{line}
-use Rattle.kdf_top.specs.Reading.{ahead}
+use Rattle.kdf_text.specs.Lines.{line}
+use Rattle.kdf_text.specs.Ahead.{ahead}
 use Rattle.kdf_top.proofs.PassLemmas.{pass-one, no-show}
 use Rattle.kdf_top.proofs.job_reader.read_show.Goals as goal
 

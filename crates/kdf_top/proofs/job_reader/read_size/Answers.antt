@@ -1,7 +1,7 @@
 use Rattle.std.proofs.Common.{◌≡◌, Some, is_some, ap, rules}
 use Rattle.kdf_top.specs.Job.{store_size, has_size}
-use Rattle.kdf_top.specs.Lines.{line}
-use Rattle.kdf_top.specs.Reading.{ahead}
+use Rattle.kdf_text.specs.Lines.{line}
+use Rattle.kdf_text.specs.Ahead.{ahead}
 use Rattle.kdf_top.proofs.PassLemmas.{pass-one, no-size}
 use Rattle.kdf_top.proofs.job_reader.read_size.Goals as goal
 

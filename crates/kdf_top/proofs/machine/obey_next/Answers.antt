@@ -1,6 +1,6 @@
 use Rattle.std.proofs.Common.{◌∙◌}
 use Rattle.kdf_processor.proofs.ByItself.{row_alone}
-use Rattle.kdf_top.specs.Store.{stock_of}
+use Rattle.kdf_top.specs.Bench.{stock_of}
 use Rattle.kdf_top.proofs.OneOrder.{live_is, step_next, size_next}
 use Rattle.kdf_top.proofs.machine.obey_next.Goals as goal
 

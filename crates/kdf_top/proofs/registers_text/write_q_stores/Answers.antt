@@ -1,7 +1,7 @@
 use Rattle.std.proofs.Common.{arith}
 use Rattle.kdf_qstore.specs.Triples.{triple_at}
 use Rattle.kdf_top.specs.Text.{q_line}
-use Rattle.kdf_top.proofs.Texts.{text_lines_more}
+use Rattle.kdf_text.proofs.Texts.{text_lines_more}
 use Rattle.kdf_top.proofs.registers_text.write_q_stores.Goals as goal
 
 pub loop-q-preserved : goal.loop-q-preserved

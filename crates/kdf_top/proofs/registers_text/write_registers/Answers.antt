@@ -1,5 +1,5 @@
 use Rattle.std.proofs.lemmas.Result.{on_ok_weaker}
-use Rattle.kdf_top.proofs.Texts.{text_more}
+use Rattle.kdf_text.proofs.Texts.{text_more}
 use Rattle.kdf_top.proofs.registers_text.write_registers.Goals as goal
 
 pub returns : goal.returns

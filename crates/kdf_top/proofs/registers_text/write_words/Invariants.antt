@@ -1,6 +1,6 @@
 use Rattle.std.proofs.Common.{◌≡◌, ◌++◌, take, string_bytes, codes}
 use Rattle.std.specs.List.{flat_map}
-use Rattle.kdf_top.specs.Text.{octal}
+use Rattle.kdf_text.specs.Text.{octal}
 use Rattle.kdf_top.proofs.registers_text.write_words.Given as goal
 
 abbrev pub invariant-loop-i : goal.invariant-loop-i

@@ -1,5 +1,5 @@
 use Rattle.std.proofs.Common.{◌∙◌, ap, vec_items, map}
-use Rattle.kdf_top.specs.Report.{state_at}
+use Rattle.kdf_top.specs.MadeFrom.{state_at}
 use Rattle.kdf_top.specs.Shows.{shown_job, shown_slot}
 use Rattle.kdf_top.proofs.Sections.{report_text}
 use Rattle.kdf_top.proofs.report.report.Goals as goal

@@ -1,7 +1,7 @@
 use Rattle.std.proofs.Common.{rules, sym, ◌∙◌, ap}
 use Rattle.std.specs.Option.{option_copied}
 use Rattle.std.proofs.lemmas.Result.{on_ok_weaker}
-use Rattle.kdf_top.specs.Report.{state_at}
+use Rattle.kdf_top.specs.MadeFrom.{state_at}
 use Rattle.kdf_top.specs.Shows.{shown_slot}
 use Rattle.kdf_top.proofs.Sections.{section_text}
 use Rattle.kdf_top.proofs.States.{state_of-lone, registers_at}

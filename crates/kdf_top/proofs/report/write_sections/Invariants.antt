@@ -1,11 +1,11 @@
-use Rattle.std.proofs.Common.{◌≡◌, ◌++◌, map, take, string_bytes}
+use Rattle.std.proofs.Common.{map, take}
 use Rattle.std.specs.List.{flat_map}
-use Rattle.kdf_top.specs.Report.{state_at}
+use Rattle.kdf_top.specs.MadeFrom.{state_at}
 use Rattle.kdf_top.specs.Shows.{shown_slot}
-use Rattle.kdf_top.specs.Text.{text, section}
+use Rattle.kdf_text.specs.Text.{Adds}
+use Rattle.kdf_top.specs.Text.{section}
 use Rattle.kdf_top.proofs.report.write_sections.Given as goal
 
 abbrev pub invariant-loop-slot : goal.invariant-loop-slot
 invariant-loop-slot l =
-    string_bytes l.out ≡ string_bytes l.initial.out
-    ++ text (flat_map (λ slot. section slot (state_at l.machine slot.p)) (map shown_slot (take l.slot-index l.slots)))
+    Adds l.initial.out l.out (flat_map (λ slot. section slot (state_at l.machine slot.p)) (map shown_slot (take l.slot-index l.slots)))

@@ -1,7 +1,7 @@
 use Rattle.std.proofs.Common.{◌≡◌, ◌+◌, ◌-◌, ◌<◌, arith}
-use Rattle.kdf_top.specs.Report.{state_at}
+use Rattle.kdf_top.specs.MadeFrom.{state_at}
 use Rattle.kdf_top.specs.Text.{word_line}
-use Rattle.kdf_top.proofs.Texts.{text_range_more}
+use Rattle.kdf_text.proofs.Texts.{text_range_more}
 use Rattle.kdf_top.proofs.report.write_show.Goals as goal
 
 pub loop-address-preserved : goal.loop-address-preserved

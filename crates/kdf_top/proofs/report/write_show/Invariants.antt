@@ -1,12 +1,13 @@
-use Rattle.std.proofs.Common.{◌≡◌, ◌++◌, ◌-◌, ◌<◌, ◌≤◌, map, string_bytes}
+use Rattle.std.proofs.Common.{◌≡◌, ◌-◌, ◌<◌, ◌≤◌, map}
 use Rattle.std.specs.List.{range_with_len}
-use Rattle.kdf_top.specs.Report.{state_at}
-use Rattle.kdf_top.specs.Text.{text, word_line}
+use Rattle.kdf_top.specs.MadeFrom.{state_at}
+use Rattle.kdf_text.specs.Text.{Adds}
+use Rattle.kdf_top.specs.Text.{word_line}
 use Rattle.kdf_top.proofs.report.write_show.Given as goal
 
 abbrev pub invariant-loop-address : goal.invariant-loop-address
 invariant-loop-address l = record {
-  written : string_bytes l.out ≡ string_bytes l.initial.out ++ text (map (word_line (state_at l.machine l.p)) (range_with_len l.first (l.address - l.first)));
+  written : Adds l.initial.out l.out (map (word_line (state_at l.machine l.p)) (range_with_len l.first (l.address - l.first)));
   some : l.first ≤ l.last → l.address ≤ l.last;
   none : l.last < l.first → l.address ≡ l.first;
 }

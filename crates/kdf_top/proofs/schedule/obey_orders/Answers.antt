@@ -1,5 +1,5 @@
 use Rattle.std.proofs.Common.{arith, sym, ◌∙◌}
-use Rattle.kdf_top.specs.Legal.{steps}
+use Rattle.kdf_journal.specs.Steps.{steps}
 use Rattle.kdf_top.proofs.Calls.{took_on, calls-took}
 use Rattle.kdf_top.proofs.Courses.{rested}
 use Rattle.kdf_top.proofs.schedule.obey_orders.Goals as goal
@@ -16,6 +16,6 @@ loop-i-preserved c =
       taken =
           took_on c.args.machine.now.slots (steps c.args.machine.now.journal) c.loop-i._i c.loop-i.machine c.order.new.self c.in_ok-order.field-0
           c.if-not-is_any_live.ensures.legal c.if-not-is_any_live.ensures.lone c.loop-i.invariant.same_slots c.loop-i.invariant.taken (sym c.if-not-is_any_live.ensures.live) took;
-      few = omega (arith, c.loop-i.invariant.few, calls-took c.loop-i.machine c.order.new.self c.in_ok-order.field-0 c.if-not-is_any_live.ensures.lone took);
+      few = omega (arith, c.loop-i.invariant.few, calls-took c.loop-i.machine c.order.new.self c.in_ok-order.field-0 took);
       same_slots = c.order.ensures.slots ∙ c.loop-i.invariant.same_slots;
     }

@@ -1,8 +1,8 @@
 use Rattle.std.proofs.Common.{◌≡◌, ◌+◌, ◌≤◌}
 use Rattle.std.specs.Prelude.{replicate}
-use Rattle.kdf_top.specs.Counts.{calls}
-use Rattle.kdf_top.specs.Legal.{steps}
-use Rattle.kdf_top.specs.Follows.{AnOrder}
+use Rattle.kdf_journal.specs.Counts.{calls}
+use Rattle.kdf_journal.specs.Steps.{steps}
+use Rattle.kdf_schedule.specs.Calls.{AnOrder}
 use Rattle.kdf_top.specs.Course.{course}
 use Rattle.kdf_top.proofs.schedule.obey_orders.Given as goal
 

@@ -1,11 +1,9 @@
 use Rattle.std.proofs.Common.{Some, None, arith}
 use Rattle.kdf_top.specs.Answers.{status_of_job}
-use Rattle.kdf_top.specs.Text.{job_limit}
 use Rattle.kdf_top.proofs.Answering.{given_memory, as_called, by_job_fault}
 use Rattle.kdf_top.proofs.top_call.answer.Goals as goal
 
 pub read_job-requires : goal.read_job-requires
-unfolding job_limit
 read_job-requires g c = omega (arith, c.requires)
 
 pub returns-in-Err-Fault : goal.returns-in-Err-Fault

@@ -1,9 +1,9 @@
 use Rattle.std.proofs.Common.{◌≡◌, List, [], Result, subst, ◌+◌, ◌-◌, length, take, drop, sym, ap, ◌∙◌}
 use Rattle.std.proofs.lemmas.List.{take_rest}
-use Rattle.kdf_usercode.specs.declared.kept.Kept.{Kept}
+use Rattle.kdf_usercode.specs.declared.comments.ByteAt.{ByteAt}
 use Rattle.kdf_usercode.specs.declared.statement.Statement.{Statement}
 use Rattle.kdf_usercode.specs.Faults.{Found}
-use Rattle.kdf_usercode.specs.Kept.{closes, kept_from}
+use Rattle.kdf_usercode.specs.Comments.{closes, kept_from}
 use Rattle.kdf_usercode.specs.Grammar.{bytes_faults, deck}
 use Rattle.kdf_usercode.specs.Reading.{Gives, with_ahead}
 use Rattle.kdf_usercode.proofs.WellFormed.{gives-well-formed}
@@ -36,6 +36,6 @@ loop-i-preserved c =
 pub returns-clause-sound : goal.returns-clause-sound
 returns-clause-sound c =
     let text = c.args.text.now in
-    let due = ap (λ (p : List Kept). with_ahead c.loop-i.reading p (length text) [] []) c.deref.ensures.value ∙ at-end c.loop-i.comments.inside c.loop-i.i text c.loop-i.reading c.loop-i.piece.items (deck text) c.loop-i-test.false c.loop-i.invariant.outcome in
+    let due = ap (λ (p : List ByteAt). with_ahead c.loop-i.reading p (length text) [] []) c.deref.ensures.value ∙ at-end c.loop-i.comments.inside c.loop-i.i text c.loop-i.reading c.loop-i.piece.items (deck text) c.loop-i-test.false c.loop-i.invariant.outcome in
     let answer = subst (λ (d : Result (List Statement) Found). Gives c.finish.result (length text) d) due c.finish.ensures in
     gives-well-formed c.finish.result text c.requires answer

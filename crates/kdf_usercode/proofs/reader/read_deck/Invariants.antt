@@ -1,5 +1,5 @@
 use Rattle.std.proofs.Common.{◌≡◌, drop, length, true, false}
-use Rattle.kdf_usercode.specs.Kept.{closes, kept_from}
+use Rattle.kdf_usercode.specs.Comments.{closes, kept_from}
 use Rattle.kdf_usercode.specs.Grammar.{bytes_faults, deck}
 use Rattle.kdf_usercode.specs.Reading.{with_ahead}
 use Rattle.kdf_usercode.proofs.reader.read_deck.Given as goal

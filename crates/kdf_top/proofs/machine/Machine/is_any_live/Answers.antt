@@ -1,7 +1,7 @@
 use Rattle.std.proofs.Common.{ap, ◌∙◌}
 use Rattle.kdf_top.specs.Next.{any_live}
 use Rattle.kdf_top.specs.Shown.{Shown}
-use Rattle.kdf_top.specs.Store.{state_with}
+use Rattle.kdf_top.specs.Bench.{state_with}
 use Rattle.kdf_top.proofs.Agreement.{live-same}
 use Rattle.kdf_top.proofs.machine.Machine.is_any_live.Goals as goal
 

@@ -38,7 +38,7 @@ returns c =
     let texts = text_faults c.args.form c.args.text.now in
     let gs : List DeckFault = cond (is_in_place c.args.self.now.phase c.args.form) [] (BadHeading ∷ []) in
     let h = c.with_text-best.ensures ∙ ap (λ o. lesser o (least (founds place texts))) c.with_numbers-best.ensures ∙ two-kinds best place here texts in
-    λ shape. record {
+    record {
       phase = c.phase_with-phase.ensures;
       best = c.with_heading-best.ensures ∙ ap (λ o. lesser o (least (founds place gs))) h ∙ two-kinds best place (here ++ texts) gs;
       statements = λ none. elim c.if-is_none.branch [

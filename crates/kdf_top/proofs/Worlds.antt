@@ -1,0 +1,52 @@
+-- What is pending, and which program is next, in the worlds that are built: nothing is ever pending, and no program is held.
+use Rattle.std.proofs.Common.{◌≡◌, ℕ, List, [], ◌∷◌, Option, Some, None, Bool, true, false, cond, ◌&&◌, not, eqb, refl}
+use Rattle.std.specs.Prelude.{find, is_some, map}
+use Rattle.std.proofs.lemmas.Bool.{and_parts}
+use Rattle.kdf_processor.specs.declared.step.Need.{Need}
+use Rattle.kdf_processor.specs.declared.step.Need.TheVariants.{Group}
+use Rattle.kdf_processor.specs.Needs.{needs}
+use Rattle.kdf_processor.specs.State.{Slot, State}
+use Rattle.kdf_journal.specs.declared.entry.Entry.{Entry}
+use Rattle.kdf_journal.specs.Counts.{last_hold, over}
+use Rattle.kdf_top.specs.World.{World, hold_of, first_need, is_pending_after}
+use Rattle.kdf_top.specs.Next.{slot_of, lives, stands, can_go, next, priorities}
+
+-- the world of these states and of what a journal tells
+abbrev pub world : (ℕ → State) → List Entry → World
+world states J = record { state = states; pending = λ p. is_pending_after J }
+
+no_need : (J : List Entry) (ns : List Need) → find (is_pending_after J) (map hold_of ns) ≡ None
+no_need J [] = refl
+no_need J (Group g ∷ ns) = no_need J ns
+
+-- nothing holds a program up
+pub free : (states : ℕ → State) (J : List Entry) (p : ℕ) → first_need (world states J) p ≡ None
+unfolding first_need
+free states J p = no_need J (needs (states p))
+
+-- which program is next doesn't hang on the states
+pub next-world : (states others : ℕ → State) (slots : List Slot) (J : List Entry) → next (world states J) slots J ≡ next (world others J) slots J
+unfolding next can_go
+next-world states others slots J = refl
+
+find_step : {X : Type 0} (f : X → Bool) (xs : List X) (x y : X) (b : Bool) → f y ≡ b → (find f xs ≡ Some x → f x ≡ true) → cond b (Some y) (find f xs) ≡ Some x → f x ≡ true
+find_step f xs x y true t rest s = let same : y ≡ x = cc in rw (← same) t
+find_step f xs x y false t rest s = rest s
+
+find_true : {X : Type 0} (f : X → Bool) (xs : List X) (x : X) → find f xs ≡ Some x → f x ≡ true
+find_true f [] x e = cc
+find_true f (y ∷ xs) x e = find_step f xs x y (f y) refl (find_true f xs x) e
+
+next_lives : (w : World) (slots : List Slot) (J : List Entry) (p : ℕ) → next w slots J ≡ Some p → lives slots J p ≡ true
+unfolding next can_go
+next_lives w slots J p n = (and_parts (lives slots J p) (not (stands w p (last_hold p J))) (find_true (can_go w slots J) priorities p n)).0
+
+-- the next program hasn't ended or failed
+pub next_on : (w : World) (slots : List Slot) (J : List Entry) (p : ℕ) → next w slots J ≡ Some p → not (over p J) ≡ true
+unfolding lives
+next_on w slots J p n = (and_parts (is_some (slot_of slots p)) (not (over p J)) (next_lives w slots J p n)).1
+
+-- and there is a slot of it
+pub next_slot : (w : World) (slots : List Slot) (J : List Entry) (p : ℕ) → next w slots J ≡ Some p → is_some (slot_of slots p) ≡ true
+unfolding lives
+next_slot w slots J p n = (and_parts (is_some (slot_of slots p)) (not (over p J)) (next_lives w slots J p n)).0
