@@ -9,8 +9,6 @@ use Rattle.kdf_usercode.specs.WellFormed.{AreWellFormed}
 use Rattle.kdf_usercode.proofs.Least.{least-append}
 use Rattle.kdf_place.specs.declared.image.Image.{Image}
 use Rattle.kdf_place.specs.declared.image.Label.{Label}
-use Rattle.kdf_place.specs.declared.names.Entry.{Entry}
-use Rattle.kdf_place.specs.declared.names.Mark.{Mark}
 use Rattle.kdf_place.specs.declared.names.Meanings.{Meanings}
 use Rattle.kdf_place.specs.Layout.{front}
 use Rattle.kdf_place.specs.Names.{Names, names, openings, labels, constants}

@@ -1,5 +1,5 @@
 -- Every statement stands where the walk over those before it has come to.
-use Rattle.std.proofs.Common.{◌≡◌, ℕ, zero, suc, ◌+◌, ◌-◌, ◌*◌, ◌/◌, ◌%◌, ◌<◌, ◌≤◌, Bool, true, false, cond, List, [], ◌∷◌, ◌++◌, length, length-append, get_or, sum, replicate, inl, inr, Option, Some, None, Result, Ok, Err, refl, sym, ap, subst, ◌∙◌, append_assoc, arith}
+use Rattle.std.proofs.Common.{◌≡◌, ℕ, ◌+◌, ◌-◌, ◌*◌, ◌/◌, ◌<◌, ◌≤◌, true, List, [], ◌∷◌, ◌++◌, length, length-append, get_or, sum, replicate, inl, inr, Some, refl, sym, ap, ◌∙◌, append_assoc, arith}
 use Rattle.std.proofs.lemmas.List.{append-nil, get_or_append_left, get_or-replicate, length-replicate}
 use Rattle.kdf_syllable.specs.declared.order.Order.{Order}
 use Rattle.kdf_syllable.specs.declared.order.Order.TheVariants.{Jump}
@@ -7,19 +7,18 @@ use Rattle.kdf_syllable.specs.Spelling.{spelling}
 use Rattle.kdf_usercode.specs.declared.statement.Statement.{Statement}
 use Rattle.kdf_usercode.specs.declared.statement.What.{What}
 use Rattle.kdf_usercode.specs.declared.statement.What.TheVariants.{Program, Part, Star}
-use Rattle.kdf_usercode.specs.Faults.{Found}
-use Rattle.kdf_usercode.specs.WellFormed.{IsWhat, AreInRange}
+use Rattle.kdf_usercode.specs.WellFormed.{AreInRange}
 use Rattle.kdf_place.specs.declared.here.Here.{Here}
 use Rattle.kdf_place.specs.declared.here.Section.{Section}
-use Rattle.kdf_place.specs.Layout.{stores, words_for, round_up, advance, section_after, after, walked, front, end_of}
+use Rattle.kdf_place.specs.Layout.{stores, round_up, advance, section_after, after, walked, front, end_of}
 use Rattle.kdf_place.specs.Names.{Names}
 use Rattle.kdf_place.specs.Late.{wrong, wrongs}
-use Rattle.kdf_place.specs.Placement.{order_of, spelt, filling, syllables_of, syllables, words_of, with_constant, with_constants, start_of, first_word, words}
+use Rattle.kdf_place.specs.Placement.{order_of, spelt, filling, syllables_of, syllables, words_of, with_constants, start_of, first_word, words}
 use Rattle.kdf_place.specs.Stands.{syllable_at, Stand, IsFilled, begins_word}
-use Rattle.kdf_place.proofs.Lengths.{length-filling, round_up-above, length-statement, length-syllables, length-words_of, length-first, words-image}
+use Rattle.kdf_place.proofs.Lengths.{round_up-above, length-statement, length-syllables, length-words_of, length-first, words-image}
 use Rattle.kdf_place.proofs.Untouched.{Misses, one-untouched, untouched-before, untouched-later}
-use Rattle.kdf_place.proofs.Walks.{nil-both, nil-founds, walked-append, walked-above, after-above, wrongs-append, constants-append, bytes, syllables-append, length-bytes, stores_end}
-use Rattle.kdf_place.proofs.Syllables.{AreBytes, bytes-all, syllable-words_of, get_or-middle}
+use Rattle.kdf_place.proofs.Walks.{nil-both, nil-founds, walked-append, walked-above, wrongs-append, constants-append, bytes, syllables-append, length-bytes, stores_end}
+use Rattle.kdf_place.proofs.Syllables.{bytes-all, syllable-words_of, get_or-middle}
 
 -- the words before the constants are put into them
 abbrev plain : Names → List Statement → List ℕ

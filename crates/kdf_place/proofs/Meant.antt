@@ -1,5 +1,5 @@
 -- What a name means that stands once.
-use Rattle.std.proofs.Common.{◌≡◌, ℕ, ◌+◌, Bool, true, false, cond, eqb, ◌&&◌, is_some, List, [], ◌∷◌, ◌++◌, append_assoc, Option, Some, None, Ok, refl, sym, ap, ◌∙◌}
+use Rattle.std.proofs.Common.{◌≡◌, ℕ, Bool, true, false, cond, eqb, ◌&&◌, is_some, List, [], ◌∷◌, ◌++◌, append_assoc, Option, Some, Ok, refl, sym, ap, ◌∙◌}
 use Rattle.std.proofs.lemmas.Bool.{eq-eqb}
 use Rattle.std.proofs.lemmas.List.{append-nil}
 use Rattle.kdf_usercode.specs.declared.fault.DeckFault.{DeckFault}
@@ -9,7 +9,6 @@ use Rattle.kdf_usercode.specs.declared.statement.What.{What}
 use Rattle.kdf_usercode.specs.declared.statement.What.TheVariants.{Reference}
 use Rattle.kdf_usercode.specs.Faults.{Found, found}
 use Rattle.kdf_place.specs.declared.here.Here.{Here}
-use Rattle.kdf_place.specs.declared.here.Section.{Section}
 use Rattle.kdf_place.specs.declared.names.Entry.{Entry}
 use Rattle.kdf_place.specs.declared.names.Mark.{Mark}
 use Rattle.kdf_place.specs.declared.names.Opening.{Opening}

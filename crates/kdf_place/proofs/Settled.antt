@@ -1,5 +1,5 @@
 -- References whose order is found.
-use Rattle.std.proofs.Common.{◌≡◌, ℕ, ◌+◌, ◌<◌, ◌≤◌, suc, List, [], ◌∷◌, ◌++◌, length, get_or, set, take, drop, map, append_assoc, refl, sym, ap, ◌∙◌, add-one, arith}
+use Rattle.std.proofs.Common.{◌≡◌, ℕ, ◌+◌, ◌<◌, List, [], ◌∷◌, ◌++◌, length, get_or, set, take, drop, map, append_assoc, sym, ap, ◌∙◌, add-one, arith}
 use Rattle.std.proofs.Math.Seq.{set-append_seam, get_or-append_seam, drop-cons}
 use Rattle.std.proofs.lemmas.List.{map-append, length-map, take_more, length-take-le}
 use Rattle.kdf_place.specs.declared.names.Entry.{Entry}

@@ -1,24 +1,24 @@
 -- A constant stands in its V-store, and every store that is named stands in the image.
-use Rattle.std.proofs.Common.{◌≡◌, ◌≢◌, ℕ, ◌+◌, ◌*◌, ◌<◌, ◌≤◌, ◌⊎◌, inl, inr, Bool, true, false, cond, eqb, ltb, ◌&&◌, is_some, List, [], ◌∷◌, ◌++◌, length, length-append, map, get_or, take, drop, sum, replicate, Option, Some, None, Result, Ok, Err, append_assoc, refl, sym, ap, ◌∙◌, arith}
+use Rattle.std.proofs.Common.{◌≡◌, ◌≢◌, ℕ, ◌+◌, ◌*◌, ◌<◌, ◌≤◌, ◌⊎◌, inl, inr, true, false, cond, eqb, is_some, List, [], ◌∷◌, ◌++◌, length, get_or, take, drop, sum, replicate, Option, Some, None, Ok, Err, append_assoc, refl, sym, ap, ◌∙◌, arith}
 use Rattle.std.proofs.Math.ListN.{get_or-eq_default}
 use Rattle.std.proofs.lemmas.Bool.{cases_lt, cases_Bool, lt-ltb, le-ltb, eq-eqb, eqb-true}
 use Rattle.std.proofs.lemmas.List.Sums.{sum_by-take-drop, sum_by-drop_more}
 use Rattle.std.proofs.lemmas.List.{append-nil, get_or-set_other, get_or-set_same}
 use Rattle.kdf_usercode.specs.declared.fault.DeckFault.{DeckFault}
-use Rattle.kdf_usercode.specs.declared.fault.DeckFault.TheVariants.{VRange, YRange, PartMissing}
+use Rattle.kdf_usercode.specs.declared.fault.DeckFault.TheVariants.{VRange, YRange}
 use Rattle.kdf_usercode.specs.declared.statement.Named.{Named}
 use Rattle.kdf_usercode.specs.declared.statement.Named.TheVariants.{Y, V, E}
 use Rattle.kdf_usercode.specs.declared.statement.Statement.{Statement}
 use Rattle.kdf_usercode.specs.declared.statement.Value.{Value}
 use Rattle.kdf_usercode.specs.declared.statement.What.{What}
 use Rattle.kdf_usercode.specs.declared.statement.What.TheVariants.{Program, Part, Constant}
-use Rattle.kdf_usercode.specs.Faults.{Found, found}
+use Rattle.kdf_usercode.specs.Faults.{found}
 use Rattle.kdf_place.specs.declared.here.Here.{Here}
 use Rattle.kdf_place.specs.declared.here.Section.{Section}
 use Rattle.kdf_place.specs.declared.names.Entry.{Entry}
 use Rattle.kdf_place.specs.declared.names.Opening.{Opening}
 use Rattle.kdf_place.specs.Layout.{section_after, after, walked, next_order, front}
-use Rattle.kdf_place.specs.Late.{fault_in, value_faults, wrong, wrongs, twice}
+use Rattle.kdf_place.specs.Late.{fault_in, value_faults, wrong, twice}
 use Rattle.kdf_place.specs.Names.{Names, names, first, part_opened, opening, openings, constant_at, constants, store_at, v_store, section_of, address}
 use Rattle.kdf_place.specs.Placement.{words_of, syllables, first_word, value, with_constant, with_constants, words}
 use Rattle.kdf_place.specs.Stands.{is_address}
@@ -26,7 +26,7 @@ use Rattle.kdf_place.proofs.Said.{says, both-true}
 use Rattle.kdf_place.proofs.Lengths.{length-constants, words-image}
 use Rattle.kdf_place.proofs.Meant.{no-fault}
 use Rattle.kdf_place.proofs.Untouched.{store-there}
-use Rattle.kdf_place.proofs.Walks.{nil-both, nil-founds, after-above, walked-above, walked-append, wrongs-append, constants-append, stores_end-after, stores_end}
+use Rattle.kdf_place.proofs.Walks.{nil-both, after-above, walked-above, walked-append, constants-append, stores_end-after, stores_end}
 
 -- ---- a number that stands once
 

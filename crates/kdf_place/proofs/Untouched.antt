@@ -1,8 +1,7 @@
 -- The constants go into V-stores, and change no other word.
-use Rattle.std.proofs.Common.{◌≡◌, ◌≢◌, ℕ, ◌+◌, ◌*◌, ◌<◌, ◌≤◌, ◌⊎◌, inl, inr, List, [], ◌∷◌, ◌++◌, map, get_or, Some, Ok, Err, refl, ap, ◌∙◌, arith}
+use Rattle.std.proofs.Common.{◌≡◌, ◌≢◌, ℕ, ◌+◌, ◌*◌, ◌<◌, ◌≤◌, ◌⊎◌, inl, inr, List, [], ◌∷◌, map, get_or, Some, Err, refl, ◌∙◌, arith}
 use Rattle.std.proofs.lemmas.Bool.{cases_lt, le-ltb}
 use Rattle.std.proofs.lemmas.List.{get_or-set_other}
-use Rattle.kdf_usercode.specs.declared.fault.DeckFault.{DeckFault}
 use Rattle.kdf_usercode.specs.declared.fault.DeckFault.TheVariants.{VRange}
 use Rattle.kdf_usercode.specs.declared.statement.Statement.{Statement}
 use Rattle.kdf_usercode.specs.declared.statement.What.{What}
@@ -10,7 +9,7 @@ use Rattle.kdf_usercode.specs.declared.statement.What.TheVariants.{Program, Part
 use Rattle.kdf_usercode.specs.Faults.{Found, found}
 use Rattle.kdf_place.specs.declared.here.Here.{Here}
 use Rattle.kdf_place.specs.declared.here.Section.{Section}
-use Rattle.kdf_place.specs.Layout.{advance, section_after, after, walked}
+use Rattle.kdf_place.specs.Layout.{section_after, after, walked}
 use Rattle.kdf_place.specs.Names.{Names, store_at, v_store}
 use Rattle.kdf_place.specs.Late.{fault_in, value_faults, wrong, wrongs}
 use Rattle.kdf_place.specs.Placement.{value, with_constant, with_constants}

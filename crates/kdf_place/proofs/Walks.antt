@@ -1,21 +1,20 @@
 -- A walk over statements, piece by piece.
-use Rattle.std.proofs.Common.{◌≡◌, ℕ, ◌+◌, ◌*◌, ◌≤◌, Bool, true, false, cond, is_some, List, [], ◌∷◌, ◌++◌, length, length-append, map, Option, Some, None, refl, sym, ap, ◌∙◌, append_assoc, arith}
+use Rattle.std.proofs.Common.{◌≡◌, ℕ, ◌+◌, ◌*◌, ◌≤◌, List, [], ◌∷◌, ◌++◌, length, length-append, map, refl, sym, ap, ◌∙◌, append_assoc, arith}
 use Rattle.kdf_usercode.specs.declared.fault.DeckFault.{DeckFault}
 use Rattle.kdf_usercode.specs.declared.statement.Statement.{Statement}
 use Rattle.kdf_usercode.specs.declared.statement.What.{What}
 use Rattle.kdf_usercode.specs.declared.statement.What.TheVariants.{Program, Part}
 use Rattle.kdf_usercode.specs.Faults.{Found, found}
-use Rattle.kdf_usercode.specs.WellFormed.{IsWhat, AreInRange}
+use Rattle.kdf_usercode.specs.WellFormed.{AreInRange}
 use Rattle.kdf_place.specs.declared.here.Here.{Here}
-use Rattle.kdf_place.specs.declared.here.Section.{Section}
 use Rattle.kdf_place.specs.declared.names.Entry.{Entry}
 use Rattle.kdf_place.specs.declared.names.Mark.{Mark}
 use Rattle.kdf_place.specs.declared.names.Opening.{Opening}
-use Rattle.kdf_place.specs.Layout.{stores, advance, section_after, after, walked, next_order}
+use Rattle.kdf_place.specs.Layout.{advance, section_after, after, walked, next_order}
 use Rattle.kdf_place.specs.Late.{wrong, wrongs}
 use Rattle.kdf_place.specs.Names.{Names, part_opened, opening, openings, label_at, labels}
 use Rattle.kdf_place.specs.Placement.{syllables_of, syllables, with_constant, with_constants}
-use Rattle.kdf_place.specs.Stands.{ends_search, AllPassed, EndsAt}
+use Rattle.kdf_place.specs.Stands.{AllPassed, EndsAt}
 use Rattle.kdf_place.proofs.Lengths.{length-statement}
 
 pub nil-both : {A : Type 0} (xs ys : List A) → xs ++ ys ≡ [] → (xs ≡ []) × (ys ≡ [])

@@ -1,5 +1,5 @@
 -- What stands where in an image: the places of the statements, and the syllables of the words.
-use Rattle.std.specs.Prelude.{◌≡◌, ℕ, ◌+◌, ◌*◌, ◌/◌, ◌%◌, ◌<◌, ◌≤◌, Bool, true, false, ◌||◌, List, [], ◌∷◌, ◌++◌, length, get_or, map, Some, None, Ok}
+use Rattle.std.specs.Prelude.{◌≡◌, ℕ, ◌+◌, ◌*◌, ◌/◌, ◌%◌, ◌<◌, ◌≤◌, Bool, true, false, ◌||◌, List, [], ◌∷◌, ◌++◌, length, get_or, Some, Ok}
 use Rattle.kdf_syllable.specs.declared.order.Order.{Order}
 use Rattle.kdf_syllable.specs.declared.order.Order.TheVariants.{Jump}
 use Rattle.kdf_syllable.specs.Packing.{syllable}
@@ -10,11 +10,10 @@ use Rattle.kdf_usercode.specs.declared.statement.Statement.{Statement}
 use Rattle.kdf_usercode.specs.declared.statement.Value.{Value}
 use Rattle.kdf_usercode.specs.declared.statement.What.{What}
 use Rattle.kdf_usercode.specs.declared.statement.What.TheVariants.{Star, Reference, Constant}
-use Rattle.kdf_place.specs.declared.here.Here.{Here}
 use Rattle.kdf_place.specs.Layout.{is_order, is_opening, round_up, walked, front}
-use Rattle.kdf_place.specs.Names.{part_opened, Names, names, address as address_of, reference, first_order}
+use Rattle.kdf_place.specs.Names.{part_opened, names, address as address_of, reference, first_order}
 use Rattle.kdf_place.specs.Late.{wrong}
-use Rattle.kdf_place.specs.Placement.{syllable_number, order_of, value, Picture}
+use Rattle.kdf_place.specs.Placement.{order_of, value, Picture}
 
 -- ---- the syllables of an image
 

@@ -15,9 +15,11 @@ fn placed(rt: &HostRuntime, text: &str, size: u16) -> Result<Image, DeckError> {
 }
 
 /// Decks for a store of ten words, each with the name of its fault and the place.
-const FAULTS: [(&str, &str, u32); 32] = [
+const FAULTS: [(&str, &str, u32); 34] = [
     ("PROGRAM; 1; 1; FINISH;", "ReferenceTwice", 12),
     ("PROGRAM; 1; P1; 1; ZERO; 1; FINISH;", "ReferenceTwice", 25),
+    ("PROGRAM; 2; 5; 5; 2; FINISH;", "ReferenceTwice", 15),
+    ("PROGRAM; P7; P3; P3; P7; FINISH;", "PartTwice", 17),
     ("PROGRAM; J2; FINISH;", "ReferenceMissing", 9),
     ("PROGRAM; 1; J1P1; P1; FINISH;", "ReferenceMissing", 12),
     ("PROGRAM; P1; 1; P2; JS1; FINISH;", "ReferenceMissing", 20),
@@ -136,6 +138,35 @@ fn references(rt: HostRuntime) -> Result<(), Fail> {
     ];
     assert!(rt; has_words(&image, &words));
     let labels = [(0, 1, 1), (0, 2, 1), (0, 3, 3), (3, 1, 4), (3, 2, 0x8004)];
+    assert_eq!(rt; image.labels.len(), labels.len());
+    for (label, (part, number, at)) in image.labels.iter().zip(labels) {
+        assert!(rt; *label == Label { part, number, at });
+    }
+    Ok(())
+}
+
+#[test]
+fn references_that_fall(rt: HostRuntime) -> Result<(), Fail> {
+    let deck = "PROGRAM; 9; ZERO; 3; DUP; 7; J3; J9; J7; JP2; \
+        P2; 3; DUP; P1; 9; ZERO; 3; J3P2; FINISH;";
+    let image = placed(&rt, deck, 6)?;
+    let words = [
+        0xa000_0101_0101,
+        0x0903_a020_01a0,
+        0x0001_a040_01a0,
+        0x0004_0101_0101,
+        0x0301_0101_0101,
+        0x09a0_0004_0101,
+    ];
+    assert!(rt; has_words(&image, &words));
+    let labels = [
+        (0, 9, 1),
+        (0, 3, 0x2001),
+        (0, 7, 0x4001),
+        (2, 3, 4),
+        (1, 9, 5),
+        (1, 3, 0x2005),
+    ];
     assert_eq!(rt; image.labels.len(), labels.len());
     for (label, (part, number, at)) in image.labels.iter().zip(labels) {
         assert!(rt; *label == Label { part, number, at });

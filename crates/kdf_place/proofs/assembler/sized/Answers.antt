@@ -1,4 +1,4 @@
-use Rattle.std.proofs.Common.{◌∙◌, arith}
+use Rattle.std.proofs.Common.{arith}
 use Rattle.kdf_place.proofs.Assembled.{too-large, with-room}
 use Rattle.kdf_place.proofs.assembler.sized.Goals as goal
 

@@ -1,7 +1,6 @@
-use Rattle.std.proofs.Common.{◌≡◌, ◌<◌, ◌≤◌, length, ltb, sym, ap, ◌∙◌, get_or, List, arith, rules}
+use Rattle.std.proofs.Common.{◌≡◌, length, ltb, sym, ap, ◌∙◌, get_or, arith, rules}
 use Rattle.std.proofs.lemmas.List.Sorted.{IsPartitionPoint-from_clause, IsPartitionedBy-ltb}
 use Rattle.std.specs.List.Sorted.{IsNonDecreasingBy}
-use Rattle.kdf_place.specs.declared.names.Entry.{Entry}
 use Rattle.kdf_place.specs.Keys.{key_of, key}
 use Rattle.kdf_place.proofs.Firsts.{parts-from, found-here, not-here, none-there}
 use Rattle.kdf_place.proofs.table.Table.find.Goals as goal
