@@ -1,5 +1,5 @@
 -- The one slot of a machine, whose fields agree with it and with the journal.
-use Rattle.std.proofs.Common.{◌≡◌, ℕ, ◌<◌, ◌≤◌, List, [], ◌∷◌, Option, Some, None, Bool, true, false, ◌||◌, not, refl, sym, ◌∙◌, ap, arith}
+use Rattle.std.proofs.Common.{◌≡◌, ℕ, ◌+◌, ◌<◌, ◌≤◌, List, [], ◌∷◌, Option, Some, None, Bool, true, false, ◌||◌, not, refl, sym, ◌∙◌, ap, arith}
 use Rattle.kdf_processor.specs.declared.registers.Registers.{Registers}
 use Rattle.kdf_processor.specs.declared.step.Step.{Step as Ending}
 use Rattle.kdf_processor.specs.Lone.{is_live}
@@ -7,28 +7,28 @@ use Rattle.kdf_processor.specs.Row.{row, next_of}
 use Rattle.kdf_processor.specs.State.{Slot, State, Stock, begin, stocked, new_registers}
 use Rattle.kdf_journal.specs.declared.entry.Entry.{Entry}
 use Rattle.kdf_journal.specs.Counts.{calls, moves, Hold, last_hold, over}
-use Rattle.kdf_journal.specs.Steps.{Note, Obeys, added}
-use Rattle.kdf_journal.proofs.Added.{calls-added, moves-added}
+use Rattle.kdf_journal.specs.Steps.{Note, Step, Obeys, added}
+use Rattle.kdf_journal.proofs.Added.{ran_by, answers_by, calls_by, calls-added, moves_by, moves-added}
 use Rattle.kdf_journal.proofs.Bounds.{ran-le-calls}
 use Rattle.kdf_top.specs.declared.bench.Bench.{Bench}
 use Rattle.kdf_top.specs.Bench.{stock_of, state_with}
 use Rattle.kdf_top.specs.World.{World}
 use Rattle.kdf_top.specs.Next.{own, lone_world, lives, stands, can_go, next, any_live}
-use Rattle.kdf_top.specs.Legal.{note_for, note_of}
+use Rattle.kdf_top.specs.Legal.{note_for, note_of, Meets}
 use Rattle.kdf_top.specs.Shown.{Shown, state_at, world_of}
 use Rattle.kdf_top.specs.Agrees.{Agrees}
 use Rattle.kdf_top.specs.Advance.{Obeyed}
 use Rattle.kdf_top.proofs.LegalFacts.{legal_alive, legal_unheld, legal-nil, legal-added}
 use Rattle.kdf_top.proofs.LoneRuns.{no_answer}
-use Rattle.kdf_top.proofs.Owns.{own-nil, own-ran, own-obeys}
+use Rattle.kdf_top.proofs.Owns.{own-nil, own-ran, own-same, own-obeys}
 use Rattle.kdf_top.proofs.Worlds.{free}
 
 -- slot 0 with this program
 abbrev pub zeroth : ℕ → List ℕ → Slot
 zeroth size words = record { p = 0; size = size; words = words }
 
-abbrev pub viewed : ℕ → List ℕ → State → List Entry → Shown
-viewed size words s J = record { slots = zeroth size words ∷ []; states = s ∷ []; journal = J }
+abbrev pub viewed : ℕ → List ℕ → State → List Entry → ℕ → Shown
+viewed size words s J room = record { slots = zeroth size words ∷ []; states = s ∷ []; journal = J; room = room }
 
 or_nothing : (b : Bool) → (b || false) ≡ b
 or_nothing true = refl
@@ -68,6 +68,16 @@ module _ (size : ℕ) (words : List ℕ) (s : State) (J : List Entry) (a : Agree
   pub live-same : is_live s.registers.state ≡ any_live (zeroth size words ∷ []) J
   live-same = alive ∙ sym (only_live size words J)
 
+  -- an event that is entered changes no program
+  pub agrees-entered : (e : Step) → Meets (lone_world (zeroth size words ∷ []) J) (zeroth size words ∷ []) J e → ran_by 0 e ≡ 0 → answers_by 0 e ≡ [] → calls_by e ≡ 0 → moves J + moves_by e ≤ 2048000000
+      → (K : List Entry) → K ≡ added J e → Agrees (zeroth size words) s K
+  agrees-entered e m none silent no_call few K k = rw k (record {
+    legal = legal-added (zeroth size words ∷ []) J e a.legal m;
+    alone = a.alone ∙ sym (own-same (zeroth size words ∷ []) J e 0 none silent);
+    few_calls = omega (arith, a.few_calls, calls-added J e);
+    few_moves = omega (arith, moves-added J e);
+  })
+
   module _ (live : is_live s.registers.state ≡ true) where
     next_is : (w : World) → next w (zeroth size words ∷ []) J ≡ Some 0
     next_is w = only_next w size words J (sym alive ∙ live) (legal_unheld (zeroth size words ∷ []) J a.legal 0)
@@ -103,10 +113,10 @@ module _ (size : ℕ) (words : List ℕ) (s : State) (J : List Entry) (a : Agree
       pub agrees-obeys : calls J < 20000000 → (n : ℕ) → n ≡ size → Agrees (zeroth n words) t K
       agrees-obeys few n same = rw same (obeys few)
 
-      pub obeyed : (old : Shown) → viewed size words s J ≡ old → (n : ℕ) → Obeyed old (viewed n words t K) 0
-      obeyed old e n = rw (← e) (record {
-        was_next = next_is (world_of (viewed size words s J));
-        free = free (state_at (viewed size words s J)) J 0;
+      pub obeyed : (old : Shown) (room : ℕ) → viewed size words s J room ≡ old → (n : ℕ) → Obeyed old (viewed n words t K room) 0
+      obeyed old room e n = rw (← e) (record {
+        was_next = next_is (world_of (viewed size words s J room));
+        free = free (state_at (viewed size words s J room)) J 0;
         states = ap (λ (u : State). u ∷ []) after;
         journal = noted;
       })

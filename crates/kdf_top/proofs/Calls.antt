@@ -1,22 +1,22 @@
 -- What one call of a machine makes of its journal, where its programs are as they are by themselves.
-use Rattle.std.proofs.Common.{◌≡◌, ℕ, ◌+◌, ◌≤◌, List, [], ◌∷◌, Option, Some, None, Bool, true, false, cond, eqb, refl, sym, ◌∙◌, ap, subst, arith}
+use Rattle.std.proofs.Common.{◌≡◌, ℕ, ◌+◌, ◌-◌, ◌≤◌, List, [], ◌∷◌, Option, Some, None, Bool, true, false, cond, eqb, refl, sym, ◌∙◌, ap, subst, arith}
 use Rattle.std.specs.Prelude.{replicate, map, is_some, unwrap_or}
 use Rattle.std.specs.Option.{option_map}
 use Rattle.std.proofs.lemmas.Bool.{true≢false, eqb-true}
 use Rattle.kdf_processor.specs.State.{Slot, State}
 use Rattle.kdf_journal.specs.declared.entry.Entry.{Entry}
-use Rattle.kdf_journal.specs.Counts.{calls}
+use Rattle.kdf_journal.specs.Counts.{calls, clock, moves}
 use Rattle.kdf_journal.specs.Steps.{Step, Obeys, added, steps}
-use Rattle.kdf_journal.proofs.Added.{calls-added}
-use Rattle.kdf_schedule.specs.Calls.{AnOrder}
+use Rattle.kdf_journal.proofs.Added.{calls_by, calls-added, moves_by, moves-added, clock_by, clock-added}
+use Rattle.kdf_schedule.specs.Calls.{Call, AnOrder}
 use Rattle.kdf_top.specs.declared.machine.Progress.{Progress}
 use Rattle.kdf_top.specs.declared.machine.Progress.TheVariants as progress
 use Rattle.kdf_top.specs.Next.{slot_of, start_of, own, lone_world, next, any_live}
 use Rattle.kdf_top.specs.Legal.{note_of, IsLegal}
 use Rattle.kdf_top.specs.Course.{lone_step_at, course}
 use Rattle.kdf_top.specs.Shown.{Shown, state_in, state_of, state_at, world_of, ShowsLone}
-use Rattle.kdf_top.specs.Advance.{Obeyed, Advance}
-use Rattle.kdf_top.proofs.Courses.{went_on}
+use Rattle.kdf_top.specs.Advance.{Obeyed, Advance, Enters}
+use Rattle.kdf_top.proofs.Courses.{course-took, went_on}
 use Rattle.kdf_top.proofs.Worlds.{free, next-world, next_slot}
 
 state_in-map : (slots : List Slot) (f : ℕ → State) (p : ℕ) → state_in slots (map (λ (s : Slot). f s.p) slots) p ≡ option_map (λ (s : Slot). f p) (slot_of slots p)
@@ -62,3 +62,28 @@ took_on slots0 P i m n (progress.Ran p) l lone same taken live took = went_on m.
 pub calls-took : (m n : Shown) (r : Progress) → Advance m n r → calls n.journal ≤ calls m.journal + 1
 calls-took m n progress.AllEnded took = omega (arith, ap (λ (x : Shown). calls x.journal) took.1)
 calls-took m n (progress.Ran p) took = omega (arith, ap calls took.journal, calls-added m.journal (Obeys p (note_of (state_at m p))))
+
+pub moves-took : (m n : Shown) (r : Progress) → Advance m n r → moves n.journal ≡ moves m.journal
+moves-took m n progress.AllEnded took = ap (λ (x : Shown). moves x.journal) took.1
+moves-took m n (progress.Ran p) took = omega (arith, ap moves took.journal, moves-added m.journal (Obeys p (note_of (state_at m p))))
+
+pub clock-took : (m n : Shown) (r : Progress) → Advance m n r → clock n.journal ≡ clock m.journal
+clock-took m n progress.AllEnded took = ap (λ (x : Shown). clock x.journal) took.1
+clock-took m n (progress.Ran p) took = ap clock took.journal ∙ clock-added m.journal (Obeys p (note_of (state_at m p)))
+
+-- an event that is entered is a call of the course
+pub entered_on : (m n : Shown) (c : Call) (s : Step) → IsLegal m.slots m.journal → any_live m.slots m.journal ≡ true → lone_step_at m.slots m.journal c ≡ s → Enters m n s → steps n.journal ≡ course m.slots (steps m.journal) (c ∷ [])
+entered_on m n c s l live is e = ap (λ (x : Shown). steps x.journal) e ∙ (ap (λ (x : Step). steps (added m.journal x)) (sym is) ∙ course-took m.slots m.journal c l live)
+
+module _ (m n : Shown) (s : Step) (e : Enters m n s) where
+  pub calls-entered : calls n.journal ≡ calls m.journal + calls_by s
+  calls-entered = ap (λ (x : Shown). calls x.journal) e ∙ calls-added m.journal s
+
+  pub moves-entered : moves n.journal ≡ moves m.journal + moves_by s
+  moves-entered = ap (λ (x : Shown). moves x.journal) e ∙ moves-added m.journal s
+
+  pub clock-entered : clock n.journal ≡ clock_by (clock m.journal) s
+  clock-entered = ap (λ (x : Shown). clock x.journal) e ∙ clock-added m.journal s
+
+  pub room-entered : n.room ≡ m.room - 1
+  room-entered = ap (λ (x : Shown). x.room) e

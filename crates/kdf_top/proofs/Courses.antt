@@ -33,7 +33,7 @@ course-append slots P (c ∷ cs) ds = go (any_live slots (journal_of P)) refl (c
 course-one : (slots : List Slot) (J : List Entry) (c : Call) → IsLegal slots J → any_live slots J ≡ true → lone_step_at slots J c ∷ steps J ≡ course slots (steps J) (c ∷ [])
 course-one slots J c l live = rw (l.in_form, live)
 
-course-took : (slots : List Slot) (J : List Entry) (c : Call) → IsLegal slots J → any_live slots J ≡ true → steps (added J (lone_step_at slots J c)) ≡ course slots (steps J) (c ∷ [])
+pub course-took : (slots : List Slot) (J : List Entry) (c : Call) → IsLegal slots J → any_live slots J ≡ true → steps (added J (lone_step_at slots J c)) ≡ course slots (steps J) (c ∷ [])
 course-took slots J c l live = steps-added J (lone_step_at slots J c) ∙ course-one slots J c l live
 
 course-more : (slots : List Slot) (P : List Step) (n : ℕ) → course slots (course slots P (replicate n AnOrder)) (AnOrder ∷ []) ≡ course slots P (replicate (n + 1) AnOrder)

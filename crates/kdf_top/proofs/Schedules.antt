@@ -11,7 +11,7 @@ use Rattle.kdf_schedule.specs.Calls.{Call, calls_of, calls_made}
 use Rattle.kdf_schedule.proofs.Schedules.{calls_made-append, calls_made-one, calls_made-nil}
 use Rattle.kdf_top.specs.Next.{any_live}
 use Rattle.kdf_top.specs.Legal.{IsLegal}
-use Rattle.kdf_top.specs.Follows.{AreOrders, IsJournal}
+use Rattle.kdf_top.specs.Follows.{IsRising, time_behind, IsJournal}
 use Rattle.kdf_top.specs.Course.{course}
 use Rattle.kdf_top.proofs.Courses.{course_dead, course-append, whole-course}
 
@@ -43,18 +43,18 @@ module _ (slots0 : List Slot) (es : List Event) (i : ℕ) where
         ap calls_made (take_more es i d lt) ∙ (calls_made-append (take i es) (get_or es i d ∷ []) ∙ ap (λ (cs : List Call). calls_made (take i es) ++ cs) (calls_made-one (get_or es i d))) in
         k ∙ rw (same, taken, next, course-append) refl
 
--- events of orders alone, from the next on
-pub orders-from : (es : List Event) (i : ℕ) (d : Event) → i < length es → AreOrders (drop i es) → AreOrders (get_or es i d ∷ drop (i + 1) es)
-orders-from es i d lt orders = subst AreOrders (drop-cons es i d lt ∙ ap (λ (n : ℕ). get_or es i d ∷ drop n es) (sym (add-one i))) orders
+-- the events from the next on
+pub rises-from : (es : List Event) (i : ℕ) (d : Event) (t : ℕ) → i < length es → IsRising t (drop i es) → IsRising t (get_or es i d ∷ drop (i + 1) es)
+rises-from es i d t lt rises = subst (IsRising t) (drop-cons es i d lt ∙ ap (λ (n : ℕ). get_or es i d ∷ drop n es) (sym (add-one i))) rises
 
-pub orders-first : (e : Event) (es : List Event) → AreOrders (e ∷ es) → AreOrders (e ∷ [])
-orders-first (Orders n) es orders = tt
-orders-first (Move d n) es orders = orders
-orders-first (End d) es orders = orders
-orders-first (Clock t) es orders = orders
+pub rises-first : (t : ℕ) (e : Event) (es : List Event) → IsRising t (e ∷ es) → IsRising t (e ∷ [])
+rises-first t (Orders n) es rises = tt
+rises-first t (Move d n) es rises = tt
+rises-first t (End d) es rises = tt
+rises-first t (Clock u) es rises = (rises.0, tt)
 
-pub orders-rest : (e : Event) (es : List Event) → AreOrders (e ∷ es) → AreOrders es
-orders-rest (Orders n) es orders = orders
-orders-rest (Move d n) es orders = absurd orders
-orders-rest (End d) es orders = absurd orders
-orders-rest (Clock t) es orders = absurd orders
+pub rises-rest : (t : ℕ) (e : Event) (es : List Event) → IsRising t (e ∷ es) → IsRising (time_behind t e) es
+rises-rest t (Orders n) es rises = rises
+rises-rest t (Move d n) es rises = rises
+rises-rest t (End d) es rises = rises
+rises-rest t (Clock u) es rises = rises.1

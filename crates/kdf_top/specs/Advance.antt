@@ -1,8 +1,8 @@
 -- What one call of a machine does.
-use Rattle.std.specs.Prelude.{◌≡◌, ℕ, ◌==◌, List, ◌∷◌, Some, None, false, if◌then◌else◌}
+use Rattle.std.specs.Prelude.{◌≡◌, ℕ, ◌-◌, ◌==◌, List, ◌∷◌, Some, None, false, if◌then◌else◌}
 use Rattle.kdf_processor.specs.Row.{row}
 use Rattle.kdf_processor.specs.State.{Slot, State}
-use Rattle.kdf_journal.specs.Steps.{Obeys, added}
+use Rattle.kdf_journal.specs.Steps.{Step, Obeys, added}
 use Rattle.kdf_top.specs.declared.machine.Progress.{Progress}
 use Rattle.kdf_top.specs.declared.machine.Progress.TheVariants as progress
 use Rattle.kdf_top.specs.World.{first_need}
@@ -27,3 +27,7 @@ pub record Obeyed (old new : Shown) (p : ℕ) : Type 0 where
 abbrev pub Advance : Shown → Shown → Progress → Type 0
 Advance old new (progress.Ran p) = Obeyed old new p
 Advance old new progress.AllEnded = (any_live old.slots old.journal ≡ false) × (new ≡ old)
+
+-- a machine in which an event was entered: nothing else changes
+abbrev pub Enters : Shown → Shown → Step → Type 0
+Enters old new s = new ≡ record old { journal = added old.journal s; room = old.room - 1 }

@@ -44,14 +44,29 @@ pub record IsJournal (slots : List Slot) (events : List Event) (J : List Entry) 
   pub legal : IsLegal slots J
   pub whole : IsWhole slots (calls_made events) J
 
--- where the time is t, no call sets it back
-abbrev pub IsRising : ℕ → List Call → Type 0
+-- where the time is t, no event sets it back
+abbrev pub IsRising : ℕ → List Event → Type 0
 IsRising t [] = Unit {0}
-IsRising t (AClock u ∷ cs) = (t ≤ u) × IsRising u cs
-IsRising t (c ∷ cs) = IsRising t cs
+IsRising t (Clock u ∷ es) = (t ≤ u) × IsRising u es
+IsRising t (e ∷ es) = IsRising t es
 
--- events of orders alone: others are not read yet
-abbrev pub AreOrders : List Event → Type 0
-AreOrders [] = Unit {0}
-AreOrders (Orders n ∷ es) = AreOrders es
-AreOrders (e ∷ es) = ⊥
+-- how many words an event moves
+abbrev pub words_in : Event → ℕ
+words_in (Orders n) = 0
+words_in (Move d n) = n
+words_in (End d) = 0
+words_in (Clock t) = 0
+
+-- an event that isn't one of orders is an entry itself
+abbrev pub entries_in : Event → ℕ
+entries_in (Orders n) = 0
+entries_in (Move d n) = 1
+entries_in (End d) = 1
+entries_in (Clock t) = 1
+
+-- the time behind an event
+abbrev pub time_behind : ℕ → Event → ℕ
+time_behind t (Orders n) = t
+time_behind t (Move d n) = t
+time_behind t (End d) = t
+time_behind t (Clock u) = u

@@ -7,11 +7,12 @@ use Rattle.kdf_top.specs.Deck.{image_words}
 use Rattle.kdf_top.specs.World.{World, is_pending_after}
 use Rattle.kdf_top.specs.Next.{start_of, own}
 
--- the slots as they were loaded, the state of the program of each, and the journal
+-- the slots as they were loaded, the state of the program of each, the journal, and how many events more can be entered in it
 pub record Shown : Type 0 where
   pub slots : List Slot
   pub states : List State
   pub journal : List Entry
+  pub room : ℕ
 
 -- the state of program p
 abbrev pub state_in : List Slot → List State → ℕ → Option State

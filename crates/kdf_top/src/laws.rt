@@ -3,7 +3,6 @@ ghost use Rattle.std.specs.Prelude.{◌≡◌, List};
 ghost use Rattle.kdf_journal.specs.declared.entry.Entry.{Entry};
 ghost use Rattle.kdf_schedule.specs.declared.event.Event.{Event};
 ghost use Rattle.kdf_processor.specs.State.{Slot};
-ghost use Rattle.kdf_schedule.specs.Calls.{calls_made};
 ghost use Rattle.kdf_top.specs.Follows.{IsJournal, IsRising};
 
 mod worked;
@@ -21,6 +20,6 @@ pub fn one_journal()
 
 /// Slots have a journal under each schedule that doesn't set the clock back.
 pub fn a_journal()
-    ensures { (slots : List Slot) (events : List Event) → IsRising 0 (calls_made events)
+    ensures { (slots : List Slot) (events : List Event) → IsRising 0 events
         → (J : List Entry) × IsJournal slots events J }
 {}

@@ -24,7 +24,7 @@ pub use job::{Job, JobError, JobFault, SlotJob};
 pub use job_reader::read_job;
 pub use kdf_journal::{Entry, Journal};
 pub use kdf_schedule::Event;
-pub use machine::{Machine, Progress};
+pub use machine::{EVENT_LIMIT, Machine, Progress};
 pub use outcome::Outcome;
 pub use schedule::follow;
 pub use status::Status;

@@ -1,23 +1,24 @@
 //! The machine: a program in its slot, and the journal of its orders.
-ghost use Rattle.std.specs.Prelude.{◌≡◌, ◌+◌, ◌<◌, ◌≤◌, [], ◌∷◌, OnOk, IfOk, OnErr, map, IsSomeAnd, true};
+ghost use Rattle.std.specs.Prelude.{◌≡◌, ◌+◌, ◌<◌, ◌≤◌, [], ◌∷◌, OnOk, IfOk, OnErr, map, length, IsSomeAnd, true};
 ghost use Rattle.std.specs.Option.{option_copied, option_map};
 ghost use Rattle.kdf_processor.specs.State.{begin, word_at};
 ghost use Rattle.kdf_processor.specs.Lone.{is_live};
 ghost use Rattle.kdf_processor.specs.Row.{row, next_of};
-ghost use Rattle.kdf_journal.specs.Counts.{calls, moves};
-ghost use Rattle.kdf_journal.specs.Steps.{noted, added, Obeys};
+ghost use Rattle.kdf_journal.specs.Counts.{calls, clock, moves};
+ghost use Rattle.kdf_journal.specs.Steps.{noted, added, Obeys, Moves, Ends, Sets};
 ghost use Rattle.kdf_top.specs.Next.{slot_of, any_live};
 ghost use Rattle.kdf_top.specs.Legal.{note_for, IsLegal};
 ghost use Rattle.kdf_top.specs.Loaded.{loaded, IsLoadable};
 ghost use Rattle.kdf_top.specs.Shown.{state_of, ShowsLone};
 ghost use Rattle.kdf_top.specs.Bench.{state_with};
-ghost use Rattle.kdf_top.specs.Advance.{Advance};
+ghost use Rattle.kdf_top.specs.Advance.{Advance, Enters};
 
 use crate::Job;
 use crate::bench::Bench;
 use kdf_journal::{CALL_LIMIT, Entry, Journal, MOVE_LIMIT};
 use kdf_place::Image;
 use kdf_processor::{Life, Registers, Step, obey};
+use kdf_schedule::Event;
 use kdf_word::Word;
 use std::alloc::{AllocError, Global};
 use std::marker::Model;
@@ -34,13 +35,18 @@ pub enum Progress {
     AllEnded,
 }
 
-/// The program in slot 0 of a job. Contracts see the slot as it was loaded, the program's state, and the journal.
+/// A schedule has so many events at most.
+pub const EVENT_LIMIT: u32 = 500_000;
+
+/// The program in slot 0 of a job. Contracts see the slot as it was loaded, the program's state, the journal, and how many
+/// events more can be entered in it.
 #[derive(Drop)]
 pub struct Machine {
     image: Vec<Word>,
     registers: Registers,
     store: Bench,
     journal: Journal,
+    room: u32,
 }
 
 impl Model for Machine {
@@ -49,36 +55,45 @@ impl Model for Machine {
     ghost Value = { Shown };
 
     ghost use Rattle.std.specs.Prelude.{[], ◌∷◌};
-    ghost use Rattle.kdf_top.specs.Agrees.{Agrees};
+    ghost use Rattle.kdf_top.specs.Agrees.{IsReady};
     ghost use Rattle.kdf_top.specs.Bench.{state_with};
 
     ghost view = { λ m. record {
       slots = record { p = 0; size = m.store.size; words = m.image.items } ∷ [];
       states = state_with m.registers m.store ∷ [];
       journal = m.journal.entries;
+      room = m.room;
     } };
 
-    ghost invariant = { λ m. Agrees
+    ghost invariant = { λ m. IsReady
         (record { p = 0; size = m.store.size; words = m.image.items })
         (state_with m.registers m.store)
-        m.journal.entries };
+        m.journal.entries
+        m.room
+        m.journal.spare };
 }
 
 impl Machine {
     /// A machine before its first order. The job has slot 0 alone, and its image fits the store.
     pub fn load(alloc: Global, job: &Job, images: &[Image]) -> Result<Machine, AllocError>
-        requires { IsLoadable job.now.slots.items images.now }
+        requires loadable { IsLoadable job.now.slots.items images.now }
+        requires few_events { length job.now.events.items ≤ EVENT_LIMIT }
         ensures slots { IfOk result (λ m. m.slots ≡ loaded job.now.slots.items images.now) }
         ensures states { IfOk result (λ m. m.states ≡ map begin m.slots) }
         ensures journal { IfOk result (λ m. m.journal ≡ []) }
+        ensures room { IfOk result (λ m. m.room ≡ length job.now.events.items) }
     {
         let image = Vec::from_slice(alloc, &images[0].words)?;
         let store = Bench::new(alloc, job.slots[0].size, &image)?;
+        let room = event_count(&job.events);
+        let mut journal = Journal::new(alloc);
+        journal.reserve(room)?;
         Ok(Machine {
             image,
             registers: Registers::new(),
             store,
-            journal: Journal::new(alloc),
+            journal,
+            room,
         })
     }
 
@@ -87,15 +102,52 @@ impl Machine {
         requires { calls self.old.journal < CALL_LIMIT }
         ensures took { IfOk result (Advance self.old self.new) }
         ensures slots { self.new.slots ≡ self.old.slots }
+        ensures room { self.new.room ≡ self.old.room }
         ensures err { OnErr result (self.new ≡ self.old) }
     {
-        self.journal.reserve(2)?;
+        self.journal.reserve(self.room + 2)?;
         if !is_on(self.registers.state) {
             return Ok(Progress::AllEnded);
         }
         let step = obey_next(&mut self.registers, &mut self.store);
         write(&mut self.journal, step);
         Ok(Progress::Ran(SLOT))
+    }
+
+    /// How many events more can be entered.
+    pub fn room(&self) -> u32
+        ensures { result ≡ self.now.room }
+    {
+        self.room
+    }
+
+    /// Enters that the schedule moved `n` words of the transfer of device `d`; no device has one yet.
+    pub fn move_words(&mut self, d: u8, n: u16)
+        requires room { 0 < self.old.room }
+        requires few_moves { moves self.old.journal + n ≤ MOVE_LIMIT }
+        ensures { Enters self.old self.new (Moves d n) }
+    {
+        self.journal.push(Entry::Move { d, n });
+        self.room -= 1;
+    }
+
+    /// Enters that the schedule ended the transfer of device `d`; no device has one yet.
+    pub fn end(&mut self, d: u8)
+        requires { 0 < self.old.room }
+        ensures { Enters self.old self.new (Ends d) }
+    {
+        self.journal.push(Entry::End { d });
+        self.room -= 1;
+    }
+
+    /// Sets the clock, which never goes back.
+    pub fn clock(&mut self, t: u64)
+        requires room { 0 < self.old.room }
+        requires rises { clock self.old.journal ≤ t }
+        ensures { Enters self.old self.new (Sets t) }
+    {
+        self.journal.push(Entry::Clock { t });
+        self.room -= 1;
     }
 
     /// A program is live.
@@ -142,6 +194,13 @@ impl Machine {
     pub fn close(self) {}
 }
 
+fn event_count(events: &[Event]) -> u32
+    requires { length events.now ≤ EVENT_LIMIT }
+    ensures { result ≡ length events.now }
+{
+    events.len() as u32
+}
+
 // Whether a program runs.
 fn is_on(life: Life) -> bool
     ensures { result ≡ is_live life }
@@ -169,7 +228,8 @@ fn write(journal: &mut Journal, step: Step)
     requires room { 2 ≤ journal.old.spare }
     requires few_calls { calls journal.old.entries < CALL_LIMIT }
     requires few_moves { moves journal.old.entries ≤ MOVE_LIMIT }
-    ensures { journal.new.entries ≡ added journal.old.entries (Obeys SLOT (note_for step)) }
+    ensures entries { journal.new.entries ≡ added journal.old.entries (Obeys SLOT (note_for step)) }
+    ensures spare { journal.old.spare ≤ journal.new.spare + 2 }
 {
     journal.push(Entry::Ran { p: SLOT, n: 1 });
     match step {

@@ -17,6 +17,7 @@ const ADDS: [u64; 4] = [JUMP, 0xe000_05e0_0007, 0x11d0_0003_0921, 0];
 /// A machine with a store of 32 words.
 fn load(rt: &impl Abort, alloc: Global, image: &[u64]) -> Result<Machine, AllocError>
     ensures journal { IfOk result (λ m. m.journal ≡ []) }
+    ensures room { IfOk result (λ m. m.room ≡ 3) }
     ensures size { IfOk result (λ m. IsSomeAnd (slot_of m.slots 0) (λ slot. slot.size ≡ 32)) }
 {
     let mut words = Vec::new(alloc);
@@ -36,7 +37,7 @@ fn load(rt: &impl Abort, alloc: Global, image: &[u64]) -> Result<Machine, AllocE
     )?;
     let job = Job {
         slots,
-        events: Vec::new(alloc),
+        events: Vec::from_array(alloc, [Event::End(3), Event::Clock(7), Event::Move(0, 5)])?,
     };
     let image = Image {
         words,
@@ -115,5 +116,35 @@ fn jumps_a_million_times(rt: HostRuntime) -> Result<(), Fail> {
         [Entry::Ran { p: 0, n: 1_000_000 }].as_slice()
     );
     assert!(rt; machine.is_any_live());
+    Ok(())
+}
+
+#[test]
+fn enters_events(rt: HostRuntime) -> Result<(), Fail> {
+    let mut machine = load(&rt, rt.alloc(), &[JUMP, 0])?;
+    assert_eq!(rt; machine.room(), 3);
+    let events = [
+        Event::End(3),
+        Event::Clock(7),
+        Event::Orders(1),
+        Event::Move(0, 5),
+        Event::Orders(9),
+    ];
+    follow(&mut machine, &events)?;
+    let failed = Entry::Fail {
+        p: 0,
+        kind: Failure::Liv,
+    };
+    let entries = [
+        Entry::End { d: 3 },
+        Entry::Clock { t: 7 },
+        Entry::Ran { p: 0, n: 1 },
+        Entry::Move { d: 0, n: 5 },
+        Entry::Ran { p: 0, n: 1 },
+        failed,
+    ];
+    assert_eq!(rt; machine.journal().entries(), entries.as_slice());
+    assert_eq!(rt; machine.journal().clock(), 7);
+    assert_eq!(rt; machine.room(), 0);
     Ok(())
 }
