@@ -22,8 +22,8 @@ fn main(rt: HostRuntime) -> ExitCode {
     ExitCode::from(code)
 }
 
-// The words behind the program's name. Words of which one is no text are no command, and are taken
-// as no words at all.
+/// The words behind the program's name. Words of which one is no text are no command, and are taken
+/// as no words at all.
 fn words(rt: &(impl Env + AllocGlobal)) -> Result<Vec<String>, AllocError> {
     match env::args(rt) {
         Ok(args) => args.skip(1).collect(rt.alloc()),

@@ -49,7 +49,7 @@ pub fn read_all<S: Source>(alloc: Global, source: &mut S, limit: usize) -> Resul
     }
 }
 
-// Reads once, and tells apart more bytes than are allowed.
+/// Reads once, and tells apart more bytes than are allowed.
 fn read_piece<S: Source>(
     source: &mut S,
     buffer: &mut [u8; PIECE],

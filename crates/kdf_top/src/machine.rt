@@ -201,7 +201,7 @@ fn event_count(events: &[Event]) -> u32
     events.len() as u32
 }
 
-// Whether a program runs.
+/// Whether a program runs.
 fn is_on(life: Life) -> bool
     ensures { result ≡ is_live life }
 {
@@ -211,7 +211,7 @@ fn is_on(life: Life) -> bool
     }
 }
 
-// The next order of a live program by itself, which nothing holds up.
+/// The next order of a live program by itself, which nothing holds up.
 fn obey_next(registers: &mut Registers, store: &mut Bench) -> Step
     requires live { is_live registers.old.state ≡ true }
     requires ran { registers.old.ran < u32.MAX }
@@ -223,7 +223,7 @@ fn obey_next(registers: &mut Registers, store: &mut Bench) -> Step
     obey(registers, store)
 }
 
-// Counts an order that came out so, with its note.
+/// Counts an order that came out so, with its note.
 fn write(journal: &mut Journal, step: Step)
     requires room { 2 ≤ journal.old.spare }
     requires few_calls { calls journal.old.entries < CALL_LIMIT }

@@ -37,7 +37,7 @@ fn write_life(out: &mut String, life: Life) -> Result<(), AllocError>
     }
 }
 
-// How many orders were obeyed, and the word and syllable of the next.
+/// How many orders were obeyed, and the word and syllable of the next.
 #[tactic(auto, unfolding(kdf_text::specs::Text::text))]
 fn write_place(out: &mut String, ran: u32, at: u16) -> Result<(), AllocError>
     ensures { OnOk result (Adds out.old out.new (
@@ -65,7 +65,7 @@ fn digit(flag: bool) -> &'static str
     if flag { "1" } else { "0" }
 }
 
-// The words of a nest, the top first, behind their number.
+/// The words of a nest, the top first, behind their number.
 #[tactic(auto, unfolding(kdf_text::specs::Text::text))]
 fn write_nest(out: &mut String, nest: &Nest) -> Result<(), AllocError>
     ensures { OnOk result (Adds out.old out.new (nest_line nest.now ∷ [])) }
@@ -76,7 +76,7 @@ fn write_nest(out: &mut String, nest: &Nest) -> Result<(), AllocError>
     writeln!(out)
 }
 
-// Each word of a nest behind a space.
+/// Each word of a nest behind a space.
 fn write_words(out: &mut String, nest: &Nest) -> Result<(), AllocError>
     ensures { OnOk result (string_bytes out.new
         ≡ string_bytes out.old ++ flat_map (λ w. codes " " ++ octal w) nest.now) }
@@ -88,7 +88,7 @@ fn write_words(out: &mut String, nest: &Nest) -> Result<(), AllocError>
     Ok(())
 }
 
-// The places of the links, the top first, behind their number.
+/// The places of the links, the top first, behind their number.
 #[tactic(auto, unfolding(kdf_text::specs::Text::text))]
 fn write_links(out: &mut String, links: &Links) -> Result<(), AllocError>
     ensures { OnOk result (Adds out.old out.new (links_line links.now ∷ [])) }
@@ -99,7 +99,7 @@ fn write_links(out: &mut String, links: &Links) -> Result<(), AllocError>
     writeln!(out)
 }
 
-// The word and the syllable of each link, behind a space.
+/// The word and the syllable of each link, behind a space.
 fn write_places(out: &mut String, links: &Links) -> Result<(), AllocError>
     ensures { OnOk result (string_bytes out.new ≡ string_bytes out.old
         ++ flat_map (λ l. codes " " ++ decimal (l % 8192) ++ codes "/" ++ decimal (l / 8192)) links.now) }
@@ -113,7 +113,7 @@ fn write_places(out: &mut String, links: &Links) -> Result<(), AllocError>
     Ok(())
 }
 
-// The Q-stores that aren't zero.
+/// The Q-stores that aren't zero.
 #[tactic(auto, unfolding(kdf_text::specs::Text::text))]
 fn write_q_stores(out: &mut String, q_stores: &QStores) -> Result<(), AllocError>
     ensures { OnOk result (Adds out.old out.new (q_lines q_stores.now)) }
@@ -124,7 +124,7 @@ fn write_q_stores(out: &mut String, q_stores: &QStores) -> Result<(), AllocError
     Ok(())
 }
 
-// A Q-store, unless it is zero.
+/// A Q-store, unless it is zero.
 #[tactic(auto, unfolding(kdf_text::specs::Text::text))]
 fn write_q_store(out: &mut String, q: u8, q_stores: &QStores) -> Result<(), AllocError>
     requires { q < 16 }

@@ -55,7 +55,7 @@ fn write_sections(out: &mut String, slots: &[SlotJob], machine: &Machine) -> Res
     Ok(())
 }
 
-// What a report says of one slot.
+/// What a report says of one slot.
 fn write_section(out: &mut String, slot: &SlotJob, machine: &Machine) -> Result<(), AllocError>
     requires { HasSlot machine.now (shown_slot slot.now) }
     ensures { OnOk result (Adds out.old out.new (
@@ -73,7 +73,7 @@ fn write_slot(out: &mut String, p: u8) -> Result<(), AllocError>
     writeln!(out, "SLOT {p}")
 }
 
-// The words of program `p` between each two addresses.
+/// The words of program `p` between each two addresses.
 #[tactic(auto, unfolding(kdf_text::specs::Text::text))]
 fn write_shows(
     out: &mut String,
@@ -91,7 +91,7 @@ fn write_shows(
     Ok(())
 }
 
-// The words of program `p` from the first to the last address.
+/// The words of program `p` from the first to the last address.
 #[tactic(auto, unfolding(kdf_text::specs::Text::text))]
 fn write_show(
     out: &mut String,
@@ -109,7 +109,7 @@ fn write_show(
     Ok(())
 }
 
-// The word of program `p` at an address.
+/// The word of program `p` at an address.
 fn write_word(out: &mut String, address: u16, machine: &Machine, p: u8) -> Result<(), AllocError>
     requires { IsSomeAnd (slot_of machine.now.slots p) (λ kept. address < kept.size) }
     ensures { OnOk result (Adds out.old out.new (word_line (state_at machine.now p) address ∷ [])) }

@@ -38,7 +38,7 @@ pub fn follow(machine: &mut Machine, events: &[Event]) -> Result<(), AllocError>
     Ok(())
 }
 
-// The calls of one event, or fewer where no program is live any more.
+/// The calls of one event, or fewer where no program is live any more.
 fn make_calls(machine: &mut Machine, event: Event) -> Result<(), AllocError>
     requires live { any_live machine.old.slots machine.old.journal ≡ true }
     requires legal { IsLegal machine.old.slots machine.old.journal }
@@ -63,7 +63,7 @@ fn make_calls(machine: &mut Machine, event: Event) -> Result<(), AllocError>
     Ok(())
 }
 
-// So many orders, or fewer where no program is live any more.
+/// So many orders, or fewer where no program is live any more.
 fn obey_orders(machine: &mut Machine, n: u32) -> Result<(), AllocError>
     requires { calls machine.old.journal + n ≤ CALL_LIMIT }
     ensures steps { OnOk result (steps machine.new.journal

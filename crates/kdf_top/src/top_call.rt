@@ -96,7 +96,7 @@ pub fn run<S: Source, K: Sink>(
     answer_words(alloc, words, source, sink)
 }
 
-// Reads what the words ask for, and answers it.
+/// Reads what the words ask for, and answers it.
 fn answer_words<S: Source, K: Sink>(
     alloc: Global,
     words: &[String],
@@ -132,7 +132,7 @@ fn without_machine(status: Status) -> Outcome
     }
 }
 
-// Answers why there is no report.
+/// Answers why there is no report.
 fn refuse<K: Sink>(alloc: Global, status: Status, sink: &mut K) -> Outcome
     requires { IsRefusal status }
     ensures machine { result.machine ≡ None }
@@ -149,7 +149,7 @@ fn refuse<K: Sink>(alloc: Global, status: Status, sink: &mut K) -> Outcome
     }
 }
 
-// Answers a job of these bytes.
+/// Answers a job of these bytes.
 fn answer<K: Sink>(alloc: Global, bytes: &[u8], sink: &mut K) -> Outcome
     requires { length bytes.now ≤ JOB_LIMIT }
     ensures { IsGiven (status_of_job bytes.now) bytes.now result.status result.machine
@@ -163,7 +163,7 @@ fn answer<K: Sink>(alloc: Global, bytes: &[u8], sink: &mut K) -> Outcome
     }
 }
 
-// Assembles the decks of a job and runs it.
+/// Assembles the decks of a job and runs it.
 fn answer_job<K: Sink>(alloc: Global, job: &Job, sink: &mut K) -> Outcome
     requires { IsJob job.now }
     ensures { (bytes : List ℕ) → job_fault bytes ≡ None → shown_job job.now ≡ job_of bytes
@@ -180,7 +180,7 @@ fn answer_job<K: Sink>(alloc: Global, job: &Job, sink: &mut K) -> Outcome
     }
 }
 
-// Runs a job with the images of its decks, and writes its report.
+/// Runs a job with the images of its decks, and writes its report.
 fn report_job<K: Sink>(alloc: Global, job: &Job, images: &[Image], sink: &mut K) -> Outcome
     requires job { IsJob job.now }
     requires loadable { IsLoadable job.now.slots.items images.now }
@@ -206,7 +206,7 @@ fn report_job<K: Sink>(alloc: Global, job: &Job, images: &[Image], sink: &mut K)
     }
 }
 
-// Loads a job and makes the calls of its schedule.
+/// Loads a job and makes the calls of its schedule.
 fn run_job(alloc: Global, job: &Job, images: &[Image]) -> Result<Machine, AllocError>
     requires job { IsJob job.now }
     requires loadable { IsLoadable job.now.slots.items images.now }
