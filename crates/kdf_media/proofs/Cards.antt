@@ -1,0 +1,20 @@
+-- Words of a card.
+use Rattle.std.proofs.Common.{◌≡◌, ℕ, ◌*◌, ◌<◌, ◌≤◌, List, [], Option, Some, None, length, take, drop, arith, ap, ◌+◌, ◌/◌, ◌∙◌, length-take, min}
+use Rattle.std.specs.List.{slice_get}
+use Rattle.std.proofs.lemmas.Option.{slice_get-get_or, slice_get_past}
+use Rattle.std.proofs.lemmas.List.{get_or-take}
+use Rattle.kdf_word.specs.Characters.{first_word, words_of}
+use Rattle.kdf_word.proofs.Packing.{length-words_of, get_or-words_of}
+
+pub card_within : (card : List ℕ) (i : ℕ) → length card ≡ 80 → 8 * i < 80 → slice_get (take 10 (words_of card)) i ≡ Some (first_word (drop (8 * i) card))
+card_within card i eighty h =
+    let words = length-words_of card in
+    let ten : length (words_of card) ≡ 10 = omega (arith, words, eighty) in
+    let inside : i < length (take 10 (words_of card)) = omega (arith, length-take 10 (words_of card), ten) in
+    let within : i < 10 = omega arith in
+    slice_get-get_or (take 10 (words_of card)) i 0 inside ∙ ap Some (get_or-take 10 (words_of card) i 0 within ∙ get_or-words_of card i 0 (omega (arith, eighty)))
+
+pub card_past : (card : List ℕ) (i : ℕ) → 80 ≤ 8 * i → slice_get (take 10 (words_of card)) i ≡ None
+card_past card i h =
+    let few : length (take 10 (words_of card)) ≤ i = omega (arith, length-take 10 (words_of card)) in
+    slice_get_past (take 10 (words_of card)) i few

@@ -1,0 +1,81 @@
+//! A block of a tape.
+ghost use Rattle.std.specs.Prelude.{◌≡◌, ◌%◌, ◌<◌, All, length, slice_index, IfOk};
+ghost use Rattle.kdf_word.specs.Characters.{codes_of_all, words_of};
+
+use kdf_word::Word;
+use std::alloc::{AllocError, Global};
+use std::marker::Model;
+
+/// A block of a tape, which contracts see as its words and its mark. It keeps the characters of the words, so that it is made without
+/// memory of its own.
+#[derive(Drop)]
+pub struct TapeBlock {
+    codes: Vec<u8>,
+    mark: bool,
+}
+
+impl Model for TapeBlock {
+    ghost use Rattle.kdf_word.specs.Characters.{words_of};
+    ghost use Rattle.kdf_tape.specs.Tape.{Recorded, IsWhole};
+
+    ghost Value = { Recorded };
+
+    ghost view = { λ b. record { words = words_of b.codes.items; mark = b.mark } };
+
+    ghost invariant = { λ b. IsWhole b.codes.items };
+}
+
+impl TapeBlock {
+    /// The block of the words of these codes, which are below 64 and eight a word.
+    pub fn new(codes: Vec<u8>, mark: bool) -> TapeBlock
+        requires small { All (λ c. c < 64) codes.items }
+        requires whole { length codes.items % 8 ≡ 0 }
+        ensures { result ≡ record { words = words_of codes.items; mark = mark } }
+    {
+        TapeBlock { codes, mark }
+    }
+
+    /// How many words it has.
+    #[tactic(auto, using(kdf_word::proofs::Packing::length-words_of))]
+    pub fn len(&self) -> usize
+        ensures { result ≡ length self.now.words }
+    {
+        self.codes.len() / 8
+    }
+
+    /// Word `i`.
+    #[tactic(auto, using(kdf_word::proofs::Packing::get_or-words_of, kdf_word::proofs::Packing::length-words_of))]
+    pub fn word(&self, i: usize) -> Word
+        requires { i < length self.now.words }
+        ensures { result ≡ slice_index self.now.words i }
+    {
+        Word::of_codes(&self.codes[8 * i..])
+    }
+
+    /// The characters of its words, each below 64.
+    #[tactic(auto, using(kdf_word::proofs::Packing::codes_of_all-words_of))]
+    pub fn codes(&self) -> &[u8]
+        ensures value { result.now ≡ codes_of_all self.now.words }
+        ensures below { All (λ c. c < 64) result.now }
+    {
+        &self.codes
+    }
+
+    /// Whether it has the last-block mark.
+    pub fn mark(&self) -> bool
+        ensures { result ≡ self.now.mark }
+    {
+        self.mark
+    }
+
+    /// Another block of the same words.
+    pub(crate) fn copy(&self, alloc: Global) -> Result<TapeBlock, AllocError>
+        ensures { IfOk result (λ b. b ≡ self.now) }
+    {
+        let codes = Vec::from_slice(alloc, &self.codes)?;
+        Ok(TapeBlock {
+            codes,
+            mark: self.mark,
+        })
+    }
+}
