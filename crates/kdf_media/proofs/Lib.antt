@@ -1,3 +1,4 @@
 pub mod Cards
 pub mod Ends
 pub mod Runs
+pub mod Whole

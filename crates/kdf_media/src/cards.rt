@@ -23,13 +23,13 @@ impl Model for Cards {
 
     ghost view = { λ c. record { cards = c.cards.items; place = c.place; flag = c.flag } };
 
-    ghost invariant = { λ c. IsMedium (All (λ code. code < 64)) c.cards.items c.place };
+    ghost invariant = { λ c. IsMedium (λ card. All (λ code. code < 64) card) c.cards.items c.place };
 }
 
 impl Cards {
     /// A card reader before its first card, of fewer than 2^32 cards of codes below 64.
     pub fn new(cards: Vec<[u8; 80]>) -> Cards
-        requires small { All (All (λ code. code < 64)) cards.items }
+        requires small { All (λ card. All (λ code. code < 64) card) cards.items }
         requires few { length cards.items < 2 ^ 32 }
         ensures { result ≡ record { cards = cards.items; place = 0; flag = false } }
     {
@@ -68,6 +68,7 @@ impl Cards {
     }
 
     /// Word `i` of the card at a place, of its ten; None behind them, or where there is no card.
+    #[tactic(auto, using(crate::proofs::Cards::card_there, crate::proofs::Cards::card_absent))]
     pub fn take_word(&self, from: u32, i: u16) -> Option<Word>
         ensures { result ≡ slice_get (card_words from self.now.cards) i }
     {
