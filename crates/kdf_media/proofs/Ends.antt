@@ -44,8 +44,17 @@ through_none codes h =
     (cases_Bool (nat_lt (position_or_len is_end codes) (length codes)))
 
 -- no more characters are read than there are
-pub length-through_end : (codes : List ℕ) → length (take_through 61 codes) ≤ length codes
-length-through_end codes =
+pub through_end_within : (codes : List ℕ) → length (take_through 61 codes) ≤ length codes
+through_end_within codes =
     let l = length-take (suc (position_or_len is_end codes)) codes in
     let e = ap length (up_to codes) in
     omega (arith, l, e)
+
+-- at least the End Message is read
+pub through_end_some : (codes : List ℕ) → list_any is_end codes ≡ true → 0 < length (take_through 61 codes)
+through_end_some [] h = absurd cc
+through_end_some (c ∷ codes) h =
+    ⊎_elim
+    (λ yes. let l = ap (λ b. length (cond b (c ∷ []) (c ∷ take_through 61 codes))) yes in omega (arith, l))
+    (λ none. let l = ap (λ b. length (cond b (c ∷ []) (c ∷ take_through 61 codes))) none in omega (arith, l))
+    (cases_Bool (is_end c))

@@ -1,4 +1,5 @@
-pub mod Cards
+pub mod CardWords
 pub mod Ends
 pub mod Runs
+pub mod Stopped
 pub mod Whole

@@ -68,7 +68,7 @@ impl Cards {
     }
 
     /// Word `i` of the card at a place, of its ten; None behind them, or where there is no card.
-    #[tactic(auto, using(crate::proofs::Cards::card_there, crate::proofs::Cards::card_absent))]
+    #[tactic(auto, using(crate::proofs::CardWords::card_there, crate::proofs::CardWords::card_absent))]
     pub fn take_word(&self, from: u32, i: u16) -> Option<Word>
         ensures { result ≡ slice_get (card_words from self.now.cards) i }
     {
@@ -89,7 +89,7 @@ impl Cards {
 }
 
 /// Word `i` of a card's ten, None behind them.
-#[tactic(auto, using(crate::proofs::Cards::card_within, crate::proofs::Cards::card_past))]
+#[tactic(auto, using(crate::proofs::CardWords::card_within, crate::proofs::CardWords::card_past))]
 fn word_of_card(card: &[u8; 80], i: u16) -> Option<Word>
     requires { All (λ code. code < 64) card.now }
     ensures { result ≡ slice_get (take 10 (words_of card.now)) i }

@@ -68,7 +68,7 @@ impl Reader {
         })
     }
 
-    /// Word `i` of those that a transfer gives from a place on, eight characters a word, the last word filled up with code 0.
+    /// Word `i` of those that a transfer gives from a place on: eight characters a word, the last one filled up with code 0.
     #[tactic(auto, using(kdf_word::proofs::Packing::word_from, kdf_word::proofs::Packing::word_from_past))]
     pub fn take_word(&self, from: u32, i: u16) -> Option<Word>
         ensures { result ≡ slice_get (words_of (drop from self.now.codes)) i }
@@ -93,7 +93,7 @@ impl Reader {
 }
 
 /// How many characters are read of those that are left, and whether they end too early.
-#[tactic(auto, using(crate::proofs::Ends::length-through_end))]
+#[tactic(auto, using(crate::proofs::Ends::through_end_within))]
 fn read_from(left: &[u8], words: u16, to_mark: bool) -> (usize, bool)
     ensures read { result.0 ≡ length (read_codes to_mark (take (8 * words) left.now)) }
     ensures inside { result.0 ≤ length left.now }

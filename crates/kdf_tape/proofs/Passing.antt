@@ -1,6 +1,7 @@
 -- Blocks that are passed.
 use Rattle.std.proofs.Common.{◌≡◌, ℕ, ◌+◌, ◌-◌, ◌<◌, ◌≤◌, List, [], ◌∷◌, ◌++◌, Option, Some, None, length, take, drop, get_or, arith, refl, sym, ap, ◌∙◌, ⊎_elim, length-drop}
-use Rattle.std.specs.List.{slice_get, reverse}
+use Rattle.std.specs.List.{slice_get}
+use Rattle.std.specs.Prelude.{reverse}
 use Rattle.std.proofs.lemmas.Bool.{cases_lt}
 use Rattle.std.proofs.lemmas.List.{get_or-reverse, length-reverse, reverse-append, reverse-reverse, take-append-drop, take_at, take_all}
 use Rattle.std.proofs.lemmas.Option.{slice_get-get_or}

@@ -27,7 +27,8 @@ pub fn skips()
     ensures two { after_skip true 2 (tape 0 false false) ≡ tape 2 false true }
     ensures three { after_skip true 3 (tape 0 false true) ≡ tape 3 false false }
     ensures fewer { after_skip true 4 (tape 0 false false) ≡ tape 3 true false }
-    ensures fewer_marked { after_skip true 9 (holding (block [] true ∷ []) 0 false false 0) ≡ holding (block [] true ∷ []) 1 true true 0 }
+    ensures fewer_marked { after_skip true 9 (holding (block [] true ∷ []) 0 false false 0)
+        ≡ holding (block [] true ∷ []) 1 true true 0 }
     ensures none { after_skip true 0 (tape 2 true true) ≡ tape 2 false false }
     ensures none_back { after_skip false 0 (tape 2 true true) ≡ tape 2 false false }
     ensures back { after_skip false 2 (tape 3 false false) ≡ tape 1 false true }
@@ -39,10 +40,14 @@ pub fn skips()
 
 /// MWQ and MLWQ: the later blocks go. MRWDQ: flag and mark are 0.
 pub fn writes()
-    ensures first { after_write (block (9 ∷ []) false) (empty true true) ≡ holding (block (9 ∷ []) false ∷ []) 1 false false 0 }
-    ensures midst { after_write (block (9 ∷ []) false) (tape 1 true true) ≡ holding (block (1 ∷ 2 ∷ []) false ∷ block (9 ∷ []) false ∷ []) 2 false false 2 }
-    ensures marked { after_write (block [] true) (tape 3 false false) ≡ holding (blocks ++ block [] true ∷ []) 4 false true 0 }
-    ensures second { after_write (block [] false) (after_write (block [] true) (tape 0 false false)) ≡ holding (block [] true ∷ block [] false ∷ []) 2 false false 2 }
+    ensures first { after_write (block (9 ∷ []) false) (empty true true)
+        ≡ holding (block (9 ∷ []) false ∷ []) 1 false false 0 }
+    ensures midst { after_write (block (9 ∷ []) false) (tape 1 true true)
+        ≡ holding (block (1 ∷ 2 ∷ []) false ∷ block (9 ∷ []) false ∷ []) 2 false false 2 }
+    ensures marked { after_write (block [] true) (tape 3 false false)
+        ≡ holding (blocks ++ block [] true ∷ []) 4 false true 0 }
+    ensures second { after_write (block [] false) (after_write (block [] true) (tape 0 false false))
+        ≡ holding (block [] true ∷ block [] false ∷ []) 2 false false 2 }
     ensures rewound { rewound (tape 2 true true) ≡ tape 0 false false }
     ensures at_begin { rewound (empty true true) ≡ empty false false }
 {}

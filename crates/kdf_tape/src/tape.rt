@@ -41,7 +41,8 @@ impl MagTape {
     /// A tape at its begin, with fewer than 2^32 blocks.
     pub fn new(label: Word, blocks: Vec<TapeBlock>) -> MagTape
         requires { length blocks.items < 2 ^ 32 }
-        ensures { result ≡ record { label = label; blocks = blocks.items; place = 0; flag = false; mark = false; room = result.room } }
+        ensures { result ≡
+            record { label = label; blocks = blocks.items; place = 0; flag = false; mark = false; room = result.room } }
     {
         MagTape {
             label,

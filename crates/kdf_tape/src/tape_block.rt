@@ -1,6 +1,7 @@
 //! A block of a tape.
 ghost use Rattle.std.specs.Prelude.{◌≡◌, ◌%◌, ◌<◌, All, length, slice_index, IfOk};
 ghost use Rattle.kdf_word.specs.Characters.{codes_of_all, words_of};
+ghost use Rattle.kdf_tape.specs.Tape.{IsWhole};
 
 use kdf_word::Word;
 use std::alloc::{AllocError, Global};
@@ -36,7 +37,7 @@ impl TapeBlock {
     }
 
     /// How many words it has.
-    #[tactic(auto, using(kdf_word::proofs::Packing::length-words_of))]
+    #[tactic(auto, using(crate::proofs::Codes::block_len))]
     pub fn len(&self) -> usize
         ensures { result ≡ length self.now.words }
     {
@@ -44,16 +45,15 @@ impl TapeBlock {
     }
 
     /// Word `i`.
-    #[tactic(auto, using(kdf_word::proofs::Packing::get_or-words_of, kdf_word::proofs::Packing::length-words_of))]
     pub fn word(&self, i: usize) -> Word
         requires { i < length self.now.words }
         ensures { result ≡ slice_index self.now.words i }
     {
-        Word::of_codes(&self.codes[8 * i..])
+        word_at(&self.codes, i)
     }
 
     /// The characters of its words, each below 64.
-    #[tactic(auto, using(kdf_word::proofs::Packing::codes_of_all-words_of))]
+    #[tactic(auto, using(crate::proofs::Codes::block_codes))]
     pub fn codes(&self) -> &[u8]
         ensures value { result.now ≡ codes_of_all self.now.words }
         ensures below { All (λ c. c < 64) result.now }
@@ -78,4 +78,14 @@ impl TapeBlock {
             mark: self.mark,
         })
     }
+}
+
+/// Word `i` of those that these codes make.
+#[tactic(auto, using(crate::proofs::Codes::block_word, crate::proofs::Codes::block_inside))]
+fn word_at(codes: &[u8], i: usize) -> Word
+    requires whole { IsWhole codes.now }
+    requires inside { i < length (words_of codes.now) }
+    ensures { result ≡ slice_index (words_of codes.now) i }
+{
+    Word::of_codes(&codes[8 * i..])
 }
