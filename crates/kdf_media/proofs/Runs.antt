@@ -128,9 +128,9 @@ cut_dropped kept i room end c items block h lt is none =
     ap (printed_from room) rest ∙ sym (ap (λ o. option_map_or (λ n. c ∷ printed_from n (drop (i + 1) items)) o (printed_from room (drop (i + 1) items))) none) in
     record { before = omega (arith, h.before); many = h.many; comes = sym (ap (λ xs. take kept items ++ xs) step) ∙ h.comes }
 
-pub cut_all : (kept room end : ℕ) (items block : List ℕ) → IsCut kept end room end items block → take kept items ≡ printed block
-cut_all kept room end items block h =
-    let none : drop end items ≡ [] = drop_all end items (omega (arith, h.many)) in
+pub cut_all : (kept i room end : ℕ) (items block : List ℕ) → IsCut kept i room end items block → end ≤ i → take kept items ≡ printed block
+cut_all kept i room end items block h le =
+    let none : drop i items ≡ [] = drop_all i items (omega (arith, h.many)) in
     sym (append-nil (take kept items)) ∙ sym (ap (λ xs. take kept items ++ printed_from room xs) none) ∙ h.comes ∙ printed-is block
 
 pub cut_none : (end : ℕ) (items : List ℕ) → length items ≡ end → IsCut 0 0 160 end items items

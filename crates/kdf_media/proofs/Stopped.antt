@@ -34,17 +34,23 @@ words_of-cons codes some =
     ext_get_or 0 (words_of codes) (first_word codes ∷ words_of (drop 8 codes)) many (λ i h. word_at codes i (omega (arith, l, h)))
 
 -- code 0 behind some codes is what a word is filled up with
-zeros : (n k : ℕ) → get_or (replicate n 0) k 0 ≡ 0
+abbrev blanks : ℕ → List ℕ
+blanks n = replicate n 0
+
+length-blanks : (n : ℕ) → length (blanks n) ≡ n
+length-blanks n = length-replicate {A = ℕ} n 0
+
+zeros : (n k : ℕ) → get_or (blanks n) k 0 ≡ 0
 zeros zero k = refl
 zeros (suc n) zero = refl
 zeros (suc n) (suc k) = zeros n k
 
-get_or-padded : (codes : List ℕ) (n k : ℕ) → get_or (codes ++ replicate n 0) k 0 ≡ get_or codes k 0
+get_or-padded : (codes : List ℕ) (n k : ℕ) → get_or (codes ++ blanks n) k 0 ≡ get_or codes k 0
 get_or-padded [] n k = zeros n k
 get_or-padded (c ∷ codes) n zero = refl
 get_or-padded (c ∷ codes) n (suc k) = get_or-padded codes n k
 
-first_word-padded : (codes : List ℕ) (n : ℕ) → first_word (codes ++ replicate n 0) ≡ first_word codes
+first_word-padded : (codes : List ℕ) (n : ℕ) → first_word (codes ++ blanks n) ≡ first_word codes
 unfolding first_word
 first_word-padded codes n =
     let e0 = get_or-padded codes n 0 in
@@ -73,40 +79,40 @@ first_word-front front xs ys eight =
     let e7 = at 7 (omega arith) in
     cc
 
-zero_small : (n k d : ℕ) → k < n → get_or (replicate n 0) k d < 64
+zero_small : (n k d : ℕ) → k < n → get_or (blanks n) k d < 64
 zero_small zero k d lt = absurd (omega arith)
 zero_small (suc n) zero d lt = omega arith
 zero_small (suc n) (suc k) d lt = zero_small n k d (omega arith)
 
-small_at : (codes : List ℕ) (n k d : ℕ) → All (λ c. c < 64) codes → k < length (codes ++ replicate n 0) → get_or (codes ++ replicate n 0) k d < 64
+small_at : (codes : List ℕ) (n k d : ℕ) → All (λ c. c < 64) codes → k < length (codes ++ blanks n) → get_or (codes ++ blanks n) k d < 64
 small_at codes n k d small lt =
-    let r = length-replicate n 0 in
-    let l = length-append codes (replicate n 0) in
+    let r = length-blanks n in
+    let l = length-append codes (blanks n) in
     ⊎_elim
-    (λ inside. let F : ℕ → Type 0 = λ c. c < 64 in subst F (sym (get_or_append_left codes (replicate n 0) d k inside)) (small k d inside))
+    (λ inside. let F : ℕ → Type 0 = λ c. c < 64 in subst F (sym (get_or_append_left codes (blanks n) d k inside)) (small k d inside))
     (λ behind.
     let F : ℕ → Type 0 = λ c. c < 64 in
-    subst F (sym (get_or-append_right codes (replicate n 0) (length codes) k d refl behind)) (zero_small n (k - length codes) d (omega (arith, r, l, lt, behind))))
+    subst F (sym (get_or-append_right codes (blanks n) (length codes) k d refl behind)) (zero_small n (k - length codes) d (omega (arith, r, l, lt, behind))))
     (cases_lt k (length codes))
 
-zeros_small : (codes : List ℕ) (n : ℕ) → All (λ c. c < 64) codes → All (λ c. c < 64) (codes ++ replicate n 0)
+zeros_small : (codes : List ℕ) (n : ℕ) → All (λ c. c < 64) codes → All (λ c. c < 64) (codes ++ blanks n)
 zeros_small codes n small k d lt = small_at codes n k d small lt
 
 -- the codes of a word that is filled up
-codes_of_short : (codes : List ℕ) → All (λ c. c < 64) codes → length codes < 8 → codes_of (first_word codes) ≡ codes ++ replicate (8 - length codes) 0
+codes_of_short : (codes : List ℕ) → All (λ c. c < 64) codes → length codes < 8 → codes_of (first_word codes) ≡ codes ++ blanks (8 - length codes)
 codes_of_short codes small lt =
     let n = 8 - length codes in
-    let r = length-replicate n 0 in
-    let l = length-append codes (replicate n 0) in
-    let eight : length (codes ++ replicate n 0) ≡ 8 = omega (arith, r, l, lt) in
-    ap codes_of (sym (first_word-padded codes n)) ∙ codes_of-first_word (codes ++ replicate n 0) (zeros_small codes n small) (omega (arith, eight)) ∙
-    take_all 8 (codes ++ replicate n 0) (omega (arith, eight))
+    let r = length-blanks n in
+    let l = length-append codes (blanks n) in
+    let eight : length (codes ++ blanks n) ≡ 8 = omega (arith, r, l, lt) in
+    ap codes_of (sym (first_word-padded codes n)) ∙ codes_of-first_word (codes ++ blanks n) (zeros_small codes n small) (omega (arith, eight)) ∙
+    take_all 8 (codes ++ blanks n) (omega (arith, eight))
 
-no_end_in_zeros : (n : ℕ) → has_end (replicate n 0) ≡ false
+no_end_in_zeros : (n : ℕ) → has_end (blanks n) ≡ false
 no_end_in_zeros zero = refl
 no_end_in_zeros (suc n) = no_end_in_zeros n
 
-has_end-padded : (codes : List ℕ) (n : ℕ) → has_end (codes ++ replicate n 0) ≡ has_end codes
+has_end-padded : (codes : List ℕ) (n : ℕ) → has_end (codes ++ blanks n) ≡ has_end codes
 has_end-padded [] n = no_end_in_zeros n
 has_end-padded (c ∷ codes) n = ap (λ b. eqb c 61 || b) (has_end-padded codes n)
 
@@ -121,12 +127,12 @@ has_end-first codes small =
     (cases_lt (length codes) 8)
 
 through_end-first : (codes : List ℕ) → All (λ c. c < 64) codes → has_end (take 8 codes) ≡ true → through_end (codes_of (first_word codes)) ≡ through_end (take 8 codes)
-through_end-first codes small yes =
+through_end-first codes small ends =
     ⊎_elim
     (λ short.
     let all : take 8 codes ≡ codes = take_all 8 codes (omega (arith, short)) in
     ap through_end (codes_of_short codes small short) ∙
-    through_end-front codes (replicate (8 - length codes) 0) (ap has_end (sym all) ∙ yes) ∙ ap through_end (sym all))
+    through_end-front codes (blanks (8 - length codes)) (ap has_end (sym all) ∙ ends) ∙ ap through_end (sym all))
     (λ long. ap through_end (codes_of-first_word codes small long))
     (cases_lt (length codes) 8)
 
@@ -140,15 +146,15 @@ no_words codes none = let e : codes ≡ [] = nil_from_length codes (omega (arith
 
 -- the End Message is among the first eight codes
 ends_here : (codes : List ℕ) → All (λ c. c < 64) codes → 0 < length codes → has_end (take 8 codes) ≡ true → words_of (through_end codes) ≡ ended_words (words_of codes)
-ends_here codes small some yes =
+ends_here codes small some ends =
     let front = take 8 codes in
     let stop = through_end front in
-    let is : through_end codes ≡ stop = ap through_end (sym (take-append-drop 8 codes)) ∙ through_end-front front (drop 8 codes) yes in
+    let is : through_end codes ≡ stop = ap through_end (sym (take-append-drop 8 codes)) ∙ through_end-front front (drop 8 codes) ends in
     let most : length stop ≤ 8 = omega (arith, through_end_within front, length-take 8 codes) in
     let left : length (drop 8 stop) ≤ 0 = omega (arith, length-drop 8 stop, most) in
-    let first : has_end (codes_of (first_word codes)) ≡ true = has_end-first codes small ∙ yes in
-    ap words_of is ∙ words_of-cons stop (through_end_some front yes) ∙ ap (λ ws. first_word stop ∷ ws) (no_words (drop 8 stop) left) ∙
-    ap (λ xs. first_word xs ∷ []) (sym (through_end-first codes small yes)) ∙
+    let first : has_end (codes_of (first_word codes)) ≡ true = has_end-first codes small ∙ ends in
+    ap words_of is ∙ words_of-cons stop (through_end_some front ends) ∙ ap (λ ws. first_word stop ∷ ws) (no_words (drop 8 stop) left) ∙
+    ap (λ xs. first_word xs ∷ []) (sym (through_end-first codes small ends)) ∙
     sym (ap (λ b. cond b (first_word (through_end (codes_of (first_word codes))) ∷ []) (first_word codes ∷ ended_words (words_of (drop 8 codes)))) first) ∙
     sym (ap ended_words (words_of-cons codes some))
 

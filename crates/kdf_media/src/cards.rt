@@ -68,14 +68,10 @@ impl Cards {
     }
 
     /// Word `i` of the card at a place, of its ten; None behind them, or where there is no card.
-    #[tactic(auto, using(crate::proofs::CardWords::card_there, crate::proofs::CardWords::card_absent))]
     pub fn take_word(&self, from: u32, i: u16) -> Option<Word>
         ensures { result ≡ slice_get (card_words from self.now.cards) i }
     {
-        match self.cards.get(from as usize) {
-            Some(card) => word_of_card(card, i),
-            None => None,
-        }
+        word_of_cards(&self.cards, from as usize, i)
     }
 
     /// Its state after CRQ.
@@ -85,6 +81,18 @@ impl Cards {
     {
         self.flag = self.cards.len() <= self.place;
         self.place = (self.place + 1).min(self.cards.len());
+    }
+}
+
+/// Word `i` of the card at a place.
+#[tactic(auto, using(crate::proofs::CardWords::card_there, crate::proofs::CardWords::card_absent))]
+fn word_of_cards(cards: &[[u8; 80]], place: usize, i: u16) -> Option<Word>
+    requires { All (λ card. All (λ code. code < 64) card) cards.now }
+    ensures { result ≡ slice_get (card_words place cards.now) i }
+{
+    match cards.get(place) {
+        Some(card) => word_of_card(card, i),
+        None => None,
     }
 }
 

@@ -71,6 +71,7 @@ impl Printer {
     }
 
     /// Adds what is printed of a block of codes below 64. Its room was reserved, and it takes no memory.
+    #[tactic(auto, using(crate::proofs::Runs::printed_codes))]
     pub fn finish(&mut self, mut block: Vec<u8>)
         requires room { 0 < self.old.room }
         requires few { length self.old.blocks + 1 < 2 ^ 32 }

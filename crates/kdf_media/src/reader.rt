@@ -69,16 +69,10 @@ impl Reader {
     }
 
     /// Word `i` of those that a transfer gives from a place on: eight characters a word, the last one filled up with code 0.
-    #[tactic(auto, using(kdf_word::proofs::Packing::word_from, kdf_word::proofs::Packing::word_from_past))]
     pub fn take_word(&self, from: u32, i: u16) -> Option<Word>
         ensures { result ≡ slice_get (words_of (drop from self.now.codes)) i }
     {
-        let at = from as usize + 8 * usize::from(i);
-        if at < self.codes.len() {
-            Some(Word::of_codes(&self.codes[at..]))
-        } else {
-            None
-        }
+        word_from(&self.codes, from, i)
     }
 
     /// Its state after PRQ, or PREQ where `to_mark`, over an area of so many words.
@@ -92,8 +86,21 @@ impl Reader {
     }
 }
 
+/// Word `i` of the codes from a place on.
+#[tactic(auto, using(crate::proofs::CardWords::word_there, kdf_word::proofs::Packing::word_from_past))]
+fn word_from(codes: &[u8], from: u32, i: u16) -> Option<Word>
+    requires { All (λ c. c < 64) codes.now }
+    ensures { result ≡ slice_get (words_of (drop from codes.now)) i }
+{
+    let at = from as usize + 8 * usize::from(i);
+    if at < codes.len() {
+        Some(Word::of_codes(&codes[at..]))
+    } else {
+        None
+    }
+}
+
 /// How many characters are read of those that are left, and whether they end too early.
-#[tactic(auto, using(crate::proofs::Ends::through_end_within))]
 fn read_from(left: &[u8], words: u16, to_mark: bool) -> (usize, bool)
     ensures read { result.0 ≡ length (read_codes to_mark (take (8 * words) left.now)) }
     ensures inside { result.0 ≤ length left.now }
