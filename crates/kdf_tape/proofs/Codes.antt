@@ -11,8 +11,8 @@ block_len codes h = let l = length-words_of codes in let w = h.whole in omega (a
 pub block_inside : (codes : List ℕ) (i : ℕ) → IsWhole codes → i < length (words_of codes) → 8 * i + 8 ≤ length codes
 block_inside codes i h lt = let l = length-words_of codes in let w = h.whole in omega (arith, l, w, lt)
 
-pub block_word : (codes : List ℕ) (i : ℕ) → i < length (words_of codes) → first_word (drop (8 * i) codes) ≡ get_or (words_of codes) i 0
-block_word codes i lt = let l = length-words_of codes in sym (get_or-words_of codes i 0 (omega (arith, l, lt)))
+pub block_word : (codes : List ℕ) (i : ℕ) → 8 * i + 8 ≤ length codes → get_or (words_of codes) i 0 ≡ first_word (drop (8 * i) codes)
+block_word codes i le = get_or-words_of codes i 0 (omega arith)
 
 pub block_codes : (codes : List ℕ) → IsWhole codes → codes ≡ codes_of_all (words_of codes)
 block_codes codes h = sym (codes_of_all-words_of codes h.small h.whole)

@@ -1,5 +1,5 @@
 //! A block of a tape.
-ghost use Rattle.std.specs.Prelude.{◌≡◌, ◌%◌, ◌<◌, All, length, slice_index, IfOk};
+ghost use Rattle.std.specs.Prelude.{◌≡◌, ◌+◌, ◌*◌, ◌%◌, ◌<◌, ◌≤◌, All, length, slice_index, IfOk};
 ghost use Rattle.kdf_word.specs.Characters.{codes_of_all, words_of};
 ghost use Rattle.kdf_tape.specs.Tape.{IsWhole};
 
@@ -80,11 +80,20 @@ impl TapeBlock {
     }
 }
 
-/// Word `i` of those that these codes make.
-#[tactic(auto, using(crate::proofs::Codes::block_word, crate::proofs::Codes::block_inside))]
+/// Word `i` of those that codes of whole words make.
 fn word_at(codes: &[u8], i: usize) -> Word
     requires whole { IsWhole codes.now }
     requires inside { i < length (words_of codes.now) }
+    ensures { result ≡ slice_index (words_of codes.now) i }
+{
+    word_of_eight(codes, i)
+}
+
+/// Word `i` of codes that have all eight of it.
+#[tactic(auto, using(crate::proofs::Codes::block_word))]
+fn word_of_eight(codes: &[u8], i: usize) -> Word
+    requires small { All (λ c. c < 64) codes.now }
+    requires inside { 8 * i + 8 ≤ length codes.now }
     ensures { result ≡ slice_index (words_of codes.now) i }
 {
     Word::of_codes(&codes[8 * i..])
