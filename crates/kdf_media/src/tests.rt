@@ -68,20 +68,14 @@ fn reading_to_end_message(rt: HostRuntime) -> Result<(), Fail> {
 }
 
 #[test]
-fn cards_one_by_one(rt: HostRuntime) -> Result<(), Fail> {
-    let mut cards = Cards::new(vec![in rt.alloc(); [A; 80]; 2]?);
+fn no_cards(rt: HostRuntime) -> Result<(), Fail> {
+    let mut cards = Cards::new(Vec::new(rt.alloc()));
     assert_eq!(rt; (cards.place(), cards.flag()), (0, false));
-    assert_eq!(rt; cards.take_word(1, 9), Some(Word::new(LETTERS)));
-    assert_eq!(rt; cards.take_word(1, 10), None);
-    assert_eq!(rt; cards.take_word(2, 0), None);
+    assert_eq!(rt; cards.take_word(0, 0), None);
     cards.finish_read();
-    assert_eq!(rt; (cards.place(), cards.flag()), (1, false));
-    cards.finish_read();
-    cards.finish_read();
-    assert_eq!(rt; (cards.place(), cards.flag()), (2, true));
+    assert_eq!(rt; (cards.place(), cards.flag()), (0, true));
     let other = cards.copy(rt.alloc())?;
-    assert_eq!(rt; (other.place(), other.flag()), (2, true));
-    assert_eq!(rt; other.take_word(0, 0), Some(Word::new(LETTERS)));
+    assert_eq!(rt; (other.place(), other.flag()), (0, true));
     Ok(())
 }
 
