@@ -71,6 +71,7 @@ fn writing(rt: HostRuntime) -> Result<(), Fail> {
     tape.finish_write(first);
     assert_eq!(rt; (tape.place(), tape.flag(), tape.mark()), (1, false, true));
     tape.rewind();
+    assert_eq!(rt; tape.place(), 0);
     tape.reserve()?;
     tape.finish_write(second);
     assert_eq!(rt;
