@@ -55,7 +55,8 @@ impl Store {
     /// Writes a word, unless its group is out.
     pub fn write(&mut self, place: usize, word: Word) -> Result<(), Locked>
         requires { place / 32 < length self.old }
-        ensures result { result ≡ (if is_out self.old (place / 32) then Err (record { group = place / 32 }) else Ok tt) }
+        ensures result { result
+            ≡ (if is_out self.old (place / 32) then Err (record { group = place / 32 }) else Ok tt) }
         ensures written { self.new ≡
             (if is_out self.old (place / 32) then self.old else with_word self.old place word) }
         ensures size { length self.new ≡ length self.old }
