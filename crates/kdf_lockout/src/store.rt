@@ -44,7 +44,8 @@ impl Store {
     pub fn read(&self, place: usize) -> Result<Word, Locked>
         requires { place / 32 < length self.now }
         ensures { result ≡
-            (if is_out self.now (place / 32) then Err (record { group = place / 32 }) else Ok (word_here self.now place)) }
+            (if is_out self.now (place / 32) then Err (record { group = place / 32 })
+            else Ok (word_here self.now place)) }
     {
         match &self.groups[place / 32] {
             Some(group) => Ok(group.word(place % 32)),
