@@ -1,0 +1,24 @@
+//! The media of a job: paper tape that is read, cards, paper tape that is punched, and lines that are printed. Each device shows
+//! its state as a record; the words that an order reads and the state that it leaves are those of `specs/Media`.
+//!
+//! All characters are codes below 64.
+#![tactic(auto)]
+
+mod block;
+mod blocks;
+mod cards;
+mod end_message;
+pub mod examples;
+mod printed;
+mod printer;
+mod punch;
+mod reader;
+#[cfg(test)]
+mod tests;
+
+pub use block::Block;
+pub use cards::Cards;
+pub use end_message::through_end;
+pub use printer::Printer;
+pub use punch::Punch;
+pub use reader::Reader;

@@ -1,0 +1,81 @@
+//! A paper tape punch.
+ghost use Rattle.std.specs.Prelude.{◌≡◌, ◌+◌, ◌^◌, ◌<◌, ◌∷◌, ◌++◌, [], All, false, length, OnOk, OnErr, IfOk};
+
+use crate::Block;
+use crate::blocks::Blocks;
+use std::alloc::{AllocError, Global};
+use std::marker::Model;
+
+/// A punch with its finished blocks, fewer than 2^32 of codes below 64.
+#[derive(Drop)]
+pub struct Punch {
+    blocks: Blocks,
+}
+
+impl Model for Punch {
+    ghost use Rattle.kdf_media.specs.Media.{BlocksState};
+
+    ghost Value = { BlocksState };
+
+    ghost view = { λ d. d.blocks };
+}
+
+impl Punch {
+    /// A punch without blocks, which has no memory yet.
+    pub fn new(alloc: Global) -> Punch
+        ensures { result.blocks ≡ [] }
+    {
+        Punch {
+            blocks: Blocks::new(alloc),
+        }
+    }
+
+    /// How many blocks are finished.
+    pub fn place(&self) -> u32
+        ensures { result ≡ length self.now.blocks }
+    {
+        self.blocks.count()
+    }
+
+    /// Its flag, which no order of a punch sets.
+    pub fn flag(&self) -> bool
+        ensures { result ≡ false }
+    {
+        false
+    }
+
+    /// The finished blocks, the first one first.
+    pub fn blocks(&self) -> &[Block]
+        ensures { result.now ≡ self.now.blocks }
+    {
+        self.blocks.as_slice()
+    }
+
+    /// Another punch with the same blocks.
+    pub fn copy(&self, alloc: Global) -> Result<Punch, AllocError>
+        ensures { IfOk result (λ d. d.blocks ≡ self.now.blocks) }
+    {
+        let blocks = self.blocks.copy(alloc)?;
+        Ok(Punch { blocks })
+    }
+
+    /// Makes room for one block more. Without memory all stays as it was.
+    pub fn reserve(&mut self) -> Result<(), AllocError>
+        ensures blocks { self.new.blocks ≡ self.old.blocks }
+        ensures ok { OnOk result (0 < self.new.room) }
+        ensures err { OnErr result (self.new ≡ self.old) }
+    {
+        self.blocks.reserve()
+    }
+
+    /// Adds a block of codes below 64. Its room was reserved, and it takes no memory.
+    pub fn finish(&mut self, block: Vec<u8>)
+        requires room { 0 < self.old.room }
+        requires few { length self.old.blocks + 1 < 2 ^ 32 }
+        requires small { All (λ c. c < 64) block.items }
+        ensures blocks { self.new.blocks ≡ self.old.blocks ++ block.items ∷ [] }
+        ensures room { self.new.room + 1 ≡ self.old.room }
+    {
+        self.blocks.push(Block::new(block));
+    }
+}
