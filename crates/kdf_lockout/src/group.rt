@@ -1,0 +1,47 @@
+//! A group of words.
+ghost use Rattle.std.specs.Prelude.{◌≡◌, ℕ, ◌<◌, List, length, replicate, slice_index, slice_set, IfOk};
+
+use kdf_word::Word;
+use std::alloc::{AllocError, Global};
+use std::marker::Model;
+
+/// A group of 32 words, which contracts see as their list. It is made with its store, and there is never a second one of it.
+#[derive(Drop)]
+pub struct Group {
+    words: Box<[Word; 32]>,
+}
+
+impl Model for Group {
+    ghost Value = { List ℕ };
+
+    ghost view = { λ g. g.words.value };
+
+    ghost invariant = { λ g. length g.words.value ≡ 32 };
+}
+
+impl Group {
+    /// A group of zeros.
+    pub(crate) fn zeros(alloc: Global) -> Result<Group, AllocError>
+        ensures { IfOk result (λ g. g ≡ replicate 32 0) }
+    {
+        let words = Box::new(alloc, [Word::default(); 32])?;
+        Ok(Group { words })
+    }
+
+    /// Word `i` of the group.
+    pub fn word(&self, i: usize) -> Word
+        requires { i < 32 }
+        ensures value { result ≡ slice_index self.now i }
+        ensures whole { length self.now ≡ 32 }
+    {
+        self.words[i]
+    }
+
+    /// Puts a word in the place of word `i`.
+    pub(crate) fn set_word(&mut self, i: usize, word: Word)
+        requires { i < 32 }
+        ensures { self.new ≡ slice_set self.old i word }
+    {
+        self.words[i] = word;
+    }
+}
