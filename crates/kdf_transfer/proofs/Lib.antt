@@ -1,0 +1,6 @@
+pub mod Addresses
+pub mod Areas
+pub mod Codes
+pub mod Stops
+pub mod Stopping
+pub mod OneStep
