@@ -4,3 +4,5 @@ pub mod Codes
 pub mod Stops
 pub mod Stopping
 pub mod OneStep
+pub mod Moving
+pub mod Words
