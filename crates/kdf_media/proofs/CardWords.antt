@@ -1,5 +1,5 @@
 -- Words of a medium from a place on, and of a card.
-use Rattle.std.proofs.Common.{◌≡◌, ℕ, ◌*◌, ◌<◌, ◌≤◌, List, [], Option, Some, None, length, take, drop, arith, ap, ◌+◌, ◌/◌, ◌∙◌, length-take, min, refl, sym, get_or}
+use Rattle.std.proofs.Common.{◌≡◌, ℕ, ◌*◌, ◌<◌, ◌≤◌, List, [], Some, None, length, take, drop, arith, ap, ◌+◌, ◌∙◌, length-take, refl, get_or}
 use Rattle.std.specs.List.{slice_get}
 use Rattle.std.proofs.lemmas.Option.{slice_get-get_or, slice_get_past, get_or_from_slice_get}
 use Rattle.std.proofs.lemmas.List.{get_or-take, get_or_past}

@@ -1,5 +1,5 @@
 -- Media on which the definitions are worked.
-use Rattle.std.specs.Prelude.{ℕ, Bool, false, List, [], ◌∷◌, ◌++◌, replicate}
+use Rattle.std.specs.Prelude.{ℕ, Bool, List, ◌∷◌, ◌++◌, replicate}
 use Rattle.kdf_media.specs.Media.{ReaderState, CardsState}
 
 -- n characters A

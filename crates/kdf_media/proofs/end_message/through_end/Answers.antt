@@ -1,5 +1,4 @@
-use Rattle.std.proofs.Common.{arith, sym}
-use Rattle.std.proofs.lemmas.Grind.{common_steps}
+use Rattle.std.proofs.Common.{sym}
 use Rattle.kdf_media.proofs.Ends.{through_found, through_none}
 use Rattle.kdf_media.proofs.end_message.through_end.Goals as goal
 

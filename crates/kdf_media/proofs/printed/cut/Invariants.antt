@@ -1,5 +1,4 @@
-use Rattle.std.proofs.Common.{◌≡◌, ◌≤◌, ◌++◌, take, drop, length}
-use Rattle.kdf_media.proofs.Runs.{printed_from, IsCut}
+use Rattle.kdf_media.proofs.Runs.{IsCut}
 use Rattle.kdf_media.proofs.printed.cut.Given as goal
 
 abbrev pub invariant-loop-i : goal.invariant-loop-i
