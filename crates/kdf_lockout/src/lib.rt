@@ -5,6 +5,8 @@
 mod group;
 mod lease;
 mod store;
+#[cfg(test)]
+mod tests;
 
 pub use group::Group;
 pub use lease::Lease;

@@ -2,6 +2,8 @@
 //! before its base is added.
 #![tactic(auto)]
 
+#[cfg(test)]
+mod tests;
 mod window;
 
 pub use window::{Outside, Window, windows};
