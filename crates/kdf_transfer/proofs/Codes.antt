@@ -3,7 +3,7 @@ use Rattle.std.proofs.Common.{◌≡◌, ℕ, suc, ◌+◌, ◌*◌, ◌%◌, �
 use Rattle.std.specs.List.{All}
 use Rattle.std.proofs.lemmas.List.{take_more, flat_map_more}
 use Rattle.std.proofs.lemmas.List.Elements.{All-append, All-cons, All-nil}
-use Rattle.kdf_word.specs.Characters.{codes_of, codes_of_all}
+use Rattle.kdf_word.specs.Characters.{character_of, codes_of, codes_of_all}
 
 -- the codes of one word more
 pub codes_more : (ws : List ℕ) (m w : ℕ) → m < length ws → w ≡ get_or ws m 0 → codes_of_all (take m ws) ++ codes_of w ≡ codes_of_all (take (m + 1) ws)
@@ -18,13 +18,19 @@ length-codes (w ∷ ws) =
     let e : 8 + 8 * length ws ≡ 8 * suc (length ws) = omega arith in
     length-append (codes_of w) (codes_of_all ws) ∙ ap (λ n. 8 + n) (length-codes ws) ∙ e
 
+code_below : (i w : ℕ) → character_of i w < 64
+code_below i w = omega arith
+
 codes_below : (w : ℕ) → All (λ c. c < 64) (codes_of w)
 codes_below w =
-    cons _ _ (omega arith) (cons _ _ (omega arith) (cons _ _ (omega arith) (cons _ _ (omega arith)
-    (cons _ _ (omega arith) (cons _ _ (omega arith) (cons _ _ (omega arith) (cons _ _ (omega arith) (All-nil (λ c. c < 64)))))))))
-  where
-    cons : (x : ℕ) (xs : List ℕ) → x < 64 → All (λ c. c < 64) xs → All (λ c. c < 64) (x ∷ xs)
-    cons x xs = All-cons (λ c. c < 64) x xs
+    let c7 = All-cons (λ c. c < 64) (character_of 7 w) [] (code_below 7 w) (All-nil (λ c. c < 64)) in
+    let c6 = All-cons (λ c. c < 64) (character_of 6 w) (character_of 7 w ∷ []) (code_below 6 w) c7 in
+    let c5 = All-cons (λ c. c < 64) (character_of 5 w) (character_of 6 w ∷ character_of 7 w ∷ []) (code_below 5 w) c6 in
+    let c4 = All-cons (λ c. c < 64) (character_of 4 w) (character_of 5 w ∷ character_of 6 w ∷ character_of 7 w ∷ []) (code_below 4 w) c5 in
+    let c3 = All-cons (λ c. c < 64) (character_of 3 w) (character_of 4 w ∷ character_of 5 w ∷ character_of 6 w ∷ character_of 7 w ∷ []) (code_below 3 w) c4 in
+    let c2 = All-cons (λ c. c < 64) (character_of 2 w) (character_of 3 w ∷ character_of 4 w ∷ character_of 5 w ∷ character_of 6 w ∷ character_of 7 w ∷ []) (code_below 2 w) c3 in
+    let c1 = All-cons (λ c. c < 64) (character_of 1 w) (character_of 2 w ∷ character_of 3 w ∷ character_of 4 w ∷ character_of 5 w ∷ character_of 6 w ∷ character_of 7 w ∷ []) (code_below 1 w) c2 in
+    All-cons (λ c. c < 64) (character_of 0 w) (character_of 1 w ∷ character_of 2 w ∷ character_of 3 w ∷ character_of 4 w ∷ character_of 5 w ∷ character_of 6 w ∷ character_of 7 w ∷ []) (code_below 0 w) c1
 
 -- codes of words are below 64, and eight a word
 pub codes_small : (ws : List ℕ) → All (λ c. c < 64) (codes_of_all ws)

@@ -9,8 +9,8 @@ use Rattle.kdf_transfer.proofs.flight.count_words.Goals as goal
 pub words_in-requires : goal.words_in-requires
 words_in-requires c = λ has. let h = c.requires.area has in (h.rising, h.few)
 
-pub words_in-requires-2 : goal.words_in-requires-2
-words_in-requires-2 c = λ has. let h = c.requires.area has in (h.rising, h.few)
+pub words_in-i-end-requires : goal.words_in-i-end-requires
+words_in-i-end-requires c = λ has. let h = c.requires.area has in (h.rising, h.few)
 
 pub returns-then-is_last-clause-value : goal.returns-then-is_last-clause-value
 returns-then-is_last-clause-value c =

@@ -16,8 +16,8 @@ covers c = subst (λ l. Covers l c.args.area.first c.args.area.last) c.in-Some.i
 within : (c : In-Some) → c.args.i < c.args.area.last + 1 - c.args.area.first
 within c = omega (arith, c.words_in-words.ensures.value, c.if-i-words.false, len_is c.args.order c.args.area.first c.args.area.last (has c))
 
-pub words_in-requires : goal.words_in-requires
-words_in-requires c = λ has. let h = c.requires.area has in (h.rising, h.few)
+pub words_in-words-requires : goal.words_in-words-requires
+words_in-words-requires c = λ has. let h = c.requires.area has in (h.rising, h.few)
 
 pub returns-then-i-words : goal.returns-then-i-words
 returns-then-i-words c =

@@ -5,8 +5,8 @@ use Rattle.kdf_transfer.specs.InFlight.{area_words}
 use Rattle.kdf_transfer.proofs.Words.{word_there, word_is}
 use Rattle.kdf_transfer.proofs.flight.word_at.Goals as goal
 
-pub returns-in-Some : goal.returns-in-Some
-returns-in-Some c =
+pub returns : goal.returns
+returns c =
     let o = c.args.order in
     let first = c.args.area.first in
     let last = c.args.area.last in
@@ -15,8 +15,8 @@ returns-in-Some c =
     let p = progress_of c.args.device.now in
     c.fill_up.ensures ∙ word_is o first last l f p c.args.i c.in-Some.word c.requires.inside (sym c.in-Some.ensures)
 
-pub prove-unreachable-requires : goal.prove-unreachable-requires
-prove-unreachable-requires c =
+pub unreachable-requires : goal.unreachable-requires
+unreachable-requires c =
     let o = c.args.order in
     let first = c.args.area.first in
     let last = c.args.area.last in
