@@ -1,7 +1,8 @@
 pub mod Addresses
 pub mod Areas
 pub mod Codes
-pub mod Stops
+pub mod Blocks
+pub mod EndMessage
 pub mod Stopping
 pub mod OneStep
 pub mod Moving

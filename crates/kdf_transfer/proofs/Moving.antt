@@ -144,3 +144,26 @@ moved_min n t within =
     leases =
         ap (λ k. cond (is_input t.order) (option_map (put_words (take (min n k) (drop t.moved (moves_of t)))) t.lease) t.lease) (sym left)
         ∙ ap (λ ms. cond (is_input t.order) (option_map (put_words ms) t.lease) t.lease) (take_min n (drop t.moved (moves_of t)))
+
+-- what remains of a transfer brings it to one end
+moved-past : (k : ℕ) (t : Motion) → t.moved ≤ total_of t → total_of t ≤ k → moved_by k t ≡ moved_by (total_of t) t
+moved-past k t within past =
+    let e : min k (total_of t - t.moved) ≡ min (total_of t) (total_of t - t.moved) = omega arith in
+    sym (moved_min k t within) ∙ ap (λ j. moved_by j t) e ∙ moved_min (total_of t) t within
+
+pub moved_rest : (n : ℕ) (t : Motion) → t.moved ≤ total_of t → moved_by (total_of (moved_by n t)) (moved_by n t) ≡ moved_by (total_of t) t
+moved_rest n t within =
+    ap (λ (ws : List ℕ). moved_by (length ws) (moved_by n t)) (words-moved n t)
+    ∙ moved_two n (total_of t) t within
+    ∙ moved-past (n + total_of t) t within (omega arith)
+
+-- the lease after the first n words
+pub lease_input : (n : ℕ) (t : Motion) → t.moved ≡ 0 → is_input t.order ≡ true → (moved_by n t).lease ≡ option_map (put_words (take n (moves_of t))) t.lease
+unfolding moved_by
+lease_input n t start is =
+    ap (λ b. cond b (option_map (put_words (take n (drop t.moved (moves_of t)))) t.lease) t.lease) is
+    ∙ ap (λ m. option_map (put_words (take n (drop m (moves_of t)))) t.lease) start
+
+pub lease_output : (n : ℕ) (t : Motion) → is_input t.order ≡ false → (moved_by n t).lease ≡ t.lease
+unfolding moved_by
+lease_output n t not = ap (λ b. cond b (option_map (put_words (take n (drop t.moved (moves_of t)))) t.lease) t.lease) not

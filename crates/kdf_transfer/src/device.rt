@@ -146,7 +146,7 @@ fn word_of(block: Option<&TapeBlock>, i: u16) -> Option<Word>
 }
 
 /// Word `i` of a block, None behind its words.
-#[tactic(auto, using(crate::proofs::Stops::word_there, std::proofs::lemmas::Option::slice_get_past))]
+#[tactic(auto, using(crate::proofs::Blocks::word_there, std::proofs::lemmas::Option::slice_get_past))]
 fn word_within(block: &TapeBlock, i: u16) -> Option<Word>
     ensures { result ≡ slice_get block.now.words i }
 {
@@ -168,7 +168,7 @@ fn word_from_end(block: Option<&TapeBlock>, i: u16) -> Option<Word>
 }
 
 /// Word `i` of a block from its end, None before its words.
-#[tactic(auto, using(crate::proofs::Stops::word_of_reverse, crate::proofs::Stops::past_reverse))]
+#[tactic(auto, using(crate::proofs::Blocks::word_of_reverse, crate::proofs::Blocks::past_reverse))]
 fn word_before_end(block: &TapeBlock, i: u16) -> Option<Word>
     ensures { result ≡ slice_get (reverse block.now.words) i }
 {

@@ -37,7 +37,7 @@ fn has_end(word: Word) -> bool
 }
 
 /// The word with code 00 in place of what stands behind its End Message.
-#[tactic(auto, using(crate::proofs::Stops::small_through))]
+#[tactic(auto, using(crate::proofs::EndMessage::small_through))]
 fn filled(word: Word) -> Word
     ensures { result ≡ first_word (through_end (codes_of word)) }
 {
@@ -80,7 +80,7 @@ pub(crate) fn push_codes(block: &mut Vec<u8>, word: Word)
 }
 
 /// Cuts characters behind their first End Message.
-#[tactic(auto, using(crate::proofs::Stops::through_front))]
+#[tactic(auto, using(crate::proofs::EndMessage::through_front))]
 pub(crate) fn cut(block: &mut Vec<u8>)
     ensures { block.new.items ≡ through_end block.old.items }
 {

@@ -24,7 +24,7 @@ pub(crate) fn finish_reader(device: &mut Reader, order: TransferOrder, words: u1
 }
 
 /// A punch behind an order that moved these characters to it.
-#[tactic(auto, unfolding(crate::specs::AtOnce::finished), using(crate::proofs::Stops::small_through))]
+#[tactic(auto, unfolding(crate::specs::AtOnce::finished), using(crate::proofs::EndMessage::small_through))]
 pub(crate) fn finish_punch(device: &mut Punch, order: TransferOrder, words: u16, mut block: Vec<u8>)
     requires kind { (fixture_of (punch device.old)).kind ≡ kind_of order }
     requires room { blocks_out order ≤ device.old.room }
@@ -59,7 +59,7 @@ pub(crate) fn finish_cards(device: &mut Cards, order: TransferOrder, words: u16,
 }
 
 /// A printer behind an order that moved these characters to it.
-#[tactic(auto, unfolding(crate::specs::AtOnce::finished), using(crate::proofs::Stops::small_through))]
+#[tactic(auto, unfolding(crate::specs::AtOnce::finished), using(crate::proofs::EndMessage::small_through))]
 pub(crate) fn finish_printer(
     device: &mut Printer,
     order: TransferOrder,

@@ -8,6 +8,7 @@ mod end_word;
 pub mod examples;
 mod finished;
 mod flight;
+pub mod laws;
 mod one_step;
 mod order;
 mod ring;
