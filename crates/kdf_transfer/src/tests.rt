@@ -56,15 +56,8 @@ fn reads_paper_tape(rt: HostRuntime) -> Result<(), Fail> {
         &mut words,
         Vec::new(rt.alloc()),
     );
-    assert_eq!(rt;
-        words,
-        [
-            Word::default(),
-            Word::new(EIGHT),
-            Word::new(FOUR),
-            Word::default()
-        ]
-    );
+    assert_eq!(rt; (words[1], words[2]), (Word::new(EIGHT), Word::new(FOUR)));
+    assert_eq!(rt; (words[0], words[3]), (Word::default(), Word::default()));
     let other = device.copy(rt.alloc())?;
     assert_eq!(rt;
         (other.kind(), other.place(), other.flag()),
