@@ -155,7 +155,7 @@ fn push_joined(entries: &mut Vec<Entry>, entry: Entry)
     }
 }
 
-// Adds an entry at the end, where there is room.
+/// Adds an entry at the end, where there is room.
 fn append(entries: &mut Vec<Entry>, entry: Entry)
     requires { vec_len entries.old < vec_capacity entries.old }
     ensures items { entries.new.items ≡ entries.old.items ++ entry ∷ [] }

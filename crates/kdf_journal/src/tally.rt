@@ -89,7 +89,7 @@ fn keep_transfer(pending: &mut [Option<(u8, u32)>; DEVICES], entry: &Entry)
     }
 }
 
-// Of a device that there isn't, nothing is kept.
+/// Of a device that there isn't, nothing is kept.
 fn set_transfer(pending: &mut [Option<(u8, u32)>; DEVICES], d: u8, transfer: Option<(u8, u32)>)
     ensures { (e : ℕ) → e < DEVICES → slice_index_or pending.new e None
         ≡ (if d == e then transfer else slice_index_or pending.old e None) }

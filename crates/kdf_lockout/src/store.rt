@@ -44,7 +44,8 @@ impl Store {
     pub fn read(&self, place: usize) -> Result<Word, Locked>
         requires { place / 32 < length self.now }
         ensures { result ≡
-            (if is_out self.now (place / 32) then Err (record { group = place / 32 }) else Ok (word_here self.now place)) }
+            (if is_out self.now (place / 32) then Err (record { group = place / 32 })
+            else Ok (word_here self.now place)) }
     {
         match &self.groups[place / 32] {
             Some(group) => Ok(group.word(place % 32)),
@@ -55,7 +56,8 @@ impl Store {
     /// Writes a word, unless its group is out.
     pub fn write(&mut self, place: usize, word: Word) -> Result<(), Locked>
         requires { place / 32 < length self.old }
-        ensures result { result ≡ (if is_out self.old (place / 32) then Err (record { group = place / 32 }) else Ok tt) }
+        ensures result { result
+            ≡ (if is_out self.old (place / 32) then Err (record { group = place / 32 }) else Ok tt) }
         ensures written { self.new ≡
             (if is_out self.old (place / 32) then self.old else with_word self.old place word) }
         ensures size { length self.new ≡ length self.old }

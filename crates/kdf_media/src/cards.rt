@@ -23,7 +23,8 @@ impl Model for Cards {
 
     ghost view = { λ c. record { cards = c.cards.items; place = c.place; flag = c.flag } };
 
-    ghost invariant = { λ c. IsMedium (λ card. All (λ code. code < 64) card) c.cards.items c.place };
+    ghost invariant = { λ c. IsMedium
+        (λ card. All (λ code. code < 64) card) c.cards.items c.place };
 }
 
 impl Cards {

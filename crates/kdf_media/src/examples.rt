@@ -11,27 +11,38 @@ ghost use Rattle.kdf_media.specs.Media.{after_card, after_read, card_words, prin
 pub fn read_on()
     ensures more { after_read false 1 (reader (letters 12) 0 false) ≡ reader (letters 12) 8 false }
     ensures as_many { after_read false 1 (reader (letters 8) 0 false) ≡ reader (letters 8) 8 false }
-    ensures partial { after_read false 2 (reader (letters 12) 0 false) ≡ reader (letters 12) 12 true }
+    ensures partial { after_read false 2 (reader (letters 12) 0 false)
+        ≡ reader (letters 12) 12 true }
     ensures fewer { after_read false 2 (reader (letters 8) 0 false) ≡ reader (letters 8) 8 true }
     ensures empty { after_read false 2 (reader [] 0 false) ≡ reader [] 0 true }
-    ensures second { after_read false 1 (reader (letters 20) 8 false) ≡ reader (letters 20) 16 false }
+    ensures second { after_read false 1 (reader (letters 20) 8 false)
+        ≡ reader (letters 20) 16 false }
     ensures at_end { after_read false 1 (reader (letters 8) 8 false) ≡ reader (letters 8) 8 true }
-    ensures flag_goes { after_read false 1 (reader (letters 8) 0 true) ≡ reader (letters 8) 8 false }
-    ensures message { after_read false 1 (reader (message 3 8) 0 false) ≡ reader (message 3 8) 8 false }
+    ensures flag_goes { after_read false 1 (reader (letters 8) 0 true)
+        ≡ reader (letters 8) 8 false }
+    ensures message { after_read false 1 (reader (message 3 8) 0 false)
+        ≡ reader (message 3 8) 8 false }
 {}
 
 /// PREQ: no End Message, one as the first and as the last character of a word, one in the last word, and one behind the area.
 pub fn read_to_end_message()
     ensures absent { after_read true 2 (reader (letters 12) 0 false) ≡ reader (letters 12) 12 true }
-    ensures absent_full { after_read true 1 (reader (letters 12) 0 false) ≡ reader (letters 12) 8 false }
-    ensures first { after_read true 2 (reader (message 0 12) 0 false) ≡ reader (message 0 12) 1 false }
+    ensures absent_full { after_read true 1 (reader (letters 12) 0 false)
+        ≡ reader (letters 12) 8 false }
+    ensures first { after_read true 2 (reader (message 0 12) 0 false)
+        ≡ reader (message 0 12) 1 false }
     ensures last { after_read true 2 (reader (message 7 8) 0 false) ≡ reader (message 7 8) 8 false }
-    ensures last_word { after_read true 2 (reader (message 10 8) 0 false) ≡ reader (message 10 8) 11 false }
-    ensures last_of_area { after_read true 2 (reader (message 15 0) 0 false) ≡ reader (message 15 0) 16 false }
-    ensures behind { after_read true 1 (reader (message 8 4) 0 false) ≡ reader (message 8 4) 8 false }
+    ensures last_word { after_read true 2 (reader (message 10 8) 0 false)
+        ≡ reader (message 10 8) 11 false }
+    ensures last_of_area { after_read true 2 (reader (message 15 0) 0 false)
+        ≡ reader (message 15 0) 16 false }
+    ensures behind { after_read true 1 (reader (message 8 4) 0 false)
+        ≡ reader (message 8 4) 8 false }
     ensures empty { after_read true 2 (reader [] 0 false) ≡ reader [] 0 true }
-    ensures second { after_read true 2 (reader (message 2 4) 3 false) ≡ reader (message 2 4) 7 true }
-    ensures flag_goes { after_read true 2 (reader (message 2 4) 0 true) ≡ reader (message 2 4) 3 false }
+    ensures second { after_read true 2 (reader (message 2 4) 3 false)
+        ≡ reader (message 2 4) 7 true }
+    ensures flag_goes { after_read true 2 (reader (message 2 4) 0 true)
+        ≡ reader (message 2 4) 3 false }
 {}
 
 /// The words of a reader: eight characters a word, the last word filled up with code 0, and none at the end.
@@ -43,7 +54,8 @@ pub fn words_of_paper_tape()
     ensures second { words_of (drop 8 (letters 12)) ≡ 0x861861000000 ∷ [] }
     ensures stopped { words_of (through_end (message 1 20)) ≡ 0x87d000000000 ∷ [] }
     ensures first { words_of (through_end (message 0 20)) ≡ 0xf40000000000 ∷ [] }
-    ensures second_word { words_of (through_end (message 8 20)) ≡ 0x861861861861 ∷ 0xf40000000000 ∷ [] }
+    ensures second_word { words_of (through_end (message 8 20))
+        ≡ 0x861861861861 ∷ 0xf40000000000 ∷ [] }
     ensures absent { words_of (through_end (letters 8)) ≡ 0x861861861861 ∷ [] }
     ensures codes { codes_of 0x87d000000000 ≡ 33 ∷ 61 ∷ 0 ∷ 0 ∷ 0 ∷ 0 ∷ 0 ∷ 0 ∷ [] }
 {}
@@ -69,8 +81,10 @@ pub fn written()
     ensures absent { through_end_word (1 ∷ 2 ∷ 3 ∷ []) ≡ 1 ∷ 2 ∷ 3 ∷ [] }
     ensures first { through_end_word (0xf40000000000 ∷ 2 ∷ 3 ∷ []) ≡ 0xf40000000000 ∷ [] }
     ensures last { through_end_word (1 ∷ 61 ∷ 3 ∷ []) ≡ 1 ∷ 61 ∷ [] }
-    ensures last_word { through_end_word (1 ∷ 2 ∷ 0xf40000000000 ∷ []) ≡ 1 ∷ 2 ∷ 0xf40000000000 ∷ [] }
-    ensures characters { through_end (codes_of_all (0 ∷ 0xf40000000000 ∷ [])) ≡ replicate 8 0 ++ 61 ∷ [] }
+    ensures last_word { through_end_word (1 ∷ 2 ∷ 0xf40000000000 ∷ [])
+        ≡ 1 ∷ 2 ∷ 0xf40000000000 ∷ [] }
+    ensures characters { through_end (codes_of_all (0 ∷ 0xf40000000000 ∷ []))
+        ≡ replicate 8 0 ++ 61 ∷ [] }
     ensures all { through_end (codes_of_all (0x861861861861 ∷ [])) ≡ letters 8 }
     ensures to_last { through_end (codes_of_all (61 ∷ 0 ∷ [])) ≡ replicate 7 0 ++ 61 ∷ [] }
     ensures empty { through_end [] ≡ [] }

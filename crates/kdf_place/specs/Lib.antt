@@ -2,6 +2,7 @@ pub mod Layout
 pub mod Names
 pub mod Late
 pub mod Placement
+pub mod Assembled
 pub mod Stands
 pub mod Keys
 pub mod Tables

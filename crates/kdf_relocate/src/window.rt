@@ -54,7 +54,8 @@ impl Window {
 /// None where a size isn't a number of whole groups of 32 words, or where together they are more than 31,744.
 #[tactic(auto, using(crate::proofs::Four::room_of))]
 pub fn windows(sizes: &[u16; 4]) -> Option<[Window; 4]>
-    ensures value { result ≡ (if have_windows sizes.now then Some (windows_from 1024 sizes.now) else None) }
+    ensures value { result
+        ≡ (if have_windows sizes.now then Some (windows_from 1024 sizes.now) else None) }
     ensures apart { IfSome result (λ w. AllPairs IsBefore w) }
     ensures inside { IfSome result (λ w. All IsInStore w) }
 {

@@ -7,7 +7,8 @@ use Rattle.kdf_place.specs.declared.image.Image.{Image}
 use Rattle.kdf_place.specs.Placement.{Picture}
 use Rattle.kdf_top.specs.declared.job.Job.{Job as ReadJob}
 use Rattle.kdf_top.specs.declared.job.SlotJob.{SlotJob as ReadSlot}
-use Rattle.kdf_top.specs.Deck.{assembled, image_words, words_or_none, first_of, deck_fault}
+use Rattle.kdf_place.specs.Assembled.{assembled, image_words, words_or_none}
+use Rattle.kdf_top.specs.Deck.{first_of, deck_fault}
 use Rattle.kdf_top.specs.Loaded.{loaded, IsLoadable}
 use Rattle.kdf_top.specs.Shown.{slot_of_job}
 use Rattle.kdf_top.specs.Shows.{shown_slot}

@@ -22,7 +22,7 @@ use Rattle.kdf_place.specs.Placement.{placed}
 use Rattle.kdf_top.specs.declared.status.Status.TheVariants as status
 use Rattle.kdf_top.specs.Answers.{called_for}
 use Rattle.kdf_top.specs.Commands.{is_command}
-use Rattle.kdf_top.specs.Deck.{assembled, image_words}
+use Rattle.kdf_place.specs.Assembled.{assembled, image_words}
 use Rattle.kdf_text.specs.Lines.{lines, words}
 use Rattle.kdf_text.specs.Text.{text}
 use Rattle.kdf_text.specs.Numbers.{value}

@@ -3,7 +3,7 @@ use Rattle.std.specs.Prelude.{◌≡◌, ℕ, ◌==◌, List, ◌∷◌, map, Op
 use Rattle.kdf_processor.specs.State.{Slot, State}
 use Rattle.kdf_journal.specs.declared.entry.Entry.{Entry}
 use Rattle.kdf_top.specs.Job.{Job, SlotJob}
-use Rattle.kdf_top.specs.Deck.{image_words}
+use Rattle.kdf_place.specs.Assembled.{image_words}
 use Rattle.kdf_top.specs.World.{World, is_pending_after}
 use Rattle.kdf_top.specs.Next.{start_of, own}
 

@@ -3,7 +3,7 @@ use Rattle.std.specs.Prelude.{ℕ, Bool, List, [], ◌∷◌, ◌++◌, codes}
 use Rattle.kdf_processor.specs.declared.registers.Life.{Life}
 use Rattle.kdf_processor.specs.State.{Slot, State, begin, word_at}
 use Rattle.kdf_processor.specs.Lone.{lone}
-use Rattle.kdf_top.specs.Deck.{image_words}
+use Rattle.kdf_place.specs.Assembled.{image_words}
 
 -- the texts of four decks
 abbrev pub adding : List ℕ

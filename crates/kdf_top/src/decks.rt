@@ -2,7 +2,8 @@
 
 ghost use Rattle.std.specs.Prelude.{◌≡◌, ◌≤◌, All, None, OnOk, IfOk, IfErr, length, map};
 ghost use Rattle.kdf_place.specs.Placement.{Gives};
-ghost use Rattle.kdf_top.specs.Deck.{assembled, image_words, deck_fault, Tells};
+ghost use Rattle.kdf_place.specs.Assembled.{assembled, image_words};
+ghost use Rattle.kdf_top.specs.Deck.{deck_fault, Tells};
 ghost use Rattle.kdf_top.specs.Shows.{shown_slot};
 ghost use Rattle.kdf_top.specs.WellFormed.{IsDeck};
 
@@ -31,7 +32,7 @@ impl<T: Drop> From<AllocFailed<T>> for DecksError {
 }
 
 /// The image of the deck of a slot, which fits the slot's store, or the deck's first fault.
-#[tactic(auto, unfolding(crate::specs::Deck::assembled))]
+#[tactic(auto, unfolding(kdf_place::specs::Assembled::assembled))]
 fn assemble_deck(alloc: Global, slot: &SlotJob) -> Result<Image, DeckError>
     requires { IsDeck slot.now }
     ensures answer { Gives result (assembled slot.now.size slot.now.deck.items) }

@@ -8,7 +8,7 @@ ghost use Rattle.kdf_usercode.specs.WellFormed.{IsWellFormed};
 use crate::comments::{ByteAt, Comments};
 use crate::fault::DeckError;
 use crate::phase::{Phase, Stage};
-use crate::reading::Reading;
+use crate::reading::{Reading, Scratch};
 use crate::statement::Deck;
 use std::alloc::Global;
 
@@ -32,12 +32,13 @@ pub fn read_deck(alloc: Global, text: &[u8]) -> Result<Deck, DeckError>
         open: false,
     };
     let mut piece = Vec::new(alloc);
+    let mut scratch = Scratch::new(alloc);
     for (i, byte) in text.iter().enumerate() {
         let byte = *byte;
         let at = i as u32;
         reading.see(at, byte);
         if comments.keeps(byte, &text[i + 1..]) {
-            reading.take(alloc, &mut piece, ByteAt { at, byte })?;
+            reading.take(&mut piece, &mut scratch, ByteAt { at, byte })?;
         }
     }
     reading.finish(&piece, text.len() as u32)

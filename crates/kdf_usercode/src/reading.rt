@@ -1,6 +1,6 @@
 //! A deck that is partly read.
 
-ghost use Rattle.std.specs.Prelude.{◌≡◌, ℕ, List, [], ◌∷◌, ◌++◌, OnOk, IfOk, if◌then◌else◌};
+ghost use Rattle.std.specs.Prelude.{◌≡◌, ℕ, List, [], ◌∷◌, ◌++◌, OnOk, if◌then◌else◌};
 ghost use Rattle.kdf_usercode.specs.Faults.{Found as FoundFault, lesser, least, founds};
 ghost use Rattle.kdf_usercode.specs.Parsed.{parsed, statements_in};
 ghost use Rattle.kdf_usercode.specs.Pieces.{codes_of};
@@ -13,7 +13,7 @@ use crate::fault::{DeckError, DeckFault};
 use crate::forms::{Form, form_in, what_of, with_numbers, with_text};
 use crate::orders::formless;
 use crate::phase::{Phase, is_in_place, phase_with};
-use crate::shape::{numbers_of, shape_of};
+use crate::shape::{Parts, numbers_into, shape_into};
 use crate::statement::{Deck, Statement};
 use kdf_fault::{Found, earlier};
 use std::alloc::{AllocError, Global};
@@ -24,6 +24,26 @@ pub struct Reading {
     pub phase: Phase,
     pub best: Option<Found<DeckFault>>,
     pub statements: Vec<Statement>,
+}
+
+/// Where the statements are held while they are read, each in the room of the one before, so that memory is
+/// asked for seldom.
+#[derive(Drop)]
+pub struct Scratch {
+    pub text: Vec<u8>,
+    pub parts: Parts,
+}
+
+impl Scratch {
+    pub fn new(alloc: Global) -> Self {
+        Scratch {
+            text: Vec::new(alloc),
+            parts: Parts {
+                shape: Vec::new(alloc),
+                numbers: Vec::new(alloc),
+            },
+        }
+    }
 }
 
 /// This fault as well.
@@ -102,10 +122,15 @@ fn with_heading(
     }
 }
 
-fn bytes_of(alloc: Global, piece: &[ByteAt]) -> Result<Vec<u8>, AllocError>
-    ensures { IfOk result (λ v. v.items ≡ codes_of piece.now) }
+/// Puts the bytes into `room`, instead of what was there.
+fn bytes_into(piece: &[ByteAt], room: &mut Vec<u8>) -> Result<(), AllocError>
+    ensures { OnOk result (room.new.items ≡ codes_of piece.now) }
 {
-    piece.iter().map(|k| k.byte).collect(alloc)
+    room.clear();
+    for kept in piece {
+        room.push(kept.byte)?;
+    }
+    Ok(())
 }
 
 impl Reading {
@@ -133,34 +158,34 @@ impl Reading {
     }
 
     /// A statement by its bytes.
-    fn statement(&mut self, alloc: Global, place: u32, text: &[u8]) -> Result<(), AllocError>
+    fn statement(&mut self, place: u32, text: &[u8], parts: &mut Parts) -> Result<(), AllocError>
         ensures { OnOk result (Reads self.old self.new (parsed place text.now)) }
     {
         if self.phase.is_ended() {
             self.best = with(self.best, DeckFault::AfterFinish, place);
             return Ok(());
         }
-        let shape = shape_of(alloc, text)?;
-        let numbers = numbers_of(alloc, text)?;
-        match form_in(&shape, text) {
-            Some(form) => self.form(place, form, &numbers, text),
+        shape_into(text, &mut parts.shape)?;
+        numbers_into(text, &mut parts.numbers)?;
+        match form_in(&parts.shape, text) {
+            Some(form) => self.form(place, form, &parts.numbers, text),
             None => {
-                self.best = with(self.best, formless(&shape), place);
+                self.best = with(self.best, formless(&parts.shape), place);
                 Ok(())
             }
         }
     }
 
     /// A piece that a `;` ends.
-    fn piece(&mut self, alloc: Global, piece: &[ByteAt]) -> Result<(), AllocError>
+    fn piece(&mut self, piece: &[ByteAt], scratch: &mut Scratch) -> Result<(), AllocError>
         ensures { OnOk result (ReadsAll self.old self.new (statements_in piece.now)) }
     {
         for (i, k) in piece.iter().enumerate() {
             if k.byte != b'*' {
-                let text = bytes_of(alloc, &piece[i..])?;
-                return self.statement(alloc, k.at, &text);
+                bytes_into(&piece[i..], &mut scratch.text)?;
+                return self.statement(k.at, &scratch.text, &mut scratch.parts);
             }
-            self.statement(alloc, k.at, b"*")?;
+            self.statement(k.at, b"*", &mut scratch.parts)?;
         }
         Ok(())
     }
@@ -177,8 +202,8 @@ impl Reading {
     /// A byte that stays.
     pub fn take(
         &mut self,
-        alloc: Global,
         piece: &mut Vec<ByteAt>,
+        scratch: &mut Scratch,
         kept: ByteAt,
     ) -> Result<(), AllocError>
         ensures { OnOk result ((len : ℕ) (bad : List FoundFault) (ahead : List ByteAt) →
@@ -187,7 +212,7 @@ impl Reading {
     {
         self.best = with_comment(self.best, kept);
         if kept.byte == b';' {
-            self.piece(alloc, piece)?;
+            self.piece(piece, scratch)?;
             piece.clear();
         } else {
             piece.push(kept)?;

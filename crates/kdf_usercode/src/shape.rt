@@ -1,13 +1,20 @@
 //! The shape of a statement and its numbers.
 
-ghost use Rattle.std.specs.Prelude.{◌≡◌, ◌^◌, ◌≤◌, IfOk, map};
+ghost use Rattle.std.specs.Prelude.{◌≡◌, ◌^◌, ◌≤◌, OnOk, map};
 ghost use Rattle.kdf_usercode.specs.Capped.{capped};
 ghost use Rattle.kdf_usercode.specs.Shape.{is_digit, begins_with_digit, ends_number, shape, value_after, numbers};
 
-use std::alloc::{AllocError, Global};
+use std::alloc::AllocError;
 
 /// 2 ^ 48, as which every greater number is held: it is outside every range.
 pub const MANY: u64 = 281_474_976_710_656;
+
+/// A statement's shape and its numbers.
+#[derive(Drop)]
+pub struct Parts {
+    pub shape: Vec<u8>,
+    pub numbers: Vec<u64>,
+}
 
 fn is_digit(byte: u8) -> bool
     ensures { result ≡ is_digit byte }
@@ -24,19 +31,19 @@ fn begins_with_digit(rest: &[u8]) -> bool
     }
 }
 
-/// The statement with `0` in place of each number.
-pub fn shape_of(alloc: Global, text: &[u8]) -> Result<Vec<u8>, AllocError>
-    ensures { IfOk result (λ v. v.items ≡ shape text.now) }
+/// Puts the statement with `0` in place of each number into `room`, instead of what was there.
+pub fn shape_into(text: &[u8], room: &mut Vec<u8>) -> Result<(), AllocError>
+    ensures { OnOk result (room.new.items ≡ shape text.now) }
 {
-    let mut shape = Vec::new(alloc);
+    room.clear();
     for (i, byte) in text.iter().enumerate() {
         if !is_digit(*byte) {
-            shape.push(*byte)?;
+            room.push(*byte)?;
         } else if !begins_with_digit(&text[i + 1..]) {
-            shape.push(b'0')?;
+            room.push(b'0')?;
         }
     }
-    Ok(shape)
+    Ok(())
 }
 
 fn value_after(value: u64, byte: u8) -> u64
@@ -56,18 +63,18 @@ fn ends_number(byte: u8, rest: &[u8]) -> bool
     is_digit(byte) && !begins_with_digit(rest)
 }
 
-/// The numbers of the statement, each at most `MANY`.
-pub fn numbers_of(alloc: Global, text: &[u8]) -> Result<Vec<u64>, AllocError>
-    ensures { IfOk result (λ v. v.items ≡ map capped (numbers text.now)) }
+/// Puts the numbers of the statement, each at most `MANY`, into `room`, instead of what was there.
+pub fn numbers_into(text: &[u8], room: &mut Vec<u64>) -> Result<(), AllocError>
+    ensures { OnOk result (room.new.items ≡ map capped (numbers text.now)) }
 {
-    let mut numbers = Vec::new(alloc);
+    room.clear();
     let mut value = 0u64;
     for (i, byte) in text.iter().enumerate() {
         value = value_after(value, *byte);
         if ends_number(*byte, &text[i + 1..]) {
-            numbers.push(value)?;
+            room.push(value)?;
             value = 0;
         }
     }
-    Ok(numbers)
+    Ok(())
 }

@@ -6,7 +6,7 @@ ghost use Rattle.kdf_processor.specs.declared.registers.Life.TheVariants.{Live, 
 ghost use Rattle.kdf_usercode.specs.declared.fault.DeckFault.TheVariants.{NoFinish, BadNumber, YRange, TooLarge};
 ghost use Rattle.kdf_usercode.specs.Faults.{found};
 ghost use Rattle.kdf_top.specs.Answers.{called_for};
-ghost use Rattle.kdf_top.specs.Deck.{assembled};
+ghost use Rattle.kdf_place.specs.Assembled.{assembled};
 ghost use Rattle.kdf_top.specs.Job.{job, job_fault};
 ghost use Rattle.kdf_top.specs.Worked.{adding, seventeen_zeros, nothing, of_two_parts, alone, looked, job_text};
 ghost use Rattle.kdf_schedule.specs.declared.event.Event.TheVariants.{Orders};

@@ -14,7 +14,7 @@ returns-then-k-ne42 c =
     let i = c.loop-i.i in
     let d : ByteAt = record { at = 0; byte = 0 } in
     let k = get_or piece i d in
-    let text : c.deref.result.now ≡ codes_of (drop i piece) = c.deref.ensures.value ∙ c.in_ok-text.ensures ∙ ap codes_of (take_rest piece i) in
+    let text : c.deref.result.now ≡ codes_of (drop i piece) = c.deref.ensures.value ∙ c.in_ok-bytes_into.ensures ∙ ap codes_of (take_rest piece i) in
     let made : List ℕ → Parsed = parsed k.at in
     let last = statements_in-last piece i d c.loop-i-test.true c.if-k-ne42.true in
     on_ok_weaker c.statement.result

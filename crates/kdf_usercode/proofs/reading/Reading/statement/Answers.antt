@@ -14,18 +14,18 @@ returns-then-is_ended c = reads-ended c.args.self.now c.with-self.result (parsed
 pub returns-in-Some : goal.returns-in-Some
 returns-in-Some c =
     let s : Parsed = parsed c.args.place c.args.text.now in
-    let text = c.deref.ensures.value ∙ c.in_ok-shape.ensures in
-    let numbers = c.deref-in-Some.ensures.value ∙ c.in_ok-numbers.ensures in
+    let text = c.deref.ensures.value ∙ c.in_ok-shape_into.ensures in
+    let numbers = c.deref-in-Some.ensures.value ∙ c.in_ok-numbers_into.ensures in
     on_ok_weaker c.form.result
     (λ gains. reads-form c.args.self.now c.form.new.self s c.in-Some.form (sym c.if-is_ended.ensures) (ap (λ x. form_in x c.args.text.now) (sym text) ∙ sym c.in-Some.ensures)
     (reads-capped c.args.self.now c.form.new.self c.args.place c.in-Some.form s.numbers c.args.text.now
     (subst (λ (ns : List ℕ). ReadsForm c.args.self.now c.form.new.self c.args.place c.in-Some.form ns c.args.text.now) numbers gains)))
     c.form.ensures
 
-pub returns : goal.returns
-returns c =
-    let text = c.deref.ensures.value ∙ c.in_ok-shape.ensures in
-    let fault = c.formless.ensures ∙ ap formless (c.deref-in-None.ensures.value ∙ c.in_ok-shape.ensures) in
+pub returns-in-None : goal.returns-in-None
+returns-in-None c =
+    let text = c.deref.ensures.value ∙ c.in_ok-shape_into.ensures in
+    let fault = c.formless.ensures ∙ ap formless (c.deref-in-None.ensures.value ∙ c.in_ok-shape_into.ensures) in
     reads-formless c.args.self.now c.with-self-in-None.result (parsed c.args.place c.args.text.now) (sym c.if-is_ended.ensures)
     (ap (λ x. form_in x c.args.text.now) (sym text) ∙ sym c.in-None.ensures)
     (c.with-self-in-None.ensures ∙ ap (λ f. lesser c.args.self.now.best (Some (record { fault = f; place = c.args.place }))) fault)

@@ -3,7 +3,7 @@ use Rattle.std.proofs.lemmas.Grind.{common_steps}
 use Rattle.std.proofs.lemmas.List.{take_rest}
 use Rattle.kdf_usercode.specs.Shape.{ends_number}
 use Rattle.kdf_usercode.proofs.Numbers.{numbers-step}
-use Rattle.kdf_usercode.proofs.shape.numbers_of.Goals as goal
+use Rattle.kdf_usercode.proofs.shape.numbers_into.Goals as goal
 
 pub loop-i-preserved : goal.loop-i-preserved
 loop-i-preserved c =
