@@ -14,7 +14,8 @@ pub(crate) fn finish_reader(device: &mut Reader, order: TransferOrder, words: u1
     requires kind { (fixture_of (reader device.old)).kind ≡ kind_of order }
     ensures fixture { fixture_of (reader device.new) ≡ fixture_of (reader device.old) }
     ensures progress { progress_of (reader device.new) ≡
-        finished order words block.items (fixture_of (reader device.old)) (progress_of (reader device.old)) }
+        finished order words block.items
+        (fixture_of (reader device.old)) (progress_of (reader device.old)) }
 {
     match order {
         TransferOrder::Prq => device.finish_read(words, false),
@@ -32,7 +33,8 @@ pub(crate) fn finish_punch(device: &mut Punch, order: TransferOrder, words: u16,
     requires small { All (λ c. c < 64) block.items }
     ensures fixture { fixture_of (punch device.new) ≡ fixture_of (punch device.old) }
     ensures progress { progress_of (punch device.new) ≡
-        finished order words block.items (fixture_of (punch device.old)) (progress_of (punch device.old)) }
+        finished order words block.items
+        (fixture_of (punch device.old)) (progress_of (punch device.old)) }
 {
     match order {
         TransferOrder::Pwq => device.finish(block),
@@ -50,7 +52,8 @@ pub(crate) fn finish_cards(device: &mut Cards, order: TransferOrder, words: u16,
     requires kind { (fixture_of (cards device.old)).kind ≡ kind_of order }
     ensures fixture { fixture_of (cards device.new) ≡ fixture_of (cards device.old) }
     ensures progress { progress_of (cards device.new) ≡
-        finished order words block.items (fixture_of (cards device.old)) (progress_of (cards device.old)) }
+        finished order words block.items
+        (fixture_of (cards device.old)) (progress_of (cards device.old)) }
 {
     match order {
         TransferOrder::Crq => device.finish_read(),
@@ -72,7 +75,8 @@ pub(crate) fn finish_printer(
     requires small { All (λ c. c < 64) block.items }
     ensures fixture { fixture_of (printer device.new) ≡ fixture_of (printer device.old) }
     ensures progress { progress_of (printer device.new) ≡
-        finished order words block.items (fixture_of (printer device.old)) (progress_of (printer device.old)) }
+        finished order words block.items
+        (fixture_of (printer device.old)) (progress_of (printer device.old)) }
 {
     match order {
         TransferOrder::Lpq => device.finish(block),
@@ -94,7 +98,8 @@ pub(crate) fn finish_tape(device: &mut MagTape, order: TransferOrder, words: u16
     requires whole { length block.items % 8 ≡ 0 }
     ensures fixture { fixture_of (tape device.new) ≡ fixture_of (tape device.old) }
     ensures progress { progress_of (tape device.new) ≡
-        finished order words block.items (fixture_of (tape device.old)) (progress_of (tape device.old)) }
+        finished order words block.items
+        (fixture_of (tape device.old)) (progress_of (tape device.old)) }
 {
     match order {
         TransferOrder::Mfrq => device.finish_read(true),

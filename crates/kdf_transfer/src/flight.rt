@@ -39,7 +39,8 @@ pub(crate) fn offered_word(
     requires lease { is_some lease.now ≡ has_area order }
     requires area { has_area order ≡ true → Covers lease.now area.first area.last }
     ensures { result ≡ slice_get (offered order area.first area.last
-        (area_words order area.first area.last lease.now) (fixture_of device.now) (progress_of device.now)) i }
+        (area_words order area.first area.last lease.now)
+        (fixture_of device.now) (progress_of device.now)) i }
 {
     let words = words_in(order, area);
     if i >= words {
@@ -116,9 +117,11 @@ pub(crate) fn deliver(
     requires area { Covers lease.old area.first area.last }
     requires inside { moved < area.last + 1 - area.first }
     requires room { is_input order ≡ false → vec_len block.old + 8 ≤ vec_capacity block.old }
-    ensures lease { lease.new ≡ (if is_input order
-        then option_map (λ l. with_lent_word l (place_of order area.first area.last moved) word) lease.old else lease.old) }
-    ensures block { block.new.items ≡ (if is_input order then block.old.items else block.old.items ++ codes_of word) }
+    ensures lease { lease.new ≡ (if is_input order then option_map
+        (λ l. with_lent_word l (place_of order area.first area.last moved) word) lease.old
+        else lease.old) }
+    ensures block { block.new.items
+        ≡ (if is_input order then block.old.items else block.old.items ++ codes_of word) }
     ensures capacity { vec_capacity block.new ≡ vec_capacity block.old }
 {
     if order.is_input() {
@@ -146,10 +149,12 @@ pub(crate) fn refill(
     requires lease { is_some lease.now ≡ has_area order }
     requires area { has_area order ≡ true → Covers lease.now area.first area.last }
     requires total { total ≡ length
-        (all_words order area.first area.last lease.now (fixture_of device.now) (progress_of device.now)) }
+        (all_words order area.first area.last lease.now
+        (fixture_of device.now) (progress_of device.now)) }
     requires few { length ring.old < 8 }
     ensures { ring.new ≡ ring.old ++ take 1 (drop next
-        (all_words order area.first area.last lease.now (fixture_of device.now) (progress_of device.now))) }
+        (all_words order area.first area.last lease.now
+        (fixture_of device.now) (progress_of device.now))) }
 {
     if next < total {
         let word = word_at(device, order, area, lease, next);
@@ -261,10 +266,12 @@ pub(crate) fn fill(
     requires lease { is_some lease.now ≡ has_area order }
     requires area { has_area order ≡ true → Covers lease.now area.first area.last }
     requires total { total ≡ length
-        (all_words order area.first area.last lease.now (fixture_of device.now) (progress_of device.now)) }
+        (all_words order area.first area.last lease.now
+        (fixture_of device.now) (progress_of device.now)) }
     requires ring { ring.old ≡ [] }
     ensures { ring.new ≡ take 8
-        (all_words order area.first area.last lease.now (fixture_of device.now) (progress_of device.now)) }
+        (all_words order area.first area.last lease.now
+        (fixture_of device.now) (progress_of device.now)) }
 {
     for i in 0..8 {
         refill(device, order, area, lease, ring, i, total);

@@ -7,7 +7,8 @@ ghost use Rattle.kdf_transfer.specs.InFlight.{Motion, ended_progress, moved_by, 
 /// However its moves are cut, a transfer is where one move of as many words brings it, and the rest brings it to one end.
 pub fn cuts()
     ensures none { (t : Motion) → t.moved ≤ total_of t → moved_by 0 t ≡ t }
-    ensures two { (a b : ℕ) (t : Motion) → t.moved ≤ total_of t → moved_by b (moved_by a t) ≡ moved_by (a + b) t }
+    ensures two { (a b : ℕ) (t : Motion) → t.moved ≤ total_of t
+        → moved_by b (moved_by a t) ≡ moved_by (a + b) t }
     ensures rest { (n : ℕ) (t : Motion) → t.moved ≤ total_of t →
         moved_by (total_of (moved_by n t)) (moved_by n t) ≡ moved_by (total_of t) t }
 {}
@@ -22,5 +23,6 @@ pub fn fixed_at_the_begin()
 pub fn first_words()
     ensures input { (n : ℕ) (t : Motion) → t.moved ≡ 0 → is_input t.order ≡ true →
         (moved_by n t).lease ≡ option_map (put_words (take n (moves_of t))) t.lease }
-    ensures output { (n : ℕ) (t : Motion) → is_input t.order ≡ false → (moved_by n t).lease ≡ t.lease }
+    ensures output { (n : ℕ) (t : Motion) → is_input t.order ≡ false
+        → (moved_by n t).lease ≡ t.lease }
 {}

@@ -25,12 +25,15 @@ pub fn at_once(
     requires few { (progress_of device.old).place + blocks_out order < 2 ^ 32 }
     requires area { has_area order ≡ true → IsArea area.first area.last (length words.old) }
     requires block { block.items ≡ [] }
-    requires room { is_output order ≡ true → 8 * (area.last + 1 - area.first) ≤ vec_capacity block }
+    requires room { is_output order ≡ true
+        → 8 * (area.last + 1 - area.first) ≤ vec_capacity block }
     ensures words { words.new ≡
-        stored order area.first area.last words.old (fixture_of device.old) (progress_of device.old) }
+        stored order area.first area.last words.old
+        (fixture_of device.old) (progress_of device.old) }
     ensures fixture { fixture_of device.new ≡ fixture_of device.old }
     ensures progress { progress_of device.new ≡ device_after order area.first area.last
-        (order_words order area.first area.last words.old) (fixture_of device.old) (progress_of device.old) }
+        (order_words order area.first area.last words.old)
+        (fixture_of device.old) (progress_of device.old) }
 {
     move_all(device, order, area, words, &mut block);
     device.finish(order, words_in(order, area), block);
@@ -47,9 +50,11 @@ fn move_all(
     requires kind { (fixture_of device.now).kind ≡ kind_of order }
     requires area { has_area order ≡ true → IsArea area.first area.last (length words.old) }
     requires block { block.old.items ≡ [] }
-    requires room { is_output order ≡ true → 8 * (area.last + 1 - area.first) ≤ vec_capacity block.old }
+    requires room { is_output order ≡ true
+        → 8 * (area.last + 1 - area.first) ≤ vec_capacity block.old }
     ensures words { words.new ≡
-        stored order area.first area.last words.old (fixture_of device.now) (progress_of device.now) }
+        stored order area.first area.last words.old
+        (fixture_of device.now) (progress_of device.now) }
     ensures block { block.new.items ≡
         codes_of_all (words_out order (order_words order area.first area.last words.old)) }
 {
@@ -66,8 +71,8 @@ fn read_into(device: &Device, order: TransferOrder, area: Area, words: &mut [Wor
     requires input { is_input order ≡ true }
     requires area { IsArea area.first area.last (length words.old) }
     ensures { words.new ≡ written (addressed order area.first area.last
-        (stopped order (take (area.last + 1 - area.first) (given order (fixture_of device.now) (progress_of device.now)))))
-        words.old }
+        (stopped order (take (area.last + 1 - area.first)
+        (given order (fixture_of device.now) (progress_of device.now))))) words.old }
 {
     for i in 0..count_input(device, order, words_in(order, area)) {
         words[place_at(order, area, i)] = input_word(device, order, i);
@@ -79,7 +84,8 @@ pub(crate) fn count_input(device: &Device, order: TransferOrder, words: u16) -> 
     requires kind { (fixture_of device.now).kind ≡ kind_of order }
     requires input { is_input order ≡ true }
     ensures value { result ≡
-        length (stopped order (take words (given order (fixture_of device.now) (progress_of device.now)))) }
+        length (stopped order (take words
+        (given order (fixture_of device.now) (progress_of device.now)))) }
     ensures within { result ≤ words }
     ensures given { result ≤ length (given order (fixture_of device.now) (progress_of device.now)) }
 {
@@ -101,7 +107,8 @@ pub(crate) fn input_word(device: &Device, order: TransferOrder, i: u16) -> Word
     requires kind { (fixture_of device.now).kind ≡ kind_of order }
     requires input { is_input order ≡ true }
     requires inside { i < length (given order (fixture_of device.now) (progress_of device.now)) }
-    ensures { result ≡ fill order (slice_index (given order (fixture_of device.now) (progress_of device.now)) i) }
+    ensures { result ≡ fill order
+        (slice_index (given order (fixture_of device.now) (progress_of device.now)) i) }
 {
     match device.given_word(order, i) {
         Some(word) => fill_up(order, word),

@@ -45,7 +45,8 @@ impl Transfer {
         requires lease { is_some lease ≡ has_area order }
         requires area { has_area order ≡ true → Covers lease area.first area.last }
         requires block { block.items ≡ [] }
-        requires room { is_output order ≡ true → 8 * (area.last + 1 - area.first) ≤ vec_capacity block }
+        requires room { is_output order ≡ true
+            → 8 * (area.last + 1 - area.first) ≤ vec_capacity block }
         requires ring { ring ≡ [] }
         ensures { result ≡ record {
           order = order;
