@@ -128,7 +128,7 @@ fn prints(rt: HostRuntime) -> Result<(), Fail> {
 }
 
 #[test]
-fn writes_and_reads_tape(rt: HostRuntime) -> Result<(), Fail> {
+fn writes_tape(rt: HostRuntime) -> Result<(), Fail> {
     let mut device = Device::Mt(MagTape::new(Word::default(), Vec::new(rt.alloc())));
     device.reserve()?;
     let mut words = [
