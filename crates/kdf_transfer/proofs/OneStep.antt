@@ -5,7 +5,7 @@ use Rattle.std.proofs.lemmas.List.{take_all}
 use Rattle.kdf_word.specs.Characters.{codes_of_all}
 use Rattle.kdf_transfer.specs.declared.order.TransferOrder.{TransferOrder}
 use Rattle.kdf_transfer.specs.Devices.{Fixture, Progress}
-use Rattle.kdf_transfer.specs.AtOnce.{is_input, is_output, has_area, area_len, given, stopped, offered, moves, addressed, place_of, written, words_out, order_words, stored}
+use Rattle.kdf_transfer.specs.AtOnce.{is_input, is_output, area_len, given, stopped, offered, moves, addressed, place_of, written, words_out, order_words, stored}
 use Rattle.kdf_transfer.proofs.Addresses.{addressed-drop, length-addressed, take_two}
 use Rattle.kdf_transfer.proofs.Areas.{input_has, output_has, len_is}
 use Rattle.kdf_transfer.proofs.Codes.{length-codes}

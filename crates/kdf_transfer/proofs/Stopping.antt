@@ -1,5 +1,5 @@
 -- Where an order stops: the words up to and with the first that has an End Message.
-use Rattle.std.proofs.Common.{◌≡◌, ℕ, zero, suc, ◌+◌, ◌<◌, ◌≤◌, ◌∷◌, ◌++◌, Bool, true, false, List, [], length, get_or, take, drop, map, Option, Some, None, cond, refl, sym, ap, ◌∙◌, ⊎_elim, arith, append_assoc, length-take, length-drop}
+use Rattle.std.proofs.Common.{◌≡◌, ℕ, zero, suc, ◌+◌, ◌<◌, ◌≤◌, ◌∷◌, ◌++◌, Bool, true, false, List, [], length, get_or, take, drop, map, Some, None, cond, refl, sym, ap, ◌∙◌, ⊎_elim, arith, append_assoc, length-take, length-drop}
 use Rattle.std.specs.Prelude.{◌&&◌}
 use Rattle.std.specs.List.{slice_get}
 use Rattle.std.proofs.lemmas.Bool.{cases_lt}

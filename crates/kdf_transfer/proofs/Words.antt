@@ -1,15 +1,13 @@
 -- The words that an order moves, one by one.
-use Rattle.std.proofs.Common.{◌≡◌, ℕ, zero, suc, ◌+◌, ◌-◌, ◌*◌, ◌/◌, ◌%◌, ◌<◌, ◌≤◌, ◌∷◌, ◌++◌, min, Bool, true, false, List, [], length, get_or, take, drop, map, Option, Some, None, is_some, cond, refl, sym, ap, ◌∙◌, ⊎_elim, arith, length-take, length-append, length-set, length-drop}
-use Rattle.std.specs.Prelude.{◌||◌}
-use Rattle.std.specs.List.{All, range_with_len, slice_get}
+use Rattle.std.proofs.Common.{◌≡◌, ℕ, ◌+◌, ◌-◌, ◌*◌, ◌/◌, ◌<◌, ◌≤◌, ◌∷◌, ◌++◌, min, Bool, true, false, List, [], length, get_or, take, drop, map, Option, Some, None, is_some, cond, refl, sym, ap, ◌∙◌, ⊎_elim, arith, length-take, length-set, length-drop}
+use Rattle.std.specs.List.{range_with_len, slice_get}
 use Rattle.std.specs.Option.{option_map}
-use Rattle.std.proofs.lemmas.Bool.{or_left, or_right, cases_Bool, cases_lt}
-use Rattle.std.proofs.lemmas.List.{get_or-take, get_or-map, length-map, drop_more, drop-drop, take_more, take_all, flat_map_more}
+use Rattle.std.proofs.lemmas.Bool.{cases_Bool}
+use Rattle.std.proofs.lemmas.List.{drop_more, drop-drop, take_all}
 use Rattle.std.proofs.lemmas.List.FromFn.{length-map-range_with_len, get_or-map-range_with_len}
-use Rattle.std.proofs.lemmas.Option.{slice_get-get_or, slice_get_past, get_or_from_slice_get, slice_get_within}
+use Rattle.std.proofs.lemmas.Option.{slice_get-get_or, slice_get_past, get_or_from_slice_get}
 use Rattle.kdf_word.specs.Characters.{codes_of, codes_of_all}
 use Rattle.kdf_lockout.specs.Groups.{Lent, with_lent_word}
-use Rattle.kdf_media.specs.Media.{has_end, through_end_word}
 use Rattle.kdf_transfer.specs.declared.order.TransferOrder.{TransferOrder}
 use Rattle.kdf_transfer.specs.Devices.{Fixture, Progress}
 use Rattle.kdf_transfer.specs.AtOnce.{is_input, is_output, has_area, fill, stopped, given, offered, words_out, finished, area_len}

@@ -1,5 +1,5 @@
 -- Devices on which the definitions are worked.
-use Rattle.std.specs.Prelude.{ℕ, Bool, false, List, [], ◌∷◌, length, replicate}
+use Rattle.std.specs.Prelude.{ℕ, Bool, false, List, [], length, replicate}
 use Rattle.kdf_journal.specs.declared.kind.Kind.{Kind}
 use Rattle.kdf_journal.specs.declared.kind.Kind.TheVariants.{Tr, Cr, Mt}
 use Rattle.kdf_media.specs.Examples.{letters}

@@ -1,5 +1,5 @@
-use Rattle.std.proofs.Common.{◌≡◌, ℕ, ◌<◌, ◌≤◌, ◌+◌, ◌-◌, ◌∙◌, true, false, sym, ap, subst, Some, None, Option, arith}
-use Rattle.kdf_transfer.specs.AtOnce.{area_len, has_area, is_input, is_output}
+use Rattle.std.proofs.Common.{◌≡◌, ◌<◌, ◌+◌, ◌-◌, ◌∙◌, true, false, sym, ap, subst, Some, arith}
+use Rattle.kdf_transfer.specs.AtOnce.{has_area, is_input, is_output}
 use Rattle.kdf_transfer.specs.Devices.{fixture_of, progress_of}
 use Rattle.kdf_transfer.specs.InFlight.{Covers, lent_at}
 use Rattle.kdf_transfer.proofs.Areas.{area_has, len_has, len_is}

@@ -1,4 +1,4 @@
-use Rattle.std.proofs.Common.{◌≡◌, ◌∙◌, sym, get_or, Option, Some, None, List, ℕ}
+use Rattle.std.proofs.Common.{◌≡◌, ◌∙◌, sym, get_or, Some, None}
 use Rattle.kdf_transfer.specs.AtOnce.{offered}
 use Rattle.kdf_transfer.specs.Devices.{fixture_of, progress_of}
 use Rattle.kdf_transfer.specs.InFlight.{area_words}

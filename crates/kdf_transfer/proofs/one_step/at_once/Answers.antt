@@ -1,4 +1,4 @@
-use Rattle.std.proofs.Common.{◌≡◌, ◌%◌, ◌<◌, ◌∙◌, sym, ap, ap₂, subst, length, List, ℕ}
+use Rattle.std.proofs.Common.{◌%◌, ◌<◌, ◌∙◌, sym, ap, ap₂, subst, length, List, ℕ}
 use Rattle.std.specs.List.{All}
 use Rattle.kdf_transfer.specs.AtOnce.{finished, order_words, words_out}
 use Rattle.kdf_transfer.specs.Devices.{fixture_of, progress_of}

@@ -1,4 +1,4 @@
-use Rattle.std.proofs.Common.{◌≡◌, ◌<◌, ◌≤◌, ◌∙◌, sym, take, length, List, ℕ, arith, length-take}
+use Rattle.std.proofs.Common.{◌∙◌, sym, take, arith, length-take}
 use Rattle.std.proofs.lemmas.Option.{slice_get_within}
 use Rattle.kdf_transfer.specs.AtOnce.{given}
 use Rattle.kdf_transfer.specs.Devices.{fixture_of, progress_of}

@@ -1,4 +1,4 @@
-use Rattle.std.proofs.Common.{◌≡◌, ◌+◌, ◌≤◌, length, take, drop}
+use Rattle.std.proofs.Common.{◌≡◌, ◌+◌, length, take, drop}
 use Rattle.kdf_transfer.specs.AtOnce.{given, stopped}
 use Rattle.kdf_transfer.specs.Devices.{fixture_of, progress_of}
 use Rattle.kdf_transfer.proofs.one_step.count_input.Given as goal

@@ -1,8 +1,7 @@
-use Rattle.std.proofs.Common.{◌≡◌, ◌+◌, ◌-◌, ◌∙◌, sym, ap, true, false, take, drop, arith, length-take}
-use Rattle.kdf_transfer.specs.AtOnce.{is_input, is_output, order_words}
+use Rattle.std.proofs.Common.{◌-◌, ◌∙◌, sym, true}
+use Rattle.kdf_transfer.specs.AtOnce.{is_input}
 use Rattle.kdf_transfer.specs.Devices.{fixture_of, progress_of}
-use Rattle.kdf_transfer.proofs.Areas.{input_has, output_has}
-use Rattle.kdf_transfer.proofs.OneStep.{stored_input, stored_other, block_input, block_output, block_none}
+use Rattle.kdf_transfer.proofs.OneStep.{stored_input}
 use Rattle.kdf_transfer.proofs.one_step.move_all.Goals as goal
 
 pub returns-then-is_input-clause-words : goal.returns-then-is_input-clause-words

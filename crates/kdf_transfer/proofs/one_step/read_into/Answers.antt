@@ -1,4 +1,4 @@
-use Rattle.std.proofs.Common.{◌≡◌, ℕ, ◌+◌, ◌-◌, ◌<◌, ◌∙◌, sym, ap, take, length, List, arith, length-take}
+use Rattle.std.proofs.Common.{ℕ, ◌+◌, ◌-◌, ◌<◌, ◌∙◌, ap, take, length, arith, length-take}
 use Rattle.std.specs.Prelude.{slice_set}
 use Rattle.kdf_transfer.specs.AtOnce.{given, stopped, place_of}
 use Rattle.kdf_transfer.specs.Devices.{fixture_of, progress_of}

@@ -1,4 +1,4 @@
-use Rattle.std.proofs.Common.{◌≡◌, ◌<◌, ◌%◌, length, ap, ◌∙◌, sym, subst}
+use Rattle.std.proofs.Common.{◌<◌, ◌%◌, length, ap, ◌∙◌, sym, subst}
 use Rattle.std.specs.List.{All}
 use Rattle.kdf_transfer.specs.AtOnce.{finished, area_len, words_out}
 use Rattle.kdf_transfer.specs.Devices.{fixture_of, progress_of}
