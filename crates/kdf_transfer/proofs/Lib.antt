@@ -1,0 +1,9 @@
+pub mod Addresses
+pub mod Areas
+pub mod Codes
+pub mod Blocks
+pub mod EndMessage
+pub mod Stopping
+pub mod OneStep
+pub mod Moving
+pub mod Words

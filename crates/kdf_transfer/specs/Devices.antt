@@ -1,0 +1,61 @@
+-- A device as what it is, and how far it has come.
+use Rattle.std.specs.Prelude.{ℕ, Bool, false, List, [], length}
+use Rattle.kdf_journal.specs.declared.kind.Kind.{Kind}
+use Rattle.kdf_journal.specs.declared.kind.Kind.TheVariants as kind
+use Rattle.kdf_media.specs.Media.{ReaderState, CardsState, BlocksState}
+use Rattle.kdf_tape.specs.Tape.{Recorded, TapeState}
+use Rattle.kdf_transfer.specs.declared.device.Device.{Device}
+use Rattle.kdf_transfer.specs.declared.device.Device.TheVariants.{Tr, Tp, Cr, Lp, Mt}
+
+-- what a device is, which no order changes: its kind, a tape's label, a reader's characters and the characters of cards
+pub record Fixture : Type 0 where
+  pub kind : Kind
+  pub label : ℕ
+  pub codes : List ℕ
+  pub cards : List (List ℕ)
+
+-- how far a device has come: the characters of its finished blocks, or the blocks of its tape
+pub record Progress : Type 0 where
+  pub place : ℕ
+  pub flag : Bool
+  pub mark : Bool
+  pub blocks : List (List ℕ)
+  pub recorded : List Recorded
+
+-- devices of each kind
+abbrev pub reader : ReaderState → Device
+reader r = Tr r
+
+abbrev pub punch : BlocksState → Device
+punch d = Tp d
+
+abbrev pub cards : CardsState → Device
+cards c = Cr c
+
+abbrev pub printer : BlocksState → Device
+printer d = Lp d
+
+abbrev pub tape : TapeState → Device
+tape t = Mt t
+
+abbrev pub fixture_of : Device → Fixture
+fixture_of (Tr r) = record { kind = kind.Tr; label = 0; codes = r.codes; cards = [] }
+fixture_of (Tp d) = record { kind = kind.Tp; label = 0; codes = []; cards = [] }
+fixture_of (Cr c) = record { kind = kind.Cr; label = 0; codes = []; cards = c.cards }
+fixture_of (Lp d) = record { kind = kind.Lp; label = 0; codes = []; cards = [] }
+fixture_of (Mt t) = record { kind = kind.Mt; label = t.label; codes = []; cards = [] }
+
+abbrev pub progress_of : Device → Progress
+progress_of (Tr r) = record { place = r.place; flag = r.flag; mark = false; blocks = []; recorded = [] }
+progress_of (Tp d) = record { place = length d.blocks; flag = false; mark = false; blocks = d.blocks; recorded = [] }
+progress_of (Cr c) = record { place = c.place; flag = c.flag; mark = false; blocks = []; recorded = [] }
+progress_of (Lp d) = record { place = length d.blocks; flag = false; mark = false; blocks = d.blocks; recorded = [] }
+progress_of (Mt t) = record { place = t.place; flag = t.flag; mark = t.mark; blocks = []; recorded = t.blocks }
+
+-- for how many blocks more it has memory; a device that keeps none always has some
+abbrev pub room_of : Device → ℕ
+room_of (Tr r) = 1
+room_of (Tp d) = d.room
+room_of (Cr c) = 1
+room_of (Lp d) = d.room
+room_of (Mt t) = t.room

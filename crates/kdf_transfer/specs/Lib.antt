@@ -1,0 +1,5 @@
+pub mod Devices
+pub mod AtOnce
+pub mod Examples
+pub mod InFlight
+pub mod Flying

@@ -1,0 +1,24 @@
+//! Devices, and the transfers that move words between a device and the store, word by word through a ring or in one step. What an order
+//! moves and what it leaves is one table, in `specs/AtOnce`; a transfer that is cut anywhere has moved the first words of it.
+#![tactic(auto)]
+
+mod area;
+mod device;
+mod end_word;
+pub mod examples;
+mod finished;
+mod flight;
+pub mod laws;
+mod one_step;
+mod order;
+mod ring;
+#[cfg(test)]
+mod tests;
+mod transfer;
+
+pub use area::Area;
+pub use device::Device;
+pub use one_step::at_once;
+pub use order::TransferOrder;
+pub use ring::Ring;
+pub use transfer::Transfer;
