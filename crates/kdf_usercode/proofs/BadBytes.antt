@@ -1,12 +1,11 @@
 -- The first byte that no deck may have.
-use Rattle.std.proofs.Common.{◌≡◌, ℕ, ◌+◌, ◌<◌, ◌≤◌, Bool, true, false, not, cond, eqb, ltb, ◌&&◌, ◌||◌, List, [], ◌∷◌, ◌++◌, Option, Some, None, refl, sym, ap, ◌∙◌, arith}
+use Rattle.std.proofs.Common.{◌≡◌, ℕ, ◌+◌, ◌<◌, Bool, true, false, not, cond, ◌&&◌, List, [], ◌∷◌, ◌++◌, Some, None, refl, sym, ap, ◌∙◌, arith}
 use Rattle.std.specs.List.{list_all, position, position_from}
 use Rattle.std.specs.Option.{option_map}
-use Rattle.std.specs.Prelude.{IfSome}
 use Rattle.std.proofs.lemmas.Bool.Decides.{nat_tests}
 use Rattle.std.proofs.lemmas.Iterator.Adapters.{position_from-zero}
 use Rattle.kdf_usercode.specs.declared.fault.DeckFault.TheVariants.{BadByte}
-use Rattle.kdf_usercode.specs.Faults.{Found, lesser, least, found}
+use Rattle.kdf_usercode.specs.Faults.{lesser, least, found}
 use Rattle.kdf_usercode.specs.Grammar.{is_deck_byte, bytes_faults}
 
 abbrev is_bad : ℕ → Bool

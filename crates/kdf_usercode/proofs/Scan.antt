@@ -52,8 +52,8 @@ inside at (b ∷ bytes) some =
     elim (is_closing b) as (λ t. (t || closes bytes) ≡ true → kept_from (not t) (at + 1) bytes ≡ kept_from false (at + n t) (drop (n t) (b ∷ bytes))) [
       | true ↦ λ _. refl
       | false ↦ λ more. inside (at + 1) bytes more ∙
-        same-kept (at + 1 + (p + 1)) (at + n false) (drop (p + 1) bytes) (drop (n false) (b ∷ bytes)) (omega arith)
-        (let e : n false ≡ suc (p + 1) = omega arith in sym (ap (λ k. drop k (b ∷ bytes)) e))
+          same-kept (at + 1 + (p + 1)) (at + n false) (drop (p + 1) bytes) (drop (n false) (b ∷ bytes)) (omega arith)
+          (let e : n false ≡ suc (p + 1) = omega arith in sym (ap (λ k. drop k (b ∷ bytes)) e))
     ] some
 
 comment-at : (at end : ℕ) (bytes : List ℕ) → position is_closing (40 ∷ bytes) ≡ Some end

@@ -1,4 +1,4 @@
-use Rattle.std.proofs.Common.{◌≡◌, List, [], None, Result, length, subst, refl, sym, ap, ◌∙◌}
+use Rattle.std.proofs.Common.{List, [], None, Result, length, subst, refl, sym, ap, ◌∙◌}
 use Rattle.kdf_usercode.specs.declared.bytes.ByteAt.{ByteAt}
 use Rattle.kdf_usercode.specs.declared.statement.Statement.{Statement}
 use Rattle.kdf_usercode.specs.Comments.{kept}
@@ -33,8 +33,8 @@ returns-clause-sound c =
     let text = c.args.text.now in
     let len = length text in
     let due =
-      ap (λ (p : List ByteAt). with_ahead c.loop-kept.reading p len [] []) c.deref.ensures.value
-      ∙ ap (with_ahead c.loop-kept.reading c.loop-kept.piece.items len []) (sym c.in_default.ensures.kept)
-      ∙ c.loop-kept.invariant in
+    ap (λ (p : List ByteAt). with_ahead c.loop-kept.reading p len [] []) c.deref.ensures.value
+    ∙ ap (with_ahead c.loop-kept.reading c.loop-kept.piece.items len []) (sym c.in_default.ensures.kept)
+    ∙ c.loop-kept.invariant in
     let answer = subst (λ (d : Result (List Statement) Found). Gives c.finish.result len d) due c.finish.ensures in
     gives-well-formed c.finish.result text c.requires answer

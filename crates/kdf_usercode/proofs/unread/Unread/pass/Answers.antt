@@ -1,4 +1,4 @@
-use Rattle.std.proofs.Common.{arith, ap, ◌∙◌, length, drop, length-drop}
+use Rattle.std.proofs.Common.{ap, ◌∙◌}
 use Rattle.std.proofs.lemmas.List.{take_rest}
 use Rattle.kdf_usercode.specs.Comments.{closes}
 use Rattle.kdf_usercode.proofs.Scan.{closes-behind}
