@@ -12,3 +12,4 @@ pub mod Fits
 pub mod Rises
 pub mod Sequence
 pub mod WellFormed
+pub mod BadBytes

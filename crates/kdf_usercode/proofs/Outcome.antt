@@ -3,15 +3,17 @@ use Rattle.std.proofs.Common.{◌≡◌, ℕ, ◌+◌, ◌<◌, length, get_or, 
 use Rattle.std.proofs.lemmas.List.{append-nil, at_drop_more}
 use Rattle.std.proofs.lemmas.List.Concat.{flat_map-cons}
 use Rattle.std.specs.List.{flat_map}
-use Rattle.kdf_usercode.specs.declared.comments.ByteAt.{ByteAt}
+use Rattle.kdf_usercode.specs.declared.bytes.ByteAt.{ByteAt}
 use Rattle.kdf_usercode.specs.declared.phase.Phase.{Phase}
 use Rattle.kdf_usercode.specs.declared.statement.Statement.{Statement}
 use Rattle.kdf_usercode.specs.declared.reading.Reading.{Reading}
 use Rattle.std.proofs.lemmas.Bool.{ne_eqb}
+use Rattle.kdf_usercode.specs.Comments.{kept}
 use Rattle.kdf_usercode.specs.Faults.{Found, lesser, least}
 use Rattle.kdf_usercode.specs.Parsed.{Parsed, statements_in, parses, parsed}
 use Rattle.kdf_usercode.specs.Pieces.{Cut, onto, in_front, cut_before, cut, codes_of}
-use Rattle.kdf_usercode.specs.Grammar.{comment_faults, statement_faults, phase_after, statements_of, faults_from, statements_from, verdict}
+use Rattle.kdf_usercode.specs.Grammar.{bytes_faults, comment_faults, statement_faults, phase_after, statements_of, faults_from, statements_from, verdict, deck}
+use Rattle.kdf_usercode.specs.Phase.{start}
 use Rattle.kdf_usercode.specs.Reading.{Reads, outcome, with_ahead}
 use Rattle.kdf_usercode.proofs.Least.{some-stays, least-between, least-front}
 
@@ -109,6 +111,12 @@ with_ahead-push r piece k best' len bad ahead b ne =
     let c = in_front piece (cut_before k (cut ahead)) in
     ap (λ (x : Cut). outcome r.phase best' r.statements.items len (bad ++ flat_map comment_faults ahead) (parses x) x.tail) (in_front-push piece k (cut ahead) (ne_eqb k.byte 59 ne))
     ∙ outcome-comment r.phase r.best r.statements.items len k bad ahead (parses c) c.tail best' b
+
+-- what comes of a deck of which only the bytes were looked at
+pub with_ahead-start : (r : Reading) (text : List ℕ) → r.phase ≡ start → r.best ≡ None → r.statements.items ≡ []
+    → with_ahead r [] (length text) (bytes_faults 0 text ++ []) (kept text) ≡ deck text
+with_ahead-start r text phase best ss =
+    rw (phase, best, ss, append-nil (bytes_faults 0 text), in_front-nil (cut (kept text))) refl
 
 -- ---- the statements of a piece
 

@@ -1,6 +1,6 @@
 -- The places of the statements of a deck rise, and are below its length.
 use Rattle.std.proofs.Common.{◌≡◌, ℕ, ◌+◌, ◌<◌, ◌≤◌, length, Bool, true, false, cond, eqb, List, [], ◌∷◌, ◌++◌, Some, None, refl, sym, subst, append_assoc, arith}
-use Rattle.kdf_usercode.specs.declared.comments.ByteAt.{ByteAt}
+use Rattle.kdf_usercode.specs.declared.bytes.ByteAt.{ByteAt}
 use Rattle.kdf_usercode.specs.declared.phase.Phase.{Phase}
 use Rattle.kdf_usercode.specs.Phase.{start}
 use Rattle.kdf_usercode.specs.declared.statement.Statement.{Statement}

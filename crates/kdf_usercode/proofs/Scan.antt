@@ -1,71 +1,95 @@
--- One byte of the deck, as the loop takes it.
-use Rattle.std.proofs.Common.{◌≡◌, ℕ, ◌+◌, ◌<◌, length, get_or, drop, Bool, true, false, cond, List, [], ◌∷◌, ◌++◌, Result, eqb, ◌||◌, refl, sym, ap, subst, ◌≤◌, ◌∙◌}
-use Rattle.std.proofs.Math.ListN.{drop_of_length-le}
-use Rattle.std.proofs.lemmas.List.{at_drop_more}
-use Rattle.kdf_usercode.specs.declared.comments.ByteAt.{ByteAt}
-use Rattle.kdf_usercode.specs.declared.reading.Reading.{Reading}
-use Rattle.kdf_usercode.specs.declared.statement.Statement.{Statement}
-use Rattle.kdf_usercode.specs.Comments.{closes, is_kept, inside_after, kept_from}
-use Rattle.kdf_usercode.specs.Faults.{Found}
-use Rattle.kdf_usercode.specs.Grammar.{byte_faults, bytes_faults}
-use Rattle.kdf_usercode.specs.Reading.{with_ahead}
+-- What stays of a deck, as the reader goes past a byte or a comment.
+use Rattle.std.proofs.Common.{◌≡◌, ℕ, zero, suc, ◌+◌, ◌<◌, length, get_or, drop, Bool, true, false, not, ◌&&◌, ◌||◌, cond, eqb, nat_lt, List, [], ◌∷◌, ◌++◌, Some, None, is_some, refl, sym, ap, ◌∙◌, subst, ⊎_elim, arith}
+use Rattle.std.specs.List.{position, position_from, position_or_len}
+use Rattle.std.proofs.lemmas.Bool.{cases_Bool}
+use Rattle.std.proofs.lemmas.Iterator.Adapters.{position_from-zero}
+use Rattle.kdf_usercode.specs.declared.bytes.ByteAt.{ByteAt}
+use Rattle.kdf_usercode.specs.Comments.{closes, kept_from}
+
+abbrev pub is_closing : ℕ → Bool
+is_closing byte = eqb byte 41
 
 or-false : (a b : Bool) → (a || b) ≡ false → b ≡ false
 or-false true b e = absurd cc
 or-false false b e = e
 
--- where no `)` comes from a byte on, none comes behind it
-pub closes-behind : (i : ℕ) (text : List ℕ) → i < length text → closes (drop i text) ≡ false
-    → closes (drop (i + 1) text) ≡ false
-closes-behind i text lt none =
-    or-false (eqb (get_or text i 0) 41) (closes (drop (i + 1) text)) (sym (at_drop_more closes text i 0 lt) ∙ none)
+-- where no `)` comes, none comes behind
+pub closes-behind : (n : ℕ) (bytes : List ℕ) → closes bytes ≡ false → closes (drop n bytes) ≡ false
+closes-behind zero bytes none = none
+closes-behind (suc n) [] none = refl
+closes-behind (suc n) (b ∷ bytes) none = closes-behind n bytes (or-false (is_closing b) (closes bytes) none)
 
-kept_from-step : (inside : Bool) (i : ℕ) (text rest : List ℕ) → i < length text → rest ≡ drop (i + 1) text
-    → kept_from inside i (drop i text) ≡ cond (is_kept inside (get_or text i 0) rest) (record { at = i; byte = get_or text i 0 } ∷ []) [] ++ kept_from (inside_after inside (get_or text i 0) rest) (i + 1) (drop (i + 1) text)
-kept_from-step inside i text rest lt e = at_drop_more (kept_from inside i) text i 0 lt ∙ rw (← e) refl
+closes-from : (n : ℕ) (bytes : List ℕ) → is_some (position_from is_closing n bytes) ≡ closes bytes
+closes-from n [] = refl
+closes-from n (b ∷ bytes) =
+    elim (is_closing b) as (λ t. is_some (cond t (Some n) (position_from is_closing (n + 1) bytes)) ≡ (t || closes bytes)) [
+      | true ↦ refl
+      | false ↦ closes-from (n + 1) bytes
+    ]
 
--- the faults of the bytes from one on
-bytes_faults-step : (i : ℕ) (text : List ℕ) → i < length text
-    → bytes_faults i (drop i text) ≡ byte_faults i (get_or text i 0) ++ bytes_faults (i + 1) (drop (i + 1) text)
-bytes_faults-step i text lt = at_drop_more (bytes_faults i) text i 0 lt
+-- a `)` comes where there is a first one
+pub closes-position : (bytes : List ℕ) → closes bytes ≡ is_some (position is_closing bytes)
+closes-position bytes = sym (closes-from 0 bytes) ∙ ap is_some (sym (position_from-zero is_closing bytes))
 
--- the byte was seen
-pub seen : (i : ℕ) (len : ℕ) (text : List ℕ) (r r' : Reading) (p ahead : List ByteAt) (due : Result (List Statement) Found)
-    → i < length text
-    → ((piece : List ByteAt) (len : ℕ) (bad : List Found) (ahead : List ByteAt) → with_ahead r' piece len bad ahead ≡ with_ahead r piece len (byte_faults i (get_or text i 0) ++ bad) ahead)
-    → with_ahead r p len (bytes_faults i (drop i text)) ahead ≡ due
-    → with_ahead r' p len (bytes_faults (i + 1) (drop (i + 1) text)) ahead ≡ due
-seen i len text r r' p ahead due lt saw so_far =
-    saw p len (bytes_faults (i + 1) (drop (i + 1) text)) ahead
-    ∙ ap (λ x. with_ahead r p len x ahead) (sym (bytes_faults-step i text lt))
-    ∙ so_far
+position-is : (bytes : List ℕ) (end : ℕ) → position is_closing bytes ≡ Some end → end ≡ position_or_len is_closing bytes
+position-is bytes end e =
+    let p = position_or_len is_closing bytes in
+    ⊎_elim
+    (λ yes. let same : Some p ≡ Some end = sym (ap (λ b. cond b (Some p) None) yes) ∙ e in cc)
+    (λ none. let same : None ≡ Some end = sym (ap (λ b. cond b (Some p) None) none) ∙ e in absurd cc)
+    (cases_Bool (nat_lt p (length bytes)))
 
-pub goes-kept : (inside next kept : Bool) (i len : ℕ) (bad : List Found) (text rest : List ℕ) (r r' : Reading) (p p' : List ByteAt) (due : Result (List Statement) Found)
-    → i < length text → rest ≡ drop (i + 1) text → kept ≡ is_kept inside (get_or text i 0) rest
-    → next ≡ inside_after inside (get_or text i 0) rest → kept ≡ true
-    → ((len : ℕ) (bad : List Found) (ahead : List ByteAt) → with_ahead r' p' len bad ahead ≡ with_ahead r p len bad (record { at = i; byte = get_or text i 0 } ∷ ahead))
-    → with_ahead r p len bad (kept_from inside i (drop i text)) ≡ due
-    → with_ahead r' p' len bad (kept_from next (i + 1) (drop (i + 1) text)) ≡ due
-goes-kept inside next kept i len bad text rest r r' p p' due lt e k n stays took so_far =
-    let here : kept_from inside i (drop i text) ≡ record { at = i; byte = get_or text i 0 } ∷ kept_from next (i + 1) (drop (i + 1) text)
-    = kept_from-step inside i text rest lt e ∙ rw (← k, ← n, stays) refl in
-    took len bad (kept_from next (i + 1) (drop (i + 1) text)) ∙ ap (with_ahead r p len bad) (sym here) ∙ so_far
+same-kept : (m n : ℕ) (xs ys : List ℕ) → m ≡ n → xs ≡ ys → kept_from false m xs ≡ kept_from false n ys
+same-kept m n xs ys e f = ap (λ k. kept_from false k xs) e ∙ ap (kept_from false n) f
 
-pub goes-skipped : (inside next kept : Bool) (i len : ℕ) (bad : List Found) (text rest : List ℕ) (r : Reading) (p : List ByteAt) (due : Result (List Statement) Found)
-    → i < length text → rest ≡ drop (i + 1) text → kept ≡ is_kept inside (get_or text i 0) rest
-    → next ≡ inside_after inside (get_or text i 0) rest → kept ≡ false
-    → with_ahead r p len bad (kept_from inside i (drop i text)) ≡ due
-    → with_ahead r p len bad (kept_from next (i + 1) (drop (i + 1) text)) ≡ due
-goes-skipped inside next kept i len bad text rest r p due lt e k n goes so_far =
-    let here : kept_from inside i (drop i text) ≡ kept_from next (i + 1) (drop (i + 1) text)
-    = kept_from-step inside i text rest lt e ∙ rw (← k, ← n, goes) refl in
-    ap (with_ahead r p len bad) (sym here) ∙ so_far
+-- a comment goes to the first `)`
+inside : (at : ℕ) (bytes : List ℕ) → closes bytes ≡ true
+    → kept_from true at bytes ≡ kept_from false (at + (position_or_len is_closing bytes + 1)) (drop (position_or_len is_closing bytes + 1) bytes)
+inside at [] some = absurd cc
+inside at (b ∷ bytes) some =
+    let p = position_or_len is_closing bytes in
+    let n : Bool → ℕ = λ t. cond (not t) (1 + p) 0 + 1 in
+    elim (is_closing b) as (λ t. (t || closes bytes) ≡ true → kept_from (not t) (at + 1) bytes ≡ kept_from false (at + n t) (drop (n t) (b ∷ bytes))) [
+      | true ↦ λ _. refl
+      | false ↦ λ more. inside (at + 1) bytes more ∙
+          same-kept (at + 1 + (p + 1)) (at + n false) (drop (p + 1) bytes) (drop (n false) (b ∷ bytes)) (omega arith)
+          (let e : n false ≡ suc (p + 1) = omega arith in sym (ap (λ k. drop k (b ∷ bytes)) e))
+    ] some
 
--- behind the last byte nothing is to come
-pub at-end : (inside : Bool) (i : ℕ) (text : List ℕ) (r : Reading) (p : List ByteAt) (due : Result (List Statement) Found)
-    → length text ≤ i
-    → with_ahead r p (length text) (bytes_faults i (drop i text)) (kept_from inside i (drop i text)) ≡ due
-    → with_ahead r p (length text) [] [] ≡ due
-at-end inside i text r p due le e =
-    let nothing : drop i text ≡ [] = drop_of_length-le text le in
-    subst (λ (rest : List ℕ). with_ahead r p (length text) (bytes_faults i rest) (kept_from inside i rest) ≡ due) nothing e
+comment-at : (at end : ℕ) (bytes : List ℕ) → position is_closing (40 ∷ bytes) ≡ Some end
+    → kept_from false at (40 ∷ bytes) ≡ kept_from false (at + (end + 1)) (drop (end + 1) (40 ∷ bytes))
+comment-at at end bytes e =
+    let p = position_or_len is_closing bytes in
+    let some : closes bytes ≡ true = closes-position (40 ∷ bytes) ∙ ap is_some e in
+    let here : end ≡ 1 + p = position-is (40 ∷ bytes) end e in
+    let begun : kept_from false at (40 ∷ bytes) ≡ kept_from true (at + 1) bytes = rw some refl in
+    let n : end + 1 ≡ suc (p + 1) = omega arith in
+    begun ∙ inside (at + 1) bytes some
+    ∙ same-kept (at + 1 + (p + 1)) (at + (end + 1)) (drop (p + 1) bytes) (drop (end + 1) (40 ∷ bytes)) (omega arith) (sym (ap (λ k. drop k (40 ∷ bytes)) n))
+
+-- a comment that stands in front is gone
+pub comment-gone : (at end : ℕ) (bytes : List ℕ) → 0 < length bytes → get_or bytes 0 0 ≡ 40 → position is_closing bytes ≡ Some end
+    → kept_from false at bytes ≡ kept_from false (at + (end + 1)) (drop (end + 1) bytes)
+comment-gone at end [] some e found = absurd (omega arith)
+comment-gone at end (b ∷ bytes) some e found =
+    let P : ℕ → Type 0 = λ b. position is_closing (b ∷ bytes) ≡ Some end → kept_from false at (b ∷ bytes) ≡ kept_from false (at + (end + 1)) (drop (end + 1) (b ∷ bytes)) in
+    subst P (sym e) (comment-at at end bytes) found
+
+and-or : (x y z : Bool) → (x && (y || z)) ≡ false → (x && z) ≡ false
+and-or true true z e = absurd cc
+and-or true false z e = e
+and-or false y z e = refl
+
+blank : (s l : Bool) (b : ByteAt) → cond (not s && not l) (b ∷ []) [] ≡ cond (s || l) [] (b ∷ [])
+blank true l b = refl
+blank false true b = refl
+blank false false b = refl
+
+-- a byte that begins no comment stays, but for a space and a line end
+pub byte-passed : (at : ℕ) (bytes : List ℕ) → 0 < length bytes → (eqb (get_or bytes 0 0) 40 && closes bytes) ≡ false
+    → kept_from false at bytes ≡ cond (eqb (get_or bytes 0 0) 32 || eqb (get_or bytes 0 0) 10) [] (record { at = at; byte = get_or bytes 0 0 } ∷ []) ++ kept_from false (at + 1) (drop 1 bytes)
+byte-passed at [] some e = absurd (omega arith)
+byte-passed at (b ∷ bytes) some e =
+    let none : (eqb b 40 && closes bytes) ≡ false = and-or (eqb b 40) (is_closing b) (closes bytes) e in
+    let here : kept_from false at (b ∷ bytes) ≡ cond (not (eqb b 32) && not (eqb b 10)) (record { at = at; byte = b } ∷ []) [] ++ kept_from false (at + 1) bytes = rw none refl in
+    here ∙ ap (λ (x : List ByteAt). x ++ kept_from false (at + 1) bytes) (blank (eqb b 32) (eqb b 10) (record { at = at; byte = b }))

@@ -1,7 +1,7 @@
 -- What stays of a deck once comments, spaces and line ends are taken out.
 use Rattle.std.specs.Prelude.{ℕ, ◌+◌, Bool, true, false, not, ◌&&◌, ◌==◌, List, [], ◌∷◌, ◌++◌, if◌then◌else◌}
 use Rattle.std.specs.List.{list_any}
-use Rattle.kdf_usercode.specs.declared.comments.ByteAt.{ByteAt}
+use Rattle.kdf_usercode.specs.declared.bytes.ByteAt.{ByteAt}
 use Rattle.kdf_usercode.specs.Bytes.{line_end, space, opening, closing}
 
 -- a `)` stands in these bytes

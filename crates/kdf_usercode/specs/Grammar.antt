@@ -1,7 +1,7 @@
 -- The faults of a deck, and what it says.
-use Rattle.std.specs.Prelude.{ℕ, ◌+◌, ◌&&◌, ◌||◌, ◌==◌, nat_le, List, [], ◌∷◌, ◌++◌, length, if◌then◌else◌, Option, Some, None, Result, Ok, Err}
+use Rattle.std.specs.Prelude.{ℕ, Bool, ◌+◌, ◌&&◌, ◌||◌, ◌==◌, nat_le, List, [], ◌∷◌, ◌++◌, length, if◌then◌else◌, Option, Some, None, Result, Ok, Err}
 use Rattle.std.specs.List.{flat_map}
-use Rattle.kdf_usercode.specs.declared.comments.ByteAt.{ByteAt}
+use Rattle.kdf_usercode.specs.declared.bytes.ByteAt.{ByteAt}
 use Rattle.kdf_usercode.specs.declared.fault.DeckFault.{DeckFault}
 use Rattle.kdf_usercode.specs.declared.fault.DeckFault.TheVariants as faults
 use Rattle.kdf_usercode.specs.declared.forms.Form.{Form}
@@ -20,10 +20,11 @@ use Rattle.kdf_usercode.specs.Range.{range_faults}
 -- ---- bytes
 
 -- A deck has the bytes 20 to 7E hexadecimal and the line end.
+abbrev pub is_deck_byte : ℕ → Bool
+is_deck_byte byte = byte == line_end || (nat_le 0x20 byte && nat_le byte 0x7e)
+
 abbrev pub byte_faults : ℕ → ℕ → List Found
-byte_faults at byte =
-    if byte == line_end || (nat_le 0x20 byte && nat_le byte 0x7e) then []
-    else found faults.BadByte at ∷ []
+byte_faults at byte = if is_deck_byte byte then [] else found faults.BadByte at ∷ []
 
 -- the faults of all bytes, those in comments too
 abbrev pub bytes_faults : ℕ → List ℕ → List Found

@@ -22,3 +22,4 @@ pub mod Reading
 pub mod Rising
 pub mod WellFormed
 pub mod Examples
+pub mod Unread

@@ -1,7 +1,7 @@
 -- The statements of a deck, parsed.
 use Rattle.std.specs.Prelude.{ℕ, ◌==◌, List, [], ◌∷◌, Option, if◌then◌else◌}
 use Rattle.std.specs.List.{flat_map}
-use Rattle.kdf_usercode.specs.declared.comments.ByteAt.{ByteAt}
+use Rattle.kdf_usercode.specs.declared.bytes.ByteAt.{ByteAt}
 use Rattle.kdf_usercode.specs.declared.forms.Form.{Form}
 use Rattle.kdf_usercode.specs.Bytes.{star}
 use Rattle.kdf_usercode.specs.Pieces.{Cut, codes_of}

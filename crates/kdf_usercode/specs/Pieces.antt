@@ -1,6 +1,6 @@
 -- How a deck is cut into pieces, of which each becomes its statements.
 use Rattle.std.specs.Prelude.{ℕ, ◌==◌, List, [], ◌∷◌, ◌++◌, map, if◌then◌else◌}
-use Rattle.kdf_usercode.specs.declared.comments.ByteAt.{ByteAt}
+use Rattle.kdf_usercode.specs.declared.bytes.ByteAt.{ByteAt}
 use Rattle.kdf_usercode.specs.Bytes.{semicolon}
 
 -- A text cut at each `;`: the pieces that one ends, and what stands after the last.

@@ -1,7 +1,7 @@
 -- What a reader answers, and what comes of a deck that is partly read.
 use Rattle.std.specs.Prelude.{◌≡◌, ℕ, List, [], ◌∷◌, ◌++◌, Option, None, Result, Ok, Err}
 use Rattle.std.specs.List.{flat_map}
-use Rattle.kdf_usercode.specs.declared.comments.ByteAt.{ByteAt}
+use Rattle.kdf_usercode.specs.declared.bytes.ByteAt.{ByteAt}
 use Rattle.kdf_usercode.specs.declared.fault.DeckError.{DeckError}
 use Rattle.kdf_usercode.specs.declared.fault.DeckError.TheVariants as errors
 use Rattle.kdf_usercode.specs.declared.forms.Form.{Form}

@@ -1,18 +1,18 @@
 //! Reads a deck of Usercode: its statements with their places, or its first fault.
 //!
-//! A deck goes through these steps. Comments, spaces and line ends are taken out (`comments`), and what
+//! A deck goes through these steps. Comments, spaces and line ends are taken out (`unread`), and what
 //! stays is cut at each `;` into statements. A statement has a shape, in which each number is one `0`, and
 //! its numbers (`shape`). The shape tells the form (`forms`, with `orders`, `stores`, `jumps` and
 //! `constants`), the form tells the range of each number (`range`), and form and numbers tell what is said
 //! (`statement`). Where a form may stand is said by `phase`.
 //!
 //! What is wrong is listed as faults with their places, in any order, and the answer is the first of them.
-//! `read_deck` goes over the bytes once, and keeps the first fault so far, and the statements while there is
-//! none.
+//! `read_deck` looks for a byte that no deck may have, and then goes over what stays once. It keeps the first
+//! fault so far, and the statements while there is none.
 #![tactic(auto)]
 
+mod bytes;
 mod characters;
-mod comments;
 mod constants;
 pub mod examples;
 mod fault;
@@ -32,6 +32,7 @@ mod statement;
 mod stores;
 #[cfg(test)]
 mod tests;
+mod unread;
 
 pub use fault::{DeckError, DeckFault};
 pub use reader::read_deck;

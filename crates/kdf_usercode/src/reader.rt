@@ -1,15 +1,15 @@
-//! The reader: once over the bytes of a deck.
+//! The reader: over the bytes of a deck that stay.
 
 ghost use Rattle.std.specs.Prelude.{◌≤◌, length, IfOk};
 ghost use Rattle.kdf_usercode.specs.Grammar.{deck};
 ghost use Rattle.kdf_usercode.specs.Reading.{Gives};
 ghost use Rattle.kdf_usercode.specs.WellFormed.{IsWellFormed};
 
-use crate::comments::{ByteAt, Comments};
 use crate::fault::DeckError;
 use crate::phase::{Phase, Stage};
 use crate::reading::{Reading, Scratch};
 use crate::statement::Deck;
+use crate::unread::Unread;
 use std::alloc::Global;
 
 /// The statements of a deck with their places, or its first fault.
@@ -27,19 +27,12 @@ pub fn read_deck(alloc: Global, text: &[u8]) -> Result<Deck, DeckError>
         best: None,
         statements: Vec::new(alloc),
     };
-    let mut comments = Comments {
-        inside: false,
-        open: false,
-    };
+    reading.see(text);
     let mut piece = Vec::new(alloc);
     let mut scratch = Scratch::new(alloc);
-    for (i, byte) in text.iter().enumerate() {
-        let byte = *byte;
-        let at = i as u32;
-        reading.see(at, byte);
-        if comments.keeps(byte, &text[i + 1..]) {
-            reading.take(&mut piece, &mut scratch, ByteAt { at, byte })?;
-        }
+    let mut unread = Unread::new(text);
+    while let Some(kept) = unread.next_kept() {
+        reading.take(&mut piece, &mut scratch, kept)?;
     }
     reading.finish(&piece, text.len() as u32)
 }

@@ -1,14 +1,14 @@
 //! A deck that is partly read.
 
-ghost use Rattle.std.specs.Prelude.{◌≡◌, ℕ, List, [], ◌∷◌, ◌++◌, OnOk, if◌then◌else◌};
+ghost use Rattle.std.specs.Prelude.{◌≡◌, ℕ, ◌<◌, ◌^◌, List, [], ◌∷◌, ◌++◌, length, OnOk, if◌then◌else◌};
 ghost use Rattle.kdf_usercode.specs.Faults.{Found as FoundFault, lesser, least, founds};
 ghost use Rattle.kdf_usercode.specs.Parsed.{parsed, statements_in};
 ghost use Rattle.kdf_usercode.specs.Pieces.{codes_of};
 ghost use Rattle.kdf_usercode.specs.Phase.{is_in_place};
-ghost use Rattle.kdf_usercode.specs.Grammar.{byte_faults, comment_faults, at_first, end_faults};
+ghost use Rattle.kdf_usercode.specs.Grammar.{bytes_faults, comment_faults, at_first, end_faults};
 ghost use Rattle.kdf_usercode.specs.Reading.{ReadsForm, Reads, ReadsAll, Gives, with_ahead};
 
-use crate::comments::ByteAt;
+use crate::bytes::{ByteAt, first_bad};
 use crate::fault::{DeckError, DeckFault};
 use crate::forms::{Form, form_in, what_of, with_numbers, with_text};
 use crate::orders::formless;
@@ -35,7 +35,12 @@ pub struct Scratch {
 }
 
 impl Scratch {
-    pub fn new(alloc: Global) -> Self {
+    /// Room in which nothing stands.
+    pub fn new(alloc: Global) -> Self
+        ensures text { result.text.items ≡ [] }
+        ensures shape { result.parts.shape.items ≡ [] }
+        ensures numbers { result.parts.numbers.items ≡ [] }
+    {
         Scratch {
             text: Vec::new(alloc),
             parts: Parts {
@@ -53,14 +58,14 @@ fn with(best: Option<Found<DeckFault>>, fault: DeckFault, place: u32) -> Option<
     earlier(best, Found { fault, place })
 }
 
-/// The fault of a byte that no deck may have, after those before.
-fn with_byte(best: Option<Found<DeckFault>>, at: u32, byte: u8) -> Option<Found<DeckFault>>
-    ensures { result ≡ lesser best (least (byte_faults at byte)) }
+/// The fault of the first byte that no deck may have, after those before.
+fn with_bytes(best: Option<Found<DeckFault>>, text: &[u8]) -> Option<Found<DeckFault>>
+    requires { length text.now < 2 ^ 32 }
+    ensures { result ≡ lesser best (least (bytes_faults 0 text.now)) }
 {
-    if byte == b'\n' || (byte >= 0x20 && byte <= 0x7e) {
-        best
-    } else {
-        with(best, DeckFault::BadByte, at)
+    match first_bad(text) {
+        Some(at) => with(best, DeckFault::BadByte, at as u32),
+        None => best,
     }
 }
 
@@ -190,13 +195,14 @@ impl Reading {
         Ok(())
     }
 
-    /// A byte of the deck, whether it stays or not.
-    pub fn see(&mut self, at: u32, byte: u8)
+    /// Looks at all bytes of the deck, whether they stay or not.
+    pub fn see(&mut self, text: &[u8])
+        requires { length text.now < 2 ^ 32 }
         ensures { (piece : List ByteAt) (len : ℕ) (bad : List FoundFault) (ahead : List ByteAt) →
             with_ahead self.new piece len bad ahead
-            ≡ with_ahead self.old piece len (byte_faults at byte ++ bad) ahead }
+            ≡ with_ahead self.old piece len (bytes_faults 0 text.now ++ bad) ahead }
     {
-        self.best = with_byte(self.best, at, byte);
+        self.best = with_bytes(self.best, text);
     }
 
     /// A byte that stays.

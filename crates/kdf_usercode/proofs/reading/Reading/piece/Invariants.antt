@@ -1,5 +1,5 @@
 use Rattle.std.proofs.Common.{◌≡◌, ℕ, List, ◌++◌, drop}
-use Rattle.kdf_usercode.specs.declared.comments.ByteAt.{ByteAt}
+use Rattle.kdf_usercode.specs.declared.bytes.ByteAt.{ByteAt}
 use Rattle.kdf_usercode.specs.Faults.{Found}
 use Rattle.kdf_usercode.specs.Parsed.{Parsed, statements_in}
 use Rattle.kdf_usercode.specs.Reading.{comes}
