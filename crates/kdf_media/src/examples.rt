@@ -26,6 +26,8 @@ pub fn read_on()
         ≡ reader (letters 8) 8 false }
     ensures message { after_read false 1 (reader (message 3 8) 0 false)
         ≡ reader (message 3 8) 8 false }
+    ensures message_partial { after_read false 2 (reader (message 3 0) 0 false)
+        ≡ reader (message 3 0) 4 true }
 {}
 
 /// PREQ: no End Message, one as the first and as the last character of a word, one in the last word, one as the last character of the

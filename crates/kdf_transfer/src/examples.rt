@@ -77,6 +77,8 @@ pub fn prq()
         ≡ leaves ((4, all_a) ∷ (5, all_b) ∷ []) (placed 16 false) }
     ensures message { reads Prq 1 (paper (message 1 8)) (placed 0 false)
         ≡ leaves ((4, 0o4175424242424242) ∷ []) (placed 8 false) }
+    ensures more_with_message { reads Prq 2 (paper (message 3 0)) (placed 0 false)
+        ≡ leaves ((4, 0o4141417500000000) ∷ []) (placed 4 true) }
     ensures stays { stored Prq 1 2 (1 ∷ 2 ∷ 3 ∷ 4 ∷ []) (paper (letters 8)) (placed 0 false)
         ≡ 1 ∷ all_a ∷ 3 ∷ 4 ∷ [] }
 {}
@@ -283,6 +285,9 @@ pub fn mfrq()
         ≡ leaves ((4, 4) ∷ (5, 5) ∷ (6, 6) ∷ []) (winding blocks 3 false false) }
     ensures mark_goes_at_end { reads Mfrq 2 reel (winding blocks 3 false true)
         ≡ leaves [] (winding blocks 3 true false) }
+    ensures message { reads Mfrq 2 reel (winding (block (61 ∷ 1 ∷ []) false ∷ []) 0 false false)
+        ≡ leaves ((4, 61) ∷ (5, 1) ∷ [])
+        (winding (block (61 ∷ 1 ∷ []) false ∷ []) 1 false false) }
     ensures stays { stored Mfrq 1 3 (10 ∷ 11 ∷ 12 ∷ 13 ∷ 14 ∷ []) reel
         (winding blocks 0 false false)
         ≡ 10 ∷ 1 ∷ 2 ∷ 13 ∷ 14 ∷ [] }
@@ -313,6 +318,9 @@ pub fn mbrq()
         ≡ leaves ((5, 2) ∷ (4, 1) ∷ []) (winding blocks 0 false false) }
     ensures mark_goes_at_begin { reads Mbrq 2 reel (winding blocks 0 false true)
         ≡ leaves [] (winding blocks 0 true false) }
+    ensures message { reads Mbrq 2 reel (winding (block (1 ∷ 61 ∷ []) false ∷ []) 1 false false)
+        ≡ leaves ((5, 61) ∷ (4, 1) ∷ [])
+        (winding (block (1 ∷ 61 ∷ []) false ∷ []) 0 false false) }
     ensures stays { stored Mbrq 1 3 (10 ∷ 11 ∷ 12 ∷ 13 ∷ 14 ∷ []) reel
         (winding blocks 1 false false)
         ≡ 10 ∷ 11 ∷ 1 ∷ 2 ∷ 14 ∷ [] }
@@ -320,8 +328,8 @@ pub fn mbrq()
 
 /// MWQ: all words of the area, as the last block, which has no mark.
 pub fn mwq()
-    ensures empty { writes Mwq (1 ∷ 61 ∷ []) reel (winding [] 0 false false)
-        ≡ leaves ((4, 1) ∷ (5, 61) ∷ []) (winding (block (1 ∷ 61 ∷ []) false ∷ []) 1 false false) }
+    ensures empty { writes Mwq (8 ∷ 9 ∷ []) reel (winding [] 0 false false)
+        ≡ leaves ((4, 8) ∷ (5, 9) ∷ []) (winding (block (8 ∷ 9 ∷ []) false ∷ []) 1 false false) }
     ensures at_begin { writes Mwq (9 ∷ []) reel (winding blocks 0 false false)
         ≡ leaves ((4, 9) ∷ []) (winding (block (9 ∷ []) false ∷ []) 1 false false) }
     ensures midst { writes Mwq (9 ∷ []) reel (winding blocks 1 false false)
@@ -337,6 +345,8 @@ pub fn mwq()
         ≡ leaves ((4, 9) ∷ []) (winding (block (9 ∷ []) false ∷ []) 1 false false) }
     ensures mark_goes { writes Mwq (9 ∷ []) reel (winding [] 0 false true)
         ≡ leaves ((4, 9) ∷ []) (winding (block (9 ∷ []) false ∷ []) 1 false false) }
+    ensures message { writes Mwq (61 ∷ 1 ∷ []) reel (winding [] 0 false false)
+        ≡ leaves ((4, 61) ∷ (5, 1) ∷ []) (winding (block (61 ∷ 1 ∷ []) false ∷ []) 1 false false) }
     ensures area { order_words Mwq 1 2 (1 ∷ 2 ∷ 3 ∷ 4 ∷ []) ≡ 2 ∷ 3 ∷ [] }
     ensures stays { stored Mwq 1 2 (1 ∷ 2 ∷ 3 ∷ 4 ∷ []) reel (winding blocks 1 false false)
         ≡ 1 ∷ 2 ∷ 3 ∷ 4 ∷ [] }
@@ -344,8 +354,8 @@ pub fn mwq()
 
 /// MLWQ: as MWQ, and the block and the tape have the mark.
 pub fn mlwq()
-    ensures empty { writes Mlwq (1 ∷ 61 ∷ []) reel (winding [] 0 false false)
-        ≡ leaves ((4, 1) ∷ (5, 61) ∷ []) (winding (block (1 ∷ 61 ∷ []) true ∷ []) 1 false true) }
+    ensures empty { writes Mlwq (8 ∷ 9 ∷ []) reel (winding [] 0 false false)
+        ≡ leaves ((4, 8) ∷ (5, 9) ∷ []) (winding (block (8 ∷ 9 ∷ []) true ∷ []) 1 false true) }
     ensures at_begin { writes Mlwq (9 ∷ []) reel (winding blocks 0 false false)
         ≡ leaves ((4, 9) ∷ []) (winding (block (9 ∷ []) true ∷ []) 1 false true) }
     ensures midst { writes Mlwq (9 ∷ []) reel (winding blocks 1 false false)
@@ -359,6 +369,8 @@ pub fn mlwq()
         (block (9 ∷ []) true ∷ block (8 ∷ []) true ∷ []) 2 false true) }
     ensures flag_goes { writes Mlwq (9 ∷ []) reel (winding [] 0 true false)
         ≡ leaves ((4, 9) ∷ []) (winding (block (9 ∷ []) true ∷ []) 1 false true) }
+    ensures message { writes Mlwq (61 ∷ 1 ∷ []) reel (winding [] 0 false false)
+        ≡ leaves ((4, 61) ∷ (5, 1) ∷ []) (winding (block (61 ∷ 1 ∷ []) true ∷ []) 1 false true) }
     ensures area { order_words Mlwq 1 2 (1 ∷ 2 ∷ 3 ∷ 4 ∷ []) ≡ 2 ∷ 3 ∷ [] }
     ensures stays { stored Mlwq 1 2 (1 ∷ 2 ∷ 3 ∷ 4 ∷ []) reel (winding blocks 1 false false)
         ≡ 1 ∷ 2 ∷ 3 ∷ 4 ∷ [] }
