@@ -15,20 +15,31 @@ pub fn read_on()
         ≡ reader (letters 12) 12 true }
     ensures fewer { after_read false 2 (reader (letters 8) 0 false) ≡ reader (letters 8) 8 true }
     ensures empty { after_read false 2 (reader [] 0 false) ≡ reader [] 0 true }
-    ensures second { after_read false 1 (reader (letters 20) 8 false)
+    ensures second { after_read false 1 (after_read false 1 (reader (letters 20) 0 false))
         ≡ reader (letters 20) 16 false }
+    ensures second_partial { after_read false 1 (reader (letters 20) 16 false)
+        ≡ reader (letters 20) 20 true }
+    ensures fills_two { after_read false 2 (reader (letters 16) 0 false)
+        ≡ reader (letters 16) 16 false }
     ensures at_end { after_read false 1 (reader (letters 8) 8 false) ≡ reader (letters 8) 8 true }
     ensures flag_goes { after_read false 1 (reader (letters 8) 0 true)
         ≡ reader (letters 8) 8 false }
     ensures message { after_read false 1 (reader (message 3 8) 0 false)
         ≡ reader (message 3 8) 8 false }
+    ensures message_partial { after_read false 2 (reader (message 3 0) 0 false)
+        ≡ reader (message 3 0) 4 true }
 {}
 
-/// PREQ: no End Message, one as the first and as the last character of a word, one in the last word, and one behind the area.
+/// PREQ: no End Message, one as the first and as the last character of a word, one in the last word, one as the last character of the
+/// medium, and one behind the area.
 pub fn read_to_end_message()
     ensures absent { after_read true 2 (reader (letters 12) 0 false) ≡ reader (letters 12) 12 true }
     ensures absent_full { after_read true 1 (reader (letters 12) 0 false)
         ≡ reader (letters 12) 8 false }
+    ensures absent_as_many { after_read true 2 (reader (letters 16) 0 false)
+        ≡ reader (letters 16) 16 false }
+    ensures absent_fewer { after_read true 3 (reader (letters 16) 0 false)
+        ≡ reader (letters 16) 16 true }
     ensures first { after_read true 2 (reader (message 0 12) 0 false)
         ≡ reader (message 0 12) 1 false }
     ensures last { after_read true 2 (reader (message 7 8) 0 false) ≡ reader (message 7 8) 8 false }
@@ -36,11 +47,17 @@ pub fn read_to_end_message()
         ≡ reader (message 10 8) 11 false }
     ensures last_of_area { after_read true 2 (reader (message 15 0) 0 false)
         ≡ reader (message 15 0) 16 false }
+    ensures last_of_medium { after_read true 2 (reader (message 3 0) 0 false)
+        ≡ reader (message 3 0) 4 false }
     ensures behind { after_read true 1 (reader (message 8 4) 0 false)
         ≡ reader (message 8 4) 8 false }
     ensures empty { after_read true 2 (reader [] 0 false) ≡ reader [] 0 true }
     ensures second { after_read true 2 (reader (message 2 4) 3 false)
         ≡ reader (message 2 4) 7 true }
+    ensures second_message { after_read true 2 (reader (message 2 2 ++ message 1 4) 3 false)
+        ≡ reader (message 2 2 ++ message 1 4) 7 false }
+    ensures at_end { after_read true 2 (reader (message 2 0) 3 false)
+        ≡ reader (message 2 0) 3 true }
     ensures flag_goes { after_read true 2 (reader (message 2 4) 0 true)
         ≡ reader (message 2 4) 3 false }
 {}
@@ -54,6 +71,7 @@ pub fn words_of_paper_tape()
     ensures second { words_of (drop 8 (letters 12)) ≡ 0x861861000000 ∷ [] }
     ensures stopped { words_of (through_end (message 1 20)) ≡ 0x87d000000000 ∷ [] }
     ensures first { words_of (through_end (message 0 20)) ≡ 0xf40000000000 ∷ [] }
+    ensures last { words_of (through_end (message 7 20)) ≡ 0x86186186187d ∷ [] }
     ensures second_word { words_of (through_end (message 8 20))
         ≡ 0x861861861861 ∷ 0xf40000000000 ∷ [] }
     ensures absent { words_of (through_end (letters 8)) ≡ 0x861861861861 ∷ [] }
@@ -63,6 +81,9 @@ pub fn words_of_paper_tape()
 /// CRQ: the ten words of the next card, of which an area takes the first, and none without a card.
 pub fn cards()
     ensures ten { card_words 0 (letters 80 ∷ []) ≡ replicate 10 0x861861861861 }
+    ensures first_words { take 2 (card_words 0 ((letters 8 ++ replicate 72 34) ∷ []))
+        ≡ 0x861861861861 ∷ 0x8a28a28a28a2 ∷ [] }
+    ensures as_many { take 10 (card_words 0 (letters 80 ∷ [])) ≡ replicate 10 0x861861861861 }
     ensures next { card_words 1 (letters 80 ∷ replicate 80 0 ∷ []) ≡ replicate 10 0 }
     ensures fewer { take 3 (card_words 0 (letters 80 ∷ [])) ≡ replicate 3 0x861861861861 }
     ensures more { take 12 (card_words 0 (letters 80 ∷ [])) ≡ replicate 10 0x861861861861 }
@@ -83,10 +104,14 @@ pub fn written()
     ensures last { through_end_word (1 ∷ 61 ∷ 3 ∷ []) ≡ 1 ∷ 61 ∷ [] }
     ensures last_word { through_end_word (1 ∷ 2 ∷ 0xf40000000000 ∷ [])
         ≡ 1 ∷ 2 ∷ 0xf40000000000 ∷ [] }
+    ensures last_of_last_word { through_end_word (1 ∷ 2 ∷ 61 ∷ []) ≡ 1 ∷ 2 ∷ 61 ∷ [] }
+    ensures first_of_two { through_end_word (1 ∷ 61 ∷ 0xf40000000000 ∷ []) ≡ 1 ∷ 61 ∷ [] }
+    ensures no_word { through_end_word [] ≡ [] }
     ensures characters { through_end (codes_of_all (0 ∷ 0xf40000000000 ∷ []))
         ≡ replicate 8 0 ++ 61 ∷ [] }
     ensures all { through_end (codes_of_all (0x861861861861 ∷ [])) ≡ letters 8 }
     ensures to_last { through_end (codes_of_all (61 ∷ 0 ∷ [])) ≡ replicate 7 0 ++ 61 ∷ [] }
+    ensures first_of_two_characters { through_end (message 1 2 ++ message 0 1) ≡ message 1 0 }
     ensures empty { through_end [] ≡ [] }
 {}
 
@@ -96,8 +121,13 @@ pub fn lines()
     ensures cut { printed (letters 161) ≡ letters 160 }
     ensures each_run { printed (letters 161 ++ 2 ∷ letters 161) ≡ letters 160 ++ 2 ∷ letters 160 }
     ensures ends { printed (2 ∷ 2 ∷ letters 3 ++ 2 ∷ []) ≡ 2 ∷ 2 ∷ letters 3 ++ 2 ∷ [] }
+    ensures second_run { printed (letters 7 ++ 2 ∷ letters 170) ≡ letters 7 ++ 2 ∷ letters 160 }
     ensures page { printed (letters 100 ++ 3 ∷ letters 100) ≡ letters 100 ++ 3 ∷ letters 59 }
     ensures empty { printed [] ≡ [] }
     ensures message { printed (through_end (message 5 9)) ≡ letters 5 ++ 61 ∷ [] }
     ensures message_cut { printed (through_end (message 160 3 ++ 2 ∷ letters 3)) ≡ letters 160 }
+    ensures message_before_cut { printed (through_end (message 160 0 ++ 2 ∷ message 0 3))
+        ≡ letters 160 }
+    ensures message_in_next_run { printed (through_end (letters 161 ++ 2 ∷ message 2 3))
+        ≡ letters 160 ++ 2 ∷ message 2 0 }
 {}
