@@ -1,7 +1,30 @@
 //! Groups go out and come back with their words, and those that are out are refused.
+ghost use Rattle.std.specs.Prelude.{◌≡◌, length, IfOk};
+
 use crate::{Locked, Store};
 use kdf_word::Word;
+use std::alloc::{AllocError, Global};
 use std::test::Fail;
+
+/// A store of four groups, by a second call where memory is refused to the first.
+fn store(alloc: Global) -> Result<Store, AllocError>
+    ensures { IfOk result (λ s. length s ≡ 4) }
+{
+    match Store::new(alloc, 4) {
+        Ok(store) => Ok(store),
+        Err(_) => Store::new(alloc, 4),
+    }
+}
+
+#[test]
+fn a_new_store(rt: HostRuntime) -> Result<(), Fail> {
+    let store = store(rt.alloc())?;
+    for place in 0..128 {
+        assert_eq!(rt; store.read(place), Ok(Word::default()));
+    }
+    assert_eq!(rt; store.first_out(0, 127), None);
+    Ok(())
+}
 
 #[test]
 #[tactic(auto, using(crate::proofs::Readings::out_still))]

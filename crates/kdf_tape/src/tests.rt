@@ -4,6 +4,7 @@ ghost use Rattle.std.specs.Prelude.{◌≡◌, ◌<◌, All, length, IfOk};
 use crate::{MagTape, TapeBlock};
 use kdf_word::Word;
 use std::alloc::{AllocError, Global};
+use std::process::Abort;
 use std::test::Fail;
 
 /// These codes, modulo 64.
@@ -12,7 +13,7 @@ fn codes(alloc: Global, from: &[u8]) -> Result<Vec<u8>, AllocError>
     ensures small { IfOk result (λ v. All (λ c. c < 64) v.items) }
     ensures many { IfOk result (λ v. length v.items ≡ length from.now) }
 {
-    let mut codes = Vec::new(alloc);
+    let mut codes = Vec::with_capacity(alloc, from.len())?;
     for code in from {
         codes.push(*code % 64)?;
     }
@@ -55,8 +56,48 @@ fn one_block(rt: HostRuntime) -> Result<(), Fail> {
     assert_eq!(rt; (tape.place(), tape.flag(), tape.mark()), (0, false, true));
     tape.rewind();
     assert_eq!(rt; (tape.place(), tape.flag(), tape.mark()), (0, false, false));
-    let other = tape.copy(rt.alloc())?;
-    assert_eq!(rt; (other.place(), other.blocks().len()), (0, 1));
+    Ok(())
+}
+
+/// A tape of four blocks, of which three are passed.
+fn reel(alloc: Global) -> Result<MagTape, AllocError> {
+    let mut blocks = Vec::with_capacity(alloc, 4)?;
+    for words in 0..4 {
+        blocks.push(block(alloc, words, words == 2)?)?;
+    }
+    let mut tape = MagTape::new(Word::new(5), blocks);
+    tape.finish_skip(3, true);
+    Ok(tape)
+}
+
+/// Fails unless a tape has four blocks, of which three are passed.
+fn assert_reel(rt: &impl Abort, tape: &MagTape) {
+    assert_eq!(rt;
+        (tape.label(), tape.place(), tape.flag(), tape.mark()),
+        (Word::new(5), 3, false, true)
+    );
+    assert_eq!(rt; tape.blocks().len(), 4);
+    for (words, block) in tape.blocks().iter().enumerate() {
+        assert_eq!(rt; (block.len(), block.mark()), (words, words == 2));
+    }
+}
+
+/// A copy has the same state, and room for a block changes nothing; so does a refusal, behind which a second call has the memory.
+#[test]
+fn copy_and_room(rt: HostRuntime) -> Result<(), Fail> {
+    let mut tape = reel(rt.alloc())?;
+    match tape.copy(rt.alloc()) {
+        Ok(other) => assert_reel(&rt, &other),
+        Err(_) => {
+            assert_reel(&rt, &tape);
+            assert_reel(&rt, &tape.copy(rt.alloc())?);
+        }
+    }
+    if tape.reserve().is_err() {
+        assert_reel(&rt, &tape);
+        tape.reserve()?;
+    }
+    assert_reel(&rt, &tape);
     Ok(())
 }
 
@@ -64,10 +105,7 @@ fn one_block(rt: HostRuntime) -> Result<(), Fail> {
 fn writing(rt: HostRuntime) -> Result<(), Fail> {
     let mut tape = MagTape::new(Word::new(5), Vec::new(rt.alloc()));
     let (first, second) = (block(rt.alloc(), 1, true)?, block(rt.alloc(), 2, false)?);
-    if tape.reserve().is_err() {
-        assert_eq!(rt; (tape.place(), tape.blocks().len()), (0, 0));
-        return Ok(());
-    }
+    tape.reserve()?;
     tape.finish_write(first);
     assert_eq!(rt; (tape.place(), tape.flag(), tape.mark()), (1, false, true));
     tape.rewind();

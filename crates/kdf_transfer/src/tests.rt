@@ -1,7 +1,12 @@
 //! Whole transfers of devices of each kind.
 ghost use Rattle.std.specs.Prelude.{◌≡◌, ◌<◌, All, length, IfOk};
 
-use crate::{Area, Device, Ring, TransferOrder, at_once};
+mod bench;
+mod cuts;
+mod memory;
+
+use self::bench::assert_same;
+use crate::{Area, Device, TransferOrder, at_once};
 use kdf_journal::Kind;
 use kdf_media::{Cards, Printer, Punch, Reader};
 use kdf_tape::MagTape;
@@ -14,6 +19,9 @@ const EIGHT: u64 = 0x8618_6186_1861;
 
 const FOUR: u64 = 0x8618_6100_0000;
 
+/// Five letters A, End Message, a new line, and a letter A.
+const ENDING: u64 = 0x8618_6187_d0a1;
+
 /// The area of two words in the midst of a list.
 const AREA: Area = Area { first: 1, last: 2 };
 
@@ -23,7 +31,7 @@ fn codes(alloc: Global, from: &[u8]) -> Result<Vec<u8>, AllocError>
     ensures small { IfOk result (λ v. All (λ c. c < 64) v.items) }
     ensures many { IfOk result (λ v. length v.items ≡ length from.now) }
 {
-    let mut codes = Vec::new(alloc);
+    let mut codes = Vec::with_capacity(alloc, from.len())?;
     for code in from {
         codes.push(*code % 64)?;
     }
@@ -36,13 +44,6 @@ fn kinds(rt: HostRuntime) {
     assert_eq!(rt; TransferOrder::Mfskq(3).kind(), Kind::Mt);
     assert!(rt; TransferOrder::Mbrq.is_backward() && TransferOrder::Mbrq.has_area());
     assert!(rt; !TransferOrder::Mrwdq.has_area());
-}
-
-#[test]
-fn a_ring(rt: HostRuntime) -> Result<(), Fail> {
-    let ring = Ring::new(rt.alloc())?;
-    assert_eq!(rt; (ring.len(), ring.is_empty()), (0, true));
-    Ok(())
 }
 
 #[test]
@@ -124,6 +125,24 @@ fn prints(rt: HostRuntime) -> Result<(), Fail> {
         (other.kind(), other.place(), other.flag()),
         (Kind::Lp, 1, false)
     );
+    Ok(())
+}
+
+/// An End Message behind the 160 characters that are printed of a line ends the block all the same.
+#[test]
+fn prints_a_long_line(rt: HostRuntime) -> Result<(), Fail> {
+    let mut printer = Printer::new(rt.alloc());
+    printer.reserve()?;
+    let mut device = Device::Lp(printer);
+    let mut words = [Word::new(EIGHT); 22];
+    words[20] = Word::new(ENDING);
+    let area = Area { first: 0, last: 21 };
+    let block = Vec::with_capacity(rt.alloc(), 176)?;
+    at_once(&mut device, TransferOrder::Lpeq, area, &mut words, block);
+    let mut due = Printer::new(rt.alloc());
+    due.reserve()?;
+    due.finish(codes(rt.alloc(), &[0o41; 160])?);
+    assert_same(&rt, &device, &Device::Lp(due));
     Ok(())
 }
 
