@@ -1,0 +1,9 @@
+pub mod Limits
+pub mod Job
+pub mod Faults
+pub mod Media
+pub mod Forms
+pub mod Draft
+pub mod Reading
+pub mod Shows
+pub mod WellFormed

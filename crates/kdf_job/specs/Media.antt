@@ -1,0 +1,88 @@
+-- Labels, and what a medium line adds to a device.
+use Rattle.std.specs.Prelude.{ℕ, ◌-◌, ◌==◌, ◌&&◌, ◌||◌, not, nat_le, nat_lt, Bool, false, List, [], ◌∷◌, ◌++◌, length, replicate, Option, Some, None, if◌then◌else◌}
+use Rattle.std.specs.List.{list_all}
+use Rattle.std.specs.Option.{option_map}
+use Rattle.kdf_code.specs.Code.{code_of}
+use Rattle.kdf_word.specs.Characters.{first_word, words_of}
+use Rattle.kdf_journal.specs.declared.kind.Kind.{Kind}
+use Rattle.kdf_journal.specs.declared.kind.Kind.TheVariants.{Tr, Tp, Cr, Lp, Mt}
+use Rattle.kdf_transfer.specs.Devices.{Fixture, Progress}
+use Rattle.kdf_job.specs.Job.{JobDevice}
+use Rattle.kdf_job.specs.Limits.{card_length, longest_block}
+
+-- the code of each byte of a text, if each has one
+abbrev pub with_code : Option ℕ → Option (List ℕ) → Option (List ℕ)
+with_code (Some code) (Some codes) = Some (code ∷ codes)
+with_code _ _ = None
+
+unfoldable pub codes_in : List ℕ → Option (List ℕ)
+codes_in [] = Some []
+codes_in (byte ∷ bytes) = with_code (code_of byte) (codes_in bytes)
+
+-- a letter A to Z, or a digit
+abbrev pub is_label_byte : ℕ → Bool
+is_label_byte byte = nat_le 65 byte && nat_le byte 90 || nat_le 48 byte && nat_le byte 57
+
+-- 1 to 8 of them
+abbrev pub is_label : List ℕ → Bool
+is_label text = nat_le 1 (length text) && nat_le (length text) 8 && list_all is_label_byte text
+
+-- the word of a text's characters
+abbrev pub word_of_codes : Option (List ℕ) → ℕ
+word_of_codes None = 0
+word_of_codes (Some codes) = first_word codes
+
+abbrev pub word_of_text : List ℕ → ℕ
+word_of_text text = word_of_codes (codes_in text)
+
+-- a device at the start, before its medium; a label counts for magnetic tape alone
+abbrev pub label_word : Kind → List ℕ → ℕ
+label_word Mt label = word_of_text label
+label_word _ label = 0
+
+abbrev pub new_device : ℕ → Kind → List ℕ → JobDevice
+new_device d kind label =
+    record {
+      d = d;
+      fixture = record { kind = kind; label = label_word kind label; codes = []; cards = [] };
+      progress = record { place = 0; flag = false; mark = false; blocks = []; recorded = [] };
+    }
+
+-- characters of a card, with spaces behind them
+abbrev pub card_of : List ℕ → List ℕ
+card_of codes = codes ++ replicate (card_length - length codes) 0
+
+-- the device with these characters more on its paper tape, or with one card more, or with one block more
+abbrev pub with_characters : List ℕ → JobDevice → JobDevice
+with_characters codes x =
+    record x { fixture = record x.fixture { codes = x.fixture.codes ++ codes } }
+
+abbrev pub with_card : List ℕ → JobDevice → JobDevice
+with_card codes x =
+    record x { fixture = record x.fixture { cards = x.fixture.cards ++ card_of codes ∷ [] } }
+
+abbrev pub with_block : List ℕ → Bool → JobDevice → JobDevice
+with_block codes marked x =
+    record x {
+      progress = record x.progress {
+        recorded = x.progress.recorded ++ record { words = words_of codes; mark = marked } ∷ [] } }
+
+-- what a line of these characters adds, by the kind of the device: none where it can't stand there.
+-- A line is marked where it begins with `=`
+abbrev pub with_codes : Kind → Bool → List ℕ → JobDevice → Option JobDevice
+with_codes Tr marked codes x = if marked then None else Some (with_characters codes x)
+with_codes Tp marked codes x = None
+with_codes Cr marked codes x =
+    if not marked && nat_le (length codes) card_length then Some (with_card codes x) else None
+with_codes Lp marked codes x = None
+with_codes Mt marked codes x =
+    if nat_le 1 (length codes) && nat_le (length codes) longest_block
+    then Some (with_block codes marked x) else None
+
+abbrev pub with_medium_codes : Bool → Option (List ℕ) → JobDevice → Option JobDevice
+with_medium_codes marked None x = None
+with_medium_codes marked (Some codes) x = with_codes x.fixture.kind marked codes x
+
+-- the device with a medium line more, or none where the line is no medium of it
+abbrev pub with_medium : Bool → List ℕ → JobDevice → Option JobDevice
+with_medium marked text x = with_medium_codes marked (codes_in text) x
