@@ -1,6 +1,5 @@
 -- A job: its slots, each with its deck and its devices, and the schedule.
-use Rattle.std.specs.Prelude.{ℕ, List, [], length, false}
-use Rattle.kdf_journal.specs.declared.kind.Kind.{Kind}
+use Rattle.std.specs.Prelude.{ℕ, List}
 use Rattle.kdf_schedule.specs.declared.event.Event.{Event}
 use Rattle.kdf_transfer.specs.Devices.{Fixture, Progress}
 

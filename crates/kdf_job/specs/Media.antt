@@ -1,7 +1,6 @@
 -- Labels, and what a medium line adds to a device.
 use Rattle.std.specs.Prelude.{ℕ, ◌-◌, ◌==◌, ◌&&◌, ◌||◌, not, nat_le, nat_lt, Bool, false, List, [], ◌∷◌, ◌++◌, length, replicate, Option, Some, None, if◌then◌else◌}
 use Rattle.std.specs.List.{list_all}
-use Rattle.std.specs.Option.{option_map}
 use Rattle.kdf_code.specs.Code.{code_of}
 use Rattle.kdf_word.specs.Characters.{first_word, words_of}
 use Rattle.kdf_journal.specs.declared.kind.Kind.{Kind}

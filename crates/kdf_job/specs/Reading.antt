@@ -1,12 +1,14 @@
 -- The first faulty line of a job, and the job that lines without a fault tell.
 use Rattle.std.specs.Prelude.{◌≡◌, ℕ, ◌+◌, List, [], ◌∷◌, Option, Some, None, Result, Ok, Err}
 use Rattle.kdf_text.specs.Lines.{lines}
+use Rattle.kdf_job.specs.declared.place.Place.{Place}
+use Rattle.kdf_job.specs.declared.place.Place.TheVariants.{First, BehindEnd}
 use Rattle.kdf_job.specs.declared.fault.JobError.{JobError}
 use Rattle.kdf_job.specs.declared.fault.JobError.TheVariants.{Fault, Memory}
 use Rattle.kdf_job.specs.declared.fault.JobFault.{JobFault}
 use Rattle.kdf_job.specs.declared.fault.JobFault.TheVariants.{Header, BadLine}
 use Rattle.kdf_job.specs.Draft.{Draft, blank, with_line, fault_of, job_of}
-use Rattle.kdf_job.specs.Forms.{Form, Place, First, BehindEnd, told_at}
+use Rattle.kdf_job.specs.Forms.{Form, told_at}
 use Rattle.kdf_job.specs.Job.{Job}
 
 -- the draft with a line of this form more, or what is wrong with it

@@ -1,5 +1,9 @@
 -- What the types of the code show: the definitions' records.
-use Rattle.std.specs.Prelude.{ℕ, map}
+use Rattle.std.specs.Prelude.{ℕ, map, Option, Some, None, Result, Ok}
+use Rattle.kdf_job.specs.declared.fault.JobFault.{JobFault}
+use Rattle.kdf_job.specs.declared.forms.DeviceLine.{DeviceLine}
+use Rattle.kdf_job.specs.declared.forms.MediumLine.{MediumLine}
+use Rattle.kdf_job.specs.Forms.{ADevice, AMedium, Told, told}
 use Rattle.kdf_transfer.specs.declared.device.Device.{Device}
 use Rattle.kdf_transfer.specs.Devices.{fixture_of, progress_of}
 use Rattle.kdf_job.specs.declared.job.Job.{Job as ReadJob}
@@ -21,3 +25,12 @@ shown_slot s =
 
 abbrev pub shown_job : ReadJob → Job
 shown_job j = record { slots = map shown_slot j.slots.items; events = j.events.items }
+
+-- what a line of a device tells
+abbrev pub told_device : Option (Result DeviceLine JobFault) → Told
+told_device line = told (λ (x : DeviceLine). ADevice x.d x.kind x.label.now) line
+
+-- what a line of a medium tells
+abbrev pub told_line : Option MediumLine → Told
+told_line None = None
+told_line (Some x) = Some (Ok (AMedium x.marked x.text.now))

@@ -1,10 +1,12 @@
 //! The text of a job: its slots with their decks, devices and what is shown of them, and the schedule.
 #![tactic(auto)]
 
+pub mod examples;
 mod fault;
+mod forms;
 mod job;
-mod reader;
+mod place;
 
 pub use fault::{JobError, JobFault};
 pub use job::{Job, SlotJob, TEXT_LIMIT};
-pub use reader::read_job;
+pub use place::Place;
