@@ -2,6 +2,7 @@ pub mod Limits
 pub mod Job
 pub mod Faults
 pub mod Media
+pub mod Adding
 pub mod Forms
 pub mod Draft
 pub mod Reading

@@ -1,5 +1,5 @@
 -- Labels, and what a medium line adds to a device.
-use Rattle.std.specs.Prelude.{ℕ, ◌-◌, ◌==◌, ◌&&◌, ◌||◌, not, nat_le, nat_lt, Bool, false, List, [], ◌∷◌, ◌++◌, length, replicate, Option, Some, None, if◌then◌else◌}
+use Rattle.std.specs.Prelude.{ℕ, ◌+◌, ◌-◌, ◌%◌, ◌==◌, ◌&&◌, ◌||◌, not, nat_le, nat_lt, Bool, false, List, [], ◌∷◌, ◌++◌, length, replicate, Option, Some, None, if◌then◌else◌}
 use Rattle.std.specs.List.{list_all}
 use Rattle.kdf_code.specs.Code.{code_of}
 use Rattle.kdf_word.specs.Characters.{first_word, words_of}
@@ -51,6 +51,10 @@ new_device d kind label =
 abbrev pub card_of : List ℕ → List ℕ
 card_of codes = codes ++ replicate (card_length - length codes) 0
 
+-- characters of a block, filled up with code 0 to whole words
+abbrev pub filled : List ℕ → List ℕ
+filled codes = codes ++ replicate (7 - (length codes + 7) % 8) 0
+
 -- the device with these characters more on its paper tape, or with one card more, or with one block more
 abbrev pub with_characters : List ℕ → JobDevice → JobDevice
 with_characters codes x =
@@ -60,28 +64,34 @@ abbrev pub with_card : List ℕ → JobDevice → JobDevice
 with_card codes x =
     record x { fixture = record x.fixture { cards = x.fixture.cards ++ card_of codes ∷ [] } }
 
-abbrev pub with_block : List ℕ → Bool → JobDevice → JobDevice
-with_block codes marked x =
+abbrev pub with_block : Bool → List ℕ → JobDevice → JobDevice
+with_block marked codes x =
     record x {
       progress = record x.progress {
-        recorded = x.progress.recorded ++ record { words = words_of codes; mark = marked } ∷ [] } }
+        recorded = x.progress.recorded ++ record { words = words_of (filled codes); mark = marked } ∷ [] } }
 
--- what a line of these characters adds, by the kind of the device: none where it can't stand there.
--- A line is marked where it begins with `=`
-abbrev pub with_codes : Kind → Bool → List ℕ → JobDevice → Option JobDevice
-with_codes Tr marked codes x = if marked then None else Some (with_characters codes x)
-with_codes Tp marked codes x = None
-with_codes Cr marked codes x =
-    if not marked && nat_le (length codes) card_length then Some (with_card codes x) else None
-with_codes Lp marked codes x = None
-with_codes Mt marked codes x =
-    if nat_le 1 (length codes) && nat_le (length codes) longest_block
-    then Some (with_block codes marked x) else None
+-- whether a line of so many characters may stand behind a device of this kind. A line that is marked begins with `=`
+abbrev pub fits : Kind → Bool → ℕ → Bool
+fits Tr marked n = not marked
+fits Tp marked n = false
+fits Cr marked n = not marked && nat_le n card_length
+fits Lp marked n = false
+fits Mt marked n = nat_le 1 n && nat_le n longest_block
 
-abbrev pub with_medium_codes : Bool → Option (List ℕ) → JobDevice → Option JobDevice
-with_medium_codes marked None x = None
-with_medium_codes marked (Some codes) x = with_codes x.fixture.kind marked codes x
+-- what it adds
+abbrev pub added : Kind → Bool → List ℕ → JobDevice → JobDevice
+added Tr marked codes x = with_characters codes x
+added Tp marked codes x = x
+added Cr marked codes x = with_card codes x
+added Lp marked codes x = x
+added Mt marked codes x = with_block marked codes x
+
+abbrev pub with_codes : Bool → Option (List ℕ) → JobDevice → Option JobDevice
+with_codes marked None x = None
+with_codes marked (Some codes) x =
+    if fits x.fixture.kind marked (length codes)
+    then Some (added x.fixture.kind marked codes x) else None
 
 -- the device with a medium line more, or none where the line is no medium of it
 abbrev pub with_medium : Bool → List ℕ → JobDevice → Option JobDevice
-with_medium marked text x = with_medium_codes marked (codes_in text) x
+with_medium marked text x = with_codes marked (codes_in text) x

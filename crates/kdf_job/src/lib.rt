@@ -5,6 +5,8 @@ pub mod examples;
 mod fault;
 mod forms;
 mod job;
+mod line_error;
+mod media;
 mod place;
 
 pub use fault::{JobError, JobFault};
