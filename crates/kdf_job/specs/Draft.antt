@@ -75,7 +75,7 @@ tells (ADeckLine text) s = record s { deck = s.deck ++ text ++ LINE_END ∷ [] }
 tells (ADevice d kind label) s =
     record s {
       devices = all_devices s;
-      device = Some (new_device d kind label);
+      device = Some (new_device d kind (word_of_text label));
       labels = labels_with kind label s.labels;
     }
 tells (AMedium marked text) s = record s { device = with_line_of_medium marked text s.device }

@@ -3,6 +3,7 @@ pub mod Job
 pub mod Faults
 pub mod Media
 pub mod Adding
+pub mod Lengths
 pub mod Forms
 pub mod Draft
 pub mod Reading

@@ -5,6 +5,7 @@ use Rattle.kdf_code.specs.Code.{code_of}
 use Rattle.kdf_word.specs.Characters.{first_word, words_of}
 use Rattle.kdf_journal.specs.declared.kind.Kind.{Kind}
 use Rattle.kdf_journal.specs.declared.kind.Kind.TheVariants.{Tr, Tp, Cr, Lp, Mt}
+use Rattle.kdf_tape.specs.Tape.{Recorded}
 use Rattle.kdf_transfer.specs.Devices.{Fixture, Progress}
 use Rattle.kdf_job.specs.Job.{JobDevice}
 use Rattle.kdf_job.specs.Limits.{card_length, longest_block}
@@ -34,17 +35,22 @@ word_of_codes (Some codes) = first_word codes
 abbrev pub word_of_text : List ℕ → ℕ
 word_of_text text = word_of_codes (codes_in text)
 
--- a device at the start, before its medium; a label counts for magnetic tape alone
-abbrev pub label_word : Kind → List ℕ → ℕ
-label_word Mt label = word_of_text label
-label_word _ label = 0
+-- a device with these blocks at the start
+abbrev pub at_start : List Recorded → Progress
+at_start recorded =
+    record { place = 0; flag = false; mark = false; blocks = []; recorded = recorded }
 
-abbrev pub new_device : ℕ → Kind → List ℕ → JobDevice
+-- a device before its medium; a label counts for magnetic tape alone
+abbrev pub label_of : Kind → ℕ → ℕ
+label_of Mt label = label
+label_of _ label = 0
+
+abbrev pub new_device : ℕ → Kind → ℕ → JobDevice
 new_device d kind label =
     record {
       d = d;
-      fixture = record { kind = kind; label = label_word kind label; codes = []; cards = [] };
-      progress = record { place = 0; flag = false; mark = false; blocks = []; recorded = [] };
+      fixture = record { kind = kind; label = label_of kind label; codes = []; cards = [] };
+      progress = at_start [];
     }
 
 -- characters of a card, with spaces behind them

@@ -1,14 +1,17 @@
 //! The text of a job: its slots with their decks, devices and what is shown of them, and the schedule.
 #![tactic(auto)]
 
+mod device_draft;
 pub mod examples;
 mod fault;
 mod forms;
 mod job;
 mod line_error;
 mod media;
+mod medium;
 mod place;
 
 pub use fault::{JobError, JobFault};
+use line_error::LineError;
 pub use job::{Job, SlotJob, TEXT_LIMIT};
 pub use place::Place;
