@@ -1,3 +1,4 @@
 pub mod WordLemmas
 pub mod CodesRead
 pub mod Filling
+pub mod Schedules

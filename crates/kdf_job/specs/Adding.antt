@@ -1,5 +1,6 @@
 -- What is said of something that may be added to.
 use Rattle.std.specs.Prelude.{◌≡◌, Bool, true, false, Option, Some, None, Result, Ok, Err}
+use Rattle.kdf_job.specs.declared.fault.JobFault.{JobFault}
 use Rattle.kdf_job.specs.declared.fault.JobFault.TheVariants.{BadMedium}
 use Rattle.kdf_job.specs.declared.line_error.LineError.{LineError}
 use Rattle.kdf_job.specs.declared.line_error.LineError.TheVariants.{Fault, Memory}
@@ -16,3 +17,9 @@ abbrev pub IsFound : Option JobDevice → JobDevice → Result (Unit {0}) LineEr
 IsFound found new (Ok x) = found ≡ Some new
 IsFound found new (Err (Fault fault)) = (found ≡ None) × (fault ≡ BadMedium)
 IsFound found new (Err Memory) = Unit {0}
+
+-- without the fault what was due has come
+abbrev pub IsChecked : {X : Type 0} → Option JobFault → X → X → Result (Unit {0}) LineError → Type 0
+IsChecked fault due new (Ok x) = (fault ≡ None) × (new ≡ due)
+IsChecked fault due new (Err (Fault found)) = fault ≡ Some found
+IsChecked fault due new (Err Memory) = Unit {0}

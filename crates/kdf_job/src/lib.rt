@@ -10,6 +10,7 @@ mod line_error;
 mod media;
 mod medium;
 mod place;
+mod schedule;
 
 pub use fault::{JobError, JobFault};
 use line_error::LineError;
