@@ -60,8 +60,8 @@ abbrev pub number_at : Place → ℕ
 number_at (BehindSlot p) = p
 number_at _ = 0
 
-abbrev pub labels_with : Kind → List ℕ → List ℕ → List ℕ
-labels_with Mt label labels = labels ++ word_of_text label ∷ []
+abbrev pub labels_with : Kind → ℕ → List ℕ → List ℕ
+labels_with Mt label labels = labels ++ label ∷ []
 labels_with _ label labels = labels
 
 -- the device with a medium line more; none where there is no device, or the line is no medium of it
@@ -76,7 +76,7 @@ tells (ADevice d kind label) s =
     record s {
       devices = all_devices s;
       device = Some (new_device d kind (word_of_text label));
-      labels = labels_with kind label s.labels;
+      labels = labels_with kind (word_of_text label) s.labels;
     }
 tells (AMedium marked text) s = record s { device = with_line_of_medium marked text s.device }
 tells (AShow a b) s = record s { shows = s.shows ++ (a, b) ∷ [] }

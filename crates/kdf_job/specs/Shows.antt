@@ -4,6 +4,7 @@ use Rattle.kdf_job.specs.declared.fault.JobFault.{JobFault}
 use Rattle.kdf_job.specs.declared.forms.DeviceLine.{DeviceLine}
 use Rattle.kdf_job.specs.declared.forms.MediumLine.{MediumLine}
 use Rattle.kdf_job.specs.Forms.{ADevice, AMedium, Told, told}
+use Rattle.std.specs.Option.{option_map}
 use Rattle.kdf_transfer.specs.declared.device.Device.{Device}
 use Rattle.kdf_transfer.specs.Devices.{Fixture, fixture_of, progress_of}
 use Rattle.kdf_tape.specs.Tape.{Recorded}
@@ -11,6 +12,8 @@ use Rattle.kdf_journal.specs.declared.kind.Kind.TheVariants as kind
 use Rattle.kdf_job.specs.declared.device_draft.Medium.{Medium}
 use Rattle.kdf_job.specs.declared.device_draft.Medium.TheVariants as medium
 use Rattle.kdf_job.specs.declared.device_draft.DeviceDraft.{DeviceDraft}
+use Rattle.kdf_job.specs.declared.slot_draft.SlotDraft.{SlotDraft as ReadSlotDraft}
+use Rattle.kdf_job.specs.Draft.{SlotDraft}
 use Rattle.kdf_job.specs.Media.{at_start}
 use Rattle.kdf_job.specs.declared.job.Job.{Job as ReadJob}
 use Rattle.kdf_job.specs.declared.job.SlotJob.{SlotJob as ReadSlot}
@@ -37,6 +40,19 @@ blocks_in _ = []
 abbrev pub shown_draft : DeviceDraft → JobDevice
 shown_draft x =
     record { d = x.d; fixture = fixture_in x.medium; progress = at_start (blocks_in x.medium) }
+
+-- a slot that is being read
+abbrev pub shown_slot_draft : ReadSlotDraft → SlotDraft
+shown_slot_draft s =
+    record {
+      p = s.p;
+      size = s.size;
+      deck = s.deck.items;
+      devices = map shown_device s.devices.items;
+      device = option_map shown_draft s.device;
+      labels = s.labels.items;
+      shows = s.shows.items;
+    }
 
 abbrev pub shown_slot : ReadSlot → SlotJob
 shown_slot s =

@@ -11,6 +11,7 @@ mod media;
 mod medium;
 mod place;
 mod schedule;
+mod slot_draft;
 
 pub use fault::{JobError, JobFault};
 use line_error::LineError;
