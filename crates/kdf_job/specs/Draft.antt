@@ -1,5 +1,5 @@
 -- What the lines so far tell of a job, and what is wrong with a line behind them.
-use Rattle.std.specs.Prelude.{ℕ, ◌+◌, ◌%◌, ◌==◌, ◌&&◌, not, nat_le, nat_lt, Bool, List, [], ◌∷◌, ◌++◌, length, map, fold, sum, Option, Some, None, is_none, if◌then◌else◌}
+use Rattle.std.specs.Prelude.{ℕ, ◌+◌, ◌%◌, ◌==◌, ◌&&◌, not, nat_le, nat_lt, Bool, List, [], ◌∷◌, ◌++◌, length, map, fold, sum_by, Option, Some, None, is_none, if◌then◌else◌}
 use Rattle.std.specs.List.{list_any, flat_map}
 use Rattle.std.specs.Option.{option_map, option_to_list}
 use Rattle.kdf_text.specs.declared.lines.TheConstants.{LINE_END}
@@ -116,7 +116,7 @@ numbers_of slots = map (λ (x : JobDevice). x.d) (flat_map (λ (s : SlotJob). s.
 
 -- the words of all stores so far
 abbrev pub words_in : List SlotJob → ℕ
-words_in slots = sum (map (λ (s : SlotJob). s.size) slots)
+words_in slots = sum_by (λ (s : SlotJob). s.size) slots
 
 -- the number is above that of the slot before
 abbrev pub slot_fault : ℕ → Option SlotDraft → Option JobFault

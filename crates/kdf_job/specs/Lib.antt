@@ -9,3 +9,5 @@ pub mod Draft
 pub mod Reading
 pub mod Shows
 pub mod WellFormed
+pub mod Kept
+pub mod Taking

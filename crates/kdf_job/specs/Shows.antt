@@ -13,7 +13,8 @@ use Rattle.kdf_job.specs.declared.device_draft.Medium.{Medium}
 use Rattle.kdf_job.specs.declared.device_draft.Medium.TheVariants as medium
 use Rattle.kdf_job.specs.declared.device_draft.DeviceDraft.{DeviceDraft}
 use Rattle.kdf_job.specs.declared.slot_draft.SlotDraft.{SlotDraft as ReadSlotDraft}
-use Rattle.kdf_job.specs.Draft.{SlotDraft}
+use Rattle.kdf_job.specs.declared.draft.Draft.{Draft as ReadDraft}
+use Rattle.kdf_job.specs.Draft.{SlotDraft, Draft}
 use Rattle.kdf_job.specs.Media.{at_start}
 use Rattle.kdf_job.specs.declared.job.Job.{Job as ReadJob}
 use Rattle.kdf_job.specs.declared.job.SlotJob.{SlotJob as ReadSlot}
@@ -37,8 +38,8 @@ abbrev pub blocks_in : Medium → List Recorded
 blocks_in (medium.Mt label tape) = tape.blocks.items
 blocks_in _ = []
 
-abbrev pub shown_draft : DeviceDraft → JobDevice
-shown_draft x =
+abbrev pub shown_device_draft : DeviceDraft → JobDevice
+shown_device_draft x =
     record { d = x.d; fixture = fixture_in x.medium; progress = at_start (blocks_in x.medium) }
 
 -- a slot that is being read
@@ -49,7 +50,7 @@ shown_slot_draft s =
       size = s.size;
       deck = s.deck.items;
       devices = map shown_device s.devices.items;
-      device = option_map shown_draft s.device;
+      device = option_map shown_device_draft s.device;
       labels = s.labels.items;
       shows = s.shows.items;
     }
@@ -75,3 +76,13 @@ told_device line = told (λ (x : DeviceLine). ADevice x.d x.kind x.label.now) li
 abbrev pub told_line : Option MediumLine → Told
 told_line None = None
 told_line (Some x) = Some (Ok (AMedium x.marked x.text.now))
+
+-- what the lines so far tell
+abbrev pub shown_draft : ReadDraft → Draft
+shown_draft d =
+    record {
+      place = d.place;
+      slots = map shown_slot d.slots.items;
+      slot = option_map shown_slot_draft d.slot;
+      events = d.schedule.events.items;
+    }

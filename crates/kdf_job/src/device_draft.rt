@@ -2,7 +2,7 @@
 ghost use Rattle.std.specs.Prelude.{◌≡◌, ◌+◌, ◌^◌, ◌<◌, All, IfOk, length};
 ghost use Rattle.kdf_job.specs.Adding.{IsAdded, IsFound};
 ghost use Rattle.kdf_job.specs.Media.{added, at_start, fits, new_device, with_medium};
-ghost use Rattle.kdf_job.specs.Shows.{blocks_in, fixture_in, shown_device, shown_draft};
+ghost use Rattle.kdf_job.specs.Shows.{blocks_in, fixture_in, shown_device, shown_device_draft};
 ghost use Rattle.kdf_transfer.specs.Devices.{fixture_of, progress_of};
 ghost use Rattle.kdf_job.specs.Lengths.{medium_length};
 
@@ -37,7 +37,7 @@ pub struct DeviceDraft {
 impl DeviceDraft {
     /// A device before its medium. The label counts for magnetic tape alone.
     pub fn new(alloc: Global, d: u8, kind: Kind, label: Word) -> DeviceDraft
-        ensures { shown_draft result ≡ new_device d kind label }
+        ensures { shown_device_draft result ≡ new_device d kind label }
     {
         let medium = match kind {
             Kind::Tr => Medium::Tr(Paper::new(alloc)),
@@ -51,9 +51,9 @@ impl DeviceDraft {
 
     /// Adds a line to its medium.
     pub fn add_line(&mut self, alloc: Global, marked: bool, text: &[u8]) -> Result<(), LineError>
-        requires { medium_length (shown_draft self.old) + length text.now + 1 < 2 ^ 32 }
-        ensures { IsFound (with_medium marked text.now (shown_draft self.old))
-            (shown_draft self.new) result }
+        requires { medium_length (shown_device_draft self.old) + length text.now + 1 < 2 ^ 32 }
+        ensures { IsFound (with_medium marked text.now (shown_device_draft self.old))
+            (shown_device_draft self.new) result }
     {
         match codes_in(alloc, text)? {
             Some(codes) => self.add_codes(marked, codes),
@@ -64,10 +64,10 @@ impl DeviceDraft {
     /// Adds a line of these characters to its medium.
     fn add_codes(&mut self, marked: bool, codes: Vec<u8>) -> Result<(), LineError>
         requires small { All (λ c. c < 64) codes.items }
-        requires few { medium_length (shown_draft self.old) + length codes.items + 1 < 2 ^ 32 }
-        ensures { IsAdded (fits (shown_draft self.old).fixture.kind marked (length codes.items))
-            (added (shown_draft self.old).fixture.kind marked codes.items (shown_draft self.old))
-            (shown_draft self.new) result }
+        requires few { medium_length (shown_device_draft self.old) + length codes.items + 1 < 2 ^ 32 }
+        ensures { IsAdded (fits (shown_device_draft self.old).fixture.kind marked (length codes.items))
+            (added (shown_device_draft self.old).fixture.kind marked codes.items (shown_device_draft self.old))
+            (shown_device_draft self.new) result }
     {
         match &mut self.medium {
             Medium::Tr(paper) => paper.add(marked, &codes),
@@ -79,7 +79,7 @@ impl DeviceDraft {
 
     /// The device with its number, before anything moves.
     pub fn finish(self, alloc: Global) -> (u8, Device)
-        ensures { shown_device result ≡ shown_draft self }
+        ensures { shown_device result ≡ shown_device_draft self }
     {
         (self.d, self.medium.finish(alloc))
     }

@@ -2,6 +2,7 @@
 #![tactic(auto)]
 
 mod device_draft;
+mod draft;
 pub mod examples;
 mod fault;
 mod forms;

@@ -7,7 +7,7 @@ ghost use Rattle.kdf_job.specs.Draft.{all_devices, labels_with, new_slot, slot_o
 ghost use Rattle.kdf_job.specs.Forms.{ADeckLine, AMedium, AShow};
 ghost use Rattle.kdf_job.specs.Lengths.{slot_length};
 ghost use Rattle.kdf_job.specs.Media.{new_device};
-ghost use Rattle.kdf_job.specs.Shows.{shown_device, shown_draft, shown_slot, shown_slot_draft};
+ghost use Rattle.kdf_job.specs.Shows.{shown_device, shown_device_draft, shown_slot, shown_slot_draft};
 ghost use Rattle.kdf_job.specs.declared.fault.JobFault.TheVariants.{BadMedium};
 
 use crate::device_draft::DeviceDraft;
