@@ -4,3 +4,4 @@ pub mod Filling
 pub mod Schedules
 pub mod Slots
 pub mod Steps
+pub mod Begins

@@ -20,7 +20,7 @@ pub record IsSlot (s : SlotJob) : Type 0 where
   pub most : s.size ≤ most_words
   pub groups : s.size % group ≡ 0
   pub deck : length s.deck ≤ TEXT_LIMIT
-  pub devices : All (λ (x : JobDevice). x.d < device_limit) s.devices
+  pub devices : All (λ n. n < device_limit) (map (λ (x : JobDevice). x.d) s.devices)
   pub shows : All (IsShow s.size) s.shows
 
 abbrev pub AreRising : List ℕ → Type 0

@@ -2,9 +2,10 @@
 ghost use Rattle.std.specs.Prelude.{◌≡◌, ◌-◌, ◌%◌, ◌<◌, ◌≤◌, ◌++◌, All, IfOk, IfSome, IsTrue, length, replicate};
 ghost use Rattle.std.specs.List.{list_all};
 ghost use Rattle.std.specs.Option.{option_map};
-ghost use Rattle.kdf_job.specs.Media.{card_of, codes_in, filled, is_label, is_label_byte};
+ghost use Rattle.kdf_job.specs.Media.{card_of, codes_in, filled, is_label, is_label_byte, word_of_text};
 
 use kdf_code::to_code;
+use kdf_word::Word;
 use std::alloc::{AllocError, Global};
 
 /// The characters of a card.
@@ -31,6 +32,16 @@ pub fn codes_in(alloc: Global, text: &[u8]) -> Result<Option<Vec<u8>>, AllocErro
         }
     }
     Ok(Some(codes))
+}
+
+/// The word of a text's characters, 0 where a byte has none.
+pub fn word_of_text(alloc: Global, text: &[u8]) -> Result<Word, AllocError>
+    ensures { IfOk result (λ w. w ≡ word_of_text text.now) }
+{
+    match codes_in(alloc, text)? {
+        Some(codes) => Ok(Word::of_codes(&codes)),
+        None => Ok(Word::default()),
+    }
 }
 
 /// A text is a label: 1 to 8 letters A to Z and digits.
