@@ -11,3 +11,4 @@ pub mod Shows
 pub mod WellFormed
 pub mod Kept
 pub mod Taking
+pub mod Passes

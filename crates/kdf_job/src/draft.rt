@@ -1,22 +1,22 @@
 //! What the lines so far tell of a job.
-ghost use Rattle.std.specs.Prelude.{◌≡◌, ◌+◌, ◌≤◌, ◌<◌, ◌^◌, ◌++◌, [], ◌∷◌, None, OnOk, length};
-ghost use Rattle.std.specs.Option.{option_map};
+ghost use Rattle.std.specs.Prelude.{◌≡◌, ◌==◌, ◌+◌, ◌≤◌, ◌<◌, ◌^◌, ◌++◌, [], ◌∷◌, None, IfOk, OnOk, length};
+ghost use Rattle.std.specs.List.{list_any};
 ghost use Rattle.kdf_schedule.specs.Events.{IsInRange};
 ghost use Rattle.kdf_job.specs.Adding.{IsChecked};
-ghost use Rattle.kdf_job.specs.Draft.{blank, device_fault, device_so_far, event_fault, fault_of, label_fault, labels_so_far, medium_fault, show_fault, size_so_far, slot_fault, slots_told, store_fault, tape_fault, tells, with_line};
+ghost use Rattle.kdf_job.specs.Draft.{blank, device_fault, device_so_far, event_fault, job_of, label_fault, labels_so_far, medium_fault, numbers_of, show_fault, size_so_far, slot_fault, slots_told, store_fault, tape_fault, tells, with_line};
 ghost use Rattle.kdf_job.specs.Forms.{ADeckLine, ADevice, AMedium, AShow, AStore, AnEvent};
 ghost use Rattle.kdf_job.specs.Lengths.{kept_length};
 ghost use Rattle.kdf_job.specs.Media.{word_of_text};
-ghost use Rattle.kdf_job.specs.Shows.{shown_draft};
+ghost use Rattle.kdf_job.specs.Shows.{shown_draft, shown_job};
 ghost use Rattle.kdf_job.specs.Taking.{IsSound};
-ghost use Rattle.kdf_job.specs.WellFormed.{IsSchedule};
-ghost use Rattle.kdf_job.specs.declared.place.Place.TheVariants.{BehindSlot};
+ghost use Rattle.kdf_job.specs.WellFormed.{IsJob, IsSchedule};
+ghost use Rattle.kdf_job.specs.declared.place.Place.TheVariants.{BehindEnd, BehindSlot};
 
 use crate::forms::{DeviceLine, MediumLine};
 use crate::media::is_label;
 use crate::schedule::Schedule;
 use crate::slot_draft::SlotDraft;
-use crate::{JobFault, LineError, Place, SlotJob};
+use crate::{Job, JobFault, LineError, Place, SlotJob};
 use kdf_journal::Kind;
 use kdf_schedule::Event;
 use kdf_word::Word;
@@ -134,11 +134,19 @@ impl Draft {
         requires sound { IsSound self.now }
         ensures { result ≡ device_fault device.entry.d device.entry.kind device.entry.label.now (shown_draft self.now) }
     {
-        if self.numbers.iter().any(|number| device.d == *number) {
+        if self.has_device(device.d) {
             Some(JobFault::DeviceTwice)
         } else {
             self.label_fault(device, label)
         }
+    }
+
+    /// A device of this number stood before.
+    fn has_device(&self, d: u8) -> bool
+        requires { IsSound self.now }
+        ensures { result ≡ list_any (λ other. d == other) (numbers_of (slots_told (shown_draft self.now))) }
+    {
+        self.numbers.iter().any(|number| d == *number)
     }
 
     /// What is wrong with a device's label.
@@ -233,5 +241,20 @@ impl Draft {
         ensures same { self.new ≡ record self.old { schedule = self.new.schedule } }
     {
         self.schedule.add(event)
+    }
+
+    /// The job, when all its lines are read.
+    #[tactic(auto, using(crate::proofs::Finished::finished))]
+    pub fn finish(mut self, alloc: Global) -> Result<Job, AllocError>
+        requires sound { IsSound self }
+        requires place { self.place ≡ BehindEnd }
+        ensures shown { IfOk result (λ j. shown_job j ≡ job_of (shown_draft self)) }
+        ensures well_formed { IfOk result (λ j. IsJob (shown_job j)) }
+    {
+        self.finish_slot(alloc)?;
+        Ok(Job {
+            slots: self.slots,
+            events: self.schedule.events,
+        })
     }
 }

@@ -11,10 +11,13 @@ mod line_error;
 mod media;
 mod medium;
 mod place;
+mod reader;
 mod schedule;
 mod slot_draft;
+mod taking;
 
 pub use fault::{JobError, JobFault};
 use line_error::LineError;
 pub use job::{Job, SlotJob, TEXT_LIMIT};
-pub use place::Place;
+use place::Place;
+pub use reader::read_job;
