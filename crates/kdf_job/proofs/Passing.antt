@@ -1,5 +1,5 @@
 -- One line more of a job.
-use Rattle.std.proofs.Common.{◌≡◌, ℕ, ◌+◌, ◌<◌, ◌≤◌, true, false, cond, eqb, List, [], ◌∷◌, length, drop, Option, Some, None, Result, Ok, Err, refl, sym, ap, ◌∙◌, arith}
+use Rattle.std.proofs.Common.{◌≡◌, ℕ, ◌+◌, ◌<◌, ◌≤◌, true, false, cond, eqb, List, [], ◌∷◌, length, drop, Option, Some, None, Result, Ok, Err, refl, sym, ap, subst, ◌∙◌, arith}
 use Rattle.std.specs.Prelude.{◌==◌, if◌then◌else◌}
 use Rattle.std.proofs.lemmas.Bool.Decides.{nat_tests}
 use Rattle.kdf_text.specs.declared.lines.Lines.{Lines}
@@ -53,14 +53,16 @@ unfolding read_line
 stopped n d fault [] some is = absurd (omega arith)
 stopped n d fault (l ∷ ls) some is = ap (λ (r : Result Draft JobFault). behind_line n r (λ x. fault_from (n + 1) x ls)) is
 
-pub passes : (old new : Lines) (before after : ReadDraft) → 0 < length old.rest.now → ahead new ≡ drop 1 (ahead old) → (0 < length (ahead old) → new.number ≡ old.number + 1)
-    → (0 < length new.rest.now → length (line (ahead old) 1) + 1 + length new.rest.now ≤ length old.rest.now) → weight (shown_draft before) + length old.rest.now ≤ TEXT_LIMIT
-    → Taken (told_at before.place (line (ahead old) 1)) (length (line (ahead old) 1) + 1) before after → Passes old before new after
-passes old new before after some rest next within fits h =
+pub passes : (old new : Lines) (before after : ReadDraft) (text : List ℕ) → text ≡ line (ahead old) 1 → 0 < length old.rest.now → ahead new ≡ drop 1 (ahead old)
+    → (0 < length (ahead old) → new.number ≡ old.number + 1) → (0 < length new.rest.now → length text + 1 + length new.rest.now ≤ length old.rest.now)
+    → weight (shown_draft before) + length old.rest.now ≤ TEXT_LIMIT → Taken (told_at before.place text) (length text + 1) before after → Passes old before new after
+passes old new before after text here some rest next within fits h =
     let ls = some_ahead old.rest.now some in
+    let is : with_told (shown_draft before) (told_at before.place (line (ahead old) 1)) ≡ Ok (shown_draft after) =
+        subst (λ (t : List ℕ). with_told (shown_draft before) (told_at before.place t) ≡ Ok (shown_draft after)) here h.is in
     record {
-      fault = read_on old.number new.number (shown_draft before) (shown_draft after) (ahead old) (ahead new) ls rest (next ls) h.is;
-      job = told_on (shown_draft before) (shown_draft after) (ahead old) (ahead new) ls rest h.is;
+      fault = read_on old.number new.number (shown_draft before) (shown_draft after) (ahead old) (ahead new) ls rest (next ls) is;
+      job = told_on (shown_draft before) (shown_draft after) (ahead old) (ahead new) ls rest is;
       sound = h.sound;
       fits = λ more. let w = within more in let g = h.grown in omega arith;
     }
@@ -69,14 +71,15 @@ pub stops : (old : Lines) (before : ReadDraft) (fault : JobFault) → 0 < length
     → fault_from old.number (shown_draft before) (ahead old) ≡ Some (fault, old.number)
 stops old before fault some is = stopped old.number (shown_draft before) fault (ahead old) (some_ahead old.rest.now some) is
 
--- the begin and the end of a job
-pub fault_begins : (bytes : List ℕ) → job_fault bytes ≡ fault_from 1 blank (lines bytes)
+-- the lines of a job, and its end
+pub job_read : (bytes : List ℕ) (at : Lines) (d : Draft) → fault_from 1 blank (lines bytes) ≡ fault_from at.number d (ahead at) → job_fault bytes ≡ fault_from at.number d (ahead at)
 unfolding job_fault
-fault_begins bytes = refl
+job_read bytes at d e = e
 
-pub job_begins : (bytes : List ℕ) → job bytes ≡ job_of (draft_of blank (lines bytes))
+pub fault_ends : (bytes : List ℕ) (at : Lines) (d : Draft) → fault_from 1 blank (lines bytes) ≡ fault_from at.number d (ahead at) → eqb (length at.rest.now) 0 ≡ true
+    → job_fault bytes ≡ at_line at.number (end_fault d.place)
+fault_ends bytes at d e none = job_read bytes at d e ∙ ap (fault_from at.number d) (no-lines at.rest.now none)
+
+pub job_ends : (bytes : List ℕ) (at : Lines) (d : Draft) → draft_of blank (lines bytes) ≡ draft_of d (ahead at) → eqb (length at.rest.now) 0 ≡ true → job bytes ≡ job_of d
 unfolding job
-job_begins bytes = refl
-
-pub none_ahead : (at : Lines) → length at.rest.now ≡ 0 → ahead at ≡ []
-none_ahead at none = no-lines at.rest.now (grind (arith, nat_tests))
+job_ends bytes at d e none = ap job_of (e ∙ ap (draft_of d) (no-lines at.rest.now none))

@@ -37,7 +37,7 @@ pub fn read_job(alloc: Global, bytes: &[u8]) -> Result<Job, JobError>
 }
 
 /// Reads the next line.
-#[tactic(auto, using(crate::proofs::Passing::passes, crate::proofs::Passing::stops, crate::proofs::Passing::short_ahead))]
+#[tactic(auto, using(crate::proofs::Passing::stops, crate::proofs::Passing::short_ahead))]
 fn read_line(alloc: Global, lines: &mut Lines, draft: &mut Draft) -> Result<(), JobError>
     requires sound { IsSound draft.old }
     requires some { 0 < length lines.old.rest.now }
