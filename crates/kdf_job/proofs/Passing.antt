@@ -59,7 +59,7 @@ pub passes : (old new : Lines) (before after : ReadDraft) (text : List ℕ) → 
 passes old new before after text here some rest next within fits h =
     let ls = some_ahead old.rest.now some in
     let is : with_told (shown_draft before) (told_at before.place (line (ahead old) 1)) ≡ Ok (shown_draft after) =
-        subst (λ (t : List ℕ). with_told (shown_draft before) (told_at before.place t) ≡ Ok (shown_draft after)) here h.is in
+    subst (λ (t : List ℕ). with_told (shown_draft before) (told_at before.place t) ≡ Ok (shown_draft after)) here h.is in
     record {
       fault = read_on old.number new.number (shown_draft before) (shown_draft after) (ahead old) (ahead new) ls rest (next ls) is;
       job = told_on (shown_draft before) (shown_draft after) (ahead old) (ahead new) ls rest is;

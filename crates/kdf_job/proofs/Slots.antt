@@ -77,8 +77,8 @@ slots_more front s t was p slot none fits =
     record {
       each = All-push IsSlot all t was.each slot;
       rising =
-        let r : AreRising (ps front ++ s.p ∷ []) = subst AreRising (ps_last front s) was.rising in
-        subst AreRising (ap (λ (xs : List ℕ). xs ++ t.p ∷ []) (sym (ps_last front s)) ∙ sym (ps_last all t)) (rising_push (ps front) s.p t.p r p);
+          let r : AreRising (ps front ++ s.p ∷ []) = subst AreRising (ps_last front s) was.rising in
+          subst AreRising (ap (λ (xs : List ℕ). xs ++ t.p ∷ []) (sym (ps_last front s)) ∙ sym (ps_last all t)) (rising_push (ps front) s.p t.p r p);
       fits = let e = words_last all t in omega arith;
       apart = subst (IsDistinct nat_eq) (sym (numbers_none all t none)) was.apart;
     }

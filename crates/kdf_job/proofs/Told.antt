@@ -108,7 +108,7 @@ device_kept words numbers d s n kind label was is few free =
     let now = current_slot words numbers d s was is in
     let form = ADevice n kind label in
     let more : ds (all_devices (tells (ADevice n kind label) s)) ≡ ds (all_devices s) ++ n ∷ [] =
-        map-append (λ (x : JobDevice). x.d) (all_devices s) (new_device n kind (word_of_text label) ∷ []) in
+    map-append (λ (x : JobDevice). x.d) (all_devices s) (new_device n kind (word_of_text label) ∷ []) in
     device_told words n numbers d (with_line form d) s (tells form s) was refl is (ap (option_map (tells form)) is) refl refl refl more free
     (record {
       number = now.number;
@@ -160,9 +160,9 @@ added_longer Lp marked codes x = record { same = refl; little = omega arith }
 added_longer Mt marked codes x = record {
   same = refl;
   little =
-    let block : Recorded = record { words = words_of (filled codes); mark = marked } in
-    let n = length_push x.progress.recorded block in
-    omega arith;
+      let block : Recorded = record { words = words_of (filled codes); mark = marked } in
+      let n = length_push x.progress.recorded block in
+      omega arith;
 }
 
 codes_longer : (marked : Bool) (o : Option (List ℕ)) (x y : JobDevice) (n : ℕ) → ((codes : List ℕ) → o ≡ Some codes → length codes ≡ n) → with_codes marked o x ≡ Some y → IsLonger x y n

@@ -74,7 +74,9 @@ abbrev pub with_block : Bool → List ℕ → JobDevice → JobDevice
 with_block marked codes x =
     record x {
       progress = record x.progress {
-        recorded = x.progress.recorded ++ record { words = words_of (filled codes); mark = marked } ∷ [] } }
+        recorded = x.progress.recorded ++ record { words = words_of (filled codes); mark = marked } ∷ [];
+      };
+    }
 
 -- whether a line of so many characters may stand behind a device of this kind. A line that is marked begins with `=`
 abbrev pub fits : Kind → Bool → ℕ → Bool

@@ -103,7 +103,9 @@ impl Draft {
     /// Puts the slot of which all lines are read behind the others.
     pub fn finish_slot(&mut self, alloc: Global) -> Result<(), AllocError>
         ensures shown { OnOk result (shown_draft self.new ≡ record (shown_draft self.old) {
-            slots = slots_told (shown_draft self.old); slot = None }) }
+          slots = slots_told (shown_draft self.old);
+          slot = None;
+        }) }
         ensures place { self.new.place ≡ self.old.place }
         ensures words { self.new.words ≡ self.old.words }
         ensures numbers { self.new.numbers.items ≡ self.old.numbers.items }
@@ -176,7 +178,12 @@ impl Draft {
     }
 
     /// Adds a device, of which this is the label.
-    pub fn add_device(&mut self, alloc: Global, device: DeviceLine<'_>, label: Word) -> Result<(), AllocError>
+    pub fn add_device(
+        &mut self,
+        alloc: Global,
+        device: DeviceLine<'_>,
+        label: Word,
+    ) -> Result<(), AllocError>
         requires { label ≡ word_of_text device.label.now }
         ensures shown { OnOk result (shown_draft self.new
             ≡ with_line (ADevice device.entry.d device.entry.kind device.entry.label.now) (shown_draft self.old)) }

@@ -17,6 +17,7 @@ const LAST_SLOT: u64 = 3;
 
 /// The words of the least and of the largest store.
 const LEAST_STORE: u64 = 32;
+
 const MOST_STORE: u64 = 8192;
 
 /// The highest address.
@@ -189,7 +190,11 @@ fn labelled<'a>(d: &[u8], kind: &[u8], label: &'a [u8]) -> Option<Result<DeviceL
 }
 
 /// The magnetic tape of this number and label; None where it is another kind.
-fn tape_named<'a>(d: &[u8], kind: &[u8], label: &'a [u8]) -> Option<Result<DeviceLine<'a>, JobFault>>
+fn tape_named<'a>(
+    d: &[u8],
+    kind: &[u8],
+    label: &'a [u8],
+) -> Option<Result<DeviceLine<'a>, JobFault>>
     ensures told { told_device result ≡ described (d.now ∷ kind.now ∷ label.now ∷ []) }
     ensures within { IfSome result (λ r. IfOk r (λ x. x.d ≤ 15)) }
 {

@@ -15,9 +15,11 @@ mod reader;
 mod schedule;
 mod slot_draft;
 mod taking;
+#[cfg(test)]
+mod tests;
 
 pub use fault::{JobError, JobFault};
-use line_error::LineError;
 pub use job::{Job, SlotJob, TEXT_LIMIT};
+use line_error::LineError;
 use place::Place;
 pub use reader::read_job;

@@ -100,7 +100,7 @@ impl TapeBlocks {
         requires few { length self.old.blocks.items + 1 < 2 ^ 32 }
         ensures { IsAdded (nat_le 1 (length codes.items) && nat_le (length codes.items) 32768)
             (self.old.blocks.items
-                ++ record { words = words_of (filled codes.items); mark = marked } ∷ [])
+            ++ record { words = words_of (filled codes.items); mark = marked } ∷ [])
             self.new.blocks.items result }
     {
         if codes.is_empty() || codes.len() > LONGEST_BLOCK {

@@ -77,11 +77,18 @@ impl SlotDraft {
     }
 
     /// Adds a device. The label counts for magnetic tape alone.
-    pub fn add_device(&mut self, alloc: Global, d: u8, kind: Kind, label: Word) -> Result<(), AllocError>
+    pub fn add_device(
+        &mut self,
+        alloc: Global,
+        d: u8,
+        kind: Kind,
+        label: Word,
+    ) -> Result<(), AllocError>
         ensures { OnOk result (shown_slot_draft self.new ≡ record (shown_slot_draft self.old) {
-            devices = all_devices (shown_slot_draft self.old);
-            device = Some (new_device d kind label);
-            labels = labels_with kind label (shown_slot_draft self.old).labels }) }
+          devices = all_devices (shown_slot_draft self.old);
+          device = Some (new_device d kind label);
+          labels = labels_with kind label (shown_slot_draft self.old).labels;
+        }) }
     {
         self.settle(alloc)?;
         self.add_label(kind, label)?;
@@ -92,7 +99,9 @@ impl SlotDraft {
     /// Puts the device whose medium was read behind the others.
     fn settle(&mut self, alloc: Global) -> Result<(), AllocError>
         ensures { OnOk result (shown_slot_draft self.new ≡ record (shown_slot_draft self.old) {
-            devices = all_devices (shown_slot_draft self.old); device = None }) }
+          devices = all_devices (shown_slot_draft self.old);
+          device = None;
+        }) }
     {
         if let Some(device) = self.device.take() {
             self.devices.push(device.finish(alloc))?;
@@ -103,7 +112,8 @@ impl SlotDraft {
     /// Keeps a tape's label.
     fn add_label(&mut self, kind: Kind, label: Word) -> Result<(), AllocError>
         ensures { OnOk result (shown_slot_draft self.new ≡ record (shown_slot_draft self.old) {
-            labels = labels_with kind label (shown_slot_draft self.old).labels }) }
+          labels = labels_with kind label (shown_slot_draft self.old).labels;
+        }) }
     {
         if kind == Kind::Mt {
             self.labels.push(label)?;
@@ -112,7 +122,12 @@ impl SlotDraft {
     }
 
     /// Adds a line to the medium of its last device.
-    pub fn add_medium_line(&mut self, alloc: Global, marked: bool, text: &[u8]) -> Result<(), LineError>
+    pub fn add_medium_line(
+        &mut self,
+        alloc: Global,
+        marked: bool,
+        text: &[u8],
+    ) -> Result<(), LineError>
         requires { slot_length (shown_slot_draft self.old) + length text.now + 1 < 2 ^ 32 }
         ensures { IsChecked
             (if is_none (with_line_of_medium marked text.now (shown_slot_draft self.old).device)

@@ -9,7 +9,9 @@ ghost use Rattle.kdf_job.specs.declared.job.TheConstants.{TEXT_LIMIT};
 ghost use Rattle.kdf_job.specs.declared.place.Place.TheVariants.{First, BehindHeader, BehindSlot, BehindStore, InDeck, BehindDeck, BehindDevice, BehindShow, InSchedule, BehindEnd};
 
 use crate::draft::Draft;
-use crate::forms::{DeviceLine, MediumLine, addresses, device_line, medium_line, slot_number, store_size};
+use crate::forms::{
+    DeviceLine, MediumLine, addresses, device_line, medium_line, slot_number, store_size,
+};
 use crate::media::word_of_text;
 use crate::{JobFault, LineError, Place};
 use kdf_schedule::{Event, EventFault, read_event};

@@ -14,5 +14,5 @@ returns c =
     let old = c.args.self.now in
     let new = c.add_deck_line.new.self in
     let h : Taken (Ok (ADeckLine line)) (length line + 1) old new =
-        deck_takes line old new c.requires.sound c.requires.place c.requires.fits (search rules) c.add_deck_line.ensures.words c.add_deck_line.ensures.numbers in
+    deck_takes line old new c.requires.sound c.requires.place c.requires.fits (search rules) c.add_deck_line.ensures.words c.add_deck_line.ensures.numbers in
     subst (λ (what : Result Form JobFault). Taken what (length line + 1) old new) (sym (deck_told line isnt)) h
