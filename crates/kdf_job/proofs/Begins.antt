@@ -1,10 +1,8 @@
 -- Nothing is read.
-use Rattle.std.proofs.Common.{◌≡◌, ℕ, List, [], refl, arith, sym, subst}
-use Rattle.std.specs.Prelude.{nat_eq}
+use Rattle.std.proofs.Common.{[], refl, arith}
 use Rattle.std.specs.List.{IsDistinct}
-use Rattle.kdf_job.specs.Draft.{Draft, blank, slots_told}
+use Rattle.kdf_job.specs.Draft.{blank}
 use Rattle.kdf_job.specs.Kept.{IsKept}
-use Rattle.kdf_job.specs.WellFormed.{AreSlots}
 
 pub blank_sound : IsKept 0 [] blank
 unfolding IsDistinct

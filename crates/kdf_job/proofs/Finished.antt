@@ -1,11 +1,9 @@
 -- A job of which all lines are read.
-use Rattle.std.proofs.Common.{◌≡◌, ℕ, ◌+◌, ◌≤◌, true, List, [], ◌∷◌, ◌++◌, length, Option, Some, None, ap, subst, arith}
-use Rattle.std.specs.Prelude.{is_some}
-use Rattle.std.specs.Option.{option_map}
+use Rattle.std.proofs.Common.{◌≡◌, ℕ, List, subst, arith}
 use Rattle.std.proofs.lemmas.List.{length_push}
 use Rattle.kdf_job.specs.declared.place.Place.{Place}
 use Rattle.kdf_job.specs.declared.place.Place.TheVariants.{BehindEnd}
-use Rattle.kdf_job.specs.Draft.{SlotDraft, Draft, job_of, slot_of, slots_told}
+use Rattle.kdf_job.specs.Draft.{Draft, job_of, slot_of}
 use Rattle.kdf_job.specs.Kept.{IsKept, IsPlaced}
 use Rattle.kdf_job.specs.WellFormed.{IsJob}
 use Rattle.kdf_job.proofs.Told.{some_slot}

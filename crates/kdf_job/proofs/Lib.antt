@@ -5,7 +5,6 @@ pub mod Schedules
 pub mod Slots
 pub mod Steps
 pub mod Begins
-pub mod Takings
 pub mod Told
 pub mod Finished
 pub mod Passing

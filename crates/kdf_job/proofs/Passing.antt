@@ -1,6 +1,5 @@
 -- One line more of a job.
-use Rattle.std.proofs.Common.{◌≡◌, ℕ, ◌+◌, ◌<◌, ◌≤◌, true, false, cond, eqb, List, [], ◌∷◌, length, drop, Option, Some, None, Result, Ok, Err, refl, sym, ap, subst, ◌∙◌, arith}
-use Rattle.std.specs.Prelude.{◌==◌, if◌then◌else◌}
+use Rattle.std.proofs.Common.{◌≡◌, ℕ, ◌+◌, ◌<◌, ◌≤◌, true, false, cond, eqb, List, [], ◌∷◌, length, drop, Some, Result, Ok, Err, refl, ap, subst, ◌∙◌, arith}
 use Rattle.std.proofs.lemmas.Bool.Decides.{nat_tests}
 use Rattle.kdf_text.specs.declared.lines.Lines.{Lines}
 use Rattle.kdf_text.specs.Ahead.{ahead}
@@ -11,12 +10,11 @@ use Rattle.kdf_job.specs.declared.fault.JobFault.{JobFault}
 use Rattle.kdf_job.specs.declared.job.TheConstants.{TEXT_LIMIT}
 use Rattle.kdf_job.specs.Draft.{Draft, blank, job_of}
 use Rattle.kdf_job.specs.Forms.{told_at}
-use Rattle.kdf_job.specs.Job.{Job}
 use Rattle.kdf_job.specs.Lengths.{weight}
 use Rattle.kdf_job.specs.Passes.{Passes}
 use Rattle.kdf_job.specs.Reading.{at_line, behind_line, draft_of, end_fault, fault_from, job, job_fault, or_same, read_line, with_told}
 use Rattle.kdf_job.specs.Shows.{shown_draft}
-use Rattle.kdf_job.specs.Taking.{IsSound, Taken}
+use Rattle.kdf_job.specs.Taking.{Taken}
 
 some_ahead : (text : List ℕ) → 0 < length text → 0 < length (lines text)
 some_ahead text some = some-lines text (grind (arith, nat_tests))

@@ -1,46 +1,14 @@
 -- What is kept stays true with each line more.
-use Rattle.std.proofs.Common.{◌≡◌, ℕ, ◌+◌, ◌<◌, ◌≤◌, ◌%◌, Bool, true, false, eqb, List, [], ◌∷◌, ◌++◌, length, map, Option, Some, None, refl, sym, ap, subst, ◌∙◌, arith, append_assoc, append-nil, length-append}
-use Rattle.std.specs.Prelude.{is_some, nat_eq}
-use Rattle.std.specs.Option.{option_map, option_to_list}
+use Rattle.std.proofs.Common.{◌≡◌, ℕ, ◌+◌, ◌<◌, ◌≤◌, ◌%◌, false, List, [], ◌∷◌, ◌++◌, length, Option, Some, None, refl, sym, ap, subst, ◌∙◌, arith, append-nil, length-append}
+use Rattle.std.specs.Prelude.{nat_eq}
 use Rattle.std.specs.List.{All, IsDistinct, list_any}
-use Rattle.std.proofs.lemmas.List.Elements.{All-append, All-push}
-use Rattle.std.proofs.lemmas.List.{map-append}
 use Rattle.std.proofs.lemmas.Bool.Decides.{nat_tests}
 use Rattle.std.proofs.Math.Seq.{get_or-append_seam}
-use Rattle.kdf_journal.specs.declared.kind.Kind.{Kind}
-use Rattle.kdf_schedule.specs.declared.event.Event.{Event}
-use Rattle.kdf_job.specs.declared.place.Place.{Place}
-use Rattle.kdf_job.specs.Job.{JobDevice, SlotJob}
+use Rattle.kdf_job.specs.Job.{SlotJob}
 use Rattle.kdf_job.specs.Draft.{SlotDraft, Draft, all_devices, new_slot, numbers_of, slot_fault, slot_of, slots_told, words_in}
 use Rattle.kdf_job.specs.Kept.{IsBegun, IsKept, IsPlaced}
-use Rattle.kdf_job.specs.WellFormed.{AreSlots, IsSchedule, IsShow, IsSlot}
+use Rattle.kdf_job.specs.WellFormed.{AreSlots, IsSchedule, IsSlot}
 use Rattle.kdf_job.proofs.Slots.{apart_more, ds, numbers_last, numbers_more, numbers_same, slots_changed, slots_first, slots_more, words_last}
-
--- the next line stands elsewhere
-pub moved : (words : ℕ) (numbers : List ℕ) (d e : Draft) → IsKept words numbers d → e.slots ≡ d.slots → e.slot ≡ d.slot → e.events ≡ d.events → IsPlaced e.place e.slot → IsKept words numbers e
-moved words numbers d e was slots slot events placed =
-    let told : slots_told e ≡ slots_told d = rw (slots, slot) refl in
-    record {
-      sum = was.sum ∙ ap words_in (sym told);
-      all = was.all ∙ ap numbers_of (sym told);
-      slots = subst AreSlots (sym told) was.slots;
-      schedule = subst IsSchedule (sym events) was.schedule;
-      begun = rw (slots, slot) was.begun;
-      placed = placed;
-    }
-
--- an event is told
-pub event_told : (words : ℕ) (numbers : List ℕ) (d e : Draft) → IsKept words numbers d → e.slots ≡ d.slots → e.slot ≡ d.slot → IsSchedule e.events → IsPlaced e.place e.slot → IsKept words numbers e
-event_told words numbers d e was slots slot events placed =
-    let told : slots_told e ≡ slots_told d = rw (slots, slot) refl in
-    record {
-      sum = was.sum ∙ ap words_in (sym told);
-      all = was.all ∙ ap numbers_of (sym told);
-      slots = subst AreSlots (sym told) was.slots;
-      schedule = events;
-      begun = rw (slots, slot) was.begun;
-      placed = placed;
-    }
 
 -- the slot in which the line stands is another, with the same devices
 pub slot_told : (words : ℕ) (numbers : List ℕ) (d e : Draft) (s t : SlotDraft) → IsKept words numbers d → e.slots ≡ d.slots → d.slot ≡ Some s → e.slot ≡ Some t → e.events ≡ d.events

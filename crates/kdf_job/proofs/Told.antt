@@ -1,11 +1,10 @@
 -- What is kept stays true with a line of each form that tells of a slot.
-use Rattle.std.proofs.Common.{◌≡◌, ℕ, ◌+◌, ◌<◌, ◌≤◌, ◌%◌, Bool, true, false, cond, List, [], ◌∷◌, ◌++◌, length, map, Option, Some, None, Result, Ok, Err, refl, sym, ap, subst, ◌∙◌, arith, rules, length-append}
+use Rattle.std.proofs.Common.{◌≡◌, ℕ, ◌+◌, ◌<◌, ◌≤◌, ◌%◌, Bool, true, false, cond, List, [], ◌∷◌, ◌++◌, length, Option, Some, None, Result, Ok, Err, refl, sym, ap, subst, ◌∙◌, arith, length-append}
 use Rattle.std.specs.Prelude.{codes, is_none, is_some, nat_eq}
 use Rattle.std.specs.Option.{option_map, option_to_list}
 use Rattle.std.specs.List.{All, list_any}
 use Rattle.std.proofs.lemmas.List.{length_push, map-append}
 use Rattle.std.proofs.lemmas.List.Elements.{All-push}
-use Rattle.std.proofs.lemmas.Bool.{cases_Bool}
 use Rattle.std.proofs.lemmas.Bool.Decides.{nat_tests}
 use Rattle.kdf_code.specs.Code.{code_of}
 use Rattle.kdf_text.specs.Lines.{is_text}
@@ -14,15 +13,14 @@ use Rattle.kdf_word.specs.Characters.{words_of}
 use Rattle.kdf_journal.specs.declared.kind.Kind.{Kind}
 use Rattle.kdf_journal.specs.declared.kind.Kind.TheVariants.{Tr, Tp, Cr, Lp, Mt}
 use Rattle.kdf_job.specs.declared.draft.Draft.{Draft as ReadDraft}
-use Rattle.kdf_job.specs.declared.fault.JobFault.{JobFault}
 use Rattle.kdf_job.specs.declared.fault.JobFault.TheVariants.{BadMedium}
 use Rattle.kdf_job.specs.declared.line_error.LineError.{LineError}
 use Rattle.kdf_job.specs.declared.line_error.LineError.TheVariants.{Fault, Memory}
 use Rattle.kdf_job.specs.declared.place.Place.{Place}
 use Rattle.kdf_job.specs.declared.place.Place.TheVariants.{BehindSlot, InDeck}
 use Rattle.kdf_job.specs.Adding.{IsChecked}
-use Rattle.kdf_job.specs.Draft.{SlotDraft, Draft, all_devices, device_fault, fault_of, medium_fault, new_slot, number_at, numbers_of, show_fault, slot_fault, slot_of, slots_told, store_fault, tells, with_line, with_line_of_medium, words_in}
-use Rattle.kdf_job.specs.Forms.{ADeckLine, ADevice, AMedium, AShow, AStore, told_at}
+use Rattle.kdf_job.specs.Draft.{SlotDraft, Draft, all_devices, device_fault, fault_of, medium_fault, new_slot, number_at, numbers_of, show_fault, slots_told, store_fault, tells, with_line, with_line_of_medium, words_in}
+use Rattle.kdf_job.specs.Forms.{Form, ADeckLine, ADevice, AMedium, AShow, AStore, told_at}
 use Rattle.kdf_job.specs.Job.{JobDevice, SlotJob}
 use Rattle.kdf_job.specs.Kept.{IsKept, IsPlaced}
 use Rattle.kdf_job.specs.Lengths.{device_length, kept_length, medium_length, slot_length, spared, weight}
@@ -30,10 +28,18 @@ use Rattle.kdf_job.specs.Media.{added, card_of, codes_in, filled, fits, new_devi
 use Rattle.kdf_job.specs.Reading.{or_fault}
 use Rattle.kdf_job.specs.Shows.{shown_draft}
 use Rattle.kdf_job.specs.Taking.{IsSound, Taken, Takes}
-use Rattle.kdf_job.specs.WellFormed.{IsShow, IsSlot}
+use Rattle.kdf_job.specs.WellFormed.{IsShow}
 use Rattle.kdf_job.proofs.Slots.{ds}
 use Rattle.kdf_job.proofs.Steps.{current_slot, device_told, slot_told, store_told}
-use Rattle.kdf_job.proofs.Takings.{taken}
+
+-- a form without a fault
+taken : (form : Form) (room : ℕ) (old new : ReadDraft) → fault_of form (shown_draft old) ≡ None → shown_draft new ≡ with_line form (shown_draft old)
+    → IsKept new.words new.numbers.items (with_line form (shown_draft old)) → weight (with_line form (shown_draft old)) ≤ weight (shown_draft old) + room → Taken (Ok form) room old new
+taken form room old new faultless is kept grown = record {
+  is = ap (or_fault form (shown_draft old)) faultless ∙ ap Ok (sym is);
+  sound = subst (IsKept new.words new.numbers.items) (sym is) kept;
+  grown = let e = ap weight is in omega arith;
+}
 
 pub some_slot : (o : Option SlotDraft) → is_some o ≡ true → (s : SlotDraft) × (o ≡ Some s)
 some_slot None h = absurd cc

@@ -1,5 +1,5 @@
 -- Lines of more words than a form has.
-use Rattle.std.proofs.Common.{◌≡◌, ℕ, List, [], ◌∷◌, None, refl}
+use Rattle.std.proofs.Common.{◌≡◌, ℕ, List, ◌∷◌, None, refl}
 use Rattle.kdf_text.specs.Lines.{words}
 use Rattle.kdf_text.proofs.WordCuts.{words-some}
 use Rattle.kdf_job.specs.Forms.{described, one_number, two_addresses}

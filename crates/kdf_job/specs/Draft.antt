@@ -4,15 +4,15 @@ use Rattle.std.specs.List.{list_any, flat_map}
 use Rattle.std.specs.Option.{option_map, option_to_list}
 use Rattle.kdf_text.specs.declared.lines.TheConstants.{LINE_END}
 use Rattle.kdf_journal.specs.declared.kind.Kind.{Kind}
-use Rattle.kdf_journal.specs.declared.kind.Kind.TheVariants.{Tr, Tp, Cr, Lp, Mt}
+use Rattle.kdf_journal.specs.declared.kind.Kind.TheVariants.{Mt}
 use Rattle.kdf_schedule.specs.declared.event.Event.{Event}
-use Rattle.kdf_schedule.specs.declared.event.Event.TheVariants.{Orders, Move, End, Clock}
+use Rattle.kdf_schedule.specs.declared.event.Event.TheVariants.{Orders, Clock}
 use Rattle.kdf_schedule.specs.Calls.{order_count}
 use Rattle.kdf_job.specs.declared.place.Place.{Place}
 use Rattle.kdf_job.specs.declared.place.Place.TheVariants.{First, BehindSlot}
 use Rattle.kdf_job.specs.declared.fault.JobFault.{JobFault}
 use Rattle.kdf_job.specs.declared.fault.JobFault.TheVariants.{SlotOrder, SizeNotGroups, StoreFull, DeviceTwice, BadLabel, LabelTwice, BadMedium, ShowRange, ClockFalls, TooManyOrders, TooManyEvents}
-use Rattle.kdf_job.specs.Forms.{Form, AHeader, ASlot, AStore, ADeck, ADeckLine, AnEndDeck, ADevice, AMedium, AShow, ASchedule, AnEvent, AnEndJob, behind}
+use Rattle.kdf_job.specs.Forms.{Form, ASlot, AStore, ADeckLine, ADevice, AMedium, AShow, AnEvent, behind}
 use Rattle.kdf_job.specs.Job.{JobDevice, SlotJob, Job}
 use Rattle.kdf_job.specs.Limits.{group, most_words_together, most_orders, most_events}
 use Rattle.kdf_job.specs.Media.{is_label, word_of_text, new_device, with_medium}

@@ -1,5 +1,5 @@
 -- The forms of the lines of a job, and which of them may stand where.
-use Rattle.std.specs.Prelude.{ℕ, ◌==◌, ◌&&◌, Bool, true, false, List, [], ◌∷◌, Option, Some, None, Result, Ok, Err, if◌then◌else◌, codes}
+use Rattle.std.specs.Prelude.{ℕ, ◌==◌, Bool, true, false, List, [], ◌∷◌, Option, Some, None, Result, Ok, Err, if◌then◌else◌, codes}
 use Rattle.std.specs.Option.{ok_or, option_zip}
 use Rattle.kdf_text.specs.Lines.{words, is_text}
 use Rattle.kdf_text.specs.Numbers.{number_in}

@@ -1,5 +1,5 @@
 -- What is said of a line that is taken.
-use Rattle.std.specs.Prelude.{◌≡◌, ℕ, ◌+◌, ◌≤◌, List, Option, Result, Ok, Err}
+use Rattle.std.specs.Prelude.{◌≡◌, ℕ, ◌+◌, ◌≤◌, Result, Ok, Err}
 use Rattle.kdf_job.specs.declared.draft.Draft.{Draft as ReadDraft}
 use Rattle.kdf_job.specs.declared.fault.JobFault.{JobFault}
 use Rattle.kdf_job.specs.declared.line_error.LineError.{LineError}

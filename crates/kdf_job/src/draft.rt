@@ -33,14 +33,14 @@ const MOST_WORDS: u32 = 31_744;
 pub struct Draft {
     pub place: Place,
     /// The slots of which all lines are read.
-    pub slots: Vec<SlotJob>,
+    slots: Vec<SlotJob>,
     /// The slot behind them.
-    pub slot: Option<SlotDraft>,
+    slot: Option<SlotDraft>,
     /// The sum of the sizes of all stores.
-    pub words: u32,
+    words: u32,
     /// The numbers of all devices.
-    pub numbers: Vec<u8>,
-    pub schedule: Schedule,
+    numbers: Vec<u8>,
+    schedule: Schedule,
 }
 
 impl Draft {
@@ -101,7 +101,7 @@ impl Draft {
     }
 
     /// Puts the slot of which all lines are read behind the others.
-    pub fn finish_slot(&mut self, alloc: Global) -> Result<(), AllocError>
+    fn finish_slot(&mut self, alloc: Global) -> Result<(), AllocError>
         ensures shown { OnOk result (shown_draft self.new ≡ record (shown_draft self.old) {
           slots = slots_told (shown_draft self.old);
           slot = None;

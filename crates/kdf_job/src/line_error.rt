@@ -6,7 +6,7 @@ use crate::JobFault;
 use std::alloc::{AllocError, AllocFailed};
 
 /// Why a line isn't taken.
-#[derive(Debug, Drop)]
+#[derive(Drop)]
 pub enum LineError {
     /// What is wrong with it.
     Fault(JobFault),
@@ -27,15 +27,5 @@ impl<T: Drop> From<AllocFailed<T>> for LineError {
 
     fn from(_error: AllocFailed<T>) -> LineError {
         LineError::Memory
-    }
-}
-
-impl From<JobFault> for LineError {
-    ghost use Rattle.kdf_job.specs.declared.line_error.LineError.TheVariants.{Fault};
-
-    ghost from_gives = { λ fault e. e ≡ Fault fault };
-
-    fn from(fault: JobFault) -> LineError {
-        LineError::Fault(fault)
     }
 }

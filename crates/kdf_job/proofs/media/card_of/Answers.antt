@@ -1,4 +1,4 @@
-use Rattle.std.proofs.Common.{◌≡◌, ℕ, ◌<◌, List, ◌++◌, length, drop, replicate, sym, subst}
+use Rattle.std.proofs.Common.{◌≡◌, ℕ, ◌<◌, ◌++◌, length, drop, replicate, sym, subst}
 use Rattle.std.specs.List.{All}
 use Rattle.kdf_job.specs.Media.{card_of}
 use Rattle.kdf_job.proofs.Filling.{card_is, card_small}

@@ -1,8 +1,7 @@
-use Rattle.std.proofs.Common.{◌≡◌, ◌+◌, length, Result, Ok, false, codes, sym, subst, ap, rules}
+use Rattle.std.proofs.Common.{◌≡◌, ◌+◌, length, Result, Ok, false, codes, sym, subst, rules}
 use Rattle.kdf_text.specs.Lines.{is_text}
 use Rattle.kdf_job.specs.declared.fault.JobFault.{JobFault}
-use Rattle.kdf_job.specs.declared.place.Place.TheVariants.{InDeck}
-use Rattle.kdf_job.specs.Forms.{Form, ADeckLine, told_at}
+use Rattle.kdf_job.specs.Forms.{Form, ADeckLine}
 use Rattle.kdf_job.specs.Taking.{Taken}
 use Rattle.kdf_job.proofs.Told.{deck_told, deck_takes}
 use Rattle.kdf_job.proofs.draft.Draft.take_deck_line.Goals as goal
