@@ -17,7 +17,8 @@ use Rattle.kdf_job.specs.Job.{JobDevice, SlotJob, Job}
 use Rattle.kdf_job.specs.Limits.{group, most_words_together, most_orders, most_events}
 use Rattle.kdf_job.specs.Media.{is_label, word_of_text, new_device, with_medium}
 
--- the slot that is being read: its device whose medium may go on stands behind the others, and it has the labels of its tapes
+-- the slot that is being read: the device whose medium may go on stands behind the others, and it has the labels
+-- of its tapes
 pub record SlotDraft : Type 0 where
   pub p : ℕ
   pub size : ℕ

@@ -9,8 +9,10 @@ use Rattle.kdf_job.specs.Reading.{draft_of, fault_from}
 use Rattle.kdf_job.specs.Shows.{shown_draft}
 use Rattle.kdf_job.specs.Taking.{IsSound}
 
-pub record Passes (old : Lines) (before : ReadDraft) (new : Lines) (after : ReadDraft) : Type 0 where
-  pub fault : fault_from old.number (shown_draft before) (ahead old) ≡ fault_from new.number (shown_draft after) (ahead new)
+pub record Passes (old : Lines) (before : ReadDraft) (new : Lines) (after : ReadDraft)
+    : Type 0 where
+  pub fault : fault_from old.number (shown_draft before) (ahead old)
+      ≡ fault_from new.number (shown_draft after) (ahead new)
   pub job : draft_of (shown_draft before) (ahead old) ≡ draft_of (shown_draft after) (ahead new)
   pub sound : IsSound after
   pub fits : 0 < length new.rest.now → weight (shown_draft after) + length new.rest.now ≤ TEXT_LIMIT

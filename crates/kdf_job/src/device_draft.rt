@@ -64,9 +64,12 @@ impl DeviceDraft {
     /// Adds a line of these characters to its medium.
     fn add_codes(&mut self, marked: bool, codes: Vec<u8>) -> Result<(), LineError>
         requires small { All (λ c. c < 64) codes.items }
-        requires few { medium_length (shown_device_draft self.old) + length codes.items + 1 < 2 ^ 32 }
-        ensures { IsAdded (fits (shown_device_draft self.old).fixture.kind marked (length codes.items))
-            (added (shown_device_draft self.old).fixture.kind marked codes.items (shown_device_draft self.old))
+        requires few { medium_length (shown_device_draft self.old) + length codes.items + 1
+            < 2 ^ 32 }
+        ensures { IsAdded
+            (fits (shown_device_draft self.old).fixture.kind marked (length codes.items))
+            (added (shown_device_draft self.old).fixture.kind marked codes.items
+            (shown_device_draft self.old))
             (shown_device_draft self.new) result }
     {
         match &mut self.medium {

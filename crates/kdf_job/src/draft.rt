@@ -89,7 +89,8 @@ impl Draft {
     pub fn add_slot(&mut self, alloc: Global, p: u8, size: u16) -> Result<(), AllocError>
         requires place { self.old.place ≡ BehindSlot p }
         requires fits { self.old.words + size ≤ 31744 }
-        ensures shown { OnOk result (shown_draft self.new ≡ with_line (AStore size) (shown_draft self.old)) }
+        ensures shown { OnOk result (shown_draft self.new
+            ≡ with_line (AStore size) (shown_draft self.old)) }
         ensures words { OnOk result (self.new.words ≡ self.old.words + size) }
         ensures numbers { OnOk result (self.new.numbers.items ≡ self.old.numbers.items) }
     {
@@ -134,7 +135,8 @@ impl Draft {
     pub fn device_fault(&self, device: DeviceLine<'_>, label: Word) -> Option<JobFault>
         requires label { label ≡ word_of_text device.label.now }
         requires sound { IsSound self.now }
-        ensures { result ≡ device_fault device.entry.d device.entry.kind device.entry.label.now (shown_draft self.now) }
+        ensures { result ≡ device_fault device.entry.d device.entry.kind device.entry.label.now
+            (shown_draft self.now) }
     {
         if self.has_device(device.d) {
             Some(JobFault::DeviceTwice)
@@ -146,7 +148,8 @@ impl Draft {
     /// A device of this number stood before.
     fn has_device(&self, d: u8) -> bool
         requires { IsSound self.now }
-        ensures { result ≡ list_any (λ other. d == other) (numbers_of (slots_told (shown_draft self.now))) }
+        ensures { result ≡ list_any (λ other. d == other)
+            (numbers_of (slots_told (shown_draft self.now))) }
     {
         self.numbers.iter().any(|number| d == *number)
     }
@@ -186,9 +189,11 @@ impl Draft {
     ) -> Result<(), AllocError>
         requires { label ≡ word_of_text device.label.now }
         ensures shown { OnOk result (shown_draft self.new
-            ≡ with_line (ADevice device.entry.d device.entry.kind device.entry.label.now) (shown_draft self.old)) }
+            ≡ with_line (ADevice device.entry.d device.entry.kind device.entry.label.now)
+            (shown_draft self.old)) }
         ensures words { self.new.words ≡ self.old.words }
-        ensures numbers { OnOk result (self.new.numbers.items ≡ self.old.numbers.items ++ device.entry.d ∷ []) }
+        ensures numbers { OnOk result (self.new.numbers.items
+            ≡ self.old.numbers.items ++ device.entry.d ∷ []) }
     {
         self.place = Place::BehindDevice;
         self.numbers.push(device.d)?;
@@ -201,7 +206,8 @@ impl Draft {
     /// Adds a line to the medium of the last device.
     pub fn add_medium_line(&mut self, alloc: Global, line: MediumLine<'_>) -> Result<(), LineError>
         requires { kept_length (shown_draft self.old).slot + length line.text.now + 1 < 2 ^ 32 }
-        ensures shown { IsChecked (medium_fault line.entry.marked line.entry.text.now (shown_draft self.old).slot)
+        ensures shown { IsChecked
+            (medium_fault line.entry.marked line.entry.text.now (shown_draft self.old).slot)
             (with_line (AMedium line.entry.marked line.entry.text.now) (shown_draft self.old))
             (shown_draft self.new) result }
         ensures words { self.new.words ≡ self.old.words }

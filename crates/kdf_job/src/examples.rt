@@ -22,19 +22,22 @@ pub fn lines_tell()
     ensures store { told_at (place.BehindSlot 3) (codes "STORE 8192") ≡ Ok (AStore 8192) }
     ensures leading_zero { told_at (place.BehindSlot 3) (codes "STORE 032") ≡ Err fault.BadNumber }
     ensures deck { told_at place.BehindStore (codes "DECK ") ≡ Err fault.BadLine }
-    ensures any_deck_line { told_at place.InDeck (codes "SLOT 9") ≡ Ok (ADeckLine (codes "SLOT 9")) }
+    ensures any_deck_line { told_at place.InDeck (codes "SLOT 9")
+        ≡ Ok (ADeckLine (codes "SLOT 9")) }
     ensures end_deck { told_at place.InDeck (codes "ENDDECK") ≡ Ok AnEndDeck }
     ensures device { told_at place.BehindDeck (codes "DEVICE 15 TR") ≡ Ok (ADevice 15 kind.Tr []) }
     ensures tape { told_at place.BehindDeck (codes "DEVICE 3 MT a")
         ≡ Ok (ADevice 3 kind.Mt (codes "a")) }
-    ensures empty_label { told_at place.BehindDeck (codes "DEVICE 3 MT ") ≡ Ok (ADevice 3 kind.Mt []) }
+    ensures empty_label { told_at place.BehindDeck (codes "DEVICE 3 MT ")
+        ≡ Ok (ADevice 3 kind.Mt []) }
     ensures no_label { told_at place.BehindDeck (codes "DEVICE 3 MT") ≡ Err fault.BadLine }
     ensures device_16 { told_at place.BehindDeck (codes "DEVICE 16 MT a") ≡ Err fault.BadNumber }
     ensures no_device { told_at place.BehindDeck (codes "+A") ≡ Err fault.BadLine }
     ensures medium { told_at place.BehindDevice (codes "+A b") ≡ Ok (AMedium false (codes "A b")) }
     ensures marked { told_at place.BehindDevice (codes "=") ≡ Ok (AMedium true []) }
     ensures show { told_at place.BehindDevice (codes "SHOW 0 8191") ≡ Ok (AShow 0 8191) }
-    ensures device_behind_show { told_at place.BehindShow (codes "DEVICE 3 TR") ≡ Err fault.BadLine }
+    ensures device_behind_show { told_at place.BehindShow (codes "DEVICE 3 TR")
+        ≡ Err fault.BadLine }
     ensures medium_behind_show { told_at place.BehindShow (codes "+A") ≡ Err fault.BadLine }
     ensures event { told_at place.InSchedule (codes "END 3") ≡ Ok (AnEvent (event.End 3)) }
     ensures bad_event { told_at place.InSchedule (codes "MOVE 3 0") ≡ Err fault.BadNumber }

@@ -34,7 +34,8 @@ impl Paper {
     pub fn add(&mut self, marked: bool, codes: &[u8]) -> Result<(), LineError>
         requires small { All (λ c. c < 64) codes.now }
         requires few { length self.old.codes.items + length codes.now < 2 ^ 32 }
-        ensures { IsAdded (not marked) (self.old.codes.items ++ codes.now) self.new.codes.items result }
+        ensures { IsAdded (not marked) (self.old.codes.items ++ codes.now)
+            self.new.codes.items result }
     {
         if marked {
             return Err(LineError::Fault(JobFault::BadMedium));

@@ -22,7 +22,8 @@ impl Draft {
     pub fn take_line(&mut self, alloc: Global, line: &[u8]) -> Result<(), LineError>
         requires sound { IsSound self.old }
         requires fits { weight (shown_draft self.old) + length line.now ≤ TEXT_LIMIT }
-        ensures { Takes (told_at self.old.place line.now) (length line.now + 1) self.old self.new result }
+        ensures { Takes (told_at self.old.place line.now)
+            (length line.now + 1) self.old self.new result }
     {
         match self.place {
             Place::First => self.take_header(line),
@@ -55,7 +56,8 @@ impl Draft {
     /// Takes the number of the first slot.
     fn take_first_slot(&mut self, line: &[u8]) -> Result<(), LineError>
         requires sound { IsSound self.old }
-        ensures { Takes (first_told (slot_line line.now ∷ [])) (length line.now + 1) self.old self.new result }
+        ensures { Takes (first_told (slot_line line.now ∷ []))
+            (length line.now + 1) self.old self.new result }
     {
         match slot_number(line) {
             Some(Ok(p)) => self.take_slot(p),
@@ -81,7 +83,8 @@ impl Draft {
     fn take_size(&mut self, alloc: Global, p: u8, line: &[u8]) -> Result<(), LineError>
         requires sound { IsSound self.old }
         requires place { self.old.place ≡ BehindSlot p }
-        ensures { Takes (told_at (BehindSlot p) line.now) (length line.now + 1) self.old self.new result }
+        ensures { Takes (told_at (BehindSlot p) line.now)
+            (length line.now + 1) self.old self.new result }
     {
         match store_size(line) {
             Some(Ok(size)) => self.take_store(alloc, p, size),
@@ -109,7 +112,8 @@ impl Draft {
     fn take_deck(&mut self, line: &[u8]) -> Result<(), LineError>
         requires sound { IsSound self.old }
         requires place { self.old.place ≡ BehindStore }
-        ensures { Takes (told_at BehindStore line.now) (length line.now + 1) self.old self.new result }
+        ensures { Takes (told_at BehindStore line.now)
+            (length line.now + 1) self.old self.new result }
     {
         if line == b"DECK".as_slice() {
             self.place = Place::InDeck;
@@ -163,7 +167,8 @@ impl Draft {
     fn take_device_or_end(&mut self, alloc: Global, line: &[u8]) -> Result<(), LineError>
         requires sound { IsSound self.old }
         requires there { is_some (shown_draft self.old).slot ≡ true }
-        ensures { Takes (first_told (device_or_end line.now)) (length line.now + 1) self.old self.new result }
+        ensures { Takes (first_told (device_or_end line.now))
+            (length line.now + 1) self.old self.new result }
     {
         match device_line(line) {
             Some(Ok(device)) => self.take_device(alloc, device),
@@ -192,7 +197,8 @@ impl Draft {
     fn take_show_or_end(&mut self, line: &[u8]) -> Result<(), LineError>
         requires sound { IsSound self.old }
         requires there { is_some (shown_draft self.old).slot ≡ true }
-        ensures { Takes (first_told (slot_ends line.now)) (length line.now + 1) self.old self.new result }
+        ensures { Takes (first_told (slot_ends line.now))
+            (length line.now + 1) self.old self.new result }
     {
         match addresses(line) {
             Some(Ok((first, last))) => self.take_show(first, last),
@@ -218,7 +224,8 @@ impl Draft {
     fn take_slot_or_schedule(&mut self, line: &[u8]) -> Result<(), LineError>
         requires sound { IsSound self.old }
         requires there { is_some (shown_draft self.old).slot ≡ true }
-        ensures { Takes (first_told (slot_line line.now ∷ alone (codes "SCHEDULE") ASchedule line.now ∷ []))
+        ensures { Takes
+            (first_told (slot_line line.now ∷ alone (codes "SCHEDULE") ASchedule line.now ∷ []))
             (length line.now + 1) self.old self.new result }
     {
         match slot_number(line) {
@@ -247,7 +254,8 @@ impl Draft {
     fn take_event_or_end(&mut self, line: &[u8]) -> Result<(), LineError>
         requires sound { IsSound self.old }
         requires place { self.old.place ≡ InSchedule }
-        ensures { Takes (told_at InSchedule line.now) (length line.now + 1) self.old self.new result }
+        ensures { Takes (told_at InSchedule line.now)
+            (length line.now + 1) self.old self.new result }
     {
         match read_event(line) {
             Ok(event) => self.take_event(event),
