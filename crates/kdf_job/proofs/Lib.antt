@@ -1,0 +1,10 @@
+pub mod WordLemmas
+pub mod CodesRead
+pub mod Filling
+pub mod Schedules
+pub mod Slots
+pub mod Steps
+pub mod Begins
+pub mod Told
+pub mod Finished
+pub mod Passing

@@ -1,0 +1,66 @@
+-- A schedule with an event more.
+use Rattle.std.proofs.Common.{◌≡◌, ℕ, ◌+◌, ◌<◌, ◌≤◌, List, [], ◌∷◌, ◌++◌, length, None, arith}
+use Rattle.std.specs.List.{fold}
+use Rattle.std.proofs.lemmas.List.Sums.{fold-append}
+use Rattle.std.proofs.lemmas.List.Elements.{All-push}
+use Rattle.std.proofs.lemmas.List.{length_push}
+use Rattle.std.proofs.lemmas.Bool.Decides.{nat_tests}
+use Rattle.kdf_schedule.specs.declared.event.Event.{Event}
+use Rattle.kdf_schedule.specs.declared.event.Event.TheVariants.{Orders, Move, End, Clock}
+use Rattle.kdf_schedule.specs.Calls.{order_count, orders_in}
+use Rattle.kdf_schedule.specs.Events.{IsInRange}
+use Rattle.kdf_job.specs.Draft.{clock_behind, clock_of, count_fault, event_fault}
+use Rattle.kdf_job.specs.WellFormed.{IsRising, IsSchedule}
+
+pub order_count_push : (es : List Event) (e : Event) → order_count (es ++ e ∷ []) ≡ order_count es + orders_in e
+order_count_push [] e = omega arith
+order_count_push (x ∷ es) e = let more = order_count_push es e in omega arith
+
+pub clock_push : (es : List Event) (e : Event) → clock_of (es ++ e ∷ []) ≡ clock_behind (clock_of es) e
+clock_push es e = fold-append clock_behind 0 es (e ∷ [])
+
+-- an event doesn't set the time back
+abbrev GoesOn : ℕ → Event → Type 0
+GoesOn t (Clock u) = t ≤ u
+GoesOn t (Orders n) = Unit {0}
+GoesOn t (Move d n) = Unit {0}
+GoesOn t (End d) = Unit {0}
+
+rising_push : (t : ℕ) (es : List Event) (e : Event) → IsRising t es → GoesOn (fold clock_behind t es) e → IsRising t (es ++ e ∷ [])
+rising_push t [] (Clock u) r on = (on, tt {0})
+rising_push t [] (Orders n) r on = tt {0}
+rising_push t [] (Move d n) r on = tt {0}
+rising_push t [] (End d) r on = tt {0}
+rising_push t (Clock u ∷ es) e r on = (r.0, rising_push u es e r.1 on)
+rising_push t (Orders n ∷ es) e r on = rising_push t es e r on
+rising_push t (Move d n ∷ es) e r on = rising_push t es e r on
+rising_push t (End d ∷ es) e r on = rising_push t es e r on
+
+goes_on : (es : List Event) (e : Event) → event_fault e es ≡ None → GoesOn (clock_of es) e
+goes_on es (Clock u) h = grind (arith, nat_tests)
+goes_on es (Orders n) h = tt {0}
+goes_on es (Move d n) h = tt {0}
+goes_on es (End d) h = tt {0}
+
+count_few : (es : List Event) → count_fault es ≡ None → length es < 500000
+count_few es h = grind (arith, nat_tests)
+
+few_events : (es : List Event) (e : Event) → event_fault e es ≡ None → length es < 500000
+few_events es (Clock u) h = grind (arith, nat_tests)
+few_events es (Orders n) h = grind (arith, nat_tests)
+few_events es (Move d n) h = count_few es h
+few_events es (End d) h = count_few es h
+
+pub few_orders : (es : List Event) (e : Event) → event_fault e es ≡ None → order_count es ≤ 20000000 → order_count es + orders_in e ≤ 20000000
+few_orders es (Clock u) h few = omega arith
+few_orders es (Orders n) h few = grind (arith, nat_tests)
+few_orders es (Move d n) h few = omega arith
+few_orders es (End d) h few = omega arith
+
+pub schedule_push : (es : List Event) (e : Event) → IsSchedule es → IsInRange e → event_fault e es ≡ None → IsSchedule (es ++ e ∷ [])
+schedule_push es e was range h = record {
+  each = All-push IsInRange es e was.each range;
+  few = let n = few_events es e h in rw (length_push es e) (omega arith);
+  few_orders = let n = few_orders es e h was.few_orders in rw (order_count_push es e) (omega arith);
+  rising = rising_push 0 es e was.rising (goes_on es e h);
+}

@@ -1,0 +1,193 @@
+-- What the lines so far tell of a job, and what is wrong with a line behind them.
+use Rattle.std.specs.Prelude.{ℕ, ◌+◌, ◌%◌, ◌==◌, ◌&&◌, not, nat_le, nat_lt, Bool, List, [], ◌∷◌, ◌++◌, length, map, fold, sum_by, Option, Some, None, is_none, if◌then◌else◌}
+use Rattle.std.specs.List.{list_any, flat_map}
+use Rattle.std.specs.Option.{option_map, option_to_list}
+use Rattle.kdf_text.specs.declared.lines.TheConstants.{LINE_END}
+use Rattle.kdf_journal.specs.declared.kind.Kind.{Kind}
+use Rattle.kdf_journal.specs.declared.kind.Kind.TheVariants.{Mt}
+use Rattle.kdf_schedule.specs.declared.event.Event.{Event}
+use Rattle.kdf_schedule.specs.declared.event.Event.TheVariants.{Orders, Clock}
+use Rattle.kdf_schedule.specs.Calls.{order_count}
+use Rattle.kdf_job.specs.declared.place.Place.{Place}
+use Rattle.kdf_job.specs.declared.place.Place.TheVariants.{First, BehindSlot}
+use Rattle.kdf_job.specs.declared.fault.JobFault.{JobFault}
+use Rattle.kdf_job.specs.declared.fault.JobFault.TheVariants.{SlotOrder, SizeNotGroups, StoreFull, DeviceTwice, BadLabel, LabelTwice, BadMedium, ShowRange, ClockFalls, TooManyOrders, TooManyEvents}
+use Rattle.kdf_job.specs.Forms.{Form, ASlot, AStore, ADeckLine, ADevice, AMedium, AShow, AnEvent, behind}
+use Rattle.kdf_job.specs.Job.{JobDevice, SlotJob, Job}
+use Rattle.kdf_job.specs.Limits.{group, most_words_together, most_orders, most_events}
+use Rattle.kdf_job.specs.Media.{is_label, word_of_text, new_device, with_medium}
+
+-- the slot that is being read: the device whose medium may go on stands behind the others, and it has the labels
+-- of its tapes
+pub record SlotDraft : Type 0 where
+  pub p : ℕ
+  pub size : ℕ
+  pub deck : List ℕ
+  pub devices : List JobDevice
+  pub device : Option JobDevice
+  pub labels : List ℕ
+  pub shows : List (ℕ × ℕ)
+
+-- what the lines so far tell, and where the next line stands
+pub record Draft : Type 0 where
+  pub place : Place
+  pub slots : List SlotJob
+  pub slot : Option SlotDraft
+  pub events : List Event
+
+abbrev pub blank : Draft
+blank = record { place = First; slots = []; slot = None; events = [] }
+
+-- a slot of which the number and the size are known
+abbrev pub new_slot : ℕ → ℕ → SlotDraft
+new_slot p n =
+    record { p = p; size = n; deck = []; devices = []; device = None; labels = []; shows = [] }
+
+abbrev pub all_devices : SlotDraft → List JobDevice
+all_devices s = s.devices ++ option_to_list s.device
+
+abbrev pub slot_of : SlotDraft → SlotJob
+slot_of s =
+    record { p = s.p; size = s.size; deck = s.deck; devices = all_devices s; shows = s.shows }
+
+-- all slots so far
+abbrev pub slots_told : Draft → List SlotJob
+slots_told d = d.slots ++ option_to_list (option_map slot_of d.slot)
+
+-- ---- what a line tells
+
+-- the number of the slot that was begun by the line before
+abbrev pub number_at : Place → ℕ
+number_at (BehindSlot p) = p
+number_at _ = 0
+
+abbrev pub labels_with : Kind → ℕ → List ℕ → List ℕ
+labels_with Mt label labels = labels ++ label ∷ []
+labels_with _ label labels = labels
+
+-- the device with a medium line more; none where there is no device, or the line is no medium of it
+abbrev pub with_line_of_medium : Bool → List ℕ → Option JobDevice → Option JobDevice
+with_line_of_medium marked text None = None
+with_line_of_medium marked text (Some x) = with_medium marked text x
+
+-- of the slot in which the line stands
+abbrev pub tells : Form → SlotDraft → SlotDraft
+tells (ADeckLine text) s = record s { deck = s.deck ++ text ++ LINE_END ∷ [] }
+tells (ADevice d kind label) s =
+    record s {
+      devices = all_devices s;
+      device = Some (new_device d kind (word_of_text label));
+      labels = labels_with kind (word_of_text label) s.labels;
+    }
+tells (AMedium marked text) s = record s { device = with_line_of_medium marked text s.device }
+tells (AShow a b) s = record s { shows = s.shows ++ (a, b) ∷ [] }
+tells _ s = s
+
+abbrev pub slots_with : Form → Draft → List SlotJob
+slots_with (AStore n) d = slots_told d
+slots_with _ d = d.slots
+
+abbrev pub slot_with : Form → Draft → Option SlotDraft
+slot_with (AStore n) d = Some (new_slot (number_at d.place) n)
+slot_with form d = option_map (tells form) d.slot
+
+abbrev pub events_with : Form → List Event → List Event
+events_with (AnEvent what) events = events ++ what ∷ []
+events_with _ events = events
+
+-- the draft with a line more
+abbrev pub with_line : Form → Draft → Draft
+with_line form d =
+    record {
+      place = behind form;
+      slots = slots_with form d;
+      slot = slot_with form d;
+      events = events_with form d.events;
+    }
+
+-- the job that the lines tell
+abbrev pub job_of : Draft → Job
+job_of d = record { slots = slots_told d; events = d.events }
+
+-- ---- what is wrong with a line
+
+-- the numbers of all devices so far
+abbrev pub numbers_of : List SlotJob → List ℕ
+numbers_of slots = map (λ (x : JobDevice). x.d) (flat_map (λ (s : SlotJob). s.devices) slots)
+
+-- the words of all stores so far
+abbrev pub words_in : List SlotJob → ℕ
+words_in slots = sum_by (λ (s : SlotJob). s.size) slots
+
+-- the number is above that of the slot before
+abbrev pub slot_fault : ℕ → Option SlotDraft → Option JobFault
+slot_fault p None = None
+slot_fault p (Some s) = if nat_lt s.p p then None else Some SlotOrder
+
+abbrev pub store_fault : ℕ → List SlotJob → Option JobFault
+store_fault n slots =
+    if not (n % group == 0) then Some SizeNotGroups
+    else (if nat_lt most_words_together (words_in slots + n) then Some StoreFull
+    else None)
+
+abbrev pub labels_so_far : Option SlotDraft → List ℕ
+labels_so_far None = []
+labels_so_far (Some s) = s.labels
+
+abbrev pub tape_fault : List ℕ → List ℕ → Option JobFault
+tape_fault label labels =
+    if not (is_label label) then Some BadLabel
+    else (if list_any (λ other. word_of_text label == other) labels then Some LabelTwice
+    else None)
+
+abbrev pub label_fault : Kind → List ℕ → List ℕ → Option JobFault
+label_fault Mt label labels = tape_fault label labels
+label_fault _ label labels = None
+
+abbrev pub device_fault : ℕ → Kind → List ℕ → Draft → Option JobFault
+device_fault n kind label d =
+    if list_any (λ other. n == other) (numbers_of (slots_told d)) then Some DeviceTwice
+    else label_fault kind label (labels_so_far d.slot)
+
+abbrev pub device_so_far : Option SlotDraft → Option JobDevice
+device_so_far None = None
+device_so_far (Some s) = s.device
+
+abbrev pub medium_fault : Bool → List ℕ → Option SlotDraft → Option JobFault
+medium_fault marked text slot =
+    if is_none (with_line_of_medium marked text (device_so_far slot)) then Some BadMedium else None
+
+abbrev pub size_so_far : Option SlotDraft → ℕ
+size_so_far None = 0
+size_so_far (Some s) = s.size
+
+abbrev pub show_fault : ℕ → ℕ → ℕ → Option JobFault
+show_fault a b size = if nat_le a b && nat_lt b size then None else Some ShowRange
+
+-- the time that was set last, or 0
+abbrev pub clock_behind : ℕ → Event → ℕ
+clock_behind t (Clock u) = u
+clock_behind t _ = t
+
+abbrev pub clock_of : List Event → ℕ
+clock_of events = fold clock_behind 0 events
+
+abbrev pub count_fault : List Event → Option JobFault
+count_fault events = if nat_lt (length events) most_events then None else Some TooManyEvents
+
+abbrev pub event_fault : Event → List Event → Option JobFault
+event_fault (Clock t) events =
+    if nat_lt t (clock_of events) then Some ClockFalls else count_fault events
+event_fault (Orders n) events =
+    if nat_lt most_orders (order_count events + n) then Some TooManyOrders else count_fault events
+event_fault _ events = count_fault events
+
+-- what is wrong with a line of this form behind the lines of a draft: the least of its faults
+abbrev pub fault_of : Form → Draft → Option JobFault
+fault_of (ASlot p) d = slot_fault p d.slot
+fault_of (AStore n) d = store_fault n (slots_told d)
+fault_of (ADevice n kind label) d = device_fault n kind label d
+fault_of (AMedium marked text) d = medium_fault marked text d.slot
+fault_of (AShow a b) d = show_fault a b (size_so_far d.slot)
+fault_of (AnEvent what) d = event_fault what d.events
+fault_of _ d = None

@@ -1,0 +1,23 @@
+-- A job: its slots, each with its deck and its devices, and the schedule.
+use Rattle.std.specs.Prelude.{ℕ, List}
+use Rattle.kdf_schedule.specs.declared.event.Event.{Event}
+use Rattle.kdf_transfer.specs.Devices.{Fixture, Progress}
+
+-- a device with its number, as it is at the start
+pub record JobDevice : Type 0 where
+  pub d : ℕ
+  pub fixture : Fixture
+  pub progress : Progress
+
+-- a slot: its number, the size of its store, the text of its deck, its devices, and the first and the last address
+-- of each run of words that the report shows
+pub record SlotJob : Type 0 where
+  pub p : ℕ
+  pub size : ℕ
+  pub deck : List ℕ
+  pub devices : List JobDevice
+  pub shows : List (ℕ × ℕ)
+
+pub record Job : Type 0 where
+  pub slots : List SlotJob
+  pub events : List Event

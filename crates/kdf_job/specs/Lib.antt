@@ -1,0 +1,14 @@
+pub mod Limits
+pub mod Job
+pub mod Faults
+pub mod Media
+pub mod Adding
+pub mod Lengths
+pub mod Forms
+pub mod Draft
+pub mod Reading
+pub mod Shows
+pub mod WellFormed
+pub mod Kept
+pub mod Taking
+pub mod Passes

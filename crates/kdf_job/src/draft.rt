@@ -1,0 +1,273 @@
+//! What the lines so far tell of a job.
+ghost use Rattle.std.specs.Prelude.{◌≡◌, ◌==◌, ◌+◌, ◌≤◌, ◌<◌, ◌^◌, ◌++◌, [], ◌∷◌, None, IfOk, OnOk, length};
+ghost use Rattle.std.specs.List.{list_any};
+ghost use Rattle.kdf_schedule.specs.Events.{IsInRange};
+ghost use Rattle.kdf_job.specs.Adding.{IsChecked};
+ghost use Rattle.kdf_job.specs.Draft.{blank, device_fault, device_so_far, event_fault, job_of, label_fault, labels_so_far, medium_fault, numbers_of, show_fault, size_so_far, slot_fault, slots_told, store_fault, tape_fault, tells, with_line};
+ghost use Rattle.kdf_job.specs.Forms.{ADeckLine, ADevice, AMedium, AShow, AStore, AnEvent};
+ghost use Rattle.kdf_job.specs.Lengths.{kept_length};
+ghost use Rattle.kdf_job.specs.Media.{word_of_text};
+ghost use Rattle.kdf_job.specs.Shows.{shown_draft, shown_job};
+ghost use Rattle.kdf_job.specs.Taking.{IsSound};
+ghost use Rattle.kdf_job.specs.WellFormed.{IsJob, IsSchedule};
+ghost use Rattle.kdf_job.specs.declared.place.Place.TheVariants.{BehindEnd, BehindSlot};
+
+use crate::forms::{DeviceLine, MediumLine};
+use crate::media::is_label;
+use crate::schedule::Schedule;
+use crate::slot_draft::SlotDraft;
+use crate::{Job, JobFault, LineError, Place, SlotJob};
+use kdf_journal::Kind;
+use kdf_schedule::Event;
+use kdf_word::Word;
+use std::alloc::{AllocError, Global};
+
+/// The words of a group.
+const GROUP: u16 = 32;
+
+/// The most words of all stores together.
+const MOST_WORDS: u32 = 31_744;
+
+/// What the lines so far tell of a job, and where the next line stands.
+#[derive(Drop)]
+pub struct Draft {
+    pub place: Place,
+    /// The slots of which all lines are read.
+    slots: Vec<SlotJob>,
+    /// The slot behind them.
+    slot: Option<SlotDraft>,
+    /// The sum of the sizes of all stores.
+    words: u32,
+    /// The numbers of all devices.
+    numbers: Vec<u8>,
+    schedule: Schedule,
+}
+
+impl Draft {
+    /// Nothing is read.
+    #[tactic(auto, using(crate::proofs::Begins::blank_sound))]
+    pub fn new(alloc: Global) -> Draft
+        ensures shown { shown_draft result ≡ blank }
+        ensures sound { IsSound result }
+    {
+        Draft {
+            place: Place::First,
+            slots: Vec::new(alloc),
+            slot: None,
+            words: 0,
+            numbers: Vec::new(alloc),
+            schedule: Schedule::new(alloc),
+        }
+    }
+
+    /// What is wrong with the number of a slot.
+    pub fn slot_fault(&self, p: u8) -> Option<JobFault>
+        ensures { result ≡ slot_fault p (shown_draft self.now).slot }
+    {
+        match &self.slot {
+            Some(slot) if slot.p >= p => Some(JobFault::SlotOrder),
+            _ => None,
+        }
+    }
+
+    /// What is wrong with the size of a store.
+    pub fn store_fault(&self, size: u16) -> Option<JobFault>
+        requires sound { IsSound self.now }
+        requires most { size ≤ 8192 }
+        ensures { result ≡ store_fault size (slots_told (shown_draft self.now)) }
+    {
+        if size % GROUP != 0 {
+            Some(JobFault::SizeNotGroups)
+        } else if self.words + u32::from(size) > MOST_WORDS {
+            Some(JobFault::StoreFull)
+        } else {
+            None
+        }
+    }
+
+    /// Begins a slot.
+    pub fn add_slot(&mut self, alloc: Global, p: u8, size: u16) -> Result<(), AllocError>
+        requires place { self.old.place ≡ BehindSlot p }
+        requires fits { self.old.words + size ≤ 31744 }
+        ensures shown { OnOk result (shown_draft self.new
+            ≡ with_line (AStore size) (shown_draft self.old)) }
+        ensures words { OnOk result (self.new.words ≡ self.old.words + size) }
+        ensures numbers { OnOk result (self.new.numbers.items ≡ self.old.numbers.items) }
+    {
+        self.finish_slot(alloc)?;
+        self.slot = Some(SlotDraft::new(alloc, p, size));
+        self.words += u32::from(size);
+        self.place = Place::BehindStore;
+        Ok(())
+    }
+
+    /// Puts the slot of which all lines are read behind the others.
+    fn finish_slot(&mut self, alloc: Global) -> Result<(), AllocError>
+        ensures shown { OnOk result (shown_draft self.new ≡ record (shown_draft self.old) {
+          slots = slots_told (shown_draft self.old);
+          slot = None;
+        }) }
+        ensures place { self.new.place ≡ self.old.place }
+        ensures words { self.new.words ≡ self.old.words }
+        ensures numbers { self.new.numbers.items ≡ self.old.numbers.items }
+    {
+        if let Some(slot) = self.slot.take() {
+            self.slots.push(slot.finish(alloc)?)?;
+        }
+        Ok(())
+    }
+
+    /// Adds a line of a deck.
+    pub fn add_deck_line(&mut self, line: &[u8]) -> Result<(), AllocError>
+        ensures shown { OnOk result (shown_draft self.new
+            ≡ with_line (ADeckLine line.now) (shown_draft self.old)) }
+        ensures words { self.new.words ≡ self.old.words }
+        ensures numbers { self.new.numbers.items ≡ self.old.numbers.items }
+    {
+        self.place = Place::InDeck;
+        match &mut self.slot {
+            Some(slot) => slot.add_deck_line(line),
+            None => Ok(()),
+        }
+    }
+
+    /// What is wrong with a device, of which this is the label.
+    pub fn device_fault(&self, device: DeviceLine<'_>, label: Word) -> Option<JobFault>
+        requires label { label ≡ word_of_text device.label.now }
+        requires sound { IsSound self.now }
+        ensures { result ≡ device_fault device.entry.d device.entry.kind device.entry.label.now
+            (shown_draft self.now) }
+    {
+        if self.has_device(device.d) {
+            Some(JobFault::DeviceTwice)
+        } else {
+            self.label_fault(device, label)
+        }
+    }
+
+    /// A device of this number stood before.
+    fn has_device(&self, d: u8) -> bool
+        requires { IsSound self.now }
+        ensures { result ≡ list_any (λ other. d == other)
+            (numbers_of (slots_told (shown_draft self.now))) }
+    {
+        self.numbers.iter().any(|number| d == *number)
+    }
+
+    /// What is wrong with a device's label.
+    fn label_fault(&self, device: DeviceLine<'_>, label: Word) -> Option<JobFault>
+        requires { label ≡ word_of_text device.label.now }
+        ensures { result ≡ label_fault device.entry.kind device.entry.label.now
+            (labels_so_far (shown_draft self.now).slot) }
+    {
+        match device.kind {
+            Kind::Mt => self.tape_fault(device.label, label),
+            _ => None,
+        }
+    }
+
+    /// What is wrong with the label of a tape.
+    fn tape_fault(&self, text: &[u8], label: Word) -> Option<JobFault>
+        requires { label ≡ word_of_text text.now }
+        ensures { result ≡ tape_fault text.now (labels_so_far (shown_draft self.now).slot) }
+    {
+        if !is_label(text) {
+            return Some(JobFault::BadLabel);
+        }
+        match &self.slot {
+            Some(slot) if slot.has_label(label) => Some(JobFault::LabelTwice),
+            _ => None,
+        }
+    }
+
+    /// Adds a device, of which this is the label.
+    pub fn add_device(
+        &mut self,
+        alloc: Global,
+        device: DeviceLine<'_>,
+        label: Word,
+    ) -> Result<(), AllocError>
+        requires { label ≡ word_of_text device.label.now }
+        ensures shown { OnOk result (shown_draft self.new
+            ≡ with_line (ADevice device.entry.d device.entry.kind device.entry.label.now)
+            (shown_draft self.old)) }
+        ensures words { self.new.words ≡ self.old.words }
+        ensures numbers { OnOk result (self.new.numbers.items
+            ≡ self.old.numbers.items ++ device.entry.d ∷ []) }
+    {
+        self.place = Place::BehindDevice;
+        self.numbers.push(device.d)?;
+        match &mut self.slot {
+            Some(slot) => slot.add_device(alloc, device.d, device.kind, label),
+            None => Ok(()),
+        }
+    }
+
+    /// Adds a line to the medium of the last device.
+    pub fn add_medium_line(&mut self, alloc: Global, line: MediumLine<'_>) -> Result<(), LineError>
+        requires { kept_length (shown_draft self.old).slot + length line.text.now + 1 < 2 ^ 32 }
+        ensures shown { IsChecked
+            (medium_fault line.entry.marked line.entry.text.now (shown_draft self.old).slot)
+            (with_line (AMedium line.entry.marked line.entry.text.now) (shown_draft self.old))
+            (shown_draft self.new) result }
+        ensures words { self.new.words ≡ self.old.words }
+        ensures numbers { self.new.numbers.items ≡ self.old.numbers.items }
+    {
+        self.place = Place::BehindDevice;
+        match &mut self.slot {
+            Some(slot) => slot.add_medium_line(alloc, line.marked, line.text),
+            None => Err(LineError::Fault(JobFault::BadMedium)),
+        }
+    }
+
+    /// What is wrong with addresses that are to be shown.
+    pub fn show_fault(&self, first: u16, last: u16) -> Option<JobFault>
+        ensures { result ≡ show_fault first last (size_so_far (shown_draft self.now).slot) }
+    {
+        match &self.slot {
+            Some(slot) if first <= last && last < slot.size => None,
+            _ => Some(JobFault::ShowRange),
+        }
+    }
+
+    /// Adds addresses that are shown.
+    pub fn add_show(&mut self, first: u16, last: u16) -> Result<(), AllocError>
+        ensures shown { OnOk result (shown_draft self.new
+            ≡ with_line (AShow first last) (shown_draft self.old)) }
+        ensures words { self.new.words ≡ self.old.words }
+        ensures numbers { self.new.numbers.items ≡ self.old.numbers.items }
+    {
+        self.place = Place::BehindShow;
+        match &mut self.slot {
+            Some(slot) => slot.add_show(first, last),
+            None => Ok(()),
+        }
+    }
+
+    /// Adds an event.
+    pub fn add_event(&mut self, event: Event) -> Result<(), LineError>
+        requires in_range { IsInRange event }
+        requires sound { IsSchedule self.old.schedule.events.items }
+        ensures shown { IsChecked (event_fault event (shown_draft self.old).events)
+            ((shown_draft self.old).events ++ event ∷ []) (shown_draft self.new).events result }
+        ensures schedule { OnOk result (IsSchedule self.new.schedule.events.items) }
+        ensures same { self.new ≡ record self.old { schedule = self.new.schedule } }
+    {
+        self.schedule.add(event)
+    }
+
+    /// The job, when all its lines are read.
+    #[tactic(auto, using(crate::proofs::Finished::finished))]
+    pub fn finish(mut self, alloc: Global) -> Result<Job, AllocError>
+        requires sound { IsSound self }
+        requires place { self.place ≡ BehindEnd }
+        ensures shown { IfOk result (λ j. shown_job j ≡ job_of (shown_draft self)) }
+        ensures well_formed { IfOk result (λ j. IsJob (shown_job j)) }
+    {
+        self.finish_slot(alloc)?;
+        Ok(Job {
+            slots: self.slots,
+            events: self.schedule.events,
+        })
+    }
+}

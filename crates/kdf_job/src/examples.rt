@@ -1,0 +1,112 @@
+//! Lines with what they tell, media, faults and a job, each computed from the definitions, as the contract of a
+//! function that does nothing.
+#![tactic(auto, unfolding(kdf_text::specs::Lines::lines, kdf_text::specs::Lines::words, kdf_text::specs::Numbers::value, kdf_text::specs::Text::text, kdf_schedule::specs::Events::event, kdf_code::specs::Code::code_of, kdf_word::specs::Characters::first_word, kdf_word::specs::Characters::words_of, crate::specs::Media::codes_in, crate::specs::Reading::read_line, crate::specs::Reading::job_fault, crate::specs::Reading::job))]
+
+ghost use Rattle.std.specs.Prelude.{◌≡◌, ◌*◌, ◌^◌, [], ◌∷◌, ◌++◌, true, false, Some, None, Ok, Err, codes, replicate};
+ghost use Rattle.kdf_text.specs.Text.{text};
+ghost use Rattle.kdf_journal.specs.declared.kind.Kind.TheVariants as kind;
+ghost use Rattle.kdf_schedule.specs.declared.event.Event.TheVariants as event;
+ghost use Rattle.kdf_job.specs.declared.fault.JobFault.TheVariants as fault;
+ghost use Rattle.kdf_job.specs.declared.place.Place.TheVariants as place;
+ghost use Rattle.kdf_job.specs.Draft.{event_fault, new_slot, show_fault, slot_fault, slot_of, store_fault};
+ghost use Rattle.kdf_job.specs.Forms.{ADeckLine, ADevice, AMedium, AShow, ASlot, AStore, AnEndDeck, AnEndJob, AnEvent, told_at};
+ghost use Rattle.kdf_job.specs.Media.{card_of, filled, fits, is_label, word_of_text};
+ghost use Rattle.kdf_job.specs.Reading.{job, job_fault};
+
+/// What lines tell in their places.
+pub fn lines_tell()
+    ensures header { told_at place.First (codes "KDF9 JOB 1 ") ≡ Err fault.Header }
+    ensures slot { told_at place.BehindHeader (codes "SLOT 3") ≡ Ok (ASlot 3) }
+    ensures slot_4 { told_at place.BehindHeader (codes "SLOT 4") ≡ Err fault.BadNumber }
+    ensures no_slot { told_at place.BehindHeader (codes "SCHEDULE") ≡ Err fault.BadLine }
+    ensures store { told_at (place.BehindSlot 3) (codes "STORE 8192") ≡ Ok (AStore 8192) }
+    ensures leading_zero { told_at (place.BehindSlot 3) (codes "STORE 032") ≡ Err fault.BadNumber }
+    ensures deck { told_at place.BehindStore (codes "DECK ") ≡ Err fault.BadLine }
+    ensures any_deck_line { told_at place.InDeck (codes "SLOT 9")
+        ≡ Ok (ADeckLine (codes "SLOT 9")) }
+    ensures end_deck { told_at place.InDeck (codes "ENDDECK") ≡ Ok AnEndDeck }
+    ensures device { told_at place.BehindDeck (codes "DEVICE 15 TR") ≡ Ok (ADevice 15 kind.Tr []) }
+    ensures tape { told_at place.BehindDeck (codes "DEVICE 3 MT a")
+        ≡ Ok (ADevice 3 kind.Mt (codes "a")) }
+    ensures empty_label { told_at place.BehindDeck (codes "DEVICE 3 MT ")
+        ≡ Ok (ADevice 3 kind.Mt []) }
+    ensures no_label { told_at place.BehindDeck (codes "DEVICE 3 MT") ≡ Err fault.BadLine }
+    ensures device_16 { told_at place.BehindDeck (codes "DEVICE 16 MT a") ≡ Err fault.BadNumber }
+    ensures no_device { told_at place.BehindDeck (codes "+A") ≡ Err fault.BadLine }
+    ensures medium { told_at place.BehindDevice (codes "+A b") ≡ Ok (AMedium false (codes "A b")) }
+    ensures marked { told_at place.BehindDevice (codes "=") ≡ Ok (AMedium true []) }
+    ensures show { told_at place.BehindDevice (codes "SHOW 0 8191") ≡ Ok (AShow 0 8191) }
+    ensures device_behind_show { told_at place.BehindShow (codes "DEVICE 3 TR")
+        ≡ Err fault.BadLine }
+    ensures medium_behind_show { told_at place.BehindShow (codes "+A") ≡ Err fault.BadLine }
+    ensures event { told_at place.InSchedule (codes "END 3") ≡ Ok (AnEvent (event.End 3)) }
+    ensures bad_event { told_at place.InSchedule (codes "MOVE 3 0") ≡ Err fault.BadNumber }
+    ensures end_job { told_at place.InSchedule (codes "ENDJOB") ≡ Ok AnEndJob }
+    ensures behind_end { told_at place.BehindEnd [] ≡ Err fault.BadLine }
+{}
+
+/// Labels, cards and blocks, and which lines may stand behind which kinds.
+pub fn media()
+    ensures label { is_label (codes "A1B2C3D4") ≡ true }
+    ensures no_label { is_label [] ≡ false }
+    ensures small_letter { is_label (codes "a") ≡ false }
+    ensures long_label { is_label (codes "ABCDEFGHI") ≡ false }
+    ensures word { word_of_text (codes "A") ≡ 33 * 2 ^ 42 }
+    ensures card { card_of (33 ∷ []) ≡ 33 ∷ replicate 79 0 }
+    ensures filled { filled (33 ∷ []) ≡ 33 ∷ replicate 7 0 }
+    ensures full { filled (replicate 8 33) ≡ replicate 8 33 }
+    ensures empty_paper { fits kind.Tr false 0 ≡ true }
+    ensures marked_paper { fits kind.Tr true 1 ≡ false }
+    ensures whole_card { fits kind.Cr false 80 ≡ true }
+    ensures long_card { fits kind.Cr false 81 ≡ false }
+    ensures marked_card { fits kind.Cr true 1 ≡ false }
+    ensures punch { fits kind.Tp false 0 ≡ false }
+    ensures printer { fits kind.Lp false 0 ≡ false }
+    ensures empty_block { fits kind.Mt true 0 ≡ false }
+    ensures block { fits kind.Mt true 32768 ≡ true }
+    ensures long_block { fits kind.Mt false 32769 ≡ false }
+{}
+
+/// What is wrong with numbers.
+pub fn faults()
+    ensures slot_rises { slot_fault 1 (Some (new_slot 0 32)) ≡ None }
+    ensures slot_again { slot_fault 1 (Some (new_slot 1 32)) ≡ Some fault.SlotOrder }
+    ensures no_groups { store_fault 33 [] ≡ Some fault.SizeNotGroups }
+    ensures store_fits { store_fault 8192 (slot_of (new_slot 0 23552) ∷ []) ≡ None }
+    ensures store_full { store_fault 8192 (slot_of (new_slot 0 23584) ∷ []) ≡ Some fault.StoreFull }
+    ensures last_address { show_fault 31 31 32 ≡ None }
+    ensures at_size { show_fault 31 32 32 ≡ Some fault.ShowRange }
+    ensures falling { show_fault 2 1 32 ≡ Some fault.ShowRange }
+    ensures same_time { event_fault (event.Clock 5) (event.Clock 5 ∷ event.End 1 ∷ []) ≡ None }
+    ensures earlier { event_fault (event.Clock 4) (event.Clock 5 ∷ event.End 1 ∷ [])
+        ≡ Some fault.ClockFalls }
+    ensures most { event_fault (event.Orders 1) (event.Orders 19999999 ∷ []) ≡ None }
+    ensures more { event_fault (event.Orders 2) (event.Orders 19999999 ∷ [])
+        ≡ Some fault.TooManyOrders }
+{}
+
+/// A job with what it tells, and jobs that are cut.
+pub fn jobs()
+    ensures nothing { job_fault [] ≡ Some (fault.Header, 1) }
+    ensures line_end { job_fault (10 ∷ []) ≡ Some (fault.Header, 1) }
+    ensures header_alone { job_fault (codes "KDF9 JOB 1") ≡ Some (fault.BadLine, 2) }
+    ensures right { job_fault (text (codes "KDF9 JOB 1" ∷ codes "SLOT 2" ∷ codes "STORE 32"
+        ∷ codes "DECK" ∷ codes "A" ∷ codes "ENDDECK" ∷ codes "SHOW 0 31" ∷ codes "SCHEDULE"
+        ∷ codes "CLOCK 1" ∷ codes "ENDJOB" ∷ [])) ≡ None }
+    ensures told { job (text (codes "KDF9 JOB 1" ∷ codes "SLOT 2" ∷ codes "STORE 32"
+        ∷ codes "DECK" ∷ codes "A" ∷ codes "ENDDECK" ∷ codes "SHOW 0 31" ∷ codes "SCHEDULE"
+        ∷ codes "CLOCK 1" ∷ codes "ENDJOB" ∷ []))
+        ≡ record {
+          slots = record {
+            p = 2;
+            size = 32;
+            deck = codes "A" ++ 10 ∷ [];
+            devices = [];
+            shows = (0, 31) ∷ [];
+          } ∷ [];
+          events = event.Clock 1 ∷ [];
+        } }
+    ensures line_behind { job_fault (text (codes "KDF9 JOB 1" ∷ codes "SLOT 2" ∷ codes "STORE 32"
+        ∷ codes "DECK" ∷ codes "ENDDECK" ∷ codes "SCHEDULE" ∷ codes "ENDJOB" ∷ [] ∷ []))
+        ≡ Some (fault.BadLine, 8) }
+{}

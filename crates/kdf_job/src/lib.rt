@@ -1,0 +1,25 @@
+//! The text of a job: its slots with their decks, devices and what is shown of them, and the schedule.
+#![tactic(auto)]
+
+mod device_draft;
+mod draft;
+pub mod examples;
+mod fault;
+mod forms;
+mod job;
+mod line_error;
+mod media;
+mod medium;
+mod place;
+mod reader;
+mod schedule;
+mod slot_draft;
+mod taking;
+#[cfg(test)]
+mod tests;
+
+pub use fault::{JobError, JobFault};
+pub use job::{Job, SlotJob, TEXT_LIMIT};
+use line_error::LineError;
+use place::Place;
+pub use reader::read_job;

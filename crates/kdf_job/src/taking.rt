@@ -1,0 +1,291 @@
+//! Lines, each taken where it stands.
+ghost use Rattle.std.specs.Prelude.{◌≡◌, ◌+◌, ◌≤◌, ◌∷◌, [], true, codes, is_some, length, Ok};
+ghost use Rattle.kdf_schedule.specs.Events.{IsInRange};
+ghost use Rattle.kdf_job.specs.Forms.{ADeckLine, ADevice, AMedium, AShow, ASlot, AStore, AnEvent, alone, device_or_end, first_told, medium_line, slot_ends, slot_line, told_at, ASchedule, AnEndJob};
+ghost use Rattle.kdf_job.specs.Lengths.{weight};
+ghost use Rattle.kdf_job.specs.Shows.{shown_draft};
+ghost use Rattle.kdf_job.specs.Taking.{IsSound, Takes};
+ghost use Rattle.kdf_job.specs.declared.job.TheConstants.{TEXT_LIMIT};
+ghost use Rattle.kdf_job.specs.declared.place.Place.TheVariants.{First, BehindHeader, BehindSlot, BehindStore, InDeck, BehindDeck, BehindDevice, BehindShow, InSchedule, BehindEnd};
+
+use crate::draft::Draft;
+use crate::forms::{
+    DeviceLine, MediumLine, addresses, device_line, medium_line, slot_number, store_size,
+};
+use crate::media::word_of_text;
+use crate::{JobFault, LineError, Place};
+use kdf_schedule::{Event, EventFault, read_event};
+use std::alloc::Global;
+
+impl Draft {
+    /// Takes a line, if it is right in its place.
+    pub fn take_line(&mut self, alloc: Global, line: &[u8]) -> Result<(), LineError>
+        requires sound { IsSound self.old }
+        requires fits { weight (shown_draft self.old) + length line.now ≤ TEXT_LIMIT }
+        ensures { Takes (told_at self.old.place line.now)
+            (length line.now + 1) self.old self.new result }
+    {
+        match self.place {
+            Place::First => self.take_header(line),
+            Place::BehindHeader => self.take_first_slot(line),
+            Place::BehindSlot(p) => self.take_size(alloc, p, line),
+            Place::BehindStore => self.take_deck(line),
+            Place::InDeck => self.take_deck_line(line),
+            Place::BehindDeck => self.take_device_or_end(alloc, line),
+            Place::BehindDevice => self.take_medium_or_device(alloc, line),
+            Place::BehindShow => self.take_show_or_end(line),
+            Place::InSchedule => self.take_event_or_end(line),
+            Place::BehindEnd => Err(LineError::Fault(JobFault::BadLine)),
+        }
+    }
+
+    /// Takes the first line.
+    fn take_header(&mut self, line: &[u8]) -> Result<(), LineError>
+        requires sound { IsSound self.old }
+        requires place { self.old.place ≡ First }
+        ensures { Takes (told_at First line.now) (length line.now + 1) self.old self.new result }
+    {
+        if line == b"KDF9 JOB 1".as_slice() {
+            self.place = Place::BehindHeader;
+            Ok(())
+        } else {
+            Err(LineError::Fault(JobFault::Header))
+        }
+    }
+
+    /// Takes the number of the first slot.
+    fn take_first_slot(&mut self, line: &[u8]) -> Result<(), LineError>
+        requires sound { IsSound self.old }
+        ensures { Takes (first_told (slot_line line.now ∷ []))
+            (length line.now + 1) self.old self.new result }
+    {
+        match slot_number(line) {
+            Some(Ok(p)) => self.take_slot(p),
+            Some(Err(fault)) => Err(LineError::Fault(fault)),
+            None => Err(LineError::Fault(JobFault::BadLine)),
+        }
+    }
+
+    /// Takes the number of a slot.
+    fn take_slot(&mut self, p: u8) -> Result<(), LineError>
+        requires sound { IsSound self.old }
+        requires few { p ≤ 3 }
+        ensures { Takes (Ok (ASlot p)) 1 self.old self.new result }
+    {
+        if let Some(fault) = self.slot_fault(p) {
+            return Err(LineError::Fault(fault));
+        }
+        self.place = Place::BehindSlot(p);
+        Ok(())
+    }
+
+    /// Takes the size of a store.
+    fn take_size(&mut self, alloc: Global, p: u8, line: &[u8]) -> Result<(), LineError>
+        requires sound { IsSound self.old }
+        requires place { self.old.place ≡ BehindSlot p }
+        ensures { Takes (told_at (BehindSlot p) line.now)
+            (length line.now + 1) self.old self.new result }
+    {
+        match store_size(line) {
+            Some(Ok(size)) => self.take_store(alloc, p, size),
+            Some(Err(fault)) => Err(LineError::Fault(fault)),
+            None => Err(LineError::Fault(JobFault::BadLine)),
+        }
+    }
+
+    /// Takes the store of this size.
+    fn take_store(&mut self, alloc: Global, p: u8, size: u16) -> Result<(), LineError>
+        requires sound { IsSound self.old }
+        requires place { self.old.place ≡ BehindSlot p }
+        requires least { 32 ≤ size }
+        requires most { size ≤ 8192 }
+        ensures { Takes (Ok (AStore size)) 1 self.old self.new result }
+    {
+        if let Some(fault) = self.store_fault(size) {
+            return Err(LineError::Fault(fault));
+        }
+        self.add_slot(alloc, p, size)?;
+        Ok(())
+    }
+
+    /// Takes the begin of a deck.
+    fn take_deck(&mut self, line: &[u8]) -> Result<(), LineError>
+        requires sound { IsSound self.old }
+        requires place { self.old.place ≡ BehindStore }
+        ensures { Takes (told_at BehindStore line.now)
+            (length line.now + 1) self.old self.new result }
+    {
+        if line == b"DECK".as_slice() {
+            self.place = Place::InDeck;
+            Ok(())
+        } else {
+            Err(LineError::Fault(JobFault::BadLine))
+        }
+    }
+
+    /// Takes a line of a deck, or its end.
+    fn take_deck_line(&mut self, line: &[u8]) -> Result<(), LineError>
+        requires sound { IsSound self.old }
+        requires place { self.old.place ≡ InDeck }
+        requires fits { weight (shown_draft self.old) + length line.now ≤ TEXT_LIMIT }
+        ensures { Takes (told_at InDeck line.now) (length line.now + 1) self.old self.new result }
+    {
+        if line == b"ENDDECK".as_slice() {
+            self.place = Place::BehindDeck;
+            return Ok(());
+        }
+        self.add_deck_line(line)?;
+        Ok(())
+    }
+
+    /// Takes a medium line, a device, or what may stand behind devices.
+    fn take_medium_or_device(&mut self, alloc: Global, line: &[u8]) -> Result<(), LineError>
+        requires sound { IsSound self.old }
+        requires there { is_some (shown_draft self.old).slot ≡ true }
+        requires fits { weight (shown_draft self.old) + length line.now ≤ TEXT_LIMIT }
+        ensures { Takes (first_told (medium_line line.now ∷ device_or_end line.now))
+            (length line.now + 1) self.old self.new result }
+    {
+        match medium_line(line) {
+            Some(medium) => self.take_medium(alloc, medium),
+            None => self.take_device_or_end(alloc, line),
+        }
+    }
+
+    /// Takes a medium line.
+    fn take_medium(&mut self, alloc: Global, line: MediumLine<'_>) -> Result<(), LineError>
+        requires sound { IsSound self.old }
+        requires there { is_some (shown_draft self.old).slot ≡ true }
+        requires fits { weight (shown_draft self.old) + length line.text.now ≤ TEXT_LIMIT }
+        ensures { Takes (Ok (AMedium line.entry.marked line.entry.text.now))
+            (length line.entry.text.now + 2) self.old self.new result }
+    {
+        self.add_medium_line(alloc, line)
+    }
+
+    /// Takes a device, or what may stand behind devices.
+    fn take_device_or_end(&mut self, alloc: Global, line: &[u8]) -> Result<(), LineError>
+        requires sound { IsSound self.old }
+        requires there { is_some (shown_draft self.old).slot ≡ true }
+        ensures { Takes (first_told (device_or_end line.now))
+            (length line.now + 1) self.old self.new result }
+    {
+        match device_line(line) {
+            Some(Ok(device)) => self.take_device(alloc, device),
+            Some(Err(fault)) => Err(LineError::Fault(fault)),
+            None => self.take_show_or_end(line),
+        }
+    }
+
+    /// Takes a device.
+    fn take_device(&mut self, alloc: Global, device: DeviceLine<'_>) -> Result<(), LineError>
+        requires sound { IsSound self.old }
+        requires there { is_some (shown_draft self.old).slot ≡ true }
+        requires few { device.d ≤ 15 }
+        ensures { Takes (Ok (ADevice device.entry.d device.entry.kind device.entry.label.now)) 1
+            self.old self.new result }
+    {
+        let label = word_of_text(alloc, device.label)?;
+        if let Some(fault) = self.device_fault(device, label) {
+            return Err(LineError::Fault(fault));
+        }
+        self.add_device(alloc, device, label)?;
+        Ok(())
+    }
+
+    /// Takes addresses that are shown, or what may stand behind them.
+    fn take_show_or_end(&mut self, line: &[u8]) -> Result<(), LineError>
+        requires sound { IsSound self.old }
+        requires there { is_some (shown_draft self.old).slot ≡ true }
+        ensures { Takes (first_told (slot_ends line.now))
+            (length line.now + 1) self.old self.new result }
+    {
+        match addresses(line) {
+            Some(Ok((first, last))) => self.take_show(first, last),
+            Some(Err(fault)) => Err(LineError::Fault(fault)),
+            None => self.take_slot_or_schedule(line),
+        }
+    }
+
+    /// Takes addresses that are shown.
+    fn take_show(&mut self, first: u16, last: u16) -> Result<(), LineError>
+        requires sound { IsSound self.old }
+        requires there { is_some (shown_draft self.old).slot ≡ true }
+        ensures { Takes (Ok (AShow first last)) 1 self.old self.new result }
+    {
+        if let Some(fault) = self.show_fault(first, last) {
+            return Err(LineError::Fault(fault));
+        }
+        self.add_show(first, last)?;
+        Ok(())
+    }
+
+    /// Takes the number of the next slot, or the begin of the schedule.
+    fn take_slot_or_schedule(&mut self, line: &[u8]) -> Result<(), LineError>
+        requires sound { IsSound self.old }
+        requires there { is_some (shown_draft self.old).slot ≡ true }
+        ensures { Takes
+            (first_told (slot_line line.now ∷ alone (codes "SCHEDULE") ASchedule line.now ∷ []))
+            (length line.now + 1) self.old self.new result }
+    {
+        match slot_number(line) {
+            Some(Ok(p)) => self.take_slot(p),
+            Some(Err(fault)) => Err(LineError::Fault(fault)),
+            None => self.take_schedule(line),
+        }
+    }
+
+    /// Takes the begin of the schedule.
+    fn take_schedule(&mut self, line: &[u8]) -> Result<(), LineError>
+        requires sound { IsSound self.old }
+        requires there { is_some (shown_draft self.old).slot ≡ true }
+        ensures { Takes (first_told (alone (codes "SCHEDULE") ASchedule line.now ∷ []))
+            (length line.now + 1) self.old self.new result }
+    {
+        if line == b"SCHEDULE".as_slice() {
+            self.place = Place::InSchedule;
+            Ok(())
+        } else {
+            Err(LineError::Fault(JobFault::BadLine))
+        }
+    }
+
+    /// Takes an event, or the end of the job.
+    fn take_event_or_end(&mut self, line: &[u8]) -> Result<(), LineError>
+        requires sound { IsSound self.old }
+        requires place { self.old.place ≡ InSchedule }
+        ensures { Takes (told_at InSchedule line.now)
+            (length line.now + 1) self.old self.new result }
+    {
+        match read_event(line) {
+            Ok(event) => self.take_event(event),
+            Err(EventFault::Number) => Err(LineError::Fault(JobFault::BadNumber)),
+            Err(EventFault::Form) => self.take_end(line),
+        }
+    }
+
+    /// Takes an event.
+    fn take_event(&mut self, event: Event) -> Result<(), LineError>
+        requires sound { IsSound self.old }
+        requires place { self.old.place ≡ InSchedule }
+        requires in_range { IsInRange event }
+        ensures { Takes (Ok (AnEvent event)) 1 self.old self.new result }
+    {
+        self.add_event(event)
+    }
+
+    /// Takes the end of the job.
+    fn take_end(&mut self, line: &[u8]) -> Result<(), LineError>
+        requires sound { IsSound self.old }
+        requires place { self.old.place ≡ InSchedule }
+        ensures { Takes (first_told (alone (codes "ENDJOB") AnEndJob line.now ∷ []))
+            (length line.now + 1) self.old self.new result }
+    {
+        if line == b"ENDJOB".as_slice() {
+            self.place = Place::BehindEnd;
+            Ok(())
+        } else {
+            Err(LineError::Fault(JobFault::BadLine))
+        }
+    }
+}
