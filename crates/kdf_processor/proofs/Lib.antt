@@ -1,6 +1,11 @@
+pub mod AreaLemmas
 pub mod FrameLemmas
 pub mod LoneLemmas
 pub mod RowFacts
 pub mod ByItself
 pub mod Syllables
+pub mod Finding
+pub mod Frees
 pub mod Groups
+pub mod Pending
+pub mod Small

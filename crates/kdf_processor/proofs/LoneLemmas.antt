@@ -1,26 +1,29 @@
 -- Answers that aren't taken change nothing.
-use Rattle.std.proofs.Common.{◌≡◌, ℕ, zero, suc, ◌+◌, ◌<◌, ◌≤◌, true, false, List, ◌++◌, length, get_or, ◌⊎◌, inr, cond, refl, sym, ap, ◌∙◌, subst, ⊎_elim, arith}
+use Rattle.std.proofs.Common.{◌≡◌, ℕ, zero, suc, ◌+◌, ◌<◌, ◌≤◌, true, false, List, ◌++◌, length, ◌⊎◌, inl, inr, cond, refl, sym, ap, ◌∙◌, subst, ⊎_elim, arith}
 use Rattle.std.proofs.lemmas.Bool.{cases_Bool, cases_lt}
 use Rattle.std.proofs.lemmas.List.{get_or_append_left}
-use Rattle.kdf_processor.specs.State.{State}
-use Rattle.kdf_processor.specs.Effect.{Effect, Failing}
+use Rattle.kdf_processor.specs.State.{State, fixture_at}
+use Rattle.kdf_processor.specs.Effect.{Question, Effect, Starting, Asking}
 use Rattle.kdf_processor.specs.Needs.{next_effect}
 use Rattle.kdf_processor.specs.Row.{perform, row}
 use Rattle.kdf_processor.specs.Lone.{is_live, lone_step, lone}
+use Rattle.kdf_processor.proofs.RowFacts.{next_answer, transferred_asked}
 
 -- an effect takes one answer, or none and then doesn't look at it
-pub asks_or_not : (e : Effect) (s : State) → ((a : ℕ) → (perform a e s).stock.asked ≡ s.stock.asked + 1) ⊎ ((a : ℕ) → (perform a e s).stock.asked ≡ s.stock.asked) × ((a b : ℕ) → perform a e s ≡ perform b e s)
-asks_or_not (Failing kind) s = inr (λ a. refl, λ a b. refl)
-asks_or_not e s = inr (λ a. refl, λ a b. refl)
+asks_or_not : (e : Effect) (s : State) → ((answer : Question → ℕ) → (perform answer e s).stock.asked ≡ s.stock.asked + 1) ⊎ ((answer : Question → ℕ) → (perform answer e s).stock.asked ≡ s.stock.asked) × ((answer other : Question → ℕ) → perform answer e s ≡ perform other e s)
+asks_or_not (Asking question after) s = inl (λ answer. refl)
+asks_or_not (Starting d o first last after) s =
+    inr (λ answer. transferred_asked d o first last (fixture_at s.stock.claims d) s.stock, λ answer other. refl)
+asks_or_not e s = inr (λ answer. refl, λ answer other. refl)
 
 -- a step takes one answer at most, and with xs many answers xs are taken after it, more of them change nothing
-row_answers : (xs ys : List ℕ) (s : State) → (s.stock.asked ≤ (row s (get_or xs s.stock.asked 0)).stock.asked) × ((row s (get_or xs s.stock.asked 0)).stock.asked ≤ length xs → row s (get_or (xs ++ ys) s.stock.asked 0) ≡ row s (get_or xs s.stock.asked 0))
+row_answers : (xs ys : List ℕ) (s : State) → (s.stock.asked ≤ (row s (next_answer xs s)).stock.asked) × ((row s (next_answer xs s)).stock.asked ≤ length xs → row s (next_answer (xs ++ ys) s) ≡ row s (next_answer xs s))
 row_answers xs ys s =
     ⊎_elim
     (λ asks.
-    let more = asks (get_or xs s.stock.asked 0) in
-    (omega arith, λ enough. ap (row s) (get_or_append_left xs ys 0 s.stock.asked (omega arith))))
-    (λ none. (omega (arith, none.0 (get_or xs s.stock.asked 0)), λ enough. none.1 (get_or (xs ++ ys) s.stock.asked 0) (get_or xs s.stock.asked 0)))
+    let more = asks (next_answer xs s) in
+    (omega (arith, more), λ enough. ap (λ a. row s (λ _. a)) (get_or_append_left xs ys 0 s.stock.asked (omega (arith, more)))))
+    (λ none. (omega (arith, none.0 (next_answer xs s)), λ enough. none.1 (next_answer (xs ++ ys) s) (next_answer xs s)))
     (asks_or_not (next_effect s) s)
 
 step_answers : (xs ys : List ℕ) (s : State) → (s.stock.asked ≤ (lone_step xs s).stock.asked) × ((lone_step xs s).stock.asked ≤ length xs → lone_step (xs ++ ys) s ≡ lone_step xs s)
@@ -60,7 +63,7 @@ stopped start xs n (suc m) over le =
     (λ (lt : m < n). let e : suc m ≡ n = omega arith in ap (lone start xs) e)
     (λ (below : n ≤ m).
     ap (lone_step xs) (stopped start xs n m over below)
-    ∙ ap (λ b. cond b (row (lone start xs n) (get_or xs (lone start xs n).stock.asked 0)) (lone start xs n)) over)
+    ∙ ap (λ b. cond b (row (lone start xs n) (next_answer xs (lone start xs n))) (lone start xs n)) over)
     (cases_lt m n)
 
 pub same_end : (start : State) (xs : List ℕ) (n m : ℕ) → is_live (lone start xs n).registers.state ≡ false → is_live (lone start xs m).registers.state ≡ false → lone start xs n ≡ lone start xs m

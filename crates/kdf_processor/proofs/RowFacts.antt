@@ -1,48 +1,92 @@
 -- What is known of a row without looking at the table.
-use Rattle.std.proofs.Common.{◌≡◌, ℕ, zero, suc, ◌+◌, ◌≤◌, List, length, get_or, true, false, refl, sym, ap, ◌∙◌, ⊎_elim, cond, arith}
+use Rattle.std.proofs.Common.{◌≡◌, ℕ, zero, suc, ◌+◌, ◌≤◌, List, length, get_or, Option, Some, None, true, false, refl, sym, ap, ◌∙◌, ⊎_elim, cond, arith}
 use Rattle.std.proofs.lemmas.Bool.{cases_Bool, false≢true}
 use Rattle.std.proofs.lemmas.List.{length-set}
+use Rattle.kdf_transfer.specs.Devices.{Fixture}
+use Rattle.kdf_transfer.specs.declared.order.TransferOrder.{TransferOrder}
 use Rattle.kdf_processor.specs.declared.registers.Life.{Life}
 use Rattle.kdf_processor.specs.declared.registers.Life.TheVariants.{Ended, Failed}
 use Rattle.kdf_processor.specs.declared.step.Step.{Step}
 use Rattle.kdf_processor.specs.declared.step.Step.TheVariants.{Done, Held, Fails, Ends}
-use Rattle.kdf_processor.specs.State.{State}
-use Rattle.kdf_processor.specs.Effect.{Effect, Failing, Ending, Keeping}
+use Rattle.kdf_processor.specs.State.{State, Claims, Stock, device_in, fixture_at}
+use Rattle.kdf_processor.specs.Effect.{Act, Asks, Question, Effect, Failing, Ending, Keeping, Starting, Asking}
 use Rattle.kdf_processor.specs.Needs.{next_effect}
-use Rattle.kdf_processor.specs.Row.{perform, done_by, next_of, row}
+use Rattle.kdf_processor.specs.Row.{transferred, perform, done_by, next_of, row}
 use Rattle.kdf_processor.specs.Lone.{is_live, lone_step, lone}
+use Rattle.kdf_processor.proofs.AreaLemmas.{length-stored}
 
-ran_perform : (a : ℕ) (e : Effect) (s : State) → (perform a e s).registers.ran ≡ s.registers.ran + 1
-ran_perform a (Failing kind) s = refl
-ran_perform a e s = refl
+ran_perform : (answer : Question → ℕ) (e : Effect) (s : State) → (perform answer e s).registers.ran ≡ s.registers.ran + 1
+ran_perform answer (Failing kind) s = refl
+ran_perform answer e s = refl
 
 -- a row is one order more
-pub ran_row : (a : ℕ) (s : State) → (row s a).registers.ran ≡ s.registers.ran + 1
-ran_row a s = ran_perform a (next_effect s) s
+pub ran_row : (answer : Question → ℕ) (s : State) → (row s answer).registers.ran ≡ s.registers.ran + 1
+ran_row answer s = ran_perform answer (next_effect s) s
 
-asked_perform : (a : ℕ) (e : Effect) (s : State) → (perform a e s).stock.asked ≤ s.stock.asked + 1
-asked_perform a (Failing kind) s = omega arith
-asked_perform a e s = omega arith
+-- a transfer leaves the claims, the answers that were taken, and how many words and devices there are
+pub transferred_asked : (d : ℕ) (o : TransferOrder) (first last : ℕ) (f : Option Fixture) (k : Stock) → (transferred d o first last f k).asked ≡ k.asked
+transferred_asked d o first last None k = refl
+transferred_asked d o first last (Some f) k = refl
 
--- and takes one answer at most
-pub asked_row : (a : ℕ) (s : State) → (row s a).stock.asked ≤ s.stock.asked + 1
-asked_row a s = asked_perform a (next_effect s) s
+transferred_claims : (d : ℕ) (o : TransferOrder) (first last : ℕ) (f : Option Fixture) (k : Stock) → (transferred d o first last f k).claims ≡ k.claims
+transferred_claims d o first last None k = refl
+transferred_claims d o first last (Some f) k = refl
 
-claims_perform : (a : ℕ) (e : Effect) (s : State) → (perform a e s).stock.claims.size ≡ s.stock.claims.size
-claims_perform a (Failing kind) s = refl
-claims_perform a e s = refl
+transferred_store : (d : ℕ) (o : TransferOrder) (first last : ℕ) (f : Option Fixture) (k : Stock) → length (transferred d o first last f k).store ≡ length k.store
+transferred_store d o first last None k = refl
+transferred_store d o first last (Some f) k = length-stored o first last f (device_in k d) k.store
+
+transferred_devices : (d : ℕ) (o : TransferOrder) (first last : ℕ) (f : Option Fixture) (k : Stock) → length (transferred d o first last f k).devices ≡ length k.devices
+transferred_devices d o first last None k = refl
+transferred_devices d o first last (Some f) k = length-set k.devices d _
+
+-- how many answers an act takes
+abbrev pub asks : Act → ℕ
+asks (Asks question answer) = 1
+asks act = 0
+
+asked_perform : (answer : Question → ℕ) (e : Effect) (s : State) → (perform answer e s).stock.asked ≡ s.stock.asked + asks (done_by answer e s).act
+asked_perform answer (Asking question after) s = refl
+asked_perform answer (Starting d o first last after) s = transferred_asked d o first last (fixture_at s.stock.claims d) s.stock ∙ omega arith
+asked_perform answer e s = omega arith
+
+-- a row takes one answer where its act is an ask, and else none
+pub asked_row : (answer : Question → ℕ) (s : State) → (row s answer).stock.asked ≡ s.stock.asked + asks (next_of s answer).act
+asked_row answer s = asked_perform answer (next_effect s) s
+
+asks_few : (act : Act) → asks act ≤ 1
+asks_few (Asks question answer) = omega arith
+asks_few act = omega arith
+
+-- and so one at most
+pub asked_most : (answer : Question → ℕ) (s : State) → (row s answer).stock.asked ≤ s.stock.asked + 1
+asked_most answer s = omega (arith, asked_row answer s, asks_few (next_of s answer).act)
+
+size_perform : (answer : Question → ℕ) (e : Effect) (s : State) → (perform answer e s).stock.claims.size ≡ s.stock.claims.size
+size_perform answer (Failing kind) s = refl
+size_perform answer (Starting d o first last after) s = ap (λ (c : Claims). c.size) (transferred_claims d o first last (fixture_at s.stock.claims d) s.stock)
+size_perform answer e s = refl
 
 -- the size of the store is what it was
-pub size_row : (a : ℕ) (s : State) → (row s a).stock.claims.size ≡ s.stock.claims.size
-size_row a s = claims_perform a (next_effect s) s
+pub size_row : (answer : Question → ℕ) (s : State) → (row s answer).stock.claims.size ≡ s.stock.claims.size
+size_row answer s = size_perform answer (next_effect s) s
 
-store_perform : (a : ℕ) (e : Effect) (s : State) → length (perform a e s).stock.store ≡ length s.stock.store
-store_perform a (Keeping address w after) s = length-set s.stock.store address _
-store_perform a e s = refl
+store_perform : (answer : Question → ℕ) (e : Effect) (s : State) → length (perform answer e s).stock.store ≡ length s.stock.store
+store_perform answer (Keeping address w after) s = length-set s.stock.store address _
+store_perform answer (Starting d o first last after) s = transferred_store d o first last (fixture_at s.stock.claims d) s.stock
+store_perform answer e s = refl
 
 -- and so is the number of its words
-pub store_row : (a : ℕ) (s : State) → length (row s a).stock.store ≡ length s.stock.store
-store_row a s = store_perform a (next_effect s) s
+pub store_row : (answer : Question → ℕ) (s : State) → length (row s answer).stock.store ≡ length s.stock.store
+store_row answer s = store_perform answer (next_effect s) s
+
+devices_perform : (answer : Question → ℕ) (e : Effect) (s : State) → length (perform answer e s).stock.devices ≡ length s.stock.devices
+devices_perform answer (Starting d o first last after) s = transferred_devices d o first last (fixture_at s.stock.claims d) s.stock
+devices_perform answer e s = refl
+
+-- and of its devices
+pub devices_row : (answer : Question → ℕ) (s : State) → length (row s answer).stock.devices ≡ length s.stock.devices
+devices_row answer s = devices_perform answer (next_effect s) s
 
 -- the life after an order that went so
 abbrev pub life_after : Step → Life → Life
@@ -51,24 +95,28 @@ life_after (Held need) before = before
 life_after (Fails kind) before = Failed kind
 life_after Ends before = Ended
 
-life_perform : (a : ℕ) (e : Effect) (s : State) → (perform a e s).registers.state ≡ life_after (done_by a e s).step s.registers.state
-life_perform a (Failing kind) s = refl
-life_perform a (Ending after) s = refl
-life_perform a e s = refl
+life_perform : (answer : Question → ℕ) (e : Effect) (s : State) → (perform answer e s).registers.state ≡ life_after (done_by answer e s).step s.registers.state
+life_perform answer (Failing kind) s = refl
+life_perform answer (Ending after) s = refl
+life_perform answer e s = refl
 
 -- how an order ends tells the life after it
-pub life_row : (a : ℕ) (s : State) → (row s a).registers.state ≡ life_after (next_of s a).step s.registers.state
-life_row a s = life_perform a (next_effect s) s
+pub life_row : (answer : Question → ℕ) (s : State) → (row s answer).registers.state ≡ life_after (next_of s answer).step s.registers.state
+life_row answer s = life_perform answer (next_effect s) s
 
 -- the row has the registers of the next order's outcome
-pub registers_row : (a : ℕ) (s : State) → (row s a).registers ≡ (next_of s a).registers
-registers_row a s = refl
+pub registers_row : (answer : Question → ℕ) (s : State) → (row s answer).registers ≡ (next_of s answer).registers
+registers_row answer s = refl
+
+-- the answer that a lone run gives next
+abbrev pub next_answer : List ℕ → State → Question → ℕ
+next_answer answers s question = get_or answers s.stock.asked 0
 
 -- a step of a lone run
 step_stores : (answers : List ℕ) (s : State) → length (lone_step answers s).stock.store ≡ length s.stock.store
 step_stores answers s =
     ⊎_elim
-    (λ (live : is_live s.registers.state ≡ true). rw live (store_row (get_or answers s.stock.asked 0) s))
+    (λ (live : is_live s.registers.state ≡ true). rw live (store_row (next_answer answers s) s))
     (λ (over : is_live s.registers.state ≡ false). rw over refl)
     (cases_Bool (is_live s.registers.state))
 
@@ -80,7 +128,7 @@ store_lone start answers (suc n) = step_stores answers (lone start answers n) �
 step_sizes : (answers : List ℕ) (s : State) → (lone_step answers s).stock.claims.size ≡ s.stock.claims.size
 step_sizes answers s =
     ⊎_elim
-    (λ (live : is_live s.registers.state ≡ true). rw live (size_row (get_or answers s.stock.asked 0) s))
+    (λ (live : is_live s.registers.state ≡ true). rw live (size_row (next_answer answers s) s))
     (λ (over : is_live s.registers.state ≡ false). rw over refl)
     (cases_Bool (is_live s.registers.state))
 
@@ -93,7 +141,7 @@ step_counts : (answers : List ℕ) (s : State) → (s.registers.ran ≤ (lone_st
 step_counts answers s =
     ⊎_elim
     (λ (live : is_live s.registers.state ≡ true).
-    rw live (omega (arith, ran_row (get_or answers s.stock.asked 0) s), omega (arith, ran_row (get_or answers s.stock.asked 0) s), asked_row (get_or answers s.stock.asked 0) s))
+    rw live (omega (arith, ran_row (next_answer answers s) s), omega (arith, ran_row (next_answer answers s) s), asked_most (next_answer answers s) s))
     (λ (over : is_live s.registers.state ≡ false). rw over (omega arith, omega arith, omega arith))
     (cases_Bool (is_live s.registers.state))
 
@@ -107,11 +155,11 @@ counts_lone start answers (suc n) =
 
 -- a program that isn't live stays as it is
 pub over_step : (answers : List ℕ) (s : State) → is_live s.registers.state ≡ false → lone_step answers s ≡ s
-over_step answers s over = ap (λ b. cond b (row s (get_or answers s.stock.asked 0)) s) over
+over_step answers s over = ap (λ b. cond b (row s (next_answer answers s)) s) over
 
 -- one that is live does its next row
-pub live_step : (answers : List ℕ) (s : State) → is_live s.registers.state ≡ true → lone_step answers s ≡ row s (get_or answers s.stock.asked 0)
-live_step answers s live = ap (λ b. cond b (row s (get_or answers s.stock.asked 0)) s) live
+pub live_step : (answers : List ℕ) (s : State) → is_live s.registers.state ≡ true → lone_step answers s ≡ row s (next_answer answers s)
+live_step answers s live = ap (λ b. cond b (row s (next_answer answers s)) s) live
 
 -- a program that is live after n orders was live before each, and has counted n
 pub ran_live : (start : State) (answers : List ℕ) (n : ℕ) → is_live (lone start answers n).registers.state ≡ true → (lone start answers n).registers.ran ≡ start.registers.ran + n
@@ -121,7 +169,7 @@ ran_live start answers (suc n) live =
     ⊎_elim
     (λ (before : is_live s.registers.state ≡ true).
     let step = live_step answers s before in
-    let counted = ap (λ (t : State). t.registers.ran) step ∙ ran_row (get_or answers s.stock.asked 0) s in
+    let counted = ap (λ (t : State). t.registers.ran) step ∙ ran_row (next_answer answers s) s in
     omega (arith, counted, ran_live start answers n before))
     (λ (over : is_live s.registers.state ≡ false).
     absurd (false≢true (sym over ∙ ap (λ (t : State). is_live t.registers.state) (sym (over_step answers s over)) ∙ live)))

@@ -1,7 +1,15 @@
 -- What an order does, and what is done to a program beside its registers.
 use Rattle.std.specs.Prelude.{◌≡◌, ℕ, Bool, Result, MatchResult}
 use Rattle.kdf_journal.specs.declared.failure.Failure.{Failure}
+use Rattle.kdf_transfer.specs.declared.order.TransferOrder.{TransferOrder}
 use Rattle.kdf_processor.specs.declared.registers.Registers.{Registers}
+use Rattle.kdf_processor.specs.declared.test.Test.{Test}
+
+-- What an order asks the machine: whether a device has a transfer, whether a group of an area is locked out, and the time.
+pub data Question : Type 0 where
+  IsBusy : (device : ℕ) → Question
+  IsOut : (first last : ℕ) → Question
+  Time : Question
 
 -- What an order does that reads and changes registers alone.
 pub data Change : Type 0 where
@@ -25,7 +33,7 @@ Decides decision old new result =
     (λ kind. (decision ≡ Undecided kind) × (new ≡ old))
 
 -- What an order does. The registers that a constructor carries are those after it, not yet counted.
--- Where they depend on a word of the store, it carries a function.
+-- Where they depend on a word of the store, on a device or on an answer, it carries a function.
 pub data Effect : Type 0 where
   Failing : (kind : Failure) → Effect
   Ending : (after : Registers) → Effect
@@ -33,6 +41,12 @@ pub data Effect : Type 0 where
   Fetching : (address : ℕ) (after : ℕ → Registers) → Effect
   -- the word that is kept, from the one that was there
   Keeping : (address : ℕ) (word : ℕ → ℕ) (after : Registers) → Effect
+  Testing : (device : ℕ) (what : Test) (after : Bool → Registers) → Effect
+  Starting : (device : ℕ) (order : TransferOrder) (first last : ℕ) (after : Registers) → Effect
+  Asking : (question : Question) (after : ℕ → Registers) → Effect
+  Claiming : (device : ℕ) (after : Registers) → Effect
+  Returning : (device : ℕ) (after : Registers) → Effect
+  Spooling : (stream first last : ℕ) (after : Registers) → Effect
 
 -- such a change as an effect
 abbrev pub of_change : Change → Effect
@@ -43,3 +57,8 @@ of_change (Going after) = Changing after
 pub data Act : Type 0 where
   Nothing : Act
   Writes : (address word : ℕ) → Act
+  Starts : (device : ℕ) (order : TransferOrder) (first last : ℕ) → Act
+  Asks : (question : Question) (answer : ℕ) → Act
+  Acquires : (device : ℕ) → Act
+  Releases : (device : ℕ) → Act
+  Spools : (stream first last : ℕ) → Act

@@ -1,4 +1,5 @@
 pub mod State
+pub mod Claims
 pub mod Effect
 pub mod Table
 pub mod Needs
@@ -11,3 +12,4 @@ pub mod Jumps
 pub mod Examples
 pub mod Fetch
 pub mod Plan
+pub mod Ahead

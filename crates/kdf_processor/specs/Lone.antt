@@ -15,7 +15,7 @@ is_live (Failed kind) = false
 -- one order more, if the program is live: an ask is answered by the next answer, or 0 past the end
 abbrev pub lone_step : List ℕ → State → State
 lone_step answers s =
-    if is_live s.registers.state then row s (slice_index answers s.stock.asked) else s
+    if is_live s.registers.state then row s (λ _. slice_index answers s.stock.asked) else s
 
 -- the state after n orders
 abbrev pub lone : State → List ℕ → ℕ → State

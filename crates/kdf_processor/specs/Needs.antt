@@ -1,5 +1,5 @@
 -- What the next order is, and what it needs first.
-use Rattle.std.specs.Prelude.{ℕ, ◌/◌, ◌%◌, List, [], ◌∷◌, ◌++◌, Option, Some, None, if◌then◌else◌, nat_lt}
+use Rattle.std.specs.Prelude.{ℕ, ◌/◌, ◌%◌, List, [], ◌∷◌, ◌++◌, map, Option, Some, None, if◌then◌else◌, nat_lt}
 use Rattle.std.specs.Option.{option_map}
 use Rattle.std.proofs.Common.{zero, suc}
 use Rattle.kdf_syllable.specs.declared.order.Order.{Order}
@@ -7,12 +7,13 @@ use Rattle.kdf_syllable.specs.Packing.{syllable}
 use Rattle.kdf_syllable.specs.Spelling.{size_of_first}
 use Rattle.kdf_journal.specs.declared.failure.Failure.TheVariants.{Liv}
 use Rattle.kdf_processor.specs.declared.step.Need.{Need}
-use Rattle.kdf_processor.specs.declared.step.Need.TheVariants.{Group}
+use Rattle.kdf_processor.specs.declared.step.Need.TheVariants.{Group, Device}
 use Rattle.kdf_processor.specs.declared.registers.Registers.{Registers}
 use Rattle.kdf_decode.specs.Decoding.{decoded}
 use Rattle.kdf_processor.specs.State.{Claims, State, word_at}
-use Rattle.kdf_processor.specs.Effect.{Effect, Failing, Ending, Changing, Fetching, Keeping}
+use Rattle.kdf_processor.specs.Effect.{Effect, Failing, Ending, Changing, Fetching, Keeping, Testing, Starting, Asking, Claiming, Returning, Spooling}
 use Rattle.kdf_processor.specs.Table.{on, effect}
+use Rattle.kdf_processor.specs.View.{groups_of, order_groups}
 
 -- the group of an address
 abbrev pub group_of : ℕ → ℕ
@@ -62,22 +63,29 @@ effect_or_liv c r (Some o) = effect c r o
 abbrev pub effect_at : Claims → (ℕ → ℕ) → Registers → Effect
 effect_at c word r = effect_or_liv c r (order_at c.size word r.at)
 
--- what an effect needs
-abbrev pub effect_needs : Effect → List Need
-effect_needs (Failing kind) = []
-effect_needs (Ending after) = []
-effect_needs (Changing after) = []
-effect_needs (Fetching a after) = Group (group_of a) ∷ []
-effect_needs (Keeping a w after) = Group (group_of a) ∷ []
+-- what an effect needs, where the program has transfers on these devices: one that fails or ends waits for all of them
+abbrev pub effect_needs : List ℕ → Effect → List Need
+effect_needs mine (Failing kind) = map Device mine
+effect_needs mine (Ending after) = map Device mine
+effect_needs mine (Changing after) = []
+effect_needs mine (Fetching a after) = Group (group_of a) ∷ []
+effect_needs mine (Keeping a w after) = Group (group_of a) ∷ []
+effect_needs mine (Testing d what after) = Device d ∷ []
+effect_needs mine (Starting d o first last after) = Device d ∷ map Group (order_groups o first last)
+effect_needs mine (Asking question after) = []
+effect_needs mine (Claiming d after) = []
+effect_needs mine (Returning d after) = Device d ∷ []
+effect_needs mine (Spooling stream first last after) = map Group (groups_of first last)
 
 -- the groups of the next order's syllables, and then what its effect needs
-abbrev pub needs_at : Claims → (ℕ → ℕ) → Registers → List Need
-needs_at c word r = fetch_needs c.size word r.at ++ effect_needs (effect_at c word r)
+abbrev pub needs_at : Claims → (ℕ → ℕ) → Registers → List ℕ → List Need
+needs_at c word r mine =
+    fetch_needs c.size word r.at ++ effect_needs mine (effect_at c word r)
 
 -- what the next order of a state does
 abbrev pub next_effect : State → Effect
 next_effect s = effect_at s.stock.claims (word_at s) s.registers
 
--- what the next order of a state needs
-abbrev pub needs : State → List Need
-needs s = needs_at s.stock.claims (word_at s) s.registers
+-- what the next order of a state needs, where the program has transfers on these devices
+abbrev pub needs : State → List ℕ → List Need
+needs s mine = needs_at s.stock.claims (word_at s) s.registers mine

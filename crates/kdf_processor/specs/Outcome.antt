@@ -6,7 +6,8 @@ use Rattle.kdf_processor.specs.declared.registers.Registers.{Registers}
 use Rattle.kdf_processor.specs.declared.step.Need.{Need}
 use Rattle.kdf_processor.specs.declared.step.Step.{Step}
 use Rattle.kdf_processor.specs.declared.step.Step.TheVariants.{Done, Held, Fails, Ends}
-use Rattle.kdf_processor.specs.Effect.{Act, Nothing, Writes, Effect, Failing, Ending, Changing, Fetching, Keeping}
+use Rattle.kdf_processor.specs.Effect.{Act, Nothing, Writes, Starts, Asks, Acquires, Releases, Spools}
+use Rattle.kdf_processor.specs.Effect.{Effect, Failing, Ending, Changing, Fetching, Keeping, Testing, Starting, Asking, Claiming, Returning, Spooling}
 use Rattle.kdf_processor.specs.Needs.{effect_needs, effect_at, needs_at}
 use Rattle.kdf_processor.specs.View.{View, first_pending}
 
@@ -40,6 +41,12 @@ done v r (Ending after) = record { step = Ends; registers = counted r Ended afte
 done v r (Changing after) = went r after Nothing
 done v r (Fetching a after) = went r (after (v.word a)) Nothing
 done v r (Keeping a w after) = went r after (Writes a (w (v.word a)))
+done v r (Testing d what after) = went r (after (v.test d what)) Nothing
+done v r (Starting d o first last after) = went r after (Starts d o first last)
+done v r (Asking q after) = went r (after (v.answer q)) (Asks q (v.answer q))
+done v r (Claiming d after) = went r after (Acquires d)
+done v r (Returning d after) = went r after (Releases d)
+done v r (Spooling stream first last after) = went r after (Spools stream first last)
 
 -- held up by the first need that is pending, or else the outcome
 abbrev pub held_or : Registers → Option Need → Outcome → Outcome
@@ -49,8 +56,9 @@ held_or r None o = o
 -- the next order
 abbrev pub outcome : View → Registers → Outcome
 outcome v r =
-    held_or r (first_pending v (needs_at v.claims v.word r)) (done v r (effect_at v.claims v.word r))
+    held_or r (first_pending v (needs_at v.claims v.word r v.mine))
+    (done v r (effect_at v.claims v.word r))
 
 -- one effect, behind the fetch
 abbrev pub try_effect : View → Registers → Effect → Outcome
-try_effect v r e = held_or r (first_pending v (effect_needs e)) (done v r e)
+try_effect v r e = held_or r (first_pending v (effect_needs v.mine e)) (done v r e)

@@ -1,18 +1,23 @@
 -- What a plan stands for.
-use Rattle.std.specs.Prelude.{◌≡◌, ◌≢◌, ℕ, ◌<◌, Option, Some, None, List, [], ◌∷◌, length}
+use Rattle.std.specs.Prelude.{◌≡◌, ◌≢◌, ℕ, ◌+◌, ◌%◌, ◌^◌, ◌<◌, ◌≤◌, true, nat_lt, Option, Some, None, List, [], ◌∷◌, length}
 use Rattle.kdf_syllable.specs.declared.order.Order.{Order}
 use Rattle.kdf_syllable.specs.declared.order.Order.TheVariants as order
 use Rattle.kdf_syllable.specs.Spelling.{IsQ}
 use Rattle.kdf_processor.specs.declared.plan.Access.{Access}
 use Rattle.kdf_processor.specs.declared.plan.Plan.{Plan}
-use Rattle.kdf_processor.specs.declared.plan.Plan.TheVariants.{Fail, End, Fetch, Keep}
+use Rattle.kdf_processor.specs.declared.plan.Plan.TheVariants.{Fail, End, Fetch, Keep, Count, Begin, Examine, Await, AskBusy, AskArea, AskTime, ClaimLabel, ClaimKind, GiveBack, Spool}
+use Rattle.kdf_processor.specs.declared.plan.Beginning.{Beginning}
 use Rattle.kdf_processor.specs.declared.registers.Registers.{Registers}
-use Rattle.kdf_processor.specs.State.{Claims}
-use Rattle.kdf_processor.specs.Effect.{Effect, Failing, Ending, Fetching, Keeping, of_change}
+use Rattle.kdf_processor.specs.declared.test.Test.TheVariants.{Flag}
+use Rattle.kdf_transfer.specs.AtOnce.{kind_of, has_area, IsArea}
+use Rattle.kdf_processor.specs.State.{Claims, device_limit}
+use Rattle.kdf_processor.specs.Claims.{claim, is_kind, is_claimed, free_kind, free_label}
+use Rattle.kdf_processor.specs.Effect.{Act, Nothing, Acquires, of_change}
+use Rattle.kdf_processor.specs.Effect.{Effect, Failing, Ending, Changing, Fetching, Keeping, Testing, Starting, Asking, IsBusy, IsOut, Time, Returning, Spooling}
 use Rattle.kdf_processor.specs.Needs.{effect_or_liv}
 use Rattle.kdf_processor.specs.Outcome.{Outcome, done, try_effect}
 use Rattle.kdf_processor.specs.View.{View}
-use Rattle.kdf_processor.specs.Table.{with_nest, part_of, with_part, counts_on, effect, change_of}
+use Rattle.kdf_processor.specs.Table.{with_nest, part_of, with_part, counts_on, effect, change_of, sets_tr, answered_in_tr, claims_found}
 
 -- the top of a nest
 abbrev pub top : List ℕ → ℕ
@@ -24,15 +29,31 @@ abbrev pub below_top : List ℕ → List ℕ
 below_top [] = []
 below_top (n1 ∷ below) = below
 
+-- the words below the two on top
+abbrev pub below_two : List ℕ → List ℕ
+below_two nest = below_top (below_top nest)
+
 -- the effect that it is a plan of
-abbrev pub planned : Plan → Registers → Effect
-planned (Fail kind) r = Failing kind
-planned End r = Ending (with_nest 1 (below_top r.nest) r)
-planned (Fetch a) r =
+abbrev pub planned : Claims → Plan → Registers → Effect
+planned c (Fail kind) r = Failing kind
+planned c End r = Ending (with_nest 1 (below_top r.nest) r)
+planned c (Fetch a) r =
     Fetching a.address (λ w. with_nest a.size (part_of a.half w ∷ r.nest) (counts_on a.u a.q r))
-planned (Keep a) r =
+planned c (Keep a) r =
     Keeping a.address (with_part a.half (top r.nest))
     (with_nest a.size (below_top r.nest) (counts_on a.u a.q r))
+planned c Count r = Changing (with_nest 1 (r.ran ∷ below_top r.nest) r)
+planned c (Begin b) r = Starting b.device b.order b.first b.last (with_nest 2 r.nest r)
+planned c (Examine d what) r = Testing d what (sets_tr r)
+planned c (Await d) r = Testing d Flag (λ is. with_nest 2 r.nest r)
+planned c (AskBusy d) r = Asking (IsBusy d) (answered_in_tr r)
+planned c (AskArea first last) r = Asking (IsOut first last) (answered_in_tr r)
+planned c AskTime r = Asking Time (λ t. with_nest 1 (t % 2 ^ 48 ∷ below_top r.nest) r)
+planned c (ClaimLabel label) r = claims_found r (below_two r.nest) (free_label c label)
+planned c (ClaimKind kind) r = claims_found r (below_two r.nest) (free_kind c kind)
+planned c (GiveBack d) r = Returning d (with_nest 1 (below_two r.nest) r)
+planned c (Spool stream first last) r =
+    Spooling stream first last (with_nest 1 (below_two r.nest) r)
 
 abbrev pub IsHalf : Option ℕ → Type 0
 IsHalf None = Unit {0}
@@ -44,32 +65,62 @@ pub record IsAccess (c : Claims) (a : Access) : Type 0 where
   pub half : IsHalf a.half
   pub q : IsQ a.q
 
+-- its device is claimed and of its kind, and its area is in the store
+pub record IsBeginning (c : Claims) (b : Beginning) : Type 0 where
+  pub kind : is_kind (kind_of b.order) (claim c b.device) ≡ true
+  pub device : b.device < device_limit
+  pub area : has_area b.order ≡ true → IsArea b.first b.last c.size
+
+-- what a plan names is claimed, and is in the store
 abbrev pub IsSound : Claims → Plan → Type 0
-IsSound c (Fail kind) = Unit {0}
-IsSound c End = Unit {0}
 IsSound c (Fetch a) = IsAccess c a
 IsSound c (Keep a) = IsAccess c a
+IsSound c (Begin b) = IsBeginning c b
+IsSound c (Examine d what) = is_claimed c d ≡ true
+IsSound c (Await d) = is_claimed c d ≡ true
+IsSound c (AskBusy d) = is_claimed c d ≡ true
+IsSound c (AskArea first last) = IsArea first last c.size
+IsSound c (GiveBack d) = is_claimed c d ≡ true
+IsSound c (Spool stream first last) = (stream ≤ 7) × IsArea first last c.size
+IsSound c _ = Unit {0}
+
+-- it is settled whether the order fails
+abbrev pub IsSettled : Plan → Type 0
+IsSettled (ClaimLabel label) = ⊥
+IsSettled (ClaimKind kind) = ⊥
+IsSettled _ = Unit {0}
+
+-- the acting call of a claim
+abbrev pub claim_act : Option ℕ → Act
+claim_act None = Nothing
+claim_act (Some d) = Acquires d
 
 -- the nest has its operands, or room for its result
 abbrev pub HasOperands : List ℕ → Plan → Type 0
-HasOperands nest (Fail kind) = Unit {0}
 HasOperands nest End = 0 < length nest
 HasOperands nest (Fetch a) = length nest < 16
 HasOperands nest (Keep a) = 0 < length nest
+HasOperands nest Count = 0 < length nest
+HasOperands nest AskTime = 0 < length nest
+HasOperands nest (ClaimLabel label) = 1 < length nest
+HasOperands nest (ClaimKind kind) = 1 < length nest
+HasOperands nest (GiveBack d) = 1 < length nest
+HasOperands nest (Spool stream first last) = 1 < length nest
+HasOperands nest _ = Unit {0}
 
 -- a plan of this effect, for these registers
 pub record IsPlanOf (c : Claims) (r : Registers) (e : Effect) (plan : Plan) : Type 0 where
-  pub effect : e ≡ planned plan r
+  pub effect : e ≡ planned c plan r
   pub sound : IsSound c plan
   pub operands : HasOperands r.nest plan
 
 -- what comes of it where none of its needs is pending
 abbrev pub done_plan : View → Registers → Plan → Outcome
-done_plan v r plan = done v r (planned plan r)
+done_plan v r plan = done v r (planned v.claims plan r)
 
 -- what comes of it where one may be
 abbrev pub try_plan : View → Registers → Plan → Outcome
-try_plan v r plan = try_effect v r (planned plan r)
+try_plan v r plan = try_effect v r (planned v.claims plan r)
 
 -- what comes of an order that was fetched
 abbrev pub try_order : View → Registers → Order → Outcome
@@ -83,9 +134,11 @@ try_decoded v r o = try_effect v r (effect_or_liv v.claims r o)
 abbrev pub try_change : View → Registers → Order → Outcome
 try_change v r o = try_effect v r (of_change (change_of r o))
 
--- an order that changes registers alone, or isn't built
+-- an order that changes registers alone
 abbrev pub IsChange : Order → Type 0
 IsChange (order.Plain code) = code ≢ 0x21
 IsChange (order.Indirect code k q) = ⊥
 IsChange (order.Direct t u q a) = ⊥
+IsChange (order.Device code q) = ⊥
+IsChange (order.Query b q) = ⊥
 IsChange _ = Unit {0}

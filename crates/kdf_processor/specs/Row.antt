@@ -1,32 +1,69 @@
--- The state of a program by itself after its next order.
-use Rattle.std.specs.Prelude.{ℕ, slice_set}
-use Rattle.kdf_processor.specs.State.{State, Stock}
-use Rattle.kdf_processor.specs.Effect.{Act, Nothing, Writes, Effect}
+-- The state of a program by itself after its next order, a transfer being finished at once.
+use Rattle.std.specs.Prelude.{ℕ, ◌+◌, ◌-◌, Bool, true, false, List, [], ◌∷◌, ◌++◌, take, drop, Option, Some, None, slice_set}
+use Rattle.kdf_word.specs.Characters.{codes_of_all}
+use Rattle.kdf_media.specs.Media.{through_end}
+use Rattle.kdf_transfer.specs.AtOnce.{device_after, order_words, stored}
+use Rattle.kdf_transfer.specs.Devices.{Fixture}
+use Rattle.kdf_transfer.specs.declared.order.TransferOrder.{TransferOrder}
+use Rattle.kdf_processor.specs.State.{State, Stock, device_in, fixture_at}
+use Rattle.kdf_processor.specs.Effect.{Question, Act, Nothing, Writes, Starts, Asks, Acquires, Releases, Spools, Effect}
 use Rattle.kdf_processor.specs.Needs.{next_effect}
 use Rattle.kdf_processor.specs.View.{by_itself}
 use Rattle.kdf_processor.specs.Outcome.{Outcome, done}
+
+-- a transfer on a device that is such, finished
+abbrev pub moved_by : ℕ → TransferOrder → (first last : ℕ) → Fixture → Stock → Stock
+moved_by d o first last f k =
+    record k {
+      store = stored o first last k.store f (device_in k d);
+      devices = slice_set k.devices d
+          (device_after o first last (order_words o first last k.store) f (device_in k d));
+    }
+
+-- and on the program's device of this number; where there is none, nothing moves
+abbrev pub transferred : ℕ → TransferOrder → (first last : ℕ) → Option Fixture → Stock → Stock
+transferred d o first last None k = k
+transferred d o first last (Some f) k = moved_by d o first last f k
+
+-- a device is claimed from now on, or it isn't
+abbrev pub with_claimed : ℕ → Bool → Stock → Stock
+with_claimed d is k =
+    record k { claims = record k.claims { claimed = slice_set k.claims.claimed d is } }
+
+-- the words of an area
+abbrev pub area_words : (first last : ℕ) → Stock → List ℕ
+area_words first last k = take (last + 1 - first) (drop first k.store)
 
 -- an acting call, done to what a program has
 abbrev pub at_once : Act → Stock → Stock
 at_once Nothing k = k
 at_once (Writes a w) k = record k { store = slice_set k.store a w }
+at_once (Starts d o first last) k = transferred d o first last (fixture_at k.claims d) k
+at_once (Asks question answer) k = record k { asked = k.asked + 1 }
+at_once (Acquires d) k = with_claimed d true k
+at_once (Releases d) k = with_claimed d false k
+at_once (Spools stream first last) k =
+    record k {
+      spooled = k.spooled
+          ++ record { stream = stream; text = through_end (codes_of_all (area_words first last k)) } ∷ [];
+    }
 
 -- an outcome on a state
 abbrev pub taken : Outcome → State → State
 taken o s = record { registers = o.registers; stock = at_once o.act s.stock }
 
--- what an effect comes to, where an order that asks is answered a; none that is built asks
-abbrev pub done_by : ℕ → Effect → State → Outcome
-done_by a e s = done (by_itself s.stock) s.registers e
+-- what an effect comes to, where an order that asks is answered so
+abbrev pub done_by : (Question → ℕ) → Effect → State → Outcome
+done_by answer e s = done (by_itself answer s.stock) s.registers e
 
 -- and the state that it leaves
-abbrev pub perform : ℕ → Effect → State → State
-perform a e s = taken (done_by a e s) s
+abbrev pub perform : (Question → ℕ) → Effect → State → State
+perform answer e s = taken (done_by answer e s) s
 
 -- how the next order ends, and the registers after it
-abbrev pub next_of : State → ℕ → Outcome
-next_of s a = done_by a (next_effect s) s
+abbrev pub next_of : State → (Question → ℕ) → Outcome
+next_of s answer = done_by answer (next_effect s) s
 
 -- the state after it
-abbrev pub row : State → ℕ → State
-row s a = perform a (next_effect s) s
+abbrev pub row : State → (Question → ℕ) → State
+row s answer = perform answer (next_effect s) s

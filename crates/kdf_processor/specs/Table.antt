@@ -10,10 +10,19 @@ use Rattle.kdf_qstore.specs.declared.triple.Triple.{Triple}
 use Rattle.kdf_qstore.specs.Triples.{triple_at, with_triple, triple_of, word_of_triple, sum_of, sum_16, difference_16, counted_down, stepped}
 use Rattle.kdf_arith.specs.declared.order.ArithOrder.TheVariants as arithmetic
 use Rattle.kdf_arith.specs.Arith.{Arith, arith}
-use Rattle.kdf_journal.specs.declared.failure.Failure.TheVariants.{Liv, Nouv, Out, Reset}
+use Rattle.kdf_journal.specs.declared.failure.Failure.TheVariants.{Liv, Nouv, Out, Reset, Claim}
+use Rattle.kdf_journal.specs.declared.kind.Kind.{Kind}
+use Rattle.kdf_journal.specs.declared.kind.Kind.TheVariants.{Mt}
+use Rattle.kdf_transfer.specs.AtOnce.{kind_of, has_area}
+use Rattle.kdf_transfer.specs.declared.order.TransferOrder.{TransferOrder}
+use Rattle.kdf_transfer.specs.declared.order.TransferOrder.TheVariants.{Prq, Preq, Pwq, Pweq, Crq, Lpq, Lpeq, Mfrq, Mbrq, Mwq, Mlwq, Mrwdq, Mfskq, Mbskq}
 use Rattle.kdf_processor.specs.declared.registers.Registers.{Registers}
+use Rattle.kdf_processor.specs.declared.test.Test.{Test}
+use Rattle.kdf_processor.specs.declared.test.Test.TheVariants.{Flag, Start, Mark}
 use Rattle.kdf_processor.specs.State.{Claims}
-use Rattle.kdf_processor.specs.Effect.{Change, Refused, Going, Decision, Undecided, Decided, of_change, Effect, Failing, Ending, Fetching, Keeping}
+use Rattle.kdf_processor.specs.Claims.{is_kind, claim, is_claimed, free_kind, free_label, kind_numbered}
+use Rattle.kdf_processor.specs.Effect.{Change, Refused, Going, Decision, Undecided, Decided, of_change}
+use Rattle.kdf_processor.specs.Effect.{Effect, Failing, Ending, Changing, Fetching, Keeping, Testing, Starting, Asking, IsBusy, IsOut, Time, Claiming, Returning, Spooling}
 
 -- the syllable that follows n syllables on; they are counted modulo 6 times 8,192
 abbrev pub on : ℕ → ℕ → ℕ
@@ -87,11 +96,38 @@ plain_row r code =
     else (if nat_le code 0x20 then arith_changes 1 r (arith (arithmetic.Plain code) r.nest r.flags)
     else Refused Liv)))
 
+-- ---- OUT
+
+-- a device is claimed, where one was found, and its number takes the place of two words
+abbrev pub claims_found : Registers → List ℕ → Option ℕ → Effect
+claims_found r rest None = Failing Claim
+claims_found r rest (Some d) = Claiming d (with_nest 1 (d ∷ rest) r)
+
+-- a device of a kind, where there is such a kind
+abbrev pub claims_kind : Claims → Registers → List ℕ → Option Kind → Effect
+claims_kind c r rest None = Failing Out
+claims_kind c r rest (Some kind) = claims_found r rest (free_kind c kind)
+
+-- to one of eight streams, the characters of the area that a word names as a Q-store
+abbrev pub spools : Registers → List ℕ → Triple → Effect
+spools r rest t =
+    if nat_lt 7 t.c then Failing Out else Spooling t.c t.i t.m (with_nest 1 rest r)
+
 -- OUT, by the number on top.
-unfoldable pub out_effect : Registers → ℕ → List ℕ → Effect
-out_effect r number below =
+unfoldable pub out_effect : Claims → Registers → ℕ → List ℕ → Effect
+out_effect c r number below =
     if number == 0 then Ending (with_nest 1 below r)  -- the end of the program
-    else Failing Out
+    else (if number == 3 then Changing (with_nest 1 (r.ran ∷ below) r)  -- how many orders were obeyed
+    -- claim a tape by its label
+    else (if number == 4 then on_top (Failing Nouv) below (λ n2 rest. claims_found r rest (free_label c n2))
+    -- claim a device of a kind
+    else (if number == 5 then on_top (Failing Nouv) below (λ n2 rest. claims_kind c r rest (kind_numbered n2))
+    -- give a device back
+    else (if number == 6 then on_top (Failing Nouv) below (λ n2 rest. Returning n2 (with_nest 1 rest r))
+    -- spool a text
+    else (if number == 8 then on_top (Failing Nouv) below (λ n2 rest. spools r rest (triple_of n2))
+    else (if number == 9 then Asking Time (λ t. with_nest 1 (t % 2 ^ 48 ∷ below) r)  -- the time
+    else Failing Out))))))
 
 -- ---- two syllables
 
@@ -302,15 +338,94 @@ exit_row r n (link ∷ links) =
     then Going (record r { links = links; at = on (6 * (link % 8192) + link / 8192) (3 * n) })
     else Refused Reset
 
+-- ---- devices
+
+-- an order of two syllables that sets TR
+abbrev pub sets_tr : Registers → Bool → Registers
+sets_tr r tr = with_nest 2 r.nest (with_tr tr r)
+
+-- and one that sets it where its answer isn't 0
+abbrev pub answered_in_tr : Registers → ℕ → Registers
+answered_in_tr r a = sets_tr r (nat_lt 0 a)
+
+-- Which transfer a code begins; of the skips, m is how many blocks they pass.
+unfoldable pub transfer_of : ℕ → ℕ → Option TransferOrder
+transfer_of code m =
+    if code == 0x70 then Some Prq  -- PRQ
+    else (if code == 0x71 then Some Preq  -- PREQ
+    else (if code == 0x72 then Some Pwq  -- PWQ
+    else (if code == 0x73 then Some Pweq  -- PWEQ
+    else (if code == 0x74 then Some Crq  -- CRQ
+    else (if code == 0x75 then Some Lpq  -- LPQ
+    else (if code == 0x76 then Some Lpeq  -- LPEQ
+    else (if code == 0x77 then Some Mfrq  -- MFRQ
+    else (if code == 0x78 then Some Mbrq  -- MBRQ
+    else (if code == 0x79 then Some Mwq  -- MWQ
+    else (if code == 0x7A then Some Mlwq  -- MLWQ
+    else (if code == 0x7B then Some Mrwdq  -- MRWDQ
+    else (if code == 0x7C then Some (Mfskq m)  -- MFSKQ
+    else (if code == 0x7D then Some (Mbskq m)  -- MBSKQ
+    else None)))))))))))))
+
+-- it begins on the device C, over the area from I to M
+abbrev pub starts : Registers → Triple → Option TransferOrder → Effect
+starts r t None = Failing Liv
+starts r t (Some o) = Starting t.c o t.i t.m (with_nest 2 r.nest r)
+
+-- A transfer order, t being the triple of its Q-store.
+abbrev pub device_effect : Registers → ℕ → Triple → Effect
+device_effect r code t = starts r t (transfer_of code t.m)
+
+-- A test, t being the triple of its Q-store.
+unfoldable pub query_effect : Registers → ℕ → Triple → Effect
+query_effect r b t =
+    if b == 0 then Asking (IsBusy t.c) (answered_in_tr r)  -- BUSYQ
+    else (if b == 1 then Asking (IsOut t.i t.m) (answered_in_tr r)  -- TLOQ
+    else (if b == 2 then Testing t.c Flag (sets_tr r)  -- PARQ
+    else (if b == 3 then Testing t.c Start (sets_tr r)  -- MBTQ
+    else (if b == 4 then Testing t.c Mark (sets_tr r)  -- MLBQ
+    else (if b == 5 then Testing t.c Flag (λ is. with_nest 2 r.nest r)  -- INTQ
+    else Failing Liv)))))
+
 -- ---- any order
 
--- the checks of what an effect names: an address is below the size of the store
+-- an area is in a store of this size, and not too long
+abbrev pub is_area : ℕ → (first last : ℕ) → Bool
+is_area size first last =
+    nat_le first last && (nat_lt last size && nat_le last (first + 4095))
+
+-- where it is such, else the order fails
+abbrev pub if_area : ℕ → (first last : ℕ) → Effect → Effect
+if_area size first last e = if is_area size first last then e else Failing Liv
+
+-- where the device is claimed, or is one of a kind
+abbrev pub if_claimed : Claims → ℕ → Effect → Effect
+if_claimed c d e = if is_claimed c d then e else Failing Claim
+
+abbrev pub if_claimed_as : Claims → Kind → ℕ → Effect → Effect
+if_claimed_as c kind d e = if is_kind kind (claim c d) then e else Failing Claim
+
+-- The checks of what an effect names: its device is claimed and of the right kind, and then
+-- its address is below the size of the store, or its area is in it.
 unfoldable pub guarded : Claims → Effect → Effect
 guarded c (Fetching a after) = if nat_lt a c.size then Fetching a after else Failing Liv
 guarded c (Keeping a w after) = if nat_lt a c.size then Keeping a w after else Failing Liv
+guarded c (Testing d Flag after) = if_claimed c d (Testing d Flag after)
+guarded c (Testing d what after) = if_claimed_as c Mt d (Testing d what after)
+guarded c (Starting d o first last after) =
+    if_claimed_as c (kind_of o) d
+    (if has_area o
+    then if_area c.size first last (Starting d o first last after)
+    else Starting d o first last after)
+guarded c (Asking (IsBusy d) after) = if_claimed c d (Asking (IsBusy d) after)
+guarded c (Asking (IsOut first last) after) =
+    if_area c.size first last (Asking (IsOut first last) after)
+guarded c (Returning d after) = if_claimed c d (Returning d after)
+guarded c (Spooling stream first last after) =
+    if_area c.size first last (Spooling stream first last after)
 guarded c e = e
 
--- what an order does that reads and changes registers alone; those of devices aren't built
+-- what an order does that reads and changes registers alone
 abbrev pub change_of : Registers → Order → Change
 change_of r (order.Plain code) = plain_row r code
 change_of r (order.Single code q) = single_row r code q (triple_at r.q q)
@@ -327,8 +442,10 @@ change_of r _ = Refused Liv
 -- what any order does
 abbrev pub effect : Claims → Registers → Order → Effect
 effect c r (order.Plain code) =
-    if code == 0x21 then guarded c (on_top (Failing Nouv) r.nest (out_effect r))  -- OUT
+    if code == 0x21 then guarded c (on_top (Failing Nouv) r.nest (out_effect c r))  -- OUT
     else of_change (plain_row r code)
 effect c r (order.Indirect code k q) = guarded c (indirect_effect r code k q)
 effect c r (order.Direct t u q a) = guarded c (direct_effect r t u q a)
+effect c r (order.Device code q) = guarded c (device_effect r code (triple_at r.q q))
+effect c r (order.Query b q) = guarded c (query_effect r b (triple_at r.q q))
 effect c r o = of_change (change_of r o)

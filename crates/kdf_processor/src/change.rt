@@ -29,7 +29,7 @@ pub fn change(registers: &mut Registers, order: Order) -> Result<(), Failure>
         Order::Jump { c, target } => jump(registers, c, target),
         Order::Exit { n } => exit(registers, n),
         Order::Set { constant } => set(registers, constant),
-        Order::Device { .. } | Order::Query { .. } => Err(Failure::Liv),
         Order::Indirect { .. } | Order::Direct { .. } => unreachable!(),
+        Order::Device { .. } | Order::Query { .. } => unreachable!(),
     }
 }

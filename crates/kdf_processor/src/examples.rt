@@ -2,6 +2,12 @@
 //! definitions, as the contract of a function that does nothing.
 #![tactic(auto, unfolding(crate::specs::Table::plain_row, crate::specs::Table::out_effect, crate::specs::Table::single_row, crate::specs::Table::brought, crate::specs::Table::from_top, crate::specs::Table::changed, crate::specs::Table::copied, crate::specs::Table::indirect_effect, crate::specs::Table::direct_effect, crate::specs::Table::decision, crate::specs::Table::exit_row, crate::specs::Table::guarded, kdf_decode::specs::Decoding::decoded, kdf_arith::specs::Arith::arith, kdf_arith::specs::Rows::plain_row, kdf_arith::specs::Shifts::shift_row))]
 
+pub mod acts;
+pub mod calls;
+pub mod queries;
+pub mod transfers;
+pub mod waits;
+
 ghost use Rattle.std.specs.Prelude.{◌≡◌, ◌+◌, ◌-◌, ◌*◌, ◌^◌, [], ◌∷◌, replicate, true, false, Some, None, pos, negsuc};
 ghost use Rattle.kdf_syllable.specs.declared.amount.Amount.TheVariants.{Fixed, Count};
 ghost use Rattle.kdf_syllable.specs.declared.order.Order.TheVariants as order;
@@ -322,10 +328,4 @@ pub fn groups()
     ensures across { fetch_needs 64 (λ _. 0x0109210101e0) 191 ≡ Group 0 ∷ Group 1 ∷ Group 1 ∷ [] }
     ensures cut { fetch_needs 32 (λ _. 0x0109210101e0) 191 ≡ Group 0 ∷ [] }
     ensures outside { fetch_needs 31 (λ _. 0x0109210101e0) 191 ≡ [] }
-{}
-
-/// The orders of devices aren't built.
-pub fn devices()
-    ensures transfer { change_of (linked 60 [] []) (order.Device 0x70 1) ≡ Refused Liv }
-    ensures test { change_of (linked 60 [] []) (order.Query 0 1) ≡ Refused Liv }
 {}

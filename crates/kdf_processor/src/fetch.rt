@@ -47,7 +47,7 @@ fn read_syllable<P: Port>(port: &P, n: u16) -> Syllable
 
 /// The order at a syllable of the program's store.
 #[inline(always)]
-pub fn fetch<P: Port>(port: &P, at: u16) -> Fetched
+pub fn fetch_order<P: Port>(port: &P, at: u16) -> Fetched
     ensures { IsFetchedAt (P.shows port.now) at result }
 {
     if at >= SYLLABLES {

@@ -1,6 +1,7 @@
 //! Laws of the definitions, each the contract of a function that does nothing.
 ghost use Rattle.std.specs.Prelude.{◌≡◌, ℕ, ◌≤◌, ◌++◌, List, length, Bool, true, false, find};
 ghost use Rattle.kdf_processor.specs.declared.step.Need.{Need};
+ghost use Rattle.kdf_processor.specs.Effect.{Question};
 ghost use Rattle.kdf_processor.specs.Frame.{Agrees, Leaves, HidesNone};
 ghost use Rattle.kdf_processor.specs.Lone.{lone};
 ghost use Rattle.kdf_processor.specs.Needs.{needs};
@@ -20,17 +21,17 @@ pub fn store_size()
 /// the needs are the same, and the rows agree likewise and leave what is hidden as it was.
 /// Of any needs, among them all that is hidden, the first is the same in both states.
 pub fn frame()
-    ensures same_needs { (hidden : Need → Bool) (s t : State) →
-        Agrees hidden s t → HidesNone hidden (needs s) → needs t ≡ needs s }
-    ensures same_row { (hidden : Need → Bool) (answer : ℕ) (s t : State) →
-        Agrees hidden s t → HidesNone hidden (needs s)
+    ensures same_needs { (hidden : Need → Bool) (mine : List ℕ) (s t : State) →
+        Agrees hidden s t → HidesNone hidden (needs s mine) → needs t mine ≡ needs s mine }
+    ensures same_row { (hidden : Need → Bool) (mine : List ℕ) (answer : Question → ℕ)
+        (s t : State) → Agrees hidden s t → HidesNone hidden (needs s mine)
         → Agrees hidden (row s answer) (row t answer) }
-    ensures left { (hidden : Need → Bool) (answer : ℕ) (s t : State) →
-        Agrees hidden s t → HidesNone hidden (needs s) →
+    ensures left { (hidden : Need → Bool) (mine : List ℕ) (answer : Question → ℕ) (s t : State) →
+        Agrees hidden s t → HidesNone hidden (needs s mine) →
         Leaves hidden s (row s answer) × Leaves hidden t (row t answer) }
-    ensures same_first { (hidden wanted : Need → Bool) (s t : State) →
+    ensures same_first { (hidden wanted : Need → Bool) (mine : List ℕ) (s t : State) →
         Agrees hidden s t → ((n : Need) → hidden n ≡ true → wanted n ≡ true) →
-        find wanted (needs s) ≡ find wanted (needs t) }
+        find wanted (needs s mine) ≡ find wanted (needs t mine) }
 {}
 
 /// With as many answers as are taken, more of them change no state up to there.

@@ -4,35 +4,49 @@
 //! otherwise does its row of the table: new registers and at most one acting call on the port.
 #![tactic(auto)]
 
+mod acting;
 mod arithmetic;
 mod change;
+mod claims;
 mod conditions;
 mod copies;
+mod counting;
 pub mod examples;
 mod exit;
 mod fetch;
 mod jump;
 pub mod laws;
+mod look;
 mod moves;
 mod obeying;
+mod outs;
 mod plain;
 mod plan;
 mod port;
 mod push;
 mod q_store;
+mod queries;
 mod registers;
 mod shift;
 mod single;
+mod spooled;
 mod step;
 mod syllable_number;
+mod test;
 #[cfg(test)]
 mod tests;
+mod transfers;
+mod waits;
 
+pub use fetch::{Fetched, fetch_order};
 pub use kdf_arith::Flags;
 pub use kdf_journal::Failure;
 pub use kdf_nest::{Links, Nest};
 pub use kdf_qstore::QStores;
-pub use obeying::obey;
+pub use look::{Ahead, look_ahead, may_want_memory};
+pub use obeying::{obey, obey_fetched};
 pub use port::Port;
 pub use registers::{Life, Registers};
+pub use spooled::Spooled;
 pub use step::{Need, Step};
+pub use test::Test;

@@ -4,30 +4,29 @@ ghost use Rattle.std.specs.Result.{result_ok};
 ghost use Rattle.kdf_decode.specs.Decoding.{first_decoded};
 ghost use Rattle.kdf_syllable.specs.Spelling.{IsOrder};
 ghost use Rattle.kdf_processor.specs.Effect.{Nothing};
+ghost use Rattle.kdf_processor.specs.Fetch.{IsFetchedAt};
 ghost use Rattle.kdf_processor.specs.Needs.{effect_needs, group_of};
 ghost use Rattle.kdf_processor.specs.Outcome.{Obeyed, outcome, counted};
 ghost use Rattle.kdf_processor.specs.Plan.{planned, done_plan, try_plan, try_change, try_order, try_decoded};
-ghost use Rattle.kdf_processor.specs.Plan.{IsAccess, IsSound, IsChange, HasOperands, below_top};
+ghost use Rattle.kdf_processor.specs.Plan.{IsAccess, IsSound, IsSettled, IsChange, HasOperands, below_top};
 ghost use Rattle.kdf_processor.specs.Table.{with_nest};
 ghost use Rattle.kdf_processor.specs.View.{first_pending};
 
+use crate::acting::{
+    ask_area, ask_busy, ask_time, begin, count_orders, examine, give_back, pass, spool, take_number,
+};
 use crate::change::change;
-use crate::fetch::{Fetched, fetch};
+use crate::counting::count;
+use crate::fetch::{Fetched, fetch_order};
 use crate::moves::{merged, pop_kept, push_fetched};
-use crate::plan::{Access, Plan, first_need, plan_of};
+use crate::plan::{Access, Plan, plan_of};
 use crate::syllable_number::behind;
+use crate::waits::first_need;
 use crate::{Failure, Life, Need, Port, Registers, Step};
 use kdf_decode::{BadCode, decode_jump, decode_one, decode_store, decode_two};
+use kdf_journal::Kind;
 use kdf_syllable::Order;
-
-/// Counts an order.
-#[inline(always)]
-fn count(registers: &mut Registers)
-    requires { registers.old.ran < u32.MAX }
-    ensures { registers.new ≡ counted registers.old registers.old.state registers.old }
-{
-    registers.ran += 1;
-}
+use kdf_word::Word;
 
 /// Fails.
 fn fail(registers: &mut Registers, kind: Failure) -> Step
@@ -93,13 +92,15 @@ fn keep_word<P: Port>(registers: &mut Registers, port: &mut P, access: Access) -
 }
 
 /// Carries out a plan none of whose needs is pending.
+#[tactic(auto, using(crate::proofs::Pending::none_out, crate::proofs::Pending::none_out_behind))]
 #[inline(always)]
 fn carry_out<P: Port>(registers: &mut Registers, port: &mut P, plan: Plan) -> Step
     requires ran { registers.old.ran < u32.MAX }
     requires sound { IsSound (P.shows port.old).claims plan }
+    requires settled { IsSettled plan }
     requires operands { HasOperands registers.old.nest plan }
-    requires free { first_pending (P.shows port.old) (effect_needs (planned plan registers.old))
-        ≡ None }
+    requires free { first_pending (P.shows port.old) (effect_needs (P.shows port.old).mine
+        (planned (P.shows port.old).claims plan registers.old)) ≡ None }
     requires room { P.room port.old (done_plan (P.shows port.old) registers.old plan).act }
     ensures { Obeyed P.acts (done_plan (P.shows port.old) registers.old plan)
         port.old port.new registers.new result }
@@ -109,10 +110,79 @@ fn carry_out<P: Port>(registers: &mut Registers, port: &mut P, plan: Plan) -> St
         Plan::End => end(registers),
         Plan::Fetch(access) => fetch_word(registers, port, access),
         Plan::Keep(access) => keep_word(registers, port, access),
+        Plan::Count => count_orders(registers),
+        Plan::Begin(beginning) => begin(registers, port, beginning),
+        Plan::Examine { device, what } => examine(registers, port, device, what),
+        Plan::Await { .. } => pass(registers),
+        Plan::AskBusy { device } => ask_busy(registers, port, device),
+        Plan::AskArea { first, last } => ask_area(registers, port, first, last),
+        Plan::AskTime => ask_time(registers, port),
+        Plan::GiveBack { device } => give_back(registers, port, device),
+        Plan::Spool {
+            stream,
+            first,
+            last,
+        } => spool(registers, port, stream, first, last),
+        Plan::ClaimLabel { .. } | Plan::ClaimKind { .. } => unreachable!(),
     }
 }
 
 /// Holds the program up, or carries the plan out.
+#[inline(always)]
+fn obey_settled<P: Port>(registers: &mut Registers, port: &mut P, plan: Plan) -> Step
+    requires ran { registers.old.ran < u32.MAX }
+    requires sound { IsSound (P.shows port.old).claims plan }
+    requires settled { IsSettled plan }
+    requires operands { HasOperands registers.old.nest plan }
+    requires room { P.room port.old (try_plan (P.shows port.old) registers.old plan).act }
+    ensures { Obeyed P.acts (try_plan (P.shows port.old) registers.old plan)
+        port.old port.new registers.new result }
+{
+    match first_need(port, &plan) {
+        Some(need) => Step::Held(need),
+        None => carry_out(registers, port, plan),
+    }
+}
+
+/// Claims a tape by its label, or fails where there is none.
+fn obey_label<P: Port>(registers: &mut Registers, port: &mut P, label: Word) -> Step
+    requires ran { registers.old.ran < u32.MAX }
+    requires operands { 1 < length registers.old.nest }
+    requires room { P.room port.old
+        (try_plan (P.shows port.old) registers.old (Plan.ClaimLabel label)).act }
+    ensures { Obeyed P.acts (try_plan (P.shows port.old) registers.old (Plan.ClaimLabel label))
+        port.old port.new registers.new result }
+{
+    match port.claim_label(label) {
+        Some(device) => {
+            take_number(registers, device);
+            count(registers);
+            Step::Done
+        }
+        None => obey_settled(registers, port, Plan::Fail(Failure::Claim)),
+    }
+}
+
+/// Claims a device of a kind, or fails where there is none.
+fn obey_kind<P: Port>(registers: &mut Registers, port: &mut P, kind: Kind) -> Step
+    requires ran { registers.old.ran < u32.MAX }
+    requires operands { 1 < length registers.old.nest }
+    requires room { P.room port.old
+        (try_plan (P.shows port.old) registers.old (Plan.ClaimKind kind)).act }
+    ensures { Obeyed P.acts (try_plan (P.shows port.old) registers.old (Plan.ClaimKind kind))
+        port.old port.new registers.new result }
+{
+    match port.claim_kind(kind) {
+        Some(device) => {
+            take_number(registers, device);
+            count(registers);
+            Step::Done
+        }
+        None => obey_settled(registers, port, Plan::Fail(Failure::Claim)),
+    }
+}
+
+/// Obeys a plan.
 #[inline(always)]
 fn obey_plan<P: Port>(registers: &mut Registers, port: &mut P, plan: Plan) -> Step
     requires ran { registers.old.ran < u32.MAX }
@@ -122,9 +192,10 @@ fn obey_plan<P: Port>(registers: &mut Registers, port: &mut P, plan: Plan) -> St
     ensures { Obeyed P.acts (try_plan (P.shows port.old) registers.old plan)
         port.old port.new registers.new result }
 {
-    match first_need(port, plan) {
-        Some(need) => Step::Held(need),
-        None => carry_out(registers, port, plan),
+    match plan {
+        Plan::ClaimLabel { label } => obey_label(registers, port, label),
+        Plan::ClaimKind { kind } => obey_kind(registers, port, kind),
+        _ => obey_settled(registers, port, plan),
     }
 }
 
@@ -213,6 +284,30 @@ fn obey_spelt<P: Port>(
     }
 }
 
+/// Obeys the next order of a live program, which was fetched, or answers what holds it up and changes nothing.
+#[inline(always)]
+pub fn obey_fetched<P: Port>(registers: &mut Registers, port: &mut P, fetched: Fetched) -> Step
+    requires live { registers.old.state ≡ Life.Live }
+    requires ran { registers.old.ran < u32.MAX }
+    requires fetched { IsFetchedAt (P.shows port.old) registers.old.at fetched }
+    requires room { P.room port.old (outcome (P.shows port.old) registers.old).act }
+    ensures step { result ≡ (outcome (P.shows port.old) registers.old).step }
+    ensures registers { registers.new ≡ (outcome (P.shows port.old) registers.old).registers }
+    ensures acted { P.acts port.old (outcome (P.shows port.old) registers.old).act port.new }
+    ensures unchanged { (outcome (P.shows port.old) registers.old).act ≡ Nothing
+        → port.new ≡ port.old }
+{
+    match fetched {
+        Fetched::Held(group) => Step::Held(Need::Group(group)),
+        Fetched::Bad => obey_plan(registers, port, Plan::Fail(Failure::Liv)),
+        Fetched::Spelt {
+            first,
+            second,
+            third,
+        } => obey_spelt(registers, port, first, second, third),
+    }
+}
+
 /// Obeys the next order of a live program, or answers what holds it up and changes nothing.
 pub fn obey<P: Port>(registers: &mut Registers, port: &mut P) -> Step
     requires live { registers.old.state ≡ Life.Live }
@@ -224,13 +319,6 @@ pub fn obey<P: Port>(registers: &mut Registers, port: &mut P) -> Step
     ensures unchanged { (outcome (P.shows port.old) registers.old).act ≡ Nothing
         → port.new ≡ port.old }
 {
-    match fetch(port, registers.at) {
-        Fetched::Held(group) => Step::Held(Need::Group(group)),
-        Fetched::Bad => obey_plan(registers, port, Plan::Fail(Failure::Liv)),
-        Fetched::Spelt {
-            first,
-            second,
-            third,
-        } => obey_spelt(registers, port, first, second, third),
-    }
+    let fetched = fetch_order(port, registers.at);
+    obey_fetched(registers, port, fetched)
 }

@@ -1,16 +1,20 @@
-//! What an order would do, found without doing it, and what that waits for.
-ghost use Rattle.std.specs.Prelude.{◌≡◌, ◌≤◌, IfSome, IfNone};
+//! What an order would do, found without doing it.
+ghost use Rattle.std.specs.Prelude.{◌≡◌, IfSome, IfNone};
 ghost use Rattle.kdf_syllable.specs.Spelling.{IsOrder, IsQ};
 ghost use Rattle.kdf_processor.specs.Effect.{of_change};
-ghost use Rattle.kdf_processor.specs.Needs.{effect_needs};
-ghost use Rattle.kdf_processor.specs.Plan.{planned, IsPlanOf, IsSound, IsHalf, IsChange};
+ghost use Rattle.kdf_processor.specs.Plan.{IsPlanOf, IsHalf, IsChange};
 ghost use Rattle.kdf_processor.specs.Table.{effect, change_of, guarded, moves};
-ghost use Rattle.kdf_processor.specs.View.{first_pending};
 
-use crate::{Failure, Need, Port, Registers};
+use crate::outs::plan_out;
+use crate::queries::plan_query;
+use crate::transfers::plan_transfer;
+use crate::{Failure, Port, Registers, Test};
+use kdf_journal::Kind;
 use kdf_nest::DEPTH;
 use kdf_qstore::Part;
 use kdf_syllable::Order;
+use kdf_transfer::TransferOrder;
+use kdf_word::Word;
 
 /// A word of the store that an order fetches or keeps, or a half of it.
 #[derive(Clone, Copy, Debug)]
@@ -24,6 +28,15 @@ pub struct Access {
     pub q: u8,
 }
 
+/// A transfer that an order begins, by the device's number and the area in addresses of the program.
+#[derive(Clone, Copy, Debug)]
+pub struct Beginning {
+    pub device: u8,
+    pub order: TransferOrder,
+    pub first: u16,
+    pub last: u16,
+}
+
 /// What an order does that isn't a change of registers alone.
 #[derive(Clone, Copy, Debug)]
 pub enum Plan {
@@ -35,21 +48,28 @@ pub enum Plan {
     Fetch(Access),
     /// It takes the top, and keeps it.
     Keep(Access),
-}
-
-/// OUT.
-#[tactic(auto, unfolding(crate::specs::Table::out_effect, crate::specs::Table::guarded))]
-fn plan_out<P: Port>(registers: &Registers, port: &P) -> Plan
-    ensures { IsPlanOf (P.shows port.now).claims registers.now
-        (effect (P.shows port.now).claims registers.now (Order.Plain 0x21)) result }
-{
-    if registers.nest.depth() == 0 {
-        return Plan::Fail(Failure::Nouv);
-    }
-    match registers.nest.peek(0).bits() {
-        0 => Plan::End,
-        _ => Plan::Fail(Failure::Out),
-    }
+    /// It puts the number of orders obeyed in place of the top.
+    Count,
+    /// It begins a transfer.
+    Begin(Beginning),
+    /// It sets TR by a test of a device.
+    Examine { device: u8, what: Test },
+    /// It waits for the end of a device's transfer.
+    Await { device: u8 },
+    /// It sets TR where a device has a transfer.
+    AskBusy { device: u8 },
+    /// It sets TR where a group of an area is locked out.
+    AskArea { first: u16, last: u16 },
+    /// It puts the time in place of the top.
+    AskTime,
+    /// It claims a tape, if there is one to be claimed, and puts its number in place of two words.
+    ClaimLabel { label: Word },
+    /// It claims a device, if there is one to be claimed, and puts its number in place of two words.
+    ClaimKind { kind: Kind },
+    /// It gives a device back, and takes two words.
+    GiveBack { device: u8 },
+    /// It spools a text, and takes two words.
+    Spool { stream: u8, first: u16, last: u16 },
 }
 
 /// A fetch of a word or a half, or a store where `t` is true.
@@ -136,21 +156,8 @@ pub fn plan_of<P: Port>(registers: &Registers, port: &P, order: Order) -> Option
         Order::Plain { code: 0x21 } => Some(plan_out(registers, port)),
         Order::Indirect { code, k, q } => Some(plan_indirect(registers, port, code, k, q)),
         Order::Direct { t, u, q, a } => Some(plan_direct(registers, port, t, u, q, a)),
+        Order::Device { code, q } => Some(plan_transfer(registers, port, code, q)),
+        Order::Query { b, q } => Some(plan_query(registers, port, b, q)),
         _ => None,
-    }
-}
-
-/// The first need of a plan that is pending.
-#[inline(always)]
-pub fn first_need<P: Port>(port: &P, plan: Plan) -> Option<Need>
-    requires { IsSound (P.shows port.now).claims plan }
-    ensures { (r : Registers) →
-        result ≡ first_pending (P.shows port.now) (effect_needs (planned plan r)) }
-{
-    match plan {
-        Plan::Fail(_) | Plan::End => None,
-        Plan::Fetch(access) | Plan::Keep(access) => {
-            port.read(access.address).err().map(Need::Group)
-        }
     }
 }

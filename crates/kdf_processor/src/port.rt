@@ -1,12 +1,19 @@
 //! The view of one program that an order is obeyed over.
-ghost use Rattle.std.specs.Prelude.{◌≡◌, ◌<◌, ◌≤◌, find, OnOk, OnErr, if◌then◌else◌};
-ghost use Rattle.kdf_processor.specs.Effect.{Act, Nothing, Writes};
+ghost use Rattle.std.specs.Prelude.{◌≡◌, ◌<◌, ◌≤◌, nat_lt, find, true, false, None, OnOk, OnErr, IfSome, IfNone, if◌then◌else◌};
+ghost use Rattle.kdf_transfer.specs.AtOnce.{has_area, kind_of, IsArea};
+ghost use Rattle.kdf_processor.specs.Claims.{claim, is_claimed, is_kind, free_kind, free_label};
+ghost use Rattle.kdf_processor.specs.Effect.{Act, Nothing, Writes, Starts, Asks, IsBusy, IsOut, Time, Acquires, Releases, Spools};
 ghost use Rattle.kdf_processor.specs.Needs.{group_of};
-ghost use Rattle.kdf_processor.specs.View.{View, groups_of};
+ghost use Rattle.kdf_processor.specs.Plan.{claim_act};
+ghost use Rattle.kdf_processor.specs.State.{device_limit};
+ghost use Rattle.kdf_processor.specs.View.{View, head, groups_of, order_groups};
 
+use crate::Test;
+use kdf_journal::Kind;
+use kdf_transfer::TransferOrder;
 use kdf_word::Word;
 
-/// A program's store, over its own addresses.
+/// A program's store and its devices, over its own addresses.
 pub trait Port {
     /// What is shown of it.
     ghost shows: { Self → View };
@@ -27,12 +34,6 @@ pub trait Port {
         ensures { result ≡ (if (shows self.now).is_out (group_of address)
             then Err (group_of address) else Ok ((shows self.now).word address)) };
 
-    /// The least group of an area that is out.
-    fn first_out(&self, first: u16, last: u16) -> Option<u16>
-        requires order { first ≤ last }
-        requires inside { last < (shows self.now).claims.size }
-        ensures { result ≡ find (shows self.now).is_out (groups_of first last) };
-
     /// Writes a word to an address, or answers the address's group where that is out.
     fn write(&mut self, address: u16, word: Word) -> Result<(), u16>
         requires inside { address < (shows self.old).claims.size }
@@ -41,6 +42,96 @@ pub trait Port {
         ensures err { OnErr result (acts self.old Nothing self.new) }
         ensures result { result ≡ (if (shows self.old).is_out (group_of address)
             then Err (group_of address) else Ok tt) };
+
+    /// The least group of an area that is out.
+    fn first_out(&self, first: u16, last: u16) -> Option<u16>
+        requires order { first ≤ last }
+        requires inside { last < (shows self.now).claims.size }
+        ensures { result ≡ find (shows self.now).is_out (groups_of first last) };
+
+    /// The kind of a device that the program has claimed; devices have numbers below 16.
+    fn held(&self, device: u16) -> Option<Kind>
+        ensures kind { result ≡ claim (shows self.now).claims device }
+        ensures number { IfSome result (λ _. device < device_limit) };
+
+    /// Whether a device has a transfer.
+    fn busy(&self, device: u8) -> bool
+        ensures { result ≡ (shows self.now).is_busy device };
+
+    /// The least device on which the program has a transfer.
+    fn first_busy(&self) -> Option<u8>
+        ensures least { result ≡ head (shows self.now).mine }
+        ensures busy { IfSome result (λ d. (shows self.now).is_busy d ≡ true) };
+
+    /// What a test of a device tells that is claimed and has no transfer.
+    fn test(&self, device: u8, what: Test) -> bool
+        requires claimed { is_claimed (shows self.now).claims device ≡ true }
+        requires idle { (shows self.now).is_busy device ≡ false }
+        ensures { result ≡ (shows self.now).test device what };
+
+    /// Begins a transfer on a device that is claimed and of the order's kind, over an area that is free.
+    /// An order without an area looks at neither `first` nor `last`.
+    fn start(&mut self, device: u8, order: TransferOrder, first: u16, last: u16)
+        requires number { device < device_limit }
+        requires kind { is_kind (kind_of order) (claim (shows self.old).claims device) ≡ true }
+        requires area { has_area order ≡ true → IsArea first last (shows self.old).claims.size }
+        requires idle { (shows self.old).is_busy device ≡ false }
+        requires free { find (shows self.old).is_out (order_groups order first last) ≡ None }
+        requires room { room self.old (Starts device order first last) }
+        ensures { acts self.old (Starts device order first last) self.new };
+
+    /// Asks whether a device that is claimed has a transfer, and records the answer.
+    fn ask_busy(&mut self, device: u8) -> bool
+        requires claimed { is_claimed (shows self.old).claims device ≡ true }
+        requires room { room self.old
+            (Asks (IsBusy device) ((shows self.old).answer (IsBusy device))) }
+        ensures answer { result ≡ nat_lt 0 ((shows self.old).answer (IsBusy device)) }
+        ensures recorded { acts self.old
+            (Asks (IsBusy device) ((shows self.old).answer (IsBusy device))) self.new };
+
+    /// Asks whether a group of an area is locked out, and records the answer.
+    fn ask_area(&mut self, first: u16, last: u16) -> bool
+        requires area { IsArea first last (shows self.old).claims.size }
+        requires room { room self.old
+            (Asks (IsOut first last) ((shows self.old).answer (IsOut first last))) }
+        ensures answer { result ≡ nat_lt 0 ((shows self.old).answer (IsOut first last)) }
+        ensures recorded { acts self.old
+            (Asks (IsOut first last) ((shows self.old).answer (IsOut first last))) self.new };
+
+    /// Asks for the time, and records the answer.
+    fn ask_time(&mut self) -> u64
+        requires room { room self.old (Asks Time ((shows self.old).answer Time)) }
+        ensures answer { result ≡ (shows self.old).answer Time }
+        ensures recorded { acts self.old (Asks Time ((shows self.old).answer Time)) self.new };
+
+    /// Claims the least tape with this label that isn't claimed. Where there is none, nothing changes.
+    fn claim_label(&mut self, label: Word) -> Option<u8>
+        requires room { room self.old (claim_act (free_label (shows self.old).claims label)) }
+        ensures least { result ≡ free_label (shows self.old).claims label }
+        ensures claimed { IfSome result (λ d. acts self.old (Acquires d) self.new) }
+        ensures none { IfNone result (self.new ≡ self.old) };
+
+    /// Claims the least device of this kind that isn't claimed. Where there is none, nothing changes.
+    fn claim_kind(&mut self, kind: Kind) -> Option<u8>
+        requires room { room self.old (claim_act (free_kind (shows self.old).claims kind)) }
+        ensures least { result ≡ free_kind (shows self.old).claims kind }
+        ensures claimed { IfSome result (λ d. acts self.old (Acquires d) self.new) }
+        ensures none { IfNone result (self.new ≡ self.old) };
+
+    /// Gives a device back that is claimed and has no transfer; its state stays.
+    fn give_back(&mut self, device: u8)
+        requires claimed { is_claimed (shows self.old).claims device ≡ true }
+        requires idle { (shows self.old).is_busy device ≡ false }
+        requires room { room self.old (Releases device) }
+        ensures { acts self.old (Releases device) self.new };
+
+    /// Spools the characters of an area that is free to a stream, 0 to 7, up to and with the first End Message.
+    fn spool(&mut self, stream: u8, first: u16, last: u16)
+        requires stream { stream ≤ 7 }
+        requires area { IsArea first last (shows self.old).claims.size }
+        requires free { find (shows self.old).is_out (groups_of first last) ≡ None }
+        requires room { room self.old (Spools stream first last) }
+        ensures { acts self.old (Spools stream first last) self.new };
 
     /// A port that nothing was done to stays.
     ghost stays: { (p : Self) → acts p Nothing p };

@@ -6,6 +6,8 @@ use crate::Failure;
 pub enum Need {
     /// A group of 32 words of the program's store, by its number.
     Group(u16),
+    /// A device, by its number.
+    Device(u8),
 }
 
 /// How a try to obey an order went.

@@ -1,86 +1,26 @@
-//! Small programs over a store of which a group may be out.
+//! Small programs over a store of which a group may be out, and single orders over sixteen devices.
 ghost use Rattle.std.specs.Prelude.{◌≤◌, vec_len};
 
+mod ahead;
+mod bench;
+mod devices;
+mod fitted;
+mod needs;
+mod outs;
+mod queries;
+mod refusals;
+mod transfers;
+mod trial;
+
+use self::bench::{Bench, NO_GROUP, filled};
 use crate::{Failure, Life, Need, Port, Registers, Step, obey};
-use kdf_word::Word;
 use std::alloc::{AllocError, Global};
 use std::process::Abort;
 use std::test::Fail;
 
-/// The number of no group.
-const NONE: u16 = 256;
-
-/// A store of which one group is out.
-#[derive(Drop)]
-struct Bench {
-    words: Vec<Word>,
-    out: u16,
-    ghost small: { vec_len words ≤ 8192 },
-}
-
-impl Port for Bench {
-    ghost use Rattle.std.specs.Prelude.{◌≡◌, ◌==◌, vec_len, slice_index, refl};
-    ghost use Rattle.kdf_processor.specs.Row.{at_once};
-
-    ghost shows = { λ b. record {
-      claims = record { size = vec_len b.words };
-      word = slice_index b.words.items;
-      is_out = λ g. g == b.out;
-    } };
-
-    ghost acts = { λ b act c.
-        (at_once act (record { claims = record { size = 0 }; asked = 0; store = b.words.items })
-        ≡ record { claims = record { size = 0 }; asked = 0; store = c.words.items })
-        × (c.out ≡ b.out) };
-
-    ghost room = { λ b act. Unit {0} };
-
-    fn size(&self) -> u16 {
-        self.words.len() as u16
-    }
-
-    fn read(&self, address: u16) -> Result<Word, u16> {
-        let group = address / 32;
-        if group == self.out {
-            return Err(group);
-        }
-        Ok(self.words[usize::from(address)])
-    }
-
-    fn first_out(&self, first: u16, last: u16) -> Option<u16> {
-        if self.out < first / 32 || last / 32 < self.out {
-            return None;
-        }
-        Some(self.out)
-    }
-
-    fn write(&mut self, address: u16, word: Word) -> Result<(), u16> {
-        let group = address / 32;
-        if group == self.out {
-            return Err(group);
-        }
-        self.words[usize::from(address)] = word;
-        Ok(())
-    }
-
-    ghost stays = { λ b. (refl, refl) };
-}
-
-/// A store of so many words that begins with an image.
-fn filled(alloc: Global, size: usize, image: &[u64], out: u16) -> Result<Bench, AllocError>
-    requires { size ≤ 8192 }
-{
-    let mut words = Vec::new(alloc);
-    for place in 0..size {
-        let bits = if place < image.len() { image[place] } else { 0 };
-        words.push(Word::new(bits % (1 << 48)))?;
-    }
-    Ok(Bench { words, out })
-}
-
 /// Obeys an order, if the program is live.
 fn step(registers: &mut Registers, bench: &mut Bench) -> Option<Step> {
-    if registers.state != Life::Live || registers.ran == u32::MAX {
+    if registers.state != Life::Live || registers.ran == u32::MAX || bench.asked == u32::MAX {
         return None;
     }
     Some(obey(registers, bench))
@@ -103,7 +43,7 @@ struct Case {
     name: &'static str,
     /// The words that its store begins with.
     image: &'static [u64],
-    size: usize,
+    size: u16,
     orders: u32,
     state: Life,
     ran: u32,
@@ -118,7 +58,7 @@ struct Case {
 /// Runs a program, and compares.
 fn check(rt: &impl Abort, alloc: Global, case: &Case) -> Result<(), AllocError> {
     assert!(rt; case.size <= 8192);
-    let mut bench = filled(alloc, case.size, case.image, NONE)?;
+    let mut bench = filled(alloc, case.size, case.image)?;
     let mut registers = Registers::new();
     run(&mut registers, &mut bench, case.orders);
     let name = case.name;
@@ -441,7 +381,7 @@ const HOLDS: [(&[u64], u32, u16, Step, Step); 7] = [
 fn holds(rt: HostRuntime) -> Result<(), Fail> {
     for (image, before, out, until, then) in HOLDS {
         let mut registers = Registers::new();
-        let mut bench = filled(rt.alloc(), 64, image, NONE)?;
+        let mut bench = filled(rt.alloc(), 64, image)?;
         run(&mut registers, &mut bench, before);
         let (at, depth) = (registers.at, registers.nest.depth());
         bench.out = out;
@@ -450,7 +390,7 @@ fn holds(rt: HostRuntime) -> Result<(), Fail> {
             assert_eq!(rt; registers.at, at);
             assert_eq!(rt; registers.ran, before);
             assert_eq!(rt; registers.nest.depth(), depth);
-            bench.out = NONE;
+            bench.out = NO_GROUP;
             assert_eq!(rt; run(&mut registers, &mut bench, 1), then);
         }
         assert_eq!(rt; registers.ran, before + 1);
@@ -460,7 +400,8 @@ fn holds(rt: HostRuntime) -> Result<(), Fail> {
 
 #[test]
 fn areas(rt: HostRuntime) -> Result<(), Fail> {
-    let bench = filled(rt.alloc(), 96, &[], 1)?;
+    let mut bench = filled(rt.alloc(), 96, &[])?;
+    bench.out = 1;
     for (first, last, group) in [
         (0, 31, None),
         (0, 32, Some(1)),
@@ -468,7 +409,7 @@ fn areas(rt: HostRuntime) -> Result<(), Fail> {
         (63, 64, Some(1)),
         (64, 95, None),
     ] {
-        assert!(rt; first <= last && usize::from(last) < bench.words.len());
+        assert!(rt; first <= last && last < bench.size());
         assert_eq!(rt; bench.first_out(first, last), group);
     }
     Ok(())

@@ -1,10 +1,9 @@
 -- What one call of a machine makes of its journal, where its programs are as they are by themselves.
-use Rattle.std.proofs.Common.{◌≡◌, ℕ, ◌+◌, ◌-◌, ◌≤◌, List, [], ◌∷◌, Option, Some, None, Bool, true, false, cond, eqb, refl, sym, ◌∙◌, ap, subst, arith}
+use Rattle.std.proofs.Common.{◌≡◌, ℕ, ◌+◌, ◌-◌, ◌≤◌, List, [], ◌∷◌, Option, Some, None, Bool, true, false, cond, eqb, refl, sym, ◌∙◌, ap, arith}
 use Rattle.std.specs.Prelude.{replicate, map, is_some, unwrap_or}
 use Rattle.std.specs.Option.{option_map}
 use Rattle.std.proofs.lemmas.Bool.{true≢false, eqb-true}
 use Rattle.kdf_processor.specs.State.{Slot, State}
-use Rattle.kdf_journal.specs.declared.entry.Entry.{Entry}
 use Rattle.kdf_journal.specs.Counts.{calls, clock, moves}
 use Rattle.kdf_journal.specs.Steps.{Step, Obeys, added, steps}
 use Rattle.kdf_journal.proofs.Added.{calls_by, calls-added, moves_by, moves-added, clock_by, clock-added}
@@ -12,12 +11,14 @@ use Rattle.kdf_schedule.specs.Calls.{Call, AnOrder}
 use Rattle.kdf_top.specs.declared.machine.Progress.{Progress}
 use Rattle.kdf_top.specs.declared.machine.Progress.TheVariants as progress
 use Rattle.kdf_top.specs.Next.{slot_of, start_of, own, lone_world, next, any_live}
+use Rattle.kdf_top.specs.True.{truth}
+use Rattle.kdf_top.specs.World.{first_need}
 use Rattle.kdf_top.specs.Legal.{note_of, IsLegal}
 use Rattle.kdf_top.specs.Course.{lone_step_at, course}
-use Rattle.kdf_top.specs.Shown.{Shown, state_in, state_of, state_at, world_of, ShowsLone}
+use Rattle.kdf_top.specs.Shown.{Shown, state_in, state_at, world_of, ShowsLone}
 use Rattle.kdf_top.specs.Advance.{Obeyed, Advance, Enters}
 use Rattle.kdf_top.proofs.Courses.{course-took, went_on}
-use Rattle.kdf_top.proofs.Worlds.{free, next-world, next_slot}
+use Rattle.kdf_top.proofs.Worlds.{need-world, next-world, next_slot}
 
 state_in-map : (slots : List Slot) (f : ℕ → State) (p : ℕ) → state_in slots (map (λ (s : Slot). f s.p) slots) p ≡ option_map (λ (s : Slot). f p) (slot_of slots p)
 state_in-map [] f p = refl
@@ -42,16 +43,19 @@ state_lone m p lone some =
 lone_next : (m : Shown) → next (lone_world m.slots m.journal) m.slots m.journal ≡ next (world_of m) m.slots m.journal
 lone_next m = next-world (own m.slots m.journal) (state_at m) m.slots m.journal
 
-obeys_is : (m : Shown) (p : ℕ) → next (lone_world m.slots m.journal) m.slots m.journal ≡ Some p → Obeys p (note_of (own m.slots m.journal p)) ≡ lone_step_at m.slots m.journal AnOrder
-obeys_is m p n = rw (n, free (own m.slots m.journal) m.journal p) refl
+obeys_is : (m : Shown) (p : ℕ) → next (lone_world m.slots m.journal) m.slots m.journal ≡ Some p → first_need (lone_world m.slots m.journal) p ≡ None
+    → Obeys p (note_of (own m.slots m.journal p) (truth (lone_world m.slots m.journal) m.journal p)) ≡ lone_step_at m.slots m.journal AnOrder
+obeys_is m p n free = rw (n, free) refl
 
 -- the step is that of the call in the world of lone runs
 step_is : (m n : Shown) (p : ℕ) → ShowsLone m → Obeyed m n p → n.journal ≡ added m.journal (lone_step_at m.slots m.journal AnOrder)
 step_is m n p lone o =
     let some : is_some (slot_of m.slots p) ≡ true = next_slot (world_of m) m.slots m.journal p o.was_next in
+    let same : state_at m p ≡ own m.slots m.journal p = state_lone m p lone some in
+    let free : first_need (lone_world m.slots m.journal) p ≡ None = sym (need-world (state_at m) (own m.slots m.journal) m.slots m.journal p same) ∙ o.free in
     o.journal
-    ∙ (ap (λ (s : State). added m.journal (Obeys p (note_of s))) (state_lone m p lone some)
-    ∙ ap (added m.journal) (obeys_is m p (lone_next m ∙ o.was_next)))
+    ∙ (ap (λ (s : State). added m.journal (Obeys p (note_of s (truth (lone_world m.slots m.journal) m.journal p)))) same
+    ∙ ap (added m.journal) (obeys_is m p (lone_next m ∙ o.was_next) free))
 
 -- one call more of those that take this course
 pub took_on : (slots0 : List Slot) (P : List Step) (i : ℕ) (m n : Shown) (r : Progress) → IsLegal m.slots m.journal → ShowsLone m → m.slots ≡ slots0 → steps m.journal ≡ course slots0 P (replicate i AnOrder) → any_live m.slots m.journal ≡ true → Advance m n r
@@ -61,15 +65,15 @@ took_on slots0 P i m n (progress.Ran p) l lone same taken live took = went_on m.
 
 pub calls-took : (m n : Shown) (r : Progress) → Advance m n r → calls n.journal ≤ calls m.journal + 1
 calls-took m n progress.AllEnded took = omega (arith, ap (λ (x : Shown). calls x.journal) took.1)
-calls-took m n (progress.Ran p) took = omega (arith, ap calls took.journal, calls-added m.journal (Obeys p (note_of (state_at m p))))
+calls-took m n (progress.Ran p) took = omega (arith, ap calls took.journal, calls-added m.journal (Obeys p (note_of (state_at m p) (truth (world_of m) m.journal p))))
 
 pub moves-took : (m n : Shown) (r : Progress) → Advance m n r → moves n.journal ≡ moves m.journal
 moves-took m n progress.AllEnded took = ap (λ (x : Shown). moves x.journal) took.1
-moves-took m n (progress.Ran p) took = omega (arith, ap moves took.journal, moves-added m.journal (Obeys p (note_of (state_at m p))))
+moves-took m n (progress.Ran p) took = omega (arith, ap moves took.journal, moves-added m.journal (Obeys p (note_of (state_at m p) (truth (world_of m) m.journal p))))
 
 pub clock-took : (m n : Shown) (r : Progress) → Advance m n r → clock n.journal ≡ clock m.journal
 clock-took m n progress.AllEnded took = ap (λ (x : Shown). clock x.journal) took.1
-clock-took m n (progress.Ran p) took = ap clock took.journal ∙ clock-added m.journal (Obeys p (note_of (state_at m p)))
+clock-took m n (progress.Ran p) took = ap clock took.journal ∙ clock-added m.journal (Obeys p (note_of (state_at m p) (truth (world_of m) m.journal p)))
 
 -- an event that is entered is a call of the course
 pub entered_on : (m n : Shown) (c : Call) (s : Step) → IsLegal m.slots m.journal → any_live m.slots m.journal ≡ true → lone_step_at m.slots m.journal c ≡ s → Enters m n s → steps n.journal ≡ course m.slots (steps m.journal) (c ∷ [])

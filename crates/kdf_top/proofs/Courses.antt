@@ -13,7 +13,7 @@ use Rattle.kdf_top.specs.World.{World, first_need}
 use Rattle.kdf_top.specs.Next.{lone_world, next, any_live}
 use Rattle.kdf_top.specs.Legal.{Meets, EachMeets, IsLegal}
 use Rattle.kdf_top.specs.Follows.{call_of, answered, EachLive, IsWhole}
-use Rattle.kdf_top.specs.Course.{turn, turn_of, step_at, lone_step_at, course}
+use Rattle.kdf_top.specs.Course.{turn, turn_of, lone_step_at, course}
 
 -- where no program is live, the course is at its end
 pub course_dead : (slots : List Slot) (P : List Step) (cs : List Call) → any_live slots (journal_of P) ≡ false → course slots P cs ≡ P
@@ -65,16 +65,16 @@ pub record Reaches (slots : List Slot) (P : List Step) (cs : List Call) (Q : Lis
   pub lived : EachLive slots Q
   pub at_end : (left ≡ []) ⊎ (any_live slots (journal_of Q) ≡ false)
 
-call_of-turn : (w : World) (p : ℕ) (o : Option Hold) → call_of (turn w p o) ≡ AnOrder
-call_of-turn w p None = refl
-call_of-turn w p (Some by) = refl
+call_of-turn : (w : World) (J : List Entry) (p : ℕ) (o : Option Hold) → call_of (turn w J p o) ≡ AnOrder
+call_of-turn w J p None = refl
+call_of-turn w J p (Some by) = refl
 
-call_of-turn_of : (w : World) (o : Option ℕ) → call_of (turn_of w o) ≡ AnOrder
-call_of-turn_of w None = refl
-call_of-turn_of w (Some p) = call_of-turn w p (first_need w p)
+call_of-turn_of : (w : World) (J : List Entry) (o : Option ℕ) → call_of (turn_of w J o) ≡ AnOrder
+call_of-turn_of w J None = refl
+call_of-turn_of w J (Some p) = call_of-turn w J p (first_need w p)
 
 call_of-step_at : (slots : List Slot) (J : List Entry) (c : Call) → call_of (lone_step_at slots J c) ≡ c
-call_of-step_at slots J AnOrder = call_of-turn_of (lone_world slots J) (next (lone_world slots J) slots J)
+call_of-step_at slots J AnOrder = call_of-turn_of (lone_world slots J) J (next (lone_world slots J) slots J)
 call_of-step_at slots J (AMove d n) = refl
 call_of-step_at slots J (AnEnd d) = refl
 call_of-step_at slots J (AClock t) = refl

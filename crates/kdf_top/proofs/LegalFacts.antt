@@ -1,23 +1,27 @@
 -- What a legal journal says of each program.
-use Rattle.std.proofs.Common.{◌≡◌, ℕ, List, [], ◌∷◌, Option, Some, None, Bool, true, false, cond, ◌||◌, not, eqb, inl, inr, refl, sym, ◌∙◌}
+use Rattle.std.proofs.Common.{◌≡◌, ℕ, List, [], ◌∷◌, Option, None, Bool, true, false, cond, ◌||◌, not, eqb, length, inl, inr, refl, sym, ap, ◌∙◌, append-nil}
 use Rattle.std.proofs.lemmas.Bool.{cases_eq, eq-eqb, ne_eqb}
+use Rattle.kdf_processor.specs.Effect.{Question}
 use Rattle.kdf_processor.specs.Lone.{is_live}
-use Rattle.kdf_processor.specs.Row.{next_of}
-use Rattle.kdf_processor.specs.State.{Slot}
+use Rattle.kdf_processor.specs.Needs.{next_effect}
+use Rattle.kdf_processor.specs.State.{Slot, State}
 use Rattle.kdf_journal.specs.declared.entry.Entry.{Entry}
-use Rattle.kdf_journal.specs.Counts.{Hold, last_hold, over}
+use Rattle.kdf_journal.specs.Counts.{answers, over}
 use Rattle.kdf_journal.specs.Steps.{Note, Quiet, Began, Answered, Failed, Finished, Step, Obeys, Holds, Waits, Moves, Ends, Sets, added, journal_of, steps}
-use Rattle.kdf_journal.proofs.Added.{ran_by, answers_by, ends_by, over-added, hold_by, last_hold-added}
+use Rattle.kdf_journal.proofs.Added.{ran_by, answers_by, answers-added, ends_by, over-added, pending_by, pending-added}
 use Rattle.kdf_journal.proofs.Steps.{steps-added}
-use Rattle.kdf_top.specs.Next.{own, lone_world, next}
+use Rattle.kdf_top.specs.Next.{start, own, lone_world}
+use Rattle.kdf_top.specs.True.{truth}
 use Rattle.kdf_top.specs.Legal.{note_of, Meets, EachMeets, IsLegal}
-use Rattle.kdf_top.proofs.LoneRuns.{goes_on, live_row, no_answer}
-use Rattle.kdf_top.proofs.Owns.{own-nil, live-start, own-same, own-obeys, own-others}
-use Rattle.kdf_top.proofs.Worlds.{free, next_on}
+use Rattle.kdf_top.proofs.BareRuns.{IsBare, next_none, unbegun}
+use Rattle.kdf_top.proofs.LoneRuns.{goes_on, live_row}
+use Rattle.kdf_top.proofs.Owns.{own-nil, live-start, asked-start, own-bare, own-same, own-obeys, asked-obeys}
+use Rattle.kdf_top.proofs.Worlds.{IsIdle, next_on}
 
--- a program is live until it has ended or failed by the journal
-Alive : List Slot → List Entry → ℕ → Type 0
-Alive slots J q = is_live (own slots J q).registers.state ≡ not (over q J)
+-- a program is live until it has ended or failed by the journal, and took the answers that the journal has of it
+record IsKept (slots : List Slot) (J : List Entry) (q : ℕ) : Type 0 where
+  alive : is_live (own slots J q).registers.state ≡ not (over q J)
+  asked : (own slots J q).stock.asked ≡ length (answers q J)
 
 ends : (p : ℕ) (note : Note) (was_over : Bool) → not was_over ≡ true → goes_on note ≡ not (ends_by p (Obeys p note) || was_over)
 ends p Quiet was_over on = sym on
@@ -33,58 +37,77 @@ ends_not p q (Answered v) apart = refl
 ends_not p q (Failed kind) apart = apart
 ends_not p q Finished apart = apart
 
-alive-obeys : (slots : List Slot) (J : List Entry) (p : ℕ) → next (lone_world slots J) slots J ≡ Some p → ((q : ℕ) → Alive slots J q) → (q : ℕ) → Alive slots (added J (Obeys p (note_of (own slots J p)))) q
-unfolding Alive
-alive-obeys slots J p n alive q =
-    let on : not (over p J) ≡ true = next_on (lone_world slots J) slots J p n in
-    let live : is_live (own slots J p).registers.state ≡ true = alive p ∙ on in
-    let note : Note = note_of (own slots J p) in
+-- a program that a step neither runs nor answers stays
+kept-stays : (slots : List Slot) (J : List Entry) (s : Step) (q : ℕ) → ran_by q s ≡ 0 → answers_by q s ≡ [] → ends_by q s ≡ false → IsKept slots J q → IsKept slots (added J s) q
+kept-stays slots J s q none silent on kept = record {
+  alive = rw (own-same slots J s q none silent, over-added q J s, on) kept.alive;
+  asked = rw (own-same slots J s q none silent, answers-added q J s, silent, append-nil) kept.asked;
+}
+
+kept-obeys : (slots : List Slot) (J : List Entry) (p : ℕ) (answer : Question → ℕ) → not (over p J) ≡ true → IsKept slots J p → IsKept slots (added J (Obeys p (note_of (own slots J p) answer))) p
+kept-obeys slots J p answer on kept =
+    let live : is_live (own slots J p).registers.state ≡ true = kept.alive ∙ on in
+    let note : Note = note_of (own slots J p) answer in
+    record {
+      alive = rw (own-obeys slots J p answer kept.asked live, over-added p J (Obeys p note)) (live_row (own slots J p) answer live ∙ ends p note (over p J) on);
+      asked = asked-obeys slots J p answer kept.asked live;
+    }
+
+kept-turn : (slots : List Slot) (J : List Entry) (p : ℕ) (answer : Question → ℕ) → not (over p J) ≡ true → ((q : ℕ) → IsKept slots J q) → (q : ℕ) → IsKept slots (added J (Obeys p (note_of (own slots J p) answer))) q
+kept-turn slots J p answer on kept q =
+    let note : Note = note_of (own slots J p) answer in
     elim (cases_eq p q) [
-      | inl same ↦ rw (← same, own-obeys slots J p note (no_answer (next_of (own slots J p) 0).step) live, over-added p J (Obeys p note))
-          (live_row (own slots J p) live ∙ ends p note (over p J) on)
-      | inr differ ↦ rw (own-others slots J p q note differ, over-added q J (Obeys p note), ends_not p q note (ne_eqb p q differ)) (alive q)
+      | inl same ↦ rw (← same) (kept-obeys slots J p answer on (kept p))
+      | inr differ ↦ let other : eqb p q ≡ false = ne_eqb p q differ in
+          kept-stays slots J (Obeys p note) q (rw other refl) (rw other refl) (ends_not p q note other) (kept q)
     ]
 
-alive-stays : (slots : List Slot) (J : List Entry) (s : Step) (q : ℕ) → ran_by q s ≡ 0 → answers_by q s ≡ [] → ends_by q s ≡ false → Alive slots J q → Alive slots (added J s) q
-unfolding Alive
-alive-stays slots J s q none silent on alive = rw (own-same slots J s q none silent, over-added q J s, on) alive
+kept-added : (slots : List Slot) (J : List Entry) (s : Step) → Meets (lone_world slots J) slots J s → ((q : ℕ) → IsKept slots J q) → (q : ℕ) → IsKept slots (added J s) q
+kept-added slots J (Obeys p note) m kept q = rw m.2 (kept-turn slots J p (truth (lone_world slots J) J p) (next_on (lone_world slots J) slots J p m.0) kept q)
+kept-added slots J (Holds p by) m kept q = kept-stays slots J (Holds p by) q refl refl refl (kept q)
+kept-added slots J Waits m kept q = kept-stays slots J Waits q refl refl refl (kept q)
+kept-added slots J (Moves d n) m kept q = kept-stays slots J (Moves d n) q refl refl refl (kept q)
+kept-added slots J (Ends d) m kept q = kept-stays slots J (Ends d) q refl refl refl (kept q)
+kept-added slots J (Sets t) m kept q = kept-stays slots J (Sets t) q refl refl refl (kept q)
 
-alive-added : (slots : List Slot) (J : List Entry) (s : Step) → Meets (lone_world slots J) slots J s → ((q : ℕ) → Alive slots J q) → (q : ℕ) → Alive slots (added J s) q
-alive-added slots J (Obeys p note) m alive q = rw m.2 (alive-obeys slots J p m.0 alive q)
-alive-added slots J (Holds p by) m alive q = alive-stays slots J (Holds p by) q refl refl refl (alive q)
-alive-added slots J Waits m alive q = alive-stays slots J Waits q refl refl refl (alive q)
-alive-added slots J (Moves d n) m alive q = alive-stays slots J (Moves d n) q refl refl refl (alive q)
-alive-added slots J (Ends d) m alive q = alive-stays slots J (Ends d) q refl refl refl (alive q)
-alive-added slots J (Sets t) m alive q = alive-stays slots J (Sets t) q refl refl refl (alive q)
+kept_of : (slots : List Slot) (P : List Step) → EachMeets slots P → (q : ℕ) → IsKept slots (journal_of P) q
+kept_of slots [] m q = record { alive = rw (own-nil slots q) (live-start slots q); asked = rw (own-nil slots q) (asked-start slots q) }
+kept_of slots (s ∷ P) m q = kept-added slots (journal_of P) s m.1 (kept_of slots P m.0) q
 
-alive_of : (slots : List Slot) (P : List Step) → EachMeets slots P → (q : ℕ) → Alive slots (journal_of P) q
-unfolding Alive
-alive_of slots [] m q = rw (own-nil slots q) (live-start slots q)
-alive_of slots (s ∷ P) m q = alive-added slots (journal_of P) s m.1 (alive_of slots P m.0) q
+legal_kept : (slots : List Slot) (J : List Entry) → IsLegal slots J → (q : ℕ) → IsKept slots J q
+legal_kept slots J l q = rw l.in_form at (kept_of slots (steps J) l.each q)
 
 pub legal_alive : (slots : List Slot) (J : List Entry) → IsLegal slots J → (q : ℕ) → is_live (own slots J q).registers.state ≡ not (over q J)
-unfolding Alive
-legal_alive slots J l q = rw l.in_form at (alive_of slots (steps J) l.each q)
+legal_alive slots J l q = (legal_kept slots J l q).alive
 
-no_hold : (b : Bool) (o : Option Hold) → o ≡ None → cond b None o ≡ None
-no_hold true o e = refl
-no_hold false o e = e
+pub legal_asked : (slots : List Slot) (J : List Entry) → IsLegal slots J → (q : ℕ) → (own slots J q).stock.asked ≡ length (answers q J)
+legal_asked slots J l q = (legal_kept slots J l q).asked
 
-unheld-added : (slots : List Slot) (J : List Entry) (s : Step) (q : ℕ) → Meets (lone_world slots J) slots J s → last_hold q J ≡ None → hold_by q (last_hold q J) s ≡ None
-unheld-added slots J (Obeys p note) q m unheld = no_hold (eqb p q) (last_hold q J) unheld
-unheld-added slots J (Holds p by) q m unheld = absurd (let none = free (own slots J) J p in let some = m.1 in cc)
-unheld-added slots J Waits q m unheld = unheld
-unheld-added slots J (Moves d n) q m unheld = unheld
-unheld-added slots J (Ends d) q m unheld = unheld
-unheld-added slots J (Sets t) q m unheld = unheld
+if_neither : (b : Bool) (o : Option (ℕ × ℕ)) → o ≡ None → cond b None o ≡ None
+if_neither true o e = refl
+if_neither false o e = e
 
-unheld_of : (slots : List Slot) (P : List Step) → EachMeets slots P → (q : ℕ) → last_hold q (journal_of P) ≡ None
-unheld_of slots [] m q = refl
-unheld_of slots (s ∷ P) m q = last_hold-added q (journal_of P) s ∙ unheld-added slots (journal_of P) s q m.1 (unheld_of slots P m.0 q)
+-- where no slot has devices, no step begins a transfer
+module _ (slots : List Slot) (bare : (p : ℕ) → IsBare (start slots p)) where
+  idle-added : (J : List Entry) (s : Step) (d : ℕ) → Meets (lone_world slots J) slots J s → pending_by d None s ≡ None
+  idle-added J (Obeys p note) d m =
+      let s : State = own slots J p in
+      ap (λ (n : Note). pending_by d None (Obeys p n)) m.2
+      ∙ unbegun (truth (lone_world slots J) J p) (next_effect s) s d p (next_none s (own-bare slots J p (bare p)))
+  idle-added J (Holds p by) d m = refl
+  idle-added J Waits d m = refl
+  idle-added J (Moves e n) d m = refl
+  idle-added J (Ends e) d m = if_neither (eqb e d) None refl
+  idle-added J (Sets t) d m = refl
 
--- no program is ever held
-pub legal_unheld : (slots : List Slot) (J : List Entry) → IsLegal slots J → (q : ℕ) → last_hold q J ≡ None
-legal_unheld slots J l q = rw l.in_form at (unheld_of slots (steps J) l.each q)
+  idle_of : (P : List Step) → EachMeets slots P → IsIdle (journal_of P)
+  idle_of [] m d = refl
+  idle_of (s ∷ P) m d =
+      pending-added d (journal_of P) s
+      ∙ (ap (λ (o : Option (ℕ × ℕ)). pending_by d o s) (idle_of P m.0 d) ∙ idle-added (journal_of P) s d m.1)
+
+  pub legal_idle : (J : List Entry) → IsLegal slots J → IsIdle J
+  legal_idle J l d = rw l.in_form at (idle_of (steps J) l.each d)
 
 -- a journal without entries is legal
 pub legal-nil : (slots : List Slot) → IsLegal slots []

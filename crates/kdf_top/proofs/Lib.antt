@@ -1,3 +1,4 @@
+pub mod BareRuns
 pub mod LoneRuns
 pub mod Owns
 pub mod Worlds
@@ -5,7 +6,7 @@ pub mod LegalFacts
 pub mod Courses
 pub mod Schedules
 pub mod Agreement
-pub mod OneOrder
+pub mod Loading
 pub mod Calls
 pub mod OneJournal
 pub mod States

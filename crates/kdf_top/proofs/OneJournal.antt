@@ -44,11 +44,11 @@ calls-rise t (Move d n ∷ es) rises = rw calls-behind (calls-rise t es rises)
 calls-rise t (End d ∷ es) rises = rw calls-behind (calls-rise t es rises)
 calls-rise t (Clock u ∷ es) rises = rw calls-behind (rises.0, calls-rise u es rises.1)
 
-meets-turn : (w : World) (slots : List Slot) (J : List Entry) (p : ℕ) (o : Option Hold) → next w slots J ≡ Some p → first_need w p ≡ o → Meets w slots J (turn w p o)
+meets-turn : (w : World) (slots : List Slot) (J : List Entry) (p : ℕ) (o : Option Hold) → next w slots J ≡ Some p → first_need w p ≡ o → Meets w slots J (turn w J p o)
 meets-turn w slots J p None n need = (n, need, refl)
 meets-turn w slots J p (Some by) n need = (n, need)
 
-meets-turn_of : (w : World) (slots : List Slot) (J : List Entry) (o : Option ℕ) → any_live slots J ≡ true → next w slots J ≡ o → Meets w slots J (turn_of w o)
+meets-turn_of : (w : World) (slots : List Slot) (J : List Entry) (o : Option ℕ) → any_live slots J ≡ true → next w slots J ≡ o → Meets w slots J (turn_of w J o)
 meets-turn_of w slots J None live n = (live, n)
 meets-turn_of w slots J (Some p) live n = meets-turn w slots J p (first_need w p) n refl
 
@@ -59,17 +59,17 @@ meets-step slots J (AMove d n) cs live rises = tt
 meets-step slots J (AnEnd d) cs live rises = tt
 meets-step slots J (AClock t) cs live rises = rises.0
 
-same_time-turn : (t : ℕ) (w : World) (p : ℕ) (o : Option Hold) → clock_by t (turn w p o) ≡ t
-same_time-turn t w p None = refl
-same_time-turn t w p (Some by) = refl
+same_time-turn : (t : ℕ) (w : World) (J : List Entry) (p : ℕ) (o : Option Hold) → clock_by t (turn w J p o) ≡ t
+same_time-turn t w J p None = refl
+same_time-turn t w J p (Some by) = refl
 
-same_time : (t : ℕ) (w : World) (o : Option ℕ) → clock_by t (turn_of w o) ≡ t
-same_time t w None = refl
-same_time t w (Some p) = same_time-turn t w p (first_need w p)
+same_time : (t : ℕ) (w : World) (J : List Entry) (o : Option ℕ) → clock_by t (turn_of w J o) ≡ t
+same_time t w J None = refl
+same_time t w J (Some p) = same_time-turn t w J p (first_need w p)
 
 -- and so do the calls behind it
 rises-on : (slots : List Slot) (J : List Entry) (t : ℕ) (c : Call) (cs : List Call) → CallsRise t (c ∷ cs) → CallsRise (clock_by t (lone_step_at slots J c)) cs
-rises-on slots J t AnOrder cs rises = subst (λ (u : ℕ). CallsRise u cs) (sym (same_time t (lone_world slots J) (next (lone_world slots J) slots J))) rises
+rises-on slots J t AnOrder cs rises = subst (λ (u : ℕ). CallsRise u cs) (sym (same_time t (lone_world slots J) J (next (lone_world slots J) slots J))) rises
 rises-on slots J t (AMove d n) cs rises = rises
 rises-on slots J t (AnEnd d) cs rises = rises
 rises-on slots J t (AClock u) cs rises = rises.1

@@ -1,7 +1,8 @@
 -- The states that a machine shows.
-use Rattle.std.proofs.Common.{◌≡◌, ℕ, Bool, true, false, cond, List, [], ◌∷◌, map, Option, Some, None, unwrap_or, refl, ap, ◌∙◌, eqb}
+use Rattle.std.proofs.Common.{◌≡◌, ℕ, Bool, true, false, cond, List, [], ◌∷◌, map, Option, Some, None, IsSomeAnd, is_some, unwrap_or, refl, ap, ◌∙◌, eqb}
 use Rattle.std.specs.Option.{option_map}
 use Rattle.kdf_processor.specs.declared.registers.Registers.{Registers}
+use Rattle.kdf_processor.specs.declared.spooled.Spooled.{Spooled}
 use Rattle.kdf_processor.specs.State.{Slot, State}
 use Rattle.kdf_top.specs.Next.{own, slot_of, start_of}
 use Rattle.kdf_top.specs.Shown.{Shown, ShowsLone, state_in, state_of, state_at}
@@ -25,3 +26,15 @@ registers_at m p r e = of_state (state_of m p) e where
   of_state : (o : Option State) → Some r ≡ option_map (λ (s : State). s.registers) o → r ≡ (unwrap_or o (start_of None)).registers
   of_state None e = cc
   of_state (Some s) e = cc
+
+-- and so is what it spooled
+pub spooled_at : (m : Shown) (p : ℕ) (x : List Spooled) → IsSomeAnd (state_of m p) (λ (s : State). x ≡ s.stock.spooled) → x ≡ (state_at m p).stock.spooled
+spooled_at m p x h = of_state (state_of m p) h where
+  of_state : (o : Option State) → IsSomeAnd o (λ (s : State). x ≡ s.stock.spooled) → x ≡ (unwrap_or o (start_of None)).stock.spooled
+  of_state None h = absurd h
+  of_state (Some s) h = h
+
+-- a slot that is there
+pub there_is : (P : Slot → Type 0) (o : Option Slot) → IsSomeAnd o P → is_some o ≡ true
+there_is P None h = absurd h
+there_is P (Some s) h = refl

@@ -8,20 +8,21 @@ use Rattle.kdf_schedule.specs.Calls.{Call, AnOrder, AMove, AnEnd, AClock}
 use Rattle.kdf_top.specs.World.{World, first_need}
 use Rattle.kdf_top.specs.Next.{lone_world, next, any_live}
 use Rattle.kdf_top.specs.Legal.{note_of}
+use Rattle.kdf_top.specs.True.{truth}
 
 -- the step in which it is the turn of program p, which this holds up
-abbrev pub turn : World → ℕ → Option Hold → Step
-turn w p None = Obeys p (note_of (w.state p))
-turn w p (Some by) = Holds p by
+abbrev pub turn : World → List Entry → ℕ → Option Hold → Step
+turn w J p None = Obeys p (note_of (w.state p) (truth w J p))
+turn w J p (Some by) = Holds p by
 
 -- and of the program that is next, if one is
-abbrev pub turn_of : World → Option ℕ → Step
-turn_of w None = Waits
-turn_of w (Some p) = turn w p (first_need w p)
+abbrev pub turn_of : World → List Entry → Option ℕ → Step
+turn_of w J None = Waits
+turn_of w J (Some p) = turn w J p (first_need w p)
 
 -- the step that a call makes in this world, after the journal J, where a program is live
 abbrev pub step_at : World → List Slot → List Entry → Call → Step
-step_at w slots J AnOrder = turn_of w (next w slots J)
+step_at w slots J AnOrder = turn_of w J (next w slots J)
 step_at w slots J (AMove d n) = Moves d n
 step_at w slots J (AnEnd d) = Ends d
 step_at w slots J (AClock t) = Sets t

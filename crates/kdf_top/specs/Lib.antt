@@ -2,8 +2,10 @@ pub mod Options
 pub mod Limits
 pub mod Job
 pub mod Deck
+pub mod Bare
 pub mod World
 pub mod Next
+pub mod True
 pub mod Legal
 pub mod Follows
 pub mod Text
@@ -12,7 +14,6 @@ pub mod Shown
 pub mod Answers
 pub mod Codes
 pub mod Course
-pub mod Bench
 pub mod Loaded
 pub mod Advance
 pub mod Agrees

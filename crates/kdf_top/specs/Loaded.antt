@@ -2,12 +2,13 @@
 use Rattle.std.specs.Prelude.{◌≡◌, ◌≤◌, List, [], ◌∷◌, length}
 use Rattle.kdf_place.specs.declared.image.Image.{Image}
 use Rattle.kdf_processor.specs.State.{Slot}
+use Rattle.kdf_top.specs.Bare.{bare}
 use Rattle.kdf_top.specs.declared.job.SlotJob.{SlotJob}
 
 -- each slot with its image
 abbrev pub loaded : List SlotJob → List Image → List Slot
 loaded (slot ∷ slots) (image ∷ images) =
-    record { p = slot.p; size = slot.size; words = image.words.items } ∷ loaded slots images
+    bare slot.p slot.size image.words.items ∷ loaded slots images
 loaded _ _ = []
 
 -- what can be loaded today: one slot, of number 0, with an image that fits its store

@@ -2,10 +2,11 @@
 use Rattle.std.specs.Prelude.{◌≡◌, ℕ, ◌==◌, List, ◌∷◌, map, Option, Some, None, unwrap_or, if◌then◌else◌}
 use Rattle.kdf_processor.specs.State.{Slot, State}
 use Rattle.kdf_journal.specs.declared.entry.Entry.{Entry}
+use Rattle.kdf_top.specs.Bare.{bare}
 use Rattle.kdf_top.specs.Job.{Job, SlotJob}
 use Rattle.kdf_place.specs.Assembled.{image_words}
-use Rattle.kdf_top.specs.World.{World, is_pending_after}
-use Rattle.kdf_top.specs.Next.{start_of, own}
+use Rattle.kdf_top.specs.World.{World}
+use Rattle.kdf_top.specs.Next.{start_of, own, world_after}
 
 -- the slots as they were loaded, the state of the program of each, the journal, and how many events more can be entered in it
 pub record Shown : Type 0 where
@@ -26,9 +27,9 @@ state_of m p = state_in m.slots m.states p
 abbrev pub state_at : Shown → ℕ → State
 state_at m p = unwrap_or (state_of m p) (start_of None)
 
--- the machine's own states, and what its journal tells to be pending
+-- the machine's own states, and what its journal tells
 abbrev pub world_of : Shown → World
-world_of m = record { state = state_at m; pending = λ p. is_pending_after m.journal }
+world_of m = world_after m.slots m.journal (state_at m)
 
 -- each program is as it is by itself, after as many of its own orders
 abbrev pub ShowsLone : Shown → Type 0
@@ -36,7 +37,7 @@ ShowsLone m = m.states ≡ map (λ (s : Slot). own m.slots m.journal s.p) m.slot
 
 -- the slots of a job, with the images of their decks
 abbrev pub slot_of_job : SlotJob → Slot
-slot_of_job s = record { p = s.p; size = s.size; words = image_words s.size s.deck }
+slot_of_job s = bare s.p s.size (image_words s.size s.deck)
 
 abbrev pub slots_of : Job → List Slot
 slots_of job = map slot_of_job job.slots

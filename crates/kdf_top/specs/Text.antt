@@ -9,6 +9,8 @@ use Rattle.kdf_processor.specs.declared.registers.Life.{Life}
 use Rattle.kdf_processor.specs.declared.registers.Life.TheVariants as life
 use Rattle.kdf_processor.specs.declared.registers.Registers.{Registers}
 use Rattle.kdf_processor.specs.State.{State, word_at}
+use Rattle.kdf_processor.specs.declared.spooled.Spooled.{Spooled}
+use Rattle.kdf_code.specs.Code.{host_of}
 use Rattle.kdf_journal.specs.declared.entry.Entry.{Entry}
 use Rattle.kdf_journal.specs.declared.entry.Entry.TheVariants.{Ran, Start, Answer, Fail, Ended, Lov, Busy, Idle, Move, End, Clock}
 use Rattle.kdf_top.specs.declared.job.JobFault.{JobFault}
@@ -79,10 +81,17 @@ registers_lines r =
     ∷ links_line r.links
     ∷ q_lines r.q
 
--- what a report says of one slot, from its state
+-- a text that was spooled, as the host has its characters
+abbrev pub spool_line : Spooled → List ℕ
+spool_line x = codes "SPOOL " ++ decimal x.stream ++ codes " " ++ map host_of x.text
+
+-- what a report says of one slot, from its state: registers, words that are to be shown, and what was spooled
 unfoldable pub section : SlotJob → State → List (List ℕ)
 section slot s =
-    (codes "SLOT " ++ decimal slot.p) ∷ registers_lines s.registers ++ flat_map (show_lines s) slot.shows
+    (codes "SLOT " ++ decimal slot.p)
+    ∷ registers_lines s.registers
+    ++ flat_map (show_lines s) slot.shows
+    ++ map spool_line s.stock.spooled
 
 -- the report of a job, its journal and the states of its programs
 unfoldable pub report_lines : Job → List Entry → (ℕ → State) → List (List ℕ)

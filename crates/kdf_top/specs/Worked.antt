@@ -4,6 +4,7 @@ use Rattle.kdf_processor.specs.declared.registers.Life.{Life}
 use Rattle.kdf_processor.specs.State.{Slot, State, begin, word_at}
 use Rattle.kdf_processor.specs.Lone.{lone}
 use Rattle.kdf_place.specs.Assembled.{image_words}
+use Rattle.kdf_top.specs.Bare.{bare}
 
 -- the texts of four decks
 abbrev pub adding : List ℕ
@@ -25,7 +26,7 @@ of_two_parts =
 
 -- slot 0, of 32 words, with this image
 abbrev pub of_32 : List ℕ → Slot
-of_32 image = record { p = 0; size = 32; words = image }
+of_32 image = bare 0 32 image
 
 -- the program of a deck in a store of 32 words by itself, after n orders
 abbrev pub alone : List ℕ → ℕ → State

@@ -1,7 +1,6 @@
 //! The top call: reads a job, assembles its decks, runs it, writes the report.
 #![tactic(auto)]
 
-mod bench;
 mod command;
 mod decks;
 mod entry_text;
@@ -15,6 +14,7 @@ mod refusal;
 mod registers_text;
 mod report;
 mod schedule;
+mod spool_text;
 mod status;
 mod top_call;
 

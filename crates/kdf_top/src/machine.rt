@@ -1,23 +1,22 @@
 //! The machine: a program in its slot, and the journal of its orders.
-ghost use Rattle.std.specs.Prelude.{◌≡◌, ◌+◌, ◌<◌, ◌≤◌, [], ◌∷◌, OnOk, IfOk, OnErr, map, length, IsSomeAnd, true};
+ghost use Rattle.std.specs.Prelude.{◌≡◌, ◌+◌, ◌<◌, ◌≤◌, [], ◌∷◌, OnOk, IfOk, OnErr, map, length, IsSomeAnd, is_some, true, Some, None};
 ghost use Rattle.std.specs.Option.{option_copied, option_map};
 ghost use Rattle.kdf_processor.specs.State.{begin, word_at};
+ghost use Rattle.kdf_top.specs.Bare.{bare};
 ghost use Rattle.kdf_processor.specs.Lone.{is_live};
-ghost use Rattle.kdf_processor.specs.Row.{row, next_of};
 ghost use Rattle.kdf_journal.specs.Counts.{calls, clock, moves};
 ghost use Rattle.kdf_journal.specs.Steps.{noted, added, Obeys, Moves, Ends, Sets};
 ghost use Rattle.kdf_top.specs.Next.{slot_of, any_live};
-ghost use Rattle.kdf_top.specs.Legal.{note_for, IsLegal};
+ghost use Rattle.kdf_top.specs.Legal.{IsLegal};
 ghost use Rattle.kdf_top.specs.Loaded.{loaded, IsLoadable};
 ghost use Rattle.kdf_top.specs.Shown.{state_of, ShowsLone};
-ghost use Rattle.kdf_top.specs.Bench.{state_with};
-ghost use Rattle.kdf_top.specs.Advance.{Advance, Enters};
+ghost use Rattle.kdf_top.specs.Advance.{Advance, Enters, note_of_answer, note_told};
 
 use crate::Job;
-use crate::bench::Bench;
+use kdf_alone::{Alone, Obeyed};
 use kdf_journal::{CALL_LIMIT, Entry, Journal, MOVE_LIMIT};
 use kdf_place::Image;
-use kdf_processor::{Life, Registers, Step, obey};
+use kdf_processor::{Life, Registers, Spooled, Step};
 use kdf_schedule::Event;
 use kdf_word::Word;
 use std::alloc::{AllocError, Global};
@@ -43,8 +42,7 @@ pub const EVENT_LIMIT: u32 = 500_000;
 #[derive(Drop)]
 pub struct Machine {
     image: Vec<Word>,
-    registers: Registers,
-    store: Bench,
+    program: Alone,
     journal: Journal,
     room: u32,
 }
@@ -56,18 +54,18 @@ impl Model for Machine {
 
     ghost use Rattle.std.specs.Prelude.{[], ◌∷◌};
     ghost use Rattle.kdf_top.specs.Agrees.{IsReady};
-    ghost use Rattle.kdf_top.specs.Bench.{state_with};
+    ghost use Rattle.kdf_top.specs.Bare.{bare};
 
     ghost view = { λ m. record {
-      slots = record { p = 0; size = m.store.size; words = m.image.items } ∷ [];
-      states = state_with m.registers m.store ∷ [];
+      slots = bare 0 m.program.stock.claims.size m.image.items ∷ [];
+      states = m.program ∷ [];
       journal = m.journal.entries;
       room = m.room;
     } };
 
     ghost invariant = { λ m. IsReady
-        (record { p = 0; size = m.store.size; words = m.image.items })
-        (state_with m.registers m.store)
+        (bare 0 m.program.stock.claims.size m.image.items)
+        m.program
         m.journal.entries
         m.room
         m.journal.spare };
@@ -83,15 +81,15 @@ impl Machine {
         ensures journal { IfOk result (λ m. m.journal ≡ []) }
         ensures room { IfOk result (λ m. m.room ≡ length job.now.events.items) }
     {
-        let image = Vec::from_slice(alloc, &images[0].words)?;
-        let store = Bench::new(alloc, job.slots[0].size, &image)?;
+        let first = &images[0];
+        let image = Vec::from_slice(alloc, &first.words)?;
+        let program = load_program(alloc, job.slots[0].size, first)?;
         let room = event_count(&job.events);
         let mut journal = Journal::new(alloc);
         journal.reserve(room)?;
         Ok(Machine {
             image,
-            registers: Registers::new(),
-            store,
+            program,
             journal,
             room,
         })
@@ -106,11 +104,11 @@ impl Machine {
         ensures err { OnErr result (self.new ≡ self.old) }
     {
         self.journal.reserve(self.room + 2)?;
-        if !is_on(self.registers.state) {
+        if !is_on(self.program.registers().state) {
             return Ok(Progress::AllEnded);
         }
-        let step = obey_next(&mut self.registers, &mut self.store);
-        write(&mut self.journal, step);
+        let obeyed = self.program.order_at(self.journal.clock())?;
+        write(&mut self.journal, obeyed);
         Ok(Progress::Ran(SLOT))
     }
 
@@ -156,7 +154,7 @@ impl Machine {
         ensures legal { IsLegal self.now.slots self.now.journal }
         ensures lone { ShowsLone self.now }
     {
-        is_on(self.registers.state)
+        is_on(self.program.registers().state)
     }
 
     /// The registers of program `p`; None where there is no such slot.
@@ -167,7 +165,7 @@ impl Machine {
         ensures lone { ShowsLone self.now }
     {
         if p == SLOT {
-            Some(&self.registers)
+            Some(self.program.registers())
         } else {
             None
         }
@@ -178,7 +176,16 @@ impl Machine {
         requires { IsSomeAnd (slot_of self.now.slots p) (λ slot. address < slot.size) }
         ensures { IsSomeAnd (state_of self.now p) (λ state. result ≡ word_at state address) }
     {
-        self.store.word(address)
+        self.program.word(address)
+    }
+
+    /// The texts that program `p` spooled, the oldest first.
+    pub fn spooled(&self, p: u8) -> &[Spooled]
+        requires { is_some (slot_of self.now.slots p) ≡ true }
+        ensures { IsSomeAnd (state_of self.now p) (λ state. result.now ≡ state.stock.spooled) }
+    {
+        let _slot = p;
+        self.program.spooled()
     }
 
     /// What happened so far.
@@ -211,31 +218,47 @@ fn is_on(life: Life) -> bool
     }
 }
 
-/// The next order of a live program by itself, which nothing holds up.
-fn obey_next(registers: &mut Registers, store: &mut Bench) -> Step
-    requires live { is_live registers.old.state ≡ true }
-    requires ran { registers.old.ran < u32.MAX }
-    ensures state { state_with registers.new store.new
-        ≡ row (state_with registers.old store.old) 0 }
-    ensures step { result ≡ (next_of (state_with registers.old store.old) 0).step }
-    ensures size { store.new.size ≡ store.old.size }
+/// The program of slot 0, without devices, in a store of `size` words.
+fn load_program(alloc: Global, size: u16, image: &Image) -> Result<Alone, AllocError>
+    requires { length image.now.words.items ≤ size }
+    ensures { IfOk result (λ a. a ≡ begin (bare SLOT size image.now.words.items)) }
 {
-    obey(registers, store)
+    let slot = kdf_job::SlotJob {
+        p: SLOT,
+        size,
+        deck: Vec::new(alloc),
+        devices: Vec::new(alloc),
+        shows: Vec::new(alloc),
+    };
+    Alone::load(alloc, &slot, image)
 }
 
-/// Counts an order that came out so, with its note.
-fn write(journal: &mut Journal, step: Step)
+/// Counts an order that came out so, with its note; of a program without devices, none begins a transfer.
+fn write(journal: &mut Journal, obeyed: Obeyed)
     requires room { 2 ≤ journal.old.spare }
     requires few_calls { calls journal.old.entries < CALL_LIMIT }
     requires few_moves { moves journal.old.entries ≤ MOVE_LIMIT }
-    ensures entries { journal.new.entries ≡ added journal.old.entries (Obeys SLOT (note_for step)) }
+    ensures entries { journal.new.entries ≡ added journal.old.entries (Obeys SLOT (note_told obeyed.step obeyed.answer)) }
     ensures spare { journal.old.spare ≤ journal.new.spare + 2 }
 {
     journal.push(Entry::Ran { p: SLOT, n: 1 });
-    match step {
-        Step::Done | Step::Held(_) => {}
+    match obeyed.step {
         Step::Fails(kind) => journal.push(Entry::Fail { p: SLOT, kind }),
         Step::Ends => journal.push(Entry::Ended { p: SLOT }),
+        Step::Done | Step::Held(_) => write_answer(journal, obeyed.answer),
+    }
+}
+
+/// Writes what the order just counted was answered, if it asked.
+fn write_answer(journal: &mut Journal, answer: Option<u64>)
+    requires room { 1 ≤ journal.old.spare }
+    requires few_calls { calls journal.old.entries ≤ CALL_LIMIT }
+    requires few_moves { moves journal.old.entries ≤ MOVE_LIMIT }
+    ensures entries { journal.new.entries ≡ noted journal.old.entries SLOT (note_of_answer answer) }
+    ensures spare { journal.old.spare ≤ journal.new.spare + 1 }
+{
+    if let Some(v) = answer {
+        journal.push(Entry::Answer { p: SLOT, v });
     }
 }
 

@@ -9,6 +9,7 @@ ghost use Rattle.kdf_top.specs.Text.{section, show_lines, word_line, report_line
 
 use crate::entry_text::write_entries;
 use crate::registers_text::write_registers;
+use crate::spool_text::write_spooled;
 use crate::{Job, Machine, SlotJob};
 use kdf_text::write_octal;
 use kdf_word::Word;
@@ -63,7 +64,8 @@ fn write_section(out: &mut String, slot: &SlotJob, machine: &Machine) -> Result<
 {
     write_slot(out, slot.p)?;
     write_registers(out, machine.seen(slot.p).unwrap())?;
-    write_shows(out, &slot.shows, machine, slot.p)
+    write_shows(out, &slot.shows, machine, slot.p)?;
+    write_spooled(out, machine.spooled(slot.p))
 }
 
 #[tactic(auto, unfolding(kdf_text::specs::Text::text))]

@@ -148,3 +148,94 @@ fn enters_events(rt: HostRuntime) -> Result<(), Fail> {
     assert_eq!(rt; machine.room(), 0);
     Ok(())
 }
+
+/// Loads an image and follows three runs of orders, with the clock set before the second.
+fn run_with_clock(rt: &impl Abort, alloc: Global, image: &[u64]) -> Result<Machine, Fail> {
+    let mut machine = load(rt, alloc, image)?;
+    follow(
+        &mut machine,
+        &[Event::Orders(3), Event::Clock(7), Event::Orders(10)],
+    )?;
+    Ok(machine)
+}
+
+#[test]
+fn tells_the_time_that_was_set(rt: HostRuntime) -> Result<(), Fail> {
+    // SET 9; OUT; SET 9; OUT; ZERO; OUT
+    let machine = run_with_clock(&rt, rt.alloc(), &[JUMP, 0xe000_0921_e000, 0x0921_0921_0101])?;
+    let entries = [
+        Entry::Ran { p: 0, n: 3 },
+        Entry::Answer { p: 0, v: 0 },
+        Entry::Clock { t: 7 },
+        Entry::Ran { p: 0, n: 2 },
+        Entry::Answer { p: 0, v: 7 },
+        Entry::Ran { p: 0, n: 2 },
+        Entry::Ended { p: 0 },
+    ];
+    assert_eq!(rt; machine.journal().entries(), entries.as_slice());
+    let registers = machine.seen(0).ok_or("no slot")?;
+    assert_eq!(rt; registers.nest.depth(), 2);
+    assert_eq!(rt; registers.nest.peek(0).bits(), 7);
+    assert_eq!(rt; registers.nest.peek(1).bits(), 0);
+    Ok(())
+}
+
+#[test]
+fn finds_no_area_locked_out(rt: HostRuntime) -> Result<(), Fail> {
+    // TLOQ1; ZERO; OUT
+    let machine = run_with_clock(&rt, rt.alloc(), &[JUMP, 0x7e11_0921_0101])?;
+    let entries = [
+        Entry::Ran { p: 0, n: 2 },
+        Entry::Answer { p: 0, v: 0 },
+        Entry::Ran { p: 0, n: 1 },
+        Entry::Clock { t: 7 },
+        Entry::Ran { p: 0, n: 1 },
+        Entry::Ended { p: 0 },
+    ];
+    assert_eq!(rt; machine.journal().entries(), entries.as_slice());
+    let registers = machine.seen(0).ok_or("no slot")?;
+    assert!(rt; !registers.flags.tr);
+    Ok(())
+}
+
+#[test]
+fn has_no_device_to_claim(rt: HostRuntime) -> Result<(), Fail> {
+    // SET 1; SET 5; OUT
+    let machine = run_with_clock(&rt, rt.alloc(), &[JUMP, 0xe000_01e0_0005, 0x2101_0101_0101])?;
+    let failed = Entry::Fail {
+        p: 0,
+        kind: Failure::Claim,
+    };
+    let entries = [
+        Entry::Ran { p: 0, n: 3 },
+        Entry::Clock { t: 7 },
+        Entry::Ran { p: 0, n: 1 },
+        failed,
+    ];
+    assert_eq!(rt; machine.journal().entries(), entries.as_slice());
+    Ok(())
+}
+
+#[test]
+fn spools_up_to_the_end_message(rt: HostRuntime) -> Result<(), Fail> {
+    // E3; SET 8; OUT; ZERO; OUT; Q2/4/4; and HI, an End Message, and HI again
+    let mut machine = load(
+        &rt,
+        rt.alloc(),
+        &[
+            JUMP,
+            0xc000_03e0_0008,
+            0x2109_2101_0101,
+            0x0002_0004_0004,
+            0o5051_7550_5100_0000,
+        ],
+    )?;
+    assert_eq!(rt; machine.spooled(0).len(), 0);
+    follow(&mut machine, &[Event::Orders(10)])?;
+    assert_eq!(rt; machine.spooled(0).len(), 1);
+    for spooled in machine.spooled(0) {
+        assert_eq!(rt; spooled.stream, 2);
+        assert_eq!(rt; spooled.text.codes(), [0o50, 0o51, 0o75].as_slice());
+    }
+    Ok(())
+}

@@ -30,6 +30,34 @@ const STOPPED: &[u8] =
 const STOPPED_REPORT: &[u8] =
     b"KDF9 REPORT 1\nRAN 0 4\nSLOT 0\nSTATE LIVE\nORDERS 4\nAT 2 1\nFLAGS 0 0\nNEST 1 0000000000000014\nLINKS 0\nWORD 2 0435000000604441\nWORD 3 0000000000000000\nENDREPORT\n";
 
+/// Jobs of orders of every kind, with their reports.
+const JOBS: [(&[u8], &[u8]); 6] = [
+    (
+        b"KDF9 JOB 1\nSLOT 0\nSTORE 32\nDECK\nPROGRAM V1; V0=PHI; V1=Q2/1/1; V1; SET 8; OUT; SET 3; OUT; ZERO; OUT; FINISH;\nENDDECK\nSCHEDULE\nORDERS 10\nENDJOB\n",
+        b"KDF9 REPORT 1\nRAN 0 8\nENDED 0\nSLOT 0\nSTATE ENDED\nORDERS 8\nAT 5 1\nFLAGS 0 0\nNEST 1 0000000000000005\nLINKS 0\nSPOOL 2 HI      \nENDREPORT\n",
+    ),
+    (
+        b"KDF9 JOB 1\nSLOT 0\nSTORE 128\nDECK\nPROGRAM V1; V0=Q7/32/33; V1=PAB|CD; V1; =E32; V0; SET 8; OUT; V0; SET 8; OUT; ZERO; OUT; FINISH;\nENDDECK\nSCHEDULE\nORDERS 100\nENDJOB\n",
+        b"KDF9 REPORT 1\nRAN 0 11\nENDED 0\nSLOT 0\nSTATE ENDED\nORDERS 11\nAT 6 4\nFLAGS 0 0\nNEST 0\nLINKS 0\nSPOOL 7 AB|\nSPOOL 7 AB|\nENDREPORT\n",
+    ),
+    (
+        b"KDF9 JOB 1\nSLOT 0\nSTORE 32\nDECK\nPROGRAM; TLOQ1; SET 9; OUT; ZERO; OUT; FINISH;\nENDDECK\nSCHEDULE\nORDERS 10\nENDJOB\n",
+        b"KDF9 REPORT 1\nRAN 0 2\nANSWER 0 0\nRAN 0 2\nANSWER 0 0\nRAN 0 2\nENDED 0\nSLOT 0\nSTATE ENDED\nORDERS 6\nAT 2 2\nFLAGS 0 0\nNEST 1 0000000000000000\nLINKS 0\nENDREPORT\n",
+    ),
+    (
+        b"KDF9 JOB 1\nSLOT 0\nSTORE 32\nDECK\nPROGRAM; SET 2; SET 5; OUT; FINISH;\nENDDECK\nSCHEDULE\nORDERS 40\nENDJOB\n",
+        b"KDF9 REPORT 1\nRAN 0 4\nFAIL 0 CLAIM\nSLOT 0\nSTATE FAILED CLAIM\nORDERS 4\nAT 2 0\nFLAGS 0 0\nNEST 2 0000000000000005 0000000000000002\nLINKS 0\nENDREPORT\n",
+    ),
+    (
+        b"KDF9 JOB 1\nSLOT 0\nSTORE 32\nDECK\nPROGRAM V0; V0=Q8/1/1; V0; SET 8; OUT; FINISH;\nENDDECK\nSCHEDULE\nORDERS 40\nENDJOB\n",
+        b"KDF9 REPORT 1\nRAN 0 4\nFAIL 0 OUT\nSLOT 0\nSTATE FAILED OUT\nORDERS 4\nAT 3 0\nFLAGS 0 0\nNEST 2 0000000000000010 0000400000200001\nLINKS 0\nENDREPORT\n",
+    ),
+    (
+        b"KDF9 JOB 1\nSLOT 0\nSTORE 32\nDECK\nPROGRAM; BUSYQ1; FINISH;\nENDDECK\nSCHEDULE\nORDERS 40\nENDJOB\n",
+        b"KDF9 REPORT 1\nRAN 0 2\nFAIL 0 CLAIM\nSLOT 0\nSTATE FAILED CLAIM\nORDERS 2\nAT 1 0\nFLAGS 0 0\nNEST 0\nLINKS 0\nENDREPORT\n",
+    ),
+];
+
 const USAGE: &[u8] = b"USAGE kdf9 run, alone K, asm K, make N\n";
 
 /// Words, and a source and a sink: how many bytes it gives a read, which reads fail, and for how many bytes there is room.
@@ -105,6 +133,15 @@ fn jobs_have_their_reports(rt: HostRuntime) -> Result<(), Fail> {
         Status::Done,
         STOPPED_REPORT,
     )?;
+    Ok(())
+}
+
+#[test]
+fn orders_of_every_kind_are_reported(rt: HostRuntime) -> Result<(), Fail> {
+    let alloc = rt.alloc();
+    for (job, text) in JOBS {
+        expect(&rt, alloc, &whole(&["run"], job), Status::Done, text)?;
+    }
     Ok(())
 }
 

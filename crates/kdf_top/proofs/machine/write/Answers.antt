@@ -13,3 +13,9 @@ push-requires-in-Ends-clause-few_calls c = rw (c.push.ensures.entries, calls-pus
 
 pub push-requires-in-Ends-clause-few_moves : goal.push-requires-in-Ends-clause-few_moves
 push-requires-in-Ends-clause-few_moves c = rw (c.push.ensures.entries, moves-pushed) (omega arith)
+
+pub write_answer-requires-clause-few_calls : goal.write_answer-requires-clause-few_calls
+write_answer-requires-clause-few_calls c = rw (c.push.ensures.entries, calls-pushed) (omega arith)
+
+pub write_answer-requires-clause-few_moves : goal.write_answer-requires-clause-few_moves
+write_answer-requires-clause-few_moves c = rw (c.push.ensures.entries, moves-pushed) (omega arith)

@@ -1,0 +1,81 @@
+-- What a bench shows, and what an acting call does to it.
+use Rattle.std.specs.Prelude.{◌≡◌, ℕ, ◌+◌, ◌-◌, ◌*◌, ◌^◌, ◌<◌, ◌≤◌, ◌&&◌, not, true, map, find, Option, None, slice_index_or, vec_len}
+use Rattle.std.specs.List.{range_with_len}
+use Rattle.std.specs.Vec.{vec_capacity}
+use Rattle.kdf_transfer.specs.AtOnce.{is_output}
+use Rattle.kdf_transfer.specs.declared.order.TransferOrder.{TransferOrder}
+use Rattle.kdf_processor.specs.declared.look.Ahead.{Ahead}
+use Rattle.kdf_processor.specs.declared.look.Ahead.TheVariants as ahead
+use Rattle.kdf_processor.specs.Effect.{Act, Starts, Asks, Spools}
+use Rattle.kdf_processor.specs.Row.{at_once}
+use Rattle.kdf_processor.specs.Claims.{is_claimed}
+use Rattle.kdf_processor.specs.State.{Claims, State, Stock, device_limit, fixture_at}
+use Rattle.kdf_processor.specs.declared.registers.Registers.{Registers}
+use Rattle.kdf_processor.specs.View.{View, by_itself}
+use Rattle.kdf_alone.specs.declared.bench.Bench.{Bench}
+use Rattle.kdf_alone.specs.declared.places.Wanted.{Wanted}
+use Rattle.kdf_alone.specs.Places.{fixture_in, is_wanted, progress_in, IsReady}
+use Rattle.kdf_alone.specs.Replies.{told_by, told_after}
+
+-- what its program is checked against: the size of its store, and its devices by number
+abbrev pub claims_of : Bench → Claims
+claims_of b =
+    record { size = b.size; claimed = b.claimed; fixtures = map fixture_in b.devices.items }
+
+-- what its program has beside its registers
+abbrev pub stock_of : Bench → Stock
+stock_of b =
+    record {
+      claims = claims_of b;
+      spooled = b.spooled.items;
+      asked = b.asked;
+      store = b.words.items;
+      devices = map progress_in b.devices.items;
+    }
+
+-- the least device that a claim wants and that isn't claimed
+unfoldable pub first_free : Wanted → Claims → Option ℕ
+first_free wanted c =
+    find (λ d. is_wanted wanted (fixture_at c d) && not (is_claimed c d)) (range_with_len 0 device_limit)
+
+-- nothing is locked out or busy
+abbrev pub shown : Bench → View
+shown b = by_itself (told_by b.reply) (stock_of b)
+
+-- an acting call does at once what it does, and leaves the answer that it took
+pub record Acts (old : Bench) (act : Act) (new : Bench) : Type 0 where
+  pub stock : stock_of new ≡ at_once act (stock_of old)
+  pub told : new.told ≡ told_after act old.told
+
+-- nothing but its spare memory changes
+pub record Stays (old new : Bench) : Type 0 where
+  pub stock : stock_of new ≡ stock_of old
+  pub reply : new.reply ≡ old.reply
+  pub told : new.told ≡ old.told
+
+-- there is memory for a transfer: for the blocks that its device gains, and for the characters of its area
+pub record CanStart (b : Bench) (d : ℕ) (order : TransferOrder) (first last : ℕ) : Type 0 where
+  pub device : IsReady order (slice_index_or b.devices.items d None)
+  pub block : is_output order ≡ true → 8 * (last + 1 - first) ≤ vec_capacity b.block
+
+-- and for one text more
+pub record CanSpool (b : Bench) (first last : ℕ) : Type 0 where
+  pub text : vec_len b.spooled < vec_capacity b.spooled
+  pub block : 8 * (last + 1 - first) ≤ vec_capacity b.block
+
+-- for what an acting call keeps
+abbrev pub HasRoom : Bench → Act → Type 0
+HasRoom b (Asks question answer) = b.asked < 2 ^ 32 - 1
+HasRoom b (Starts d order first last) = CanStart b d order first last
+HasRoom b (Spools stream first last) = CanSpool b first last
+HasRoom b act = Unit {0}
+
+-- and for what is ahead
+abbrev pub HasRoomAhead : Bench → Ahead → Type 0
+HasRoomAhead b (ahead.Starts d order first last) = CanStart b d order first last
+HasRoomAhead b (ahead.Spools stream first last) = CanSpool b first last
+HasRoomAhead b ahead.Else = Unit {0}
+
+-- a program with these registers
+abbrev pub state_with : Registers → Bench → State
+state_with r b = record { registers = r; stock = stock_of b }

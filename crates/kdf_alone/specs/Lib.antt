@@ -1,0 +1,6 @@
+pub mod Bench
+pub mod Loading
+pub mod Places
+pub mod Program
+pub mod Replies
+pub mod Worked

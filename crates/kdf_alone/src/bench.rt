@@ -1,0 +1,312 @@
+//! The port of a program by itself.
+ghost use Rattle.std.specs.Prelude.{◌≡◌, [], length};
+
+use crate::places::{Wanted, is_wanted, kind_in, make_ready, test_in, transfer};
+use crate::reply::Reply;
+use crate::text::{characters_in, characters_out, text_of};
+use kdf_journal::Kind;
+use kdf_processor::{Ahead, Port, Spooled, Test};
+use kdf_transfer::{Area, Device, TransferOrder};
+use kdf_word::Word;
+use std::alloc::{AllocError, Global};
+
+/// A program's store and devices.
+#[derive(Drop)]
+pub struct Bench {
+    alloc: Global,
+    size: u16,
+    words: Vec<Word>,
+    /// The devices by number, sixteen places.
+    devices: Vec<Option<Device>>,
+    claimed: [bool; 16],
+    spooled: Vec<Spooled>,
+    /// How many answers were taken.
+    asked: u32,
+    /// What the next order is answered that asks.
+    reply: Reply,
+    /// What the order was answered that is obeyed, if it asked.
+    told: Option<u64>,
+    /// Memory for the characters that an order moves.
+    block: Vec<u8>,
+    ghost whole: { length words.items ≡ size },
+    ghost sixteen: { length devices.items ≡ 16 },
+    ghost blank: { block.items ≡ [] },
+}
+
+impl Bench {
+    ghost use Rattle.std.specs.Prelude.{◌&&◌, ◌+◌, ◌-◌, ◌<◌, ℕ, map, true, not, find, slice_index, slice_index_or, Option, None, Some, IfSome, IfNone, OnOk};
+    ghost use Rattle.std.specs.Option.{option_copied};
+    ghost use Rattle.kdf_processor.specs.Claims.{claim, is_claimed};
+    ghost use Rattle.kdf_processor.specs.Effect.{Acquires, Asks, Question};
+    ghost use Rattle.kdf_processor.specs.State.{fixture_at, unclaimed};
+    ghost use Rattle.kdf_alone.specs.Bench.{claims_of, first_free, stock_of, Acts, CanSpool, CanStart};
+    ghost use Rattle.kdf_alone.specs.Bench.{HasRoomAhead, Stays};
+    ghost use Rattle.kdf_alone.specs.Places.{fixture_in, is_wanted, progress_in};
+
+    /// A store and devices, none of them claimed.
+    #[tactic(auto, unfolding(kdf_processor::specs::State::unclaimed))]
+    pub fn new(alloc: Global, size: u16, words: Vec<Word>, devices: Vec<Option<Device>>) -> Bench
+        requires whole { length words.items ≡ size }
+        requires sixteen { length devices.items ≡ 16 }
+        ensures { stock_of result ≡ record {
+          claims = record { size = size; claimed = unclaimed; fixtures = map fixture_in devices.items };
+          spooled = [];
+          asked = 0;
+          store = words.items;
+          devices = map progress_in devices.items;
+        } }
+    {
+        Bench {
+            alloc,
+            size,
+            words,
+            devices,
+            claimed: [false; 16],
+            spooled: Vec::new(alloc),
+            asked: 0,
+            reply: Reply::Idle(0),
+            told: None,
+            block: Vec::new(alloc),
+        }
+    }
+
+    /// The word at an address.
+    pub fn word(&self, address: u16) -> Word
+        requires { address < self.now.size }
+        ensures { result ≡ slice_index self.now.words.items address }
+    {
+        self.words[usize::from(address)]
+    }
+
+    /// The device of this number.
+    pub fn device(&self, d: u8) -> Option<&Device>
+        ensures { option_copied result ≡ slice_index_or self.now.devices.items d None }
+    {
+        match self.devices.get(usize::from(d)) {
+            Some(Some(device)) => Some(device),
+            _ => None,
+        }
+    }
+
+    /// What was spooled.
+    pub fn spooled(&self) -> &[Spooled]
+        ensures { result.now ≡ self.now.spooled.items }
+    {
+        &self.spooled
+    }
+
+    /// How many answers were taken.
+    pub fn asked(&self) -> u32
+        ensures { result ≡ self.now.asked }
+    {
+        self.asked
+    }
+
+    /// What the order was answered that was obeyed last, if it asked.
+    pub fn told(&self) -> Option<u64>
+        ensures { result ≡ self.now.told }
+    {
+        self.told
+    }
+
+    /// Sets what the next order is answered if it asks.
+    pub fn prepare(&mut self, reply: Reply)
+        ensures stock { stock_of self.new ≡ stock_of self.old }
+        ensures reply { self.new.reply ≡ reply }
+        ensures told { self.new.told ≡ None }
+    {
+        self.reply = reply;
+        self.told = None;
+    }
+
+    /// Takes the memory that an act wants. Without it nothing else has changed either.
+    pub fn take(&mut self, ahead: Ahead) -> Result<(), AllocError>
+        ensures stays { Stays self.old self.new }
+        ensures room { OnOk result (HasRoomAhead self.new ahead) }
+    {
+        match ahead {
+            Ahead::Starts {
+                device,
+                order,
+                first,
+                last,
+            } => self.take_for_transfer(device, order, first, last),
+            Ahead::Spools { first, last, .. } => self.take_for_text(first, last),
+            Ahead::Else => Ok(()),
+        }
+    }
+
+    /// Takes the memory that a transfer wants.
+    fn take_for_transfer(
+        &mut self,
+        device: u8,
+        order: TransferOrder,
+        first: u16,
+        last: u16,
+    ) -> Result<(), AllocError>
+        ensures stays { Stays self.old self.new }
+        ensures room { OnOk result (CanStart self.new device order first last) }
+    {
+        self.block.reserve(characters_out(order, first, last))?;
+        let place = usize::from(device);
+        if place >= self.devices.len() {
+            return Ok(());
+        }
+        let held = &mut self.devices[place];
+        make_ready(held, order)
+    }
+
+    /// Takes the memory that a text wants.
+    fn take_for_text(&mut self, first: u16, last: u16) -> Result<(), AllocError>
+        ensures stays { Stays self.old self.new }
+        ensures room { OnOk result (CanSpool self.new first last) }
+    {
+        self.spooled.reserve(1)?;
+        self.block.reserve(characters_in(first, last))
+    }
+
+    /// Takes an answer.
+    fn take_answer(&mut self, answer: u64)
+        requires { self.old.asked < u32.MAX }
+        ensures { (question : Question) → Acts self.old (Asks question answer) self.new }
+    {
+        self.asked += 1;
+        self.told = Some(answer);
+    }
+
+    /// The least device that is wanted and isn't claimed.
+    fn first_free(&self, wanted: &Wanted) -> Option<u8>
+        ensures least { result ≡ first_free wanted.now (claims_of self.now) }
+        ensures number { IfSome result (λ d. d < 16) }
+    {
+        for d in 0..16u8 {
+            if self.is_free(d, wanted) {
+                return Some(d);
+            }
+        }
+        None
+    }
+
+    /// Whether a device is wanted and isn't claimed.
+    fn is_free(&self, d: u8, wanted: &Wanted) -> bool
+        requires { d < 16 }
+        ensures { result ≡
+            (is_wanted wanted.now (fixture_at (claims_of self.now) d) && not (is_claimed (claims_of self.now) d)) }
+    {
+        let place = usize::from(d);
+        is_wanted(&self.devices[place], wanted) && !self.claimed[place]
+    }
+
+    /// Claims the least device that is wanted and isn't claimed.
+    fn claim(&mut self, wanted: &Wanted) -> Option<u8>
+        ensures least { result ≡ first_free wanted.now (claims_of self.old) }
+        ensures claimed { IfSome result (λ d. Acts self.old (Acquires d) self.new) }
+        ensures none { IfNone result (self.new ≡ self.old) }
+    {
+        let device = self.first_free(wanted)?;
+        self.claimed[usize::from(device)] = true;
+        Some(device)
+    }
+}
+
+impl Port for Bench {
+    ghost use Rattle.std.specs.Prelude.{refl};
+    ghost use Rattle.kdf_alone.specs.Bench.{shown, Acts, HasRoom};
+
+    ghost shows = { shown };
+
+    ghost acts = { Acts };
+
+    ghost room = { HasRoom };
+
+    fn size(&self) -> u16 {
+        self.size
+    }
+
+    fn read(&self, address: u16) -> Result<Word, u16> {
+        Ok(self.words[usize::from(address)])
+    }
+
+    fn write(&mut self, address: u16, word: Word) -> Result<(), u16> {
+        self.words[usize::from(address)] = word;
+        Ok(())
+    }
+
+    fn first_out(&self, _first: u16, _last: u16) -> Option<u16> {
+        None
+    }
+
+    fn held(&self, device: u16) -> Option<Kind> {
+        let place = usize::from(device);
+        if place < 16 && self.claimed[place] {
+            kind_in(&self.devices[place])
+        } else {
+            None
+        }
+    }
+
+    fn busy(&self, _device: u8) -> bool {
+        false
+    }
+
+    fn first_busy(&self) -> Option<u8> {
+        None
+    }
+
+    fn test(&self, device: u8, what: Test) -> bool {
+        test_in(&self.devices[usize::from(device)], what)
+    }
+
+    fn start(&mut self, device: u8, order: TransferOrder, first: u16, last: u16) {
+        let area = Area {
+            first: usize::from(first),
+            last: usize::from(last),
+        };
+        let block = std::mem::replace(&mut self.block, Vec::new(self.alloc));
+        let place = &mut self.devices[usize::from(device)];
+        transfer(place, order, area, &mut self.words, block);
+    }
+
+    fn ask_busy(&mut self, _device: u8) -> bool {
+        let answer = self.reply.is_waiting();
+        self.take_answer(answer);
+        answer != 0
+    }
+
+    fn ask_area(&mut self, _first: u16, _last: u16) -> bool {
+        let answer = self.reply.is_waiting();
+        self.take_answer(answer);
+        answer != 0
+    }
+
+    fn ask_time(&mut self) -> u64 {
+        let answer = self.reply.time();
+        self.take_answer(answer);
+        answer
+    }
+
+    #[tactic(auto, using(crate::proofs::Claiming::label_free))]
+    fn claim_label(&mut self, label: Word) -> Option<u8> {
+        self.claim(&Wanted::Labelled(label))
+    }
+
+    #[tactic(auto, using(crate::proofs::Claiming::kind_free))]
+    fn claim_kind(&mut self, kind: Kind) -> Option<u8> {
+        self.claim(&Wanted::Kinded(kind))
+    }
+
+    fn give_back(&mut self, device: u8) {
+        self.claimed[usize::from(device)] = false;
+    }
+
+    fn spool(&mut self, stream: u8, first: u16, last: u16) {
+        let block = std::mem::replace(&mut self.block, Vec::new(self.alloc));
+        let text = text_of(
+            block,
+            &self.words[usize::from(first)..usize::from(last) + 1],
+        );
+        self.spooled.push_reserved(Spooled { stream, text });
+    }
+
+    ghost stays = { λ _. record { stock = refl; told = refl } };
+}

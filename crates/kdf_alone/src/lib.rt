@@ -1,0 +1,16 @@
+//! A program run alone: no groups, no lockout, and transfers that finish at once.
+#![tactic(auto)]
+
+mod alone;
+mod bench;
+mod loading;
+mod memory;
+mod obeying;
+mod places;
+mod reply;
+#[cfg(test)]
+mod tests;
+mod text;
+pub mod worked;
+
+pub use alone::{Alone, Obeyed};

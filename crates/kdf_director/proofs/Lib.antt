@@ -1,0 +1,9 @@
+pub mod Completed
+pub mod Checked
+pub mod Claimed
+pub mod SeenStates
+pub mod Beginning
+pub mod Moving
+pub mod Ending
+pub mod Staying
+pub mod Over

@@ -1,0 +1,5 @@
+use Rattle.kdf_director.proofs.Beginning.{row_seen}
+use Rattle.kdf_director.proofs.laws.at_once.Goals as goal
+
+pub returns : goal.returns
+returns c flights mine answer s none = row_seen flights mine s none answer

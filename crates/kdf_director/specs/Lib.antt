@@ -1,0 +1,4 @@
+pub mod Flights
+pub mod Seen
+pub mod Flying
+pub mod Examples

@@ -1,0 +1,30 @@
+-- What is known of an act before the order is obeyed.
+use Rattle.std.specs.Prelude.{◌≡◌, ◌==◌, ◌||◌, ℕ, Bool, false}
+use Rattle.std.specs.Int.{is_in_range}
+use Rattle.kdf_processor.specs.declared.look.Ahead.{Ahead}
+use Rattle.kdf_processor.specs.declared.look.Ahead.TheVariants as ahead
+use Rattle.kdf_processor.specs.declared.fetch.Fetched.{Fetched}
+use Rattle.kdf_processor.specs.declared.fetch.Fetched.TheVariants.{Spelt, Bad, Held}
+use Rattle.kdf_processor.specs.Effect.{Act, Starts, Spools}
+
+-- an act that neither begins a transfer nor spools
+abbrev pub IsSmall : Act → Type 0
+IsSmall (Starts d o first last) = ⊥
+IsSmall (Spools stream first last) = ⊥
+IsSmall _ = Unit {0}
+
+-- this act is ahead
+abbrev pub IsAhead : Act → Ahead → Type 0
+IsAhead act (ahead.Starts d o first last) = act ≡ Starts d o first last
+IsAhead act (ahead.Spools stream first last) = act ≡ Spools stream first last
+IsAhead act ahead.Else = IsSmall act
+
+-- an order that begins with this syllable may act otherwise: it is that of OUT, or of one that begins a transfer
+abbrev pub may_begin : ℕ → Bool
+may_begin first = first == 0x21 || is_in_range 0x70 0x7D first
+
+-- and so may an order that was fetched
+abbrev pub may_want : Fetched → Bool
+may_want (Spelt a b d) = may_begin a
+may_want Bad = false
+may_want (Held g) = false
