@@ -151,7 +151,7 @@ module _ (flights : ℕ → Option Flight) (mine : List ℕ) (s : State) (none :
   pub parts_apart : HidesNone (pending flights) (fetch_needs s.stock.claims.size (word_at s) s.registers.at) × HidesNone (pending flights) (effect_needs mine (next_effect s))
   parts_apart = or_parts _ _ (sym (list_any-append (pending flights) (fetch_needs s.stock.claims.size (word_at s) s.registers.at) (effect_needs mine (next_effect s))) ∙ none)
 
-  same_next : next_effect s ≡ next_effect (seen flights s)
+  pub same_next : next_effect s ≡ next_effect (seen flights s)
   same_next = effect_agree (pending flights) s (seen flights s) (seen_agrees flights s) parts_apart.0
 
   -- in one step

@@ -166,7 +166,7 @@ with_flight_twice d f g flights =
     (λ (other : x ≢ d). with_flight_other d x f (with_flight d g flights) other ∙ with_flight_other d x g flights other ∙ sym (with_flight_other d x f flights other))
     (cases_eq x d))
 
-with_flight_itself : (d : ℕ) (f : Option Flight) (flights : ℕ → Option Flight) → flights d ≡ f → with_flight d f flights ≡ flights
+pub with_flight_itself : (d : ℕ) (f : Option Flight) (flights : ℕ → Option Flight) → flights d ≡ f → with_flight d f flights ≡ flights
 with_flight_itself d f flights this =
     fun_ext (λ x. ⊎_elim
     (λ (same : x ≡ d). with_flight_is x d f flights same ∙ sym (ap flights same ∙ this))

@@ -1,0 +1,164 @@
+-- What a part of the machine shows.
+use Rattle.std.specs.Prelude.{Ok, Err, not, unwrap_or, []}
+use Rattle.std.proofs.Common.{◌≡◌, ℕ, ◌+◌, ◌/◌, ◌%◌, ◌<◌, ◌≤◌, Bool, true, false, List, length, get_or, map, ◌&&◌, ltb, Option, Some, None, is_some, is_none, cond, refl, sym, ap, ap₂, ◌∙◌, ⊎_elim, arith}
+use Rattle.std.proofs.lemmas.Bool.{cases_lt, and_parts, lt-ltb, ltb-true}
+use Rattle.std.proofs.lemmas.List.{get_or_past, get_or-map, length-map}
+use Rattle.std.proofs.lemmas.List.FromFn.{get_or-map-range_with_len}
+use Rattle.kdf_lockout.specs.Groups.{Cells, Lent, group_at, is_out, word_here}
+use Rattle.kdf_journal.specs.declared.kind.Kind.{Kind}
+use Rattle.kdf_transfer.specs.Devices.{Fixture}
+use Rattle.kdf_director.specs.Physical.{device_count, by_number, own_words}
+use Rattle.kdf_journal.specs.declared.kind.Kind.TheVariants.{Tr, Tp, Cr, Lp, Mt}
+use Rattle.kdf_director.specs.Physical as physical
+use Rattle.kdf_processor.specs.State.{new_progress, word_in, device_in, fixture_at}
+use Rattle.kdf_processor.specs.Claims.{kind_at, is_kind, claim, is_claimed}
+use Rattle.kdf_director.specs.declared.place.Place.{Place}
+use Rattle.kdf_director.specs.declared.place.Place.TheVariants.{Absent}
+use Rattle.kdf_director.specs.Shared.{one_if}
+use Rattle.kdf_director.specs.Spots.{spot_at, spot_of, no_spot, leases_of, spot_kind, kind_in, is_wanted}
+use Rattle.kdf_director.specs.declared.place.Wanted.{Wanted}
+use Rattle.kdf_director.specs.declared.place.Wanted.TheVariants.{Kinded, Labelled}
+use Rattle.kdf_director.specs.Parts.{Shared, Part, owns, fixture_owned, own_stock, own_fixture, own_progress, own_claims, has_device}
+use Rattle.kdf_director.proofs.Tables.{limit_is, number_at}
+
+-- a word of the program
+pub own_word : (q : Part) (n : ℕ) (s : Shared) (a : ℕ) → a < q.size → word_in (own_stock q n s) a ≡ physical.word_at_place s.cells (leases_of s.spots) (q.base + a)
+own_word q n s a lt = get_or-map-range_with_len (λ x. physical.word_at_place s.cells (leases_of s.spots) (q.base + x)) 0 q.size a a 0 lt (omega arith)
+
+-- one whose group is here
+pub here_word : (cells : Cells) (leases : ℕ → Option Lent) (place : ℕ) → is_out cells (place / 32) ≡ false → physical.word_at_place cells leases place ≡ word_here cells place
+here_word cells leases place here = at_group (group_at cells (place / 32)) here
+  where
+    at_group : (o : Option (List ℕ)) → is_none o ≡ false → physical.word_where leases place o ≡ get_or (unwrap_or o []) (place % 32) 0
+    at_group None h = cc
+    at_group (Some ws) h = refl
+
+pub ok_of : {E V : Type 0} (b : Bool) (e : E) (w v : V) → Ok w ≡ cond b (Err e) (Ok v) → (b ≡ false) × (w ≡ v)
+ok_of true e w v is = cc
+ok_of false e w v is = (refl, cc)
+
+pub ok_is : {E V : Type 0} (b : Bool) (e : E) (w v : V) → b ≡ false → w ≡ v → Ok w ≡ cond b (Err e) (Ok v)
+ok_is true e w v not same = cc
+ok_is false e w v not same = ap Ok same
+
+-- what a device of a number is to the program
+pub own_fixture_at : (q : Part) (s : Shared) (d : ℕ) → d < device_count → fixture_at (own_claims q s) d ≡ own_fixture q s.spots d
+own_fixture_at q s d lt = number_at (own_fixture q s.spots) d None lt
+
+none_kind : (k : Kind) → is_kind k None ≡ true → ⊥
+none_kind Tr is = cc
+none_kind Tp is = cc
+none_kind Cr is = cc
+none_kind Lp is = cc
+none_kind Mt is = cc
+
+fixture_has : (b : Bool) (f : Option Fixture) (k : Kind) → is_kind k (kind_in (cond b f None)) ≡ true → b ≡ true
+fixture_has true f k is = refl
+fixture_has false f k is = absurd (none_kind k is)
+
+claim_true : (b : Bool) (o : Option Kind) (k : Kind) → is_kind k (cond b o None) ≡ true → (b ≡ true) × (is_kind k o ≡ true)
+claim_true true o k is = (refl, is)
+claim_true false o k is = absurd (none_kind k is)
+
+-- a device that is claimed, of some kind, is one of the program's
+pub claim_small : (q : Part) (s : Shared) (d : ℕ) (k : Kind) → is_kind k (claim (own_claims q s) d) ≡ true → d < device_count
+claim_small q s d k is =
+    let lt : d < 16 = ltb-true d 16 (and_parts _ _ (claim_true (ltb d 16 && get_or q.claimed d false) (kind_at (own_claims q s) d) k is).0).0 in
+    omega (arith, limit_is)
+
+pub claim_kind : (q : Part) (s : Shared) (d : ℕ) (k : Kind) → is_kind k (claim (own_claims q s) d) ≡ true → is_kind k (kind_in (own_fixture q s.spots d)) ≡ true
+claim_kind q s d k is =
+    ap (λ f. is_kind k (kind_in f)) (sym (own_fixture_at q s d (claim_small q s d k is)))
+    ∙ (claim_true (ltb d 16 && get_or q.claimed d false) (kind_at (own_claims q s) d) k is).1
+
+pub claim_has : (q : Part) (s : Shared) (d : ℕ) (k : Kind) → is_kind k (claim (own_claims q s) d) ≡ true → has_device q d ≡ true
+claim_has q s d k is = fixture_has (has_device q d) (spot_at s.spots d).fixture k (claim_kind q s d k is)
+
+-- and of that kind in its place
+pub claim_spot : (q : Part) (s : Shared) (d : ℕ) (k : Kind) → is_kind k (claim (own_claims q s) d) ≡ true → is_kind k (spot_kind (spot_at s.spots d)) ≡ true
+claim_spot q s d k is =
+    ap (λ b. is_kind k (kind_in (cond b (spot_at s.spots d).fixture None))) (sym (claim_has q s d k is)) ∙ claim_kind q s d k is
+
+some_claim : (b : Bool) (o : Option Kind) → is_some (cond b o None) ≡ true → (b ≡ true) × (is_some o ≡ true)
+some_claim true o is = (refl, is)
+some_claim false o is = cc
+
+some_owned : (b : Bool) (f : Option Fixture) → is_some (kind_in (cond b f None)) ≡ true → b ≡ true
+some_owned true f is = refl
+some_owned false f is = cc
+
+-- a device that is claimed is one of the program's
+pub claimed_small : (q : Part) (s : Shared) (d : ℕ) → is_claimed (own_claims q s) d ≡ true → d < device_count
+claimed_small q s d is =
+    let lt : d < 16 = ltb-true d 16 (and_parts _ _ (some_claim (ltb d 16 && get_or q.claimed d false) (kind_at (own_claims q s) d) is).0).0 in
+    omega (arith, limit_is)
+
+pub claimed_has : (q : Part) (s : Shared) (d : ℕ) → is_claimed (own_claims q s) d ≡ true → has_device q d ≡ true
+claimed_has q s d is =
+    some_owned (has_device q d) (spot_at s.spots d).fixture
+    (ap (λ f. is_some (kind_in f)) (sym (own_fixture_at q s d (claimed_small q s d is)))
+    ∙ (some_claim (ltb d 16 && get_or q.claimed d false) (kind_at (own_claims q s) d) is).1)
+
+by_claim : (b : Bool) (x y : Option Kind) → (b ≡ true → x ≡ y) → cond b x None ≡ cond b y None
+by_claim true x y same = same refl
+by_claim false x y same = refl
+
+-- what is claimed, by the places
+pub claim_is : (q : Part) (s : Shared) (d : ℕ) → claim (own_claims q s) d ≡ cond (ltb d 16 && get_or q.claimed d false) (kind_in (fixture_owned q.devices s.spots d)) None
+claim_is q s d =
+    by_claim (ltb d 16 && get_or q.claimed d false) (kind_at (own_claims q s) d) (kind_in (fixture_owned q.devices s.spots d))
+    (λ is. let lt : d < 16 = ltb-true d 16 (and_parts _ _ is).0 in ap kind_in (own_fixture_at q s d (omega (arith, limit_is))))
+
+-- a device that is wanted and isn't claimed
+pub free_is : (w : Wanted) (f : Option Fixture) (has claimed : Bool) → (has && (not claimed && is_wanted w f)) ≡ (is_wanted w (cond has f None) && not (is_some (cond claimed (kind_in (cond has f None)) None)))
+free_is (Kinded Tr) f false claimed = refl
+free_is (Kinded Tp) f false claimed = refl
+free_is (Kinded Cr) f false claimed = refl
+free_is (Kinded Lp) f false claimed = refl
+free_is (Kinded Mt) f false claimed = refl
+free_is (Labelled label) f false claimed = refl
+free_is w f true false = and_true (is_wanted w f)
+  where
+    and_true : (b : Bool) → b ≡ (b && true)
+    and_true true = refl
+    and_true false = refl
+free_is w None true true = none_wanted w
+  where
+    none_wanted : (w : Wanted) → false ≡ (is_wanted w None && true)
+    none_wanted (Kinded Tr) = refl
+    none_wanted (Kinded Tp) = refl
+    none_wanted (Kinded Cr) = refl
+    none_wanted (Kinded Lp) = refl
+    none_wanted (Kinded Mt) = refl
+    none_wanted (Labelled label) = refl
+free_is w (Some f) true true = and_false (is_wanted w (Some f))
+  where
+    and_false : (b : Bool) → false ≡ (b && false)
+    and_false true = refl
+    and_false false = refl
+
+pub free_shown : (q : Part) (s : Shared) (d : ℕ) (w : Wanted) → d < 16 → (owns q.devices d && (not (get_or q.claimed d false) && is_wanted w (spot_at s.spots d).fixture)) ≡ (is_wanted w (fixture_at (own_claims q s) d) && not (is_claimed (own_claims q s) d))
+free_shown q s d w lt =
+    free_is w (spot_at s.spots d).fixture (owns q.devices d) (get_or q.claimed d false)
+    ∙ ap₂ (λ f b. is_wanted w f && not (is_some (cond (b && get_or q.claimed d false) (kind_in f) None)))
+    (sym (own_fixture_at q s d (omega (arith, limit_is)))) (sym (lt-ltb d 16 lt))
+
+-- the progress of one of its devices
+pub own_device : (q : Part) (n : ℕ) (s : Shared) (d : ℕ) → d < device_count → has_device q d ≡ true → device_in (own_stock q n s) d ≡ (spot_at s.spots d).progress
+own_device q n s d lt has = number_at (own_progress q s.spots) d new_progress lt ∙ ap (λ b. cond b (spot_at s.spots d).progress new_progress) has
+
+-- a place of the list, as a spot
+pub spot_there : (places : List Place) (d : ℕ) → spot_at (map spot_of places) d ≡ spot_of (get_or places d Absent)
+spot_there places d =
+    ⊎_elim
+    (λ (lt : d < length places). get_or-map spot_of places d Absent no_spot lt)
+    (λ (past : length places ≤ d). get_or_past (map spot_of places) d no_spot (let e = length-map places spot_of in omega arith) ∙ sym (ap spot_of (get_or_past places d Absent past)))
+    (cases_lt d (length places))
+
+-- an answer of 1 or 0
+one_is : (b : Bool) → b ≡ ltb 0 (one_if b)
+one_is true = refl
+one_is false = refl
+
+pub one_more : (b x : Bool) → b ≡ x → b ≡ ltb 0 (one_if x)
+one_more b x same = same ∙ one_is x

@@ -1,0 +1,139 @@
+-- A turn over a machine shows what the machine's own definitions say.
+use Rattle.std.proofs.Common.{◌≡◌, ℕ, Bool, List, refl, ap, ap₂, sym, ◌∙◌, subst, map, get_or, set}
+use Rattle.kdf_processor.specs.declared.look.Ahead.{Ahead}
+use Rattle.kdf_processor.specs.declared.look.Ahead.TheVariants as ahead
+use Rattle.kdf_processor.specs.declared.fetch.Fetched.TheVariants.{Bad, Held}
+use Rattle.kdf_processor.specs.declared.registers.Registers.{Registers}
+use Rattle.kdf_processor.specs.declared.step.Step.{Step}
+use Rattle.kdf_processor.specs.Fetch.{IsFetchedAt}
+use Rattle.kdf_processor.proofs.Small.{small_fetched}
+use Rattle.kdf_director.specs.declared.note.Note.{Note}
+use Rattle.kdf_director.specs.declared.note.Note.TheVariants.{Quiet}
+use Rattle.kdf_processor.specs.Ahead.{IsAhead, IsSmall}
+use Rattle.kdf_processor.specs.Effect.{Act, Nothing, Writes, Starts, Asks, Acquires, Releases, Spools}
+use Rattle.kdf_processor.specs.Outcome.{Outcome, outcome}
+use Rattle.kdf_processor.specs.declared.spooled.Spooled.{Spooled}
+use Rattle.kdf_lockout.specs.Groups.{Cells}
+use Rattle.kdf_director.specs.declared.place.Place.{Place}
+use Rattle.kdf_director.specs.declared.place.Place.TheVariants.{Absent}
+use Rattle.kdf_director.specs.declared.turn.Turn.{Turn}
+use Rattle.kdf_director.specs.Spots.{Spot, no_spot, spot_of}
+use Rattle.kdf_director.specs.Turned.{outcome_over, seat_after, HasRun}
+use Rattle.kdf_director.proofs.Showing.{spot_there}
+use Rattle.std.proofs.lemmas.List.{map-set, set-get_or}
+use Rattle.kdf_director.specs.Notes.{note_after}
+use Rattle.kdf_director.specs.Parts.{Part, Reach, Shared, part_after, part_in, seat, shared_in}
+use Rattle.kdf_director.specs.Shared.{view, after_act}
+use Rattle.kdf_director.specs.Turn.{part_of, shared, shown, SameTurn, Acts, Stays, HasObeyed, HasRoom, HasRoomAhead}
+
+-- what is shown, by what it is shown of
+pub shown_of : (t : Turn) (q : Part) (time : ℕ) (s : Shared) → part_of t ≡ q → t.time ≡ time → shared t ≡ s → shown t ≡ view q time s
+shown_of t q time s e f g =
+    ap (λ x. view x t.time (shared t)) e ∙ ap (λ x. view q x (shared t)) f ∙ ap (view q time) g
+
+-- what is shown stays
+pub shown_stays : (old new : Turn) → Stays old new → shown new ≡ shown old
+shown_stays old new stays = shown_of new (part_of old) old.time (shared old) stays.part stays.same.time stays.shared
+
+-- a small act wants no memory
+pub small_room : (t : Turn) (act : Act) → IsSmall act → HasRoom t act
+small_room t Nothing small = tt
+small_room t (Writes a w) small = tt
+small_room t (Starts d o first last) small = absurd small
+small_room t (Asks question answer) small = tt
+small_room t (Acquires d) small = tt
+small_room t (Releases d) small = tt
+small_room t (Spools stream first last) small = absurd small
+
+-- an act has the memory that was taken for it
+room_ahead : (t : Turn) (act : Act) (a : Ahead) → IsAhead act a → HasRoomAhead t a → HasRoom t act
+room_ahead t act (ahead.Starts d o first last) is room = subst (HasRoom t) (sym is) room
+room_ahead t act (ahead.Spools stream first last) is room = subst (HasRoom t) (sym is) room
+room_ahead t act ahead.Else is room = small_room t act is
+
+pub room_taken : (old new : Turn) (r : Registers) (a : Ahead) → IsAhead (outcome (shown old) r).act a → Stays old new → HasRoomAhead new a → HasRoom new (outcome (shown new) r).act
+room_taken old new r a is stays room =
+    subst (λ v. HasRoom new (outcome v r).act) (sym (shown_stays old new stays)) (room_ahead new (outcome (shown old) r).act a is room)
+
+-- nor does an order that can't be fetched
+pub bad_room : (t : Turn) (r : Registers) → IsFetchedAt (shown t) r.at Bad → HasRoom t (outcome (shown t) r).act
+bad_room t r is = small_room t (outcome (shown t) r).act (small_fetched (shown t) r Bad tt is refl)
+
+pub held_room : (t : Turn) (r : Registers) (g : ℕ) → IsFetchedAt (shown t) r.at (Held g) → HasRoom t (outcome (shown t) r).act
+held_room t r g is = small_room t (outcome (shown t) r).act (small_fetched (shown t) r (Held g) tt is refl)
+
+pub same_same : (t u w : Turn) → SameTurn t u → SameTurn u w → SameTurn t w
+same_same t u w first second =
+    record {
+      time = second.time ∙ first.time;
+      claimed = second.claimed ∙ first.claimed;
+      spooled = second.spooled ∙ first.spooled;
+      store = second.store ∙ first.store;
+      places = second.places ∙ first.places;
+      block = second.block ∙ first.block;
+    }
+
+-- what was done to a turn that only took memory was done to the turn before
+pub acts_from : (t u w : Turn) (act : Act) → Stays t u → Acts u act w → Acts t act w
+acts_from t u w act stays acted =
+    record {
+      same = same_same t u w stays.same acted.same;
+      part = acted.part ∙ ap₂ (λ q s. part_after q s act) stays.part stays.shared;
+      shared = acted.shared ∙ ap₂ (λ q s. after_act q s act) stays.part stays.shared;
+      note = acted.note ∙ ap (note_after act) stays.note;
+    }
+
+-- an order that was obeyed once memory was taken
+pub obeyed_by : (old mid new : Turn) (r left : Registers) (ended : Step) (noted : Note) → Stays old mid → ended ≡ (outcome (shown mid) r).step → left ≡ (outcome (shown mid) r).registers → Acts mid (outcome (shown mid) r).act new → noted ≡ new.note → HasObeyed old r new left ended noted
+obeyed_by old mid new r left ended noted stays step registers acted note =
+    let same : outcome (shown mid) r ≡ outcome (shown old) r = ap (λ v. outcome v r) (shown_stays old mid stays) in
+    let done : Acts old (outcome (shown old) r).act new = acts_from old mid new (outcome (shown old) r).act stays (subst (λ (o : Outcome). Acts mid o.act new) same acted) in
+    record {
+      step = step ∙ ap (λ (o : Outcome). o.step) same;
+      note = note ∙ done.note;
+      registers = registers ∙ ap (λ (o : Outcome). o.registers) same;
+      acted = done;
+    }
+
+-- the fields of a program that were lent end as the turn leaves them
+pub seat_back : (t : Turn) (q : Part) (s : Shared) (o : Outcome) (p : ℕ) (r : Registers) (claimed : List Bool) (spooled : List Spooled) → p ≡ q.p → r ≡ o.registers → claimed ≡ t.claimed.now → spooled ≡ t.spooled.now.items → part_of t ≡ part_after q s o.act → seat p r claimed spooled ≡ seat_after q s o
+seat_back t q s o p r claimed spooled e f g h part =
+    ap₂ (λ a b. seat a b claimed spooled) e f
+    ∙ ap₂ (λ a b. seat q.p o.registers a b) (g ∙ ap (λ (x : Part). x.claimed) part) (h ∙ ap (λ (x : Part). x.spooled) part)
+
+abbrev pub share : Cells → List Spot → Shared
+share c s = record { cells = c; spots = s }
+
+pub shared_back : (t : Turn) (c : Cells) (ps : List Place) (x : Shared) → c ≡ t.store.now → ps ≡ t.places.now.items → shared t ≡ x → share c (map spot_of ps) ≡ x
+shared_back t c ps x d e h = ap₂ (λ a b. share a (map spot_of b)) d e ∙ h
+
+-- what was lent for an order that was obeyed
+pub ran_back : (t u : Turn) (p : ℕ) (r left : Registers) (claimed claimed' : List Bool) (spooled spooled' : List Spooled) (reach : Reach) (time : ℕ) (s : Shared) (cells : Cells) (places : List Place) (ended : Step) (noted : Note) → part_of t ≡ part_in (seat p r claimed spooled) reach → t.time ≡ time → shared t ≡ s → t.note ≡ Quiet → HasObeyed t r u left ended noted → claimed' ≡ u.claimed.now → spooled' ≡ u.spooled.now.items → cells ≡ u.store.now → places ≡ u.places.now.items → HasRun reach time (seat p r claimed spooled) s (seat p left claimed' spooled') (shared_in cells places) ended noted
+ran_back t u p r left claimed claimed' spooled spooled' reach time s cells places ended noted part_is time_is shared_is quiet obeyed claimed_is spooled_is cells_are places_are =
+    let q = part_in (seat p r claimed spooled) reach in
+    let o : Outcome = outcome (shown t) r in
+    let o' : Outcome = outcome_over (seat p r claimed spooled) reach time s in
+    let same : o ≡ o' = ap (λ v. outcome v r) (shown_of t q time s part_is time_is shared_is) in
+    record {
+      step = obeyed.step ∙ ap (λ (x : Outcome). x.step) same;
+      note = obeyed.note ∙ ap (note_after o.act) quiet ∙ ap (λ (x : Outcome). note_after x.act Quiet) same;
+      program = seat_back u q s o' p left claimed' spooled' refl (obeyed.registers ∙ ap (λ (x : Outcome). x.registers) same) claimed_is spooled_is
+          (obeyed.acted.part ∙ ap₂ (λ a b. part_after a b o.act) part_is shared_is ∙ ap (λ (x : Outcome). part_after q s x.act) same);
+      shared = shared_back u cells places (after_act q s o'.act) cells_are places_are
+          (obeyed.acted.shared ∙ ap₂ (λ a b. after_act a b o.act) part_is shared_is ∙ ap (λ (x : Outcome). after_act q s x.act) same);
+    }
+
+-- and for one that had no memory
+pub left_back : (t u : Turn) (p : ℕ) (r left : Registers) (claimed claimed' : List Bool) (spooled spooled' : List Spooled) (reach : Reach) (s : Shared) (cells : Cells) (places : List Place) → part_of t ≡ part_in (seat p r claimed spooled) reach → shared t ≡ s → left ≡ r → Stays t u → claimed' ≡ u.claimed.now → spooled' ≡ u.spooled.now.items → cells ≡ u.store.now → places ≡ u.places.now.items → (seat p left claimed' spooled' ≡ seat p r claimed spooled) × (shared_in cells places ≡ s)
+left_back t u p r left claimed claimed' spooled spooled' reach s cells places part_is shared_is same stays claimed_is spooled_is cells_are places_are =
+    let part : part_of u ≡ part_in (seat p r claimed spooled) reach = stays.part ∙ part_is in (
+      ap (λ x. seat p x claimed' spooled') same ∙ ap₂ (λ a b. seat p r a b) (claimed_is ∙ ap (λ (x : Part). x.claimed) part) (spooled_is ∙ ap (λ (x : Part). x.spooled) part),
+      shared_back u cells places s cells_are places_are (stays.shared ∙ shared_is),
+    )
+
+-- a place that shows the same is put back
+pub same_spots : (places : List Place) (d : ℕ) (old new : Place) → old ≡ get_or places d Absent → spot_of new ≡ spot_of old → map spot_of (set places d new) ≡ map spot_of places
+same_spots places d old new was same =
+    map-set spot_of places d new
+    ∙ ap (set (map spot_of places) d) (same ∙ ap spot_of was ∙ sym (spot_there places d))
+    ∙ set-get_or (map spot_of places) d no_spot

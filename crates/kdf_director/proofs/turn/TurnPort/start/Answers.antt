@@ -1,0 +1,36 @@
+use Rattle.std.proofs.Common.{◌≡◌, ◌+◌, true, length, ap, ◌∙◌, sym, subst, arith}
+use Rattle.kdf_transfer.specs.AtOnce.{kind_of, has_area}
+use Rattle.kdf_processor.specs.Claims.{is_kind}
+use Rattle.kdf_director.specs.Spots.{spot_at, spot_kind}
+use Rattle.kdf_director.specs.Shared.{is_out_of, IsFreeArea}
+use Rattle.kdf_director.specs.Turn.{part_of, shared}
+use Rattle.kdf_director.proofs.TurnBeginning.{free_groups, free_area, length-start}
+use Rattle.kdf_director.proofs.Showing.{claim_spot}
+use Rattle.kdf_director.proofs.turn.TurnPort.start.Goals as goal
+use Rattle.kdf_director.proofs.turn.TurnPort.start.Goals.{After-place-2}
+
+pub start_at-requires-clause-kind : goal.start_at-requires-clause-kind
+start_at-requires-clause-kind c =
+    let t = c.args.self.now in
+    subst (λ d. is_kind (kind_of c.args.order) (spot_kind (spot_at (shared t).spots d)) ≡ true) (sym c.from.ensures)
+    (claim_spot (part_of t) (shared t) c.args.device (kind_of c.args.order) c.requires.kind)
+
+-- the area in the places that were computed
+placed : (c : After-place-2) → has_area c.args.order ≡ true → IsFreeArea c.args.self.now.store.now c.place.result c.place-2.result
+placed c is =
+    let t = c.args.self.now in
+    let h : IsFreeArea t.store.now (t.window.base + c.args.first) (t.window.base + c.args.last) =
+    free_area t.store.now t.window.base t.window.size c.args.first c.args.last t.at_group t.in_store (c.requires.area is)
+    (free_groups (is_out_of (part_of t) (shared t)) c.args.order c.args.first c.args.last c.requires.free is) in
+    subst (λ f. IsFreeArea t.store.now f c.place-2.result) (sym c.place.ensures) (subst (λ l. IsFreeArea t.store.now (t.window.base + c.args.first) l) (sym c.place-2.ensures) h)
+
+pub start_at-requires-clause-area : goal.start_at-requires-clause-area
+start_at-requires-clause-area c = placed (goal.at.start_at-requires-clause-area c).After-place-2
+
+pub invariant_of-self-clause-in_store : goal.invariant_of-self-clause-in_store
+invariant_of-self-clause-in_store c =
+    let at = (goal.at.invariant_of-self-clause-in_store c).After-place-2 in
+    let t = c.args.self.now in
+    let same : length c.start_at.new.store ≡ length t.store.now = ap length c.start_at.ensures.store ∙ length-start c.args.order c.place.result c.place-2.result t.store.now (placed at) in
+    let within = t.in_store in
+    omega arith

@@ -1,0 +1,5 @@
+use Rattle.kdf_director.proofs.WorkedLemmas.{asks_journal}
+use Rattle.kdf_director.proofs.worked.is_answered.Goals as goal
+
+pub returns : goal.returns
+returns c = asks_journal

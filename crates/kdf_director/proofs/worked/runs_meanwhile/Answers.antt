@@ -1,0 +1,5 @@
+use Rattle.kdf_director.proofs.WorkedLemmas.{two_journal}
+use Rattle.kdf_director.proofs.worked.runs_meanwhile.Goals as goal
+
+pub returns : goal.returns
+returns c = two_journal

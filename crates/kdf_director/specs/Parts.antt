@@ -1,0 +1,149 @@
+-- A program's part of the machine, and what it has of its own beside its registers.
+use Rattle.std.specs.Prelude.{ℕ, ◌+◌, ◌==◌, Bool, true, false, if◌then◌else◌, List, ◌∷◌, [], ◌++◌, map, Option, None, slice_index_or, slice_set}
+use Rattle.std.specs.List.{list_any}
+use Rattle.kdf_word.specs.Characters.{codes_of_all}
+use Rattle.kdf_media.specs.Media.{through_end}
+use Rattle.kdf_lockout.specs.Groups.{Cells}
+use Rattle.kdf_relocate.specs.declared.window.Window.{Window}
+use Rattle.kdf_transfer.specs.Devices.{Fixture, Progress}
+use Rattle.kdf_transfer.specs.declared.device.Device.{Device}
+use Rattle.kdf_processor.specs.declared.registers.Registers.{Registers}
+use Rattle.kdf_processor.specs.declared.spooled.Spooled.{Spooled}
+use Rattle.kdf_processor.specs.Effect.{Act, Nothing, Writes, Starts, Asks, Acquires, Releases, Spools}
+use Rattle.kdf_processor.specs.Row.{area_words, at_once}
+use Rattle.kdf_processor.specs.State.{Claims, Stock, new_progress}
+use Rattle.kdf_director.specs.declared.place.Place.{Place}
+use Rattle.kdf_director.specs.declared.program.Program.{Program}
+use Rattle.kdf_director.specs.declared.slot.Loaded.{Loaded}
+use Rattle.kdf_director.specs.Physical.{by_number, own_words}
+use Rattle.kdf_director.specs.Spots.{Spot, spot_of, spot_at, leases_of}
+
+-- what all programs share: the groups, and the places of the devices
+pub record Shared : Type 0 where
+  pub cells : Cells
+  pub spots : List Spot
+
+abbrev pub shared_in : Cells → List Place → Shared
+shared_in cells places = record { cells = cells; spots = map spot_of places }
+
+-- what contracts see of a program: its slot, its registers, which devices it claimed, and what it spooled
+pub record Seat : Type 0 where
+  pub p : ℕ
+  pub registers : Registers
+  pub claimed : List Bool
+  pub spooled : List Spooled
+
+abbrev pub seat : ℕ → Registers → List Bool → List Spooled → Seat
+seat p registers claimed spooled =
+    record { p = p; registers = registers; claimed = claimed; spooled = spooled }
+
+abbrev pub seat_of : Program → Seat
+seat_of program = seat program.p program.registers program.claimed program.spooled.items
+
+-- what a slot reaches of the machine: its window, and the devices of these numbers
+pub record Reach : Type 0 where
+  pub base : ℕ
+  pub size : ℕ
+  pub devices : List ℕ
+
+-- the numbers of a slot's devices
+abbrev pub numbers : List (ℕ × Device) → List ℕ
+numbers devices = map (λ (x : ℕ × Device). x.0) devices
+
+abbrev pub window_at : List Window → ℕ → Window
+window_at windows p = slice_index_or windows p (record { base = 0; size = 0 })
+
+abbrev pub reach : Window → List (ℕ × Device) → Reach
+reach window devices = record { base = window.base; size = window.size; devices = numbers devices }
+
+abbrev pub reach_of : List Window → Loaded → Reach
+reach_of windows slot = reach (window_at windows slot.p) slot.devices.items
+
+-- a program's part of the machine
+pub record Part : Type 0 where
+  pub p : ℕ
+  pub base : ℕ
+  pub size : ℕ
+  pub devices : List ℕ
+  pub claimed : List Bool
+  pub spooled : List Spooled
+
+abbrev pub part_in : Seat → Reach → Part
+part_in seat reach =
+    record {
+      p = seat.p;
+      base = reach.base;
+      size = reach.size;
+      devices = reach.devices;
+      claimed = seat.claimed;
+      spooled = seat.spooled;
+    }
+
+-- one of these devices has the number
+abbrev pub owns : List ℕ → ℕ → Bool
+owns devices d = list_any (λ n. n == d) devices
+
+-- and what it is
+abbrev pub fixture_owned : List ℕ → List Spot → ℕ → Option Fixture
+fixture_owned devices spots d = if owns devices d then (spot_at spots d).fixture else None
+
+-- the device of a number is the program's, whether it is claimed or not
+abbrev pub has_device : Part → ℕ → Bool
+has_device q d = owns q.devices d
+
+abbrev pub own_fixture : Part → List Spot → ℕ → Option Fixture
+own_fixture q spots d = fixture_owned q.devices spots d
+
+abbrev pub own_progress : Part → List Spot → ℕ → Progress
+own_progress q spots d = if has_device q d then (spot_at spots d).progress else new_progress
+
+-- what a program's orders are checked against
+abbrev pub own_claims : Part → Shared → Claims
+own_claims q s =
+    record { size = q.size; claimed = q.claimed; fixtures = by_number (own_fixture q s.spots) }
+
+-- what a program has beside its registers, after so many answers
+abbrev pub own_stock : Part → ℕ → Shared → Stock
+own_stock q asked s =
+    record {
+      claims = own_claims q s;
+      spooled = q.spooled;
+      asked = asked;
+      store = own_words q.base q.size s.cells (leases_of s.spots);
+      devices = by_number (own_progress q s.spots);
+    }
+
+-- the characters of an area up to and with the first End Message, or all
+abbrev pub own_text : Part → Shared → ℕ → ℕ → List ℕ
+own_text q s first last = through_end (codes_of_all (area_words first last (own_stock q 0 s)))
+
+-- what an acting call leaves of the program's part
+abbrev pub part_after : Part → Shared → Act → Part
+part_after q s Nothing = q
+part_after q s (Writes a w) = q
+part_after q s (Starts d o first last) = q
+part_after q s (Asks question answer) = q
+part_after q s (Acquires d) = record q { claimed = slice_set q.claimed d true }
+part_after q s (Releases d) = record q { claimed = slice_set q.claimed d false }
+part_after q s (Spools stream first last) =
+    record q { spooled = q.spooled ++ record { stream = stream; text = own_text q s first last } ∷ [] }
+
+-- how many answers it took then
+abbrev pub asked_after : ℕ → Act → ℕ
+asked_after asked Nothing = asked
+asked_after asked (Writes a w) = asked
+asked_after asked (Starts d o first last) = asked
+asked_after asked (Asks question answer) = asked + 1
+asked_after asked (Acquires d) = asked
+asked_after asked (Releases d) = asked
+asked_after asked (Spools stream first last) = asked
+
+-- an acting call, done to what a program has: a transfer only begins
+abbrev pub begun : Act → Stock → Stock
+begun Nothing k = k
+begun (Writes a w) k = at_once (Writes a w) k
+begun (Starts d o first last) k = k
+begun (Asks question answer) k = at_once (Asks question answer) k
+begun (Acquires d) k = at_once (Acquires d) k
+begun (Releases d) k = at_once (Releases d) k
+begun (Spools stream first last) k = at_once (Spools stream first last) k

@@ -1,0 +1,111 @@
+-- The programs of a machine over what they share: each program's own state, and what holds at each moment.
+use Rattle.std.specs.Prelude.{◌≡◌, ◌≢◌, ℕ, ◌+◌, ◌*◌, ◌%◌, ◌<◌, ◌≤◌, List, [], length, map, true, false, Option, Some, None, is_some, slice_index_or, slice_set, ◌==◌, if◌then◌else◌}
+use Rattle.kdf_relocate.specs.declared.window.Window.{Window}
+use Rattle.kdf_transfer.specs.AtOnce.{written}
+use Rattle.kdf_transfer.specs.InFlight.{total_of, ended_progress}
+use Rattle.kdf_processor.specs.declared.step.Need.{Need}
+use Rattle.kdf_processor.specs.Effect.{Question}
+use Rattle.kdf_processor.specs.Needs.{needs}
+use Rattle.kdf_processor.specs.Outcome.{Outcome, held_or}
+use Rattle.kdf_processor.specs.Row.{next_of}
+use Rattle.kdf_processor.specs.State.{State, new_registers}
+use Rattle.kdf_processor.specs.View.{first_pending}
+use Rattle.kdf_director.specs.declared.program.Program.{Program}
+use Rattle.kdf_director.specs.declared.slot.Loaded.{Loaded}
+use Rattle.kdf_director.specs.Parts.{Part, Shared, Seat, Reach, seat_of, reach_of, part_in, has_device, own_stock, begun}
+use Rattle.kdf_director.specs.Shared.{answer_in, view, flight_moves}
+use Rattle.kdf_director.specs.Sound.{IsSound, IsFlightOf}
+use Rattle.kdf_director.specs.Spots.{Held, Spot, spot_at, own_from}
+
+abbrev pub no_seat : Seat
+no_seat = record { p = 0; registers = new_registers; claimed = []; spooled = [] }
+
+abbrev pub seat_at : List Seat → ℕ → Seat
+seat_at seats i = slice_index_or seats i no_seat
+
+abbrev pub reach_at : List Reach → ℕ → Reach
+reach_at reaches i = slice_index_or reaches i (record { base = 0; size = 0; devices = [] })
+
+abbrev pub reaches_in : List Window → List Loaded → List Reach
+reaches_in windows slots = map (reach_of windows) slots
+
+abbrev pub seats_in : List Program → List Seat
+seats_in programs = map seat_of programs
+
+-- the part of program i
+abbrev pub part_at : List Reach → List Seat → ℕ → Part
+part_at reaches seats i = part_in (seat_at seats i) (reach_at reaches i)
+
+-- its own state after so many answers: its registers, the words of its window here and out, and its devices
+unfoldable pub own_state : List Reach → List Seat → Shared → ℕ → ℕ → State
+own_state reaches seats s asked i =
+    record {
+      registers = (seat_at seats i).registers;
+      stock = own_stock (part_at reaches seats i) asked s;
+    }
+
+-- the first need of its next order that is pending
+unfoldable pub hold_of : List Reach → List Seat → Shared → ℕ → Option Need
+hold_of reaches seats s i =
+    first_pending (view (part_at reaches seats i) 0 s)
+    (needs (own_state reaches seats s 0 i) (own_from (seat_at seats i).p 0 s.spots))
+
+-- what it is answered at a time
+abbrev pub answers_at : List Reach → List Seat → ℕ → Shared → ℕ → Question → ℕ
+answers_at reaches seats time s i = answer_in (part_at reaches seats i) time s
+
+-- what the try of its next order comes to at a time, by its own state
+unfoldable pub outcome_at : List Reach → List Seat → Shared → ℕ → ℕ → ℕ → Outcome
+outcome_at reaches seats s time asked i =
+    held_or (seat_at seats i).registers (hold_of reaches seats s i)
+    (next_of (own_state reaches seats s asked i) (answers_at reaches seats time s i))
+
+-- a state behind an outcome: a transfer only begins
+abbrev pub tried : Outcome → State → State
+tried o s = record { registers = o.registers; stock = begun o.act s.stock }
+
+-- a transfer is of one of the programs
+pub record IsHeld (reaches : List Reach) (seats : List Seat) (d : ℕ) (x : Spot) (h : Held) : Type 0 where
+  pub by : ℕ
+  pub there : by < length seats
+  pub flight : IsFlightOf (part_at reaches seats by) d x h
+
+-- the programs stand by their slots and the windows lie one behind the other, each device is of one program,
+-- and each transfer is of a program
+pub record IsRunning (reaches : List Reach) (seats : List Seat) (s : Shared) : Type 0 where
+  pub sound : IsSound s
+  pub numbered : (i j : ℕ) → i < j → j < length seats → (seat_at seats i).p < (seat_at seats j).p
+  pub at_group : (i : ℕ) → i < length seats → (reach_at reaches i).base % 32 ≡ 0
+  pub in_store : (i : ℕ) → i < length seats
+      → (reach_at reaches i).base + (reach_at reaches i).size ≤ 32 * length s.cells
+  pub apart : (i j : ℕ) → i < j → j < length seats
+      → (reach_at reaches i).base + (reach_at reaches i).size ≤ (reach_at reaches j).base
+  pub devices : (i j d : ℕ) → i < length seats → j < length seats → i ≢ j
+      → has_device (part_at reaches seats i) d ≡ true → has_device (part_at reaches seats j) d ≡ false
+  pub fixtures : (i d : ℕ) → i < length seats → has_device (part_at reaches seats i) d ≡ true
+      → is_some (spot_at s.spots d).fixture ≡ true
+  pub flights : (d : ℕ) (h : Held) → (spot_at s.spots d).flight ≡ Some h
+      → IsHeld reaches seats d (spot_at s.spots d) h
+
+-- a program's state after n words more of a transfer
+abbrev pub moved_own : Part → ℕ → Option Held → State → State
+moved_own q n None s = s
+moved_own q n (Some h) s =
+    if h.p == q.p
+    then record s {
+      stock = record s.stock { store = written (flight_moves q.base n h.motion) s.stock.store };
+    }
+    else s
+
+-- and after the end of the transfer on device d
+abbrev pub ended_own : Part → ℕ → Option Held → State → State
+ended_own q d None s = s
+ended_own q d (Some h) s =
+    if h.p == q.p
+    then record s {
+      stock = record s.stock {
+        store = written (flight_moves q.base (total_of h.motion) h.motion) s.stock.store;
+        devices = slice_set s.stock.devices d (ended_progress h.motion);
+      };
+    }
+    else s

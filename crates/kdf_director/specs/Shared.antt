@@ -1,0 +1,136 @@
+-- What is shown of the machine to one program, and what an acting call, moved words and an end leave of what all share.
+use Rattle.std.specs.Prelude.{◌≡◌, ◌<◌, ◌≤◌, length, take, drop, find, ℕ, ◌+◌, ◌-◌, ◌/◌, List, [], Bool, if◌then◌else◌, Option, Some, None, slice_set, is_some}
+use Rattle.kdf_lockout.specs.Groups.{Cells, Lent, is_out, with_word, without_groups, lent_groups, first_out_of, touched, with_groups}
+use Rattle.kdf_lockout.specs.Groups as groups
+use Rattle.kdf_transfer.specs.declared.order.TransferOrder.{TransferOrder}
+use Rattle.kdf_transfer.specs.AtOnce.{is_input, has_area, addressed}
+use Rattle.kdf_transfer.specs.InFlight.{Motion, moved_by, words_of, total_of, ended_progress}
+use Rattle.kdf_processor.specs.Effect.{Question, IsBusy, IsOut, Time, Act, Nothing, Writes, Starts, Asks, Acquires, Releases, Spools}
+use Rattle.kdf_processor.specs.View.{View, by_itself, groups_of}
+use Rattle.kdf_director.specs.Spots.{Held, Spot, spot_at, own_from, fixture_or}
+use Rattle.kdf_director.specs.Parts.{Shared, Part, own_stock}
+
+-- a group of the program's window is out
+abbrev pub is_out_of : Part → Shared → ℕ → Bool
+is_out_of q s g = is_out s.cells (q.base / 32 + g)
+
+-- a device has a transfer
+abbrev pub is_busy_in : Shared → ℕ → Bool
+is_busy_in s d = is_some (spot_at s.spots d).flight
+
+abbrev pub one_if : Bool → ℕ
+one_if b = if b then 1 else 0
+
+-- what the machine answers at a time
+abbrev pub answer_in : Part → ℕ → Shared → Question → ℕ
+answer_in q time s (IsBusy d) = one_if (is_busy_in s d)
+answer_in q time s (IsOut first last) = one_if (is_some (find (is_out_of q s) (groups_of first last)))
+answer_in q time s Time = time
+
+-- what is shown of a program at a time
+abbrev pub view : Part → ℕ → Shared → View
+view q time s =
+    record (by_itself (answer_in q time s) (own_stock q 0 s)) {
+      is_out = is_out_of q s;
+      is_busy = is_busy_in s;
+      mine = own_from q.p 0 s.spots;
+    }
+
+abbrev pub start_cells : TransferOrder → ℕ → ℕ → Cells → Cells
+start_cells o first last cells =
+    if has_area o then without_groups cells (first / 32) (touched first last) else cells
+
+abbrev pub start_lease : TransferOrder → ℕ → ℕ → Cells → Option Lent
+start_lease o first last cells =
+    if has_area o then Some (lent_groups cells (first / 32) (touched first last)) else None
+
+-- the place of a device whose transfer was begun
+abbrev pub start_spot : ℕ → TransferOrder → ℕ → ℕ → Cells → Spot → Spot
+start_spot p o first last cells s =
+    record {
+      fixture = Some (fixture_or s.fixture);
+      progress = s.progress;
+      flight = Some (record {
+        p = p;
+        motion = record {
+          order = o;
+          first = first;
+          last = last;
+          fixture = fixture_or s.fixture;
+          progress = s.progress;
+          lease = start_lease o first last cells;
+          moved = 0;
+        };
+      });
+    }
+
+-- what an acting call of a program leaves
+abbrev pub after_act : Part → Shared → Act → Shared
+after_act q s Nothing = s
+after_act q s (Writes a w) = record s { cells = with_word s.cells (q.base + a) w }
+after_act q s (Starts d o first last) =
+    record {
+      cells = start_cells o (q.base + first) (q.base + last) s.cells;
+      spots = slice_set s.spots d
+          (start_spot q.p o (q.base + first) (q.base + last) s.cells (spot_at s.spots d));
+    }
+after_act q s (Asks question answer) = s
+after_act q s (Acquires d) = s
+after_act q s (Releases d) = s
+after_act q s (Spools stream first last) = s
+
+-- the places are in the store, no more than 4,096, and none of their groups is out
+pub record IsFreeArea (cells : Cells) (first last : ℕ) : Type 0 where
+  pub rising : first ≤ last
+  pub few : last ≤ first + 4095
+  pub inside : last / 32 < length cells
+  pub free : first_out_of cells (first / 32) (touched first last) ≡ None
+
+-- the groups of a lease are out of the store, where there is one
+abbrev pub IsBack : Cells → Option Lent → Type 0
+IsBack cells None = Unit {0}
+IsBack cells (Some l) = groups.IsOut cells l
+
+-- the place of a device after n words more of its transfer
+abbrev pub moved_held : ℕ → Option Held → Option Held
+moved_held n None = None
+moved_held n (Some h) = Some (record { p = h.p; motion = moved_by n h.motion })
+
+abbrev pub moved_spot : ℕ → Spot → Spot
+moved_spot n x = record { fixture = x.fixture; progress = x.progress; flight = moved_held n x.flight }
+
+abbrev pub after_move : ℕ → ℕ → Shared → Shared
+after_move d n s = record s { spots = slice_set s.spots d (moved_spot n (spot_at s.spots d)) }
+
+-- the place of a device after the end of its transfer
+abbrev pub ended_by : Spot → Option Held → Spot
+ended_by x None = x
+ended_by x (Some h) =
+    record { fixture = x.fixture; progress = ended_progress h.motion; flight = None }
+
+abbrev pub ended_spot : Spot → Spot
+ended_spot x = ended_by x x.flight
+
+-- the store with the groups of a lease
+abbrev pub back_cells : Option Lent → Cells → Cells
+back_cells None cells = cells
+back_cells (Some l) cells = with_groups cells l
+
+-- the lease once all words have moved
+abbrev pub last_lease : Option Held → Option Lent
+last_lease None = None
+last_lease (Some h) = (moved_by (total_of h.motion) h.motion).lease
+
+abbrev pub after_end : ℕ → Shared → Shared
+after_end d s =
+    record {
+      cells = back_cells (last_lease (spot_at s.spots d).flight) s.cells;
+      spots = slice_set s.spots d (ended_spot (spot_at s.spots d));
+    }
+
+-- the moves of a flight's next n words to the store, in the program's addresses
+abbrev pub flight_moves : ℕ → ℕ → Motion → List (ℕ × ℕ)
+flight_moves base n t =
+    if is_input t.order
+    then take n (drop t.moved (addressed t.order (t.first - base) (t.last - base) (words_of t)))
+    else []

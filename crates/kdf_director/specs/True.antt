@@ -1,0 +1,25 @@
+-- What an order that asks is truly answered.
+use Rattle.std.specs.Prelude.{ℕ, List, Bool, if◌then◌else◌}
+use Rattle.std.specs.List.{list_any}
+use Rattle.kdf_journal.specs.declared.entry.Entry.{Entry}
+use Rattle.kdf_journal.specs.Counts.{clock}
+use Rattle.kdf_processor.specs.declared.step.Need.{Need}
+use Rattle.kdf_processor.specs.declared.step.Need.TheVariants.{Group, Device}
+use Rattle.kdf_processor.specs.Effect.{Question, IsBusy, IsOut, Time}
+use Rattle.kdf_processor.specs.View.{groups_of}
+use Rattle.kdf_director.specs.World.{World}
+
+-- 1 exactly where it is so
+abbrev pub one_if : Bool → ℕ
+one_if is = if is then 1 else 0
+
+-- whether the device has a transfer, whether a group of the area is locked out, and the time
+abbrev pub known : (pending : Need → Bool) (time : ℕ) → Question → ℕ
+known pending time (IsBusy d) = one_if (pending (Device d))
+known pending time (IsOut first last) = one_if (list_any (λ g. pending (Group g)) (groups_of first last))
+known pending time Time = time
+
+-- what program p is truly answered in this world, after the journal J: what of it is pending,
+-- and the time that was set last
+abbrev pub truth : World → List Entry → ℕ → Question → ℕ
+truth w J p = known (w.pending p) (clock J)

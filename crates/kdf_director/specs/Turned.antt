@@ -1,0 +1,44 @@
+-- What the try of one order does: to one program, and to all.
+use Rattle.std.specs.Prelude.{◌≡◌, ◌≢◌, ◌<◌, ℕ, List, length}
+use Rattle.kdf_processor.specs.declared.step.Step.{Step}
+use Rattle.kdf_processor.specs.Outcome.{Outcome, outcome}
+use Rattle.kdf_director.specs.declared.note.Note.{Note}
+use Rattle.kdf_director.specs.Notes.{note_of}
+use Rattle.kdf_director.specs.Parts.{Part, Seat, Reach, Shared, part_in, part_after, asked_after}
+use Rattle.kdf_director.specs.Running.{part_at, own_state, outcome_at, tried}
+use Rattle.kdf_director.specs.Shared.{view, after_act}
+
+-- what the next order of a program comes to
+abbrev pub outcome_over : Seat → Reach → ℕ → Shared → Outcome
+outcome_over seat reach time s = outcome (view (part_in seat reach) time s) seat.registers
+
+-- the program behind an outcome
+abbrev pub seat_after : Part → Shared → Outcome → Seat
+seat_after q s o =
+    record {
+      p = q.p;
+      registers = o.registers;
+      claimed = (part_after q s o.act).claimed;
+      spooled = (part_after q s o.act).spooled;
+    }
+
+-- a program tried its next order over what is shared
+pub record HasRun (reach : Reach) (time : ℕ) (before : Seat) (s : Shared) (after : Seat) (left : Shared)
+    (ended : Step) (noted : Note) : Type 0 where
+  pub step : ended ≡ (outcome_over before reach time s).step
+  pub note : noted ≡ note_of (outcome_over before reach time s).act
+  pub program : after ≡ seat_after (part_in before reach) s (outcome_over before reach time s)
+  pub shared : left ≡ after_act (part_in before reach) s (outcome_over before reach time s).act
+
+-- program i of all tried its next order: its own state is that of its row, where a transfer only begins, and every other's is as it was
+pub record HasTurned (reaches : List Reach) (time i : ℕ) (before : List Seat) (s : Shared)
+    (after : List Seat) (left : Shared) (ended : Step) (noted : Note) : Type 0 where
+  pub step : (asked : ℕ) → ended ≡ (outcome_at reaches before s time asked i).step
+  pub note : (asked : ℕ) → noted ≡ note_of (outcome_at reaches before s time asked i).act
+  pub own : (asked : ℕ) →
+      own_state reaches after left (asked_after asked (outcome_at reaches before s time asked i).act) i
+      ≡ tried (outcome_at reaches before s time asked i) (own_state reaches before s asked i)
+  pub others : (asked j : ℕ) → j < length before → j ≢ i
+      → own_state reaches after left asked j ≡ own_state reaches before s asked j
+  pub shared : (asked : ℕ) →
+      left ≡ after_act (part_at reaches before i) s (outcome_at reaches before s time asked i).act

@@ -1,0 +1,153 @@
+//! One order of one program.
+ghost use Rattle.std.specs.Prelude.{◌≡◌, ◌+◌, ◌*◌, ◌%◌, ◌<◌, ◌≤◌, length, map, IfOk, OnOk, OnErr, []};
+ghost use Rattle.kdf_director.specs.Parts.{reach, reach_of, seat, seat_of, shared_in};
+ghost use Rattle.kdf_director.specs.Running.{reaches_in, seat_at, seats_in, IsRunning};
+ghost use Rattle.kdf_director.specs.Spots.{AreDry};
+ghost use Rattle.kdf_director.specs.Turn.{HasObeyed, SameTurn, Stays};
+ghost use Rattle.kdf_director.specs.Turned.{HasRun, HasTurned};
+ghost use Rattle.kdf_director.specs.Parts.{window_at};
+
+use crate::room::make_room;
+use crate::turn::Turn;
+use crate::{Loaded, Note, Place, Program};
+use kdf_lockout::Store;
+use kdf_processor::{Life, Registers, Spooled, Step, fetch_order, obey_fetched};
+use kdf_relocate::Window;
+use kdf_transfer::Device;
+use std::alloc::{AllocError, Global};
+
+/// Obeys the next order of a live program. There is one such function, so that all of an order's ways stand in it.
+#[inline(never)]
+fn obey_next(registers: &mut Registers, turn: &mut Turn<'_>) -> Result<(Step, Note), AllocError>
+    requires live { registers.old.state ≡ Life.Live }
+    requires ran { registers.old.ran < u32.MAX }
+    requires empty { turn.old.block.now.items ≡ [] }
+    ensures obeyed { IfOk result
+        (λ x. HasObeyed turn.old registers.old turn.new registers.new x.0 x.1) }
+    ensures err { OnErr result ((registers.new ≡ registers.old) × Stays turn.old turn.new) }
+    ensures same { SameTurn turn.old turn.new }
+{
+    let fetched = fetch_order(turn, registers.at);
+    make_room(registers, turn, fetched)?;
+    let step = obey_fetched(registers, turn, fetched);
+    Ok((step, turn.note()))
+}
+
+/// Tries the next order of slot `p` at a time, over its window and with its devices. At Err all is unchanged.
+fn try_next(
+    alloc: Global,
+    p: u8,
+    window: Window,
+    time: u64,
+    devices: &[(u8, Device)],
+    registers: &mut Registers,
+    claimed: &mut [bool; 16],
+    spooled: &mut Vec<Spooled>,
+    store: &mut Store,
+    places: &mut Vec<Place>,
+) -> Result<(Step, Note), AllocError>
+    requires live { registers.old.state ≡ Life.Live }
+    requires ran { registers.old.ran < u32.MAX }
+    requires at_group { window.base % 32 ≡ 0 }
+    requires in_store { window.base + window.size ≤ 32 * length store.old }
+    requires sixteen { length places.old.items ≡ 16 }
+    requires dry { AreDry places.old.items }
+    ensures ran { IfOk result (λ x. HasRun (reach window devices.now) time
+        (seat p registers.old claimed.old spooled.old.items) (shared_in store.old places.old.items)
+        (seat p registers.new claimed.new spooled.new.items)
+        (shared_in store.new places.new.items) x.0 x.1) }
+    ensures err { OnErr result ((seat p registers.new claimed.new spooled.new.items
+        ≡ seat p registers.old claimed.old spooled.old.items)
+        × (shared_in store.new places.new.items ≡ shared_in store.old places.old.items)) }
+    ensures dry { AreDry places.new.items }
+{
+    let mut block = Vec::new(alloc);
+    let mut turn = Turn::new(
+        alloc, p, window, time, devices, claimed, spooled, store, places, &mut block,
+    );
+    obey_next(registers, &mut turn)
+}
+
+/// Tries the next order of a program at a time over what is shared, all its memory being taken first. At Err all is unchanged.
+pub(crate) fn run(
+    alloc: Global,
+    windows: &[Window; 4],
+    time: u64,
+    slot: &Loaded,
+    program: &mut Program,
+    store: &mut Store,
+    places: &mut Vec<Place>,
+) -> Result<(Step, Note), AllocError>
+    requires live { program.old.registers.state ≡ Life.Live }
+    requires ran { program.old.registers.ran < u32.MAX }
+    requires at_group { (window_at windows.now slot.now.p).base % 32 ≡ 0 }
+    requires in_store { (window_at windows.now slot.now.p).base
+        + (window_at windows.now slot.now.p).size ≤ 32 * length store.old }
+    requires sixteen { length places.old.items ≡ 16 }
+    requires dry { AreDry places.old.items }
+    ensures ran { IfOk result (λ x. HasRun (reach_of windows.now slot.now) time
+        (seat_of program.old) (shared_in store.old places.old.items)
+        (seat_of program.new) (shared_in store.new places.new.items) x.0 x.1) }
+    ensures err { OnErr result ((seat_of program.new ≡ seat_of program.old)
+        × (shared_in store.new places.new.items ≡ shared_in store.old places.old.items)) }
+    ensures hold { program.new.hold ≡ program.old.hold }
+    ensures dry { AreDry places.new.items }
+{
+    let window = window_of(windows, slot.p);
+    try_next(
+        alloc,
+        program.p,
+        window,
+        time,
+        &slot.devices,
+        &mut program.registers,
+        &mut program.claimed,
+        &mut program.spooled,
+        store,
+        places,
+    )
+}
+
+/// The window of a slot; one without a word where there is no such slot.
+fn window_of(windows: &[Window; 4], p: u8) -> Window
+    ensures { result ≡ window_at windows.now p }
+{
+    match windows.get(usize::from(p)) {
+        Some(window) => *window,
+        None => Window { base: 0, size: 0 },
+    }
+}
+
+/// Tries the next order of program `i` at a time. At Err all is unchanged.
+pub(crate) fn turn(
+    alloc: Global,
+    windows: &[Window; 4],
+    slots: &[Loaded],
+    programs: &mut Vec<Program>,
+    store: &mut Store,
+    places: &mut Vec<Place>,
+    time: u64,
+    i: usize,
+) -> Result<(Step, Note), AllocError>
+    requires there { i < length programs.old.items }
+    requires slots { length slots.now ≡ length programs.old.items }
+    requires live { (seat_at (seats_in programs.old.items) i).registers.state ≡ Life.Live }
+    requires ran { (seat_at (seats_in programs.old.items) i).registers.ran < u32.MAX }
+    requires running { IsRunning (reaches_in windows.now slots.now) (seats_in programs.old.items)
+        (shared_in store.old places.old.items) }
+    requires dry { AreDry places.old.items }
+    ensures turned { IfOk result (λ x. HasTurned (reaches_in windows.now slots.now) time i
+        (seats_in programs.old.items) (shared_in store.old places.old.items)
+        (seats_in programs.new.items) (shared_in store.new places.new.items) x.0 x.1) }
+    ensures running { IsRunning (reaches_in windows.now slots.now) (seats_in programs.new.items)
+        (shared_in store.new places.new.items) }
+    ensures err { OnErr result ((seats_in programs.new.items ≡ seats_in programs.old.items)
+        × (shared_in store.new places.new.items ≡ shared_in store.old places.old.items)) }
+    ensures dry { AreDry places.new.items }
+    ensures many { length programs.new.items ≡ length programs.old.items }
+    ensures holds { map (λ (x : Program). x.hold) programs.new.items
+        ≡ map (λ (x : Program). x.hold) programs.old.items }
+{
+    let slot = &slots[i];
+    run(alloc, windows, time, slot, &mut programs[i], store, places)
+}

@@ -1,0 +1,12 @@
+//! What is noted of an order.
+
+/// What is noted of an order beside how it ended.
+#[derive(Clone, Copy, Debug, PartialEq, Eq)]
+pub enum Note {
+    /// Nothing.
+    Quiet,
+    /// It began a transfer on this device.
+    Began(u8),
+    /// It asked, and was told this.
+    Told(u64),
+}

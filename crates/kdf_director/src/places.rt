@@ -1,0 +1,81 @@
+//! What is asked of all places.
+ghost use Rattle.std.specs.Prelude.{◌≡◌, ◌<◌, ◌&&◌, length, nat_lt, IfSome, true, false, not, None, Option, map, slice_index_or, OnOk, if◌then◌else◌};
+ghost use Rattle.std.specs.Option.{option_map};
+ghost use Rattle.kdf_processor.specs.View.{head, test_of};
+ghost use Rattle.kdf_director.specs.Physical.{device_count, word_out};
+ghost use Rattle.kdf_director.specs.Spots.{Held, own_from, spot_of, spot_at, spot_kind, is_flying, leases_of, AreDry, IsReady};
+ghost use Rattle.kdf_director.specs.declared.place.Place.TheVariants.{Absent};
+
+use crate::Place;
+use kdf_processor::Test;
+use kdf_transfer::{Transfer, TransferOrder};
+use kdf_word::Word;
+use std::alloc::AllocError;
+
+/// The word at a place of the store whose group is out.
+pub(crate) fn word_lent(places: &[Place], place: usize) -> Word
+    requires { length places.now ≡ 16 }
+    ensures { result ≡ word_out device_count (leases_of (map spot_of places.now)) place }
+{
+    let mut d = places.len();
+    while d > 0 {
+        d -= 1;
+        if let Some(word) = places[d].lent(place) {
+            return word;
+        }
+    }
+    Word::default()
+}
+
+/// Takes the memory for the blocks that an order adds to a device.
+pub(crate) fn make_ready_at(
+    places: &mut Vec<Place>,
+    d: usize,
+    order: TransferOrder,
+) -> Result<(), AllocError>
+    ensures spots { map spot_of places.new.items ≡ map spot_of places.old.items }
+    ensures dry { AreDry places.old.items → AreDry places.new.items }
+    ensures ready { OnOk result (IsReady order (slice_index_or places.new.items d Absent)) }
+    ensures len { length places.new.items ≡ length places.old.items }
+{
+    if d < places.len() {
+        let place = &mut places[d];
+        place.make_ready(order)
+    } else {
+        Ok(())
+    }
+}
+
+/// What a test of a device tells.
+pub(crate) fn test_in(places: &[Place], d: u8, what: Test) -> bool
+    requires there { d < length places.now }
+    ensures { result ≡ test_of what (spot_at (map spot_of places.now) d).progress }
+{
+    places[usize::from(d)].test(what)
+}
+
+/// The first device on which slot `p` has a transfer.
+pub(crate) fn first_of(places: &[Place], p: u8) -> Option<usize>
+    ensures value { result ≡ head (own_from p 0 (map spot_of places.now)) }
+    ensures busy { IfSome result (λ d. is_flying (spot_at (map spot_of places.now) d) ≡ true) }
+    ensures within { IfSome result (λ d. d < length places.now) }
+{
+    for (d, place) in places.iter().enumerate() {
+        if place.is_of(p) {
+            return Some(d);
+        }
+    }
+    None
+}
+
+/// The transfer on a device, if it has one.
+pub(crate) fn transfer_in(places: &[Place], d: usize) -> Option<&Transfer>
+    ensures { option_map (λ t. t.now) result
+        ≡ option_map (λ (h : Held). h.motion) (spot_at (map spot_of places.now) d).flight }
+{
+    if d < places.len() {
+        places[d].transfer()
+    } else {
+        None
+    }
+}

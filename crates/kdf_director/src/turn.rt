@@ -1,0 +1,353 @@
+//! The port of one program of the machine for one order: a window of the store, and the devices of its slot.
+ghost use Rattle.std.specs.Prelude.{◌≡◌, ◌+◌, ◌*◌, ◌%◌, ◌<◌, ◌≤◌, length};
+ghost use Rattle.kdf_director.specs.Shared.{one_if};
+ghost use Rattle.kdf_director.specs.Spots.{AreDry};
+
+use crate::devices::{is_free, kind_claimed};
+use crate::place::Wanted;
+use crate::places::{first_of, make_ready_at, test_in};
+use crate::starting::start_at;
+use crate::text::{characters_in, text_of};
+use crate::{Note, Place};
+use kdf_journal::Kind;
+use kdf_lockout::Store;
+use kdf_processor::{Ahead, Port, Spooled, Test};
+use kdf_relocate::Window;
+use kdf_transfer::{Area, Device, TransferOrder};
+use kdf_word::Word;
+use std::alloc::{AllocError, Global};
+use std::mem;
+
+/// The view of one program for one order at a time. Its fields are lent by the machine: nothing is kept here but the note.
+#[derive(Drop)]
+pub struct Turn<'a> {
+    alloc: Global,
+    p: u8,
+    window: Window,
+    time: u64,
+    devices: &'a [(u8, Device)],
+    claimed: &'a mut [bool; 16],
+    spooled: &'a mut Vec<Spooled>,
+    store: &'a mut Store,
+    places: &'a mut Vec<Place>,
+    /// Memory for the characters that an order moves.
+    block: &'a mut Vec<u8>,
+    /// What is to be noted of the order.
+    note: Note,
+    ghost at_group: { window.base % 32 ≡ 0 },
+    ghost in_store: { window.base + window.size ≤ 32 * length store.now },
+    ghost sixteen: { length places.now.items ≡ 16 },
+    ghost dry: { AreDry places.now.items },
+}
+
+impl<'a> Turn<'a> {
+    ghost use Rattle.std.specs.Prelude.{◌&&◌, not, [], find, IfSome, IfNone, OnOk, ℕ};
+    ghost use Rattle.kdf_processor.specs.Claims.{is_claimed};
+    ghost use Rattle.kdf_processor.specs.Effect.{Acquires, Asks, Question};
+    ghost use Rattle.kdf_processor.specs.State.{fixture_at};
+    ghost use Rattle.kdf_processor.specs.View.{groups_of};
+    ghost use Rattle.kdf_director.specs.Claiming.{first_free};
+    ghost use Rattle.kdf_director.specs.Parts.{numbers, own_claims};
+    ghost use Rattle.kdf_director.specs.Shared.{is_busy_in, is_out_of};
+    ghost use Rattle.kdf_director.specs.Spots.{is_wanted};
+    ghost use Rattle.kdf_director.specs.Turn.{part_of, shared, Stays, Acts, CanStart, CanSpool, HasRoomAhead};
+    ghost use Rattle.kdf_director.specs.declared.note.Note.TheVariants.{Quiet};
+
+    /// The view of slot `p` over this window, with these devices.
+    pub fn new(
+        alloc: Global,
+        p: u8,
+        window: Window,
+        time: u64,
+        devices: &'a [(u8, Device)],
+        claimed: &'a mut [bool; 16],
+        spooled: &'a mut Vec<Spooled>,
+        store: &'a mut Store,
+        places: &'a mut Vec<Place>,
+        block: &'a mut Vec<u8>,
+    ) -> Turn<'a>
+        requires at_group { window.base % 32 ≡ 0 }
+        requires in_store { window.base + window.size ≤ 32 * length store.old }
+        requires sixteen { length places.old.items ≡ 16 }
+        requires dry { AreDry places.old.items }
+        ensures part { part_of result ≡ record {
+          p = p;
+          base = window.base;
+          size = window.size;
+          devices = numbers devices.now;
+          claimed = claimed.old;
+          spooled = spooled.old.items;
+        } }
+        ensures time { result.time ≡ time }
+        ensures store { result.store.now ≡ store.old }
+        ensures places { result.places.now ≡ places.old }
+        ensures block { result.block.now ≡ block.old }
+        ensures note { result.note ≡ Quiet }
+        ensures same_claimed { result.claimed.ghost_name ≡ claimed.entry.ghost_name }
+        ensures same_spooled { result.spooled.ghost_name ≡ spooled.entry.ghost_name }
+        ensures same_store { result.store.ghost_name ≡ store.entry.ghost_name }
+        ensures same_places { result.places.ghost_name ≡ places.entry.ghost_name }
+        ensures same_block { result.block.ghost_name ≡ block.entry.ghost_name }
+    {
+        Turn {
+            alloc,
+            p,
+            window,
+            time,
+            devices,
+            claimed,
+            spooled,
+            store,
+            places,
+            block,
+            note: Note::Quiet,
+        }
+    }
+
+    /// What is to be noted of the order.
+    pub fn note(&self) -> Note
+        ensures { result ≡ self.now.note }
+    {
+        self.note
+    }
+
+    /// The place of an address in the store.
+    fn place(&self, address: u16) -> usize
+        ensures { result ≡ self.now.window.base + address }
+    {
+        self.window.base as usize + usize::from(address)
+    }
+
+    /// Takes the memory that an act wants. Without it nothing else has changed either.
+    pub fn take(&mut self, ahead: Ahead) -> Result<(), AllocError>
+        requires { self.old.block.now.items ≡ [] }
+        ensures stays { Stays self.old self.new }
+        ensures room { OnOk result (HasRoomAhead self.new ahead) }
+    {
+        match ahead {
+            Ahead::Starts {
+                device,
+                order,
+                first,
+                last,
+            } => self.take_for_transfer(device, order, first, last),
+            Ahead::Spools { first, last, .. } => self.take_for_text(first, last),
+            Ahead::Else => Ok(()),
+        }
+    }
+
+    /// Takes the memory that a transfer wants.
+    fn take_for_transfer(
+        &mut self,
+        device: u8,
+        order: TransferOrder,
+        first: u16,
+        last: u16,
+    ) -> Result<(), AllocError>
+        requires { self.old.block.now.items ≡ [] }
+        ensures stays { Stays self.old self.new }
+        ensures room { OnOk result (CanStart self.new device order first last) }
+    {
+        self.block.reserve(characters_in(first, last))?;
+        make_ready_at(self.places, usize::from(device), order)
+    }
+
+    /// Takes the memory that a text wants.
+    fn take_for_text(&mut self, first: u16, last: u16) -> Result<(), AllocError>
+        requires { self.old.block.now.items ≡ [] }
+        ensures stays { Stays self.old self.new }
+        ensures room { OnOk result (CanSpool self.new first last) }
+    {
+        self.spooled.reserve(1)?;
+        self.block.reserve(characters_in(first, last))
+    }
+
+    /// Whether a device has a transfer.
+    fn is_busy(&self, device: u8) -> bool
+        ensures { result ≡ is_busy_in (shared self.now) device }
+    {
+        match self.places.get(usize::from(device)) {
+            Some(place) => place.is_busy(),
+            None => false,
+        }
+    }
+
+    /// The least group of an area that is out.
+    fn locked(&self, first: u16, last: u16) -> Option<u16>
+        requires order { first ≤ last }
+        requires inside { last < self.now.window.size }
+        ensures { result ≡ find (is_out_of (part_of self.now) (shared self.now)) (groups_of first last) }
+    {
+        let base = self.window.base as usize;
+        match self.store.first_out(self.place(first), self.place(last)) {
+            Some(group) => Some((group - base / 32) as u16),
+            None => None,
+        }
+    }
+
+    /// Whether a device of the slot is wanted and isn't claimed.
+    fn is_free(&self, d: u8, wanted: &Wanted) -> bool
+        requires { d < 16 }
+        ensures { result ≡ (is_wanted wanted.now (fixture_at (own_claims (part_of self.now) (shared self.now)) d)
+            && not (is_claimed (own_claims (part_of self.now) (shared self.now)) d)) }
+    {
+        is_free(self.devices, self.claimed, self.places, d, wanted)
+    }
+
+    /// The least device of the slot that is wanted and isn't claimed.
+    fn first_free(&self, wanted: &Wanted) -> Option<u8>
+        ensures least { result
+            ≡ first_free wanted.now (own_claims (part_of self.now) (shared self.now)) }
+        ensures number { IfSome result (λ d. d < 16) }
+    {
+        for d in 0..16u8 {
+            if self.is_free(d, wanted) {
+                return Some(d);
+            }
+        }
+        None
+    }
+
+    /// Claims the least device of the slot that is wanted and isn't claimed.
+    fn claim(&mut self, wanted: &Wanted) -> Option<u8>
+        ensures least { result
+            ≡ first_free wanted.now (own_claims (part_of self.old) (shared self.old)) }
+        ensures claimed { IfSome result (λ d. Acts self.old (Acquires d) self.new) }
+        ensures none { IfNone result (self.new ≡ self.old) }
+    {
+        let device = self.first_free(wanted)?;
+        self.claimed[usize::from(device)] = true;
+        Some(device)
+    }
+
+    /// Notes an answer.
+    fn tell(&mut self, answer: u64)
+        ensures { (question : Question) → Acts self.old (Asks question answer) self.new }
+    {
+        self.note = Note::Told(answer);
+    }
+}
+
+/// What an order is answered that asks whether something is.
+fn answer_of(is: bool) -> u64
+    ensures { result ≡ one_if is }
+{
+    if is { 1 } else { 0 }
+}
+
+impl Port for Turn<'_> {
+    ghost use Rattle.std.specs.Prelude.{refl};
+    ghost use Rattle.kdf_director.specs.Turn.{shown, Acts, HasRoom};
+
+    ghost shows = { shown };
+
+    ghost acts = { Acts };
+
+    ghost room = { HasRoom };
+
+    fn size(&self) -> u16 {
+        self.window.size
+    }
+
+    fn read(&self, address: u16) -> Result<Word, u16> {
+        match self.store.read(self.place(address)) {
+            Ok(word) => Ok(word),
+            Err(_) => Err(address / 32),
+        }
+    }
+
+    fn write(&mut self, address: u16, word: Word) -> Result<(), u16> {
+        let place = self.place(address);
+        match self.store.write(place, word) {
+            Ok(()) => Ok(()),
+            Err(_) => Err(address / 32),
+        }
+    }
+
+    fn first_out(&self, first: u16, last: u16) -> Option<u16> {
+        self.locked(first, last)
+    }
+
+    fn held(&self, device: u16) -> Option<Kind> {
+        kind_claimed(self.devices, self.claimed, self.places, device)
+    }
+
+    fn busy(&self, device: u8) -> bool {
+        self.is_busy(device)
+    }
+
+    fn first_busy(&self) -> Option<u8> {
+        match first_of(self.places, self.p) {
+            Some(d) => Some(d as u8),
+            None => None,
+        }
+    }
+
+    fn test(&self, device: u8, what: Test) -> bool {
+        test_in(self.places, device, what)
+    }
+
+    fn start(&mut self, device: u8, order: TransferOrder, first: u16, last: u16) {
+        let area = Area {
+            first: self.place(first),
+            last: self.place(last),
+        };
+        let block = mem::replace(self.block, Vec::new(self.alloc));
+        start_at(
+            self.places,
+            usize::from(device),
+            self.p,
+            order,
+            area,
+            self.store,
+            block,
+        );
+        self.note = Note::Began(device);
+    }
+
+    fn ask_busy(&mut self, device: u8) -> bool {
+        let is = self.is_busy(device);
+        self.tell(answer_of(is));
+        is
+    }
+
+    fn ask_area(&mut self, first: u16, last: u16) -> bool {
+        let is = self.locked(first, last).is_some();
+        self.tell(answer_of(is));
+        is
+    }
+
+    fn ask_time(&mut self) -> u64 {
+        let time = self.time;
+        self.tell(time);
+        time
+    }
+
+    #[tactic(auto, using(crate::proofs::Claiming::label_free))]
+    fn claim_label(&mut self, label: Word) -> Option<u8> {
+        self.claim(&Wanted::Labelled(label))
+    }
+
+    #[tactic(auto, using(crate::proofs::Claiming::kind_free))]
+    fn claim_kind(&mut self, kind: Kind) -> Option<u8> {
+        self.claim(&Wanted::Kinded(kind))
+    }
+
+    fn give_back(&mut self, device: u8) {
+        self.claimed[usize::from(device)] = false;
+    }
+
+    fn spool(&mut self, stream: u8, first: u16, last: u16) {
+        let (from, to) = (self.place(first), self.place(last));
+        let block = mem::replace(self.block, Vec::new(self.alloc));
+        let text = text_of(block, self.store, from, to);
+        self.spooled.push_reserved(Spooled { stream, text });
+    }
+
+    ghost stays = { λ _. record {
+      same = record { time = refl; claimed = refl; spooled = refl; store = refl; places = refl; block = refl };
+      part = refl;
+      shared = refl;
+      note = refl;
+    } };
+}

@@ -1,0 +1,95 @@
+-- A program that was loaded from a slot is one of that slot.
+use Rattle.std.proofs.Common.{◌≡◌, ℕ, zero, suc, ◌+◌, ◌<◌, ◌==◌, ◌||◌, Bool, true, false, cond, List, [], ◌∷◌, map, find, Option, Some, None, is_some, ⊎_elim, refl, sym, subst, ◌∙◌, ap, arith}
+use Rattle.std.specs.List.{filter, list_any, range_with_len}
+use Rattle.std.specs.Option.{option_map}
+use Rattle.std.specs.Prelude.{slice_index_or}
+use Rattle.std.proofs.lemmas.Bool.{cases_Bool}
+use Rattle.std.proofs.lemmas.List.FromFn.{get_or-map-range_with_len}
+use Rattle.kdf_transfer.specs.Devices.{Fixture, fixture_of}
+use Rattle.kdf_transfer.specs.declared.device.Device.{Device}
+use Rattle.kdf_transfer.specs.declared.order.TransferOrder.{TransferOrder}
+use Rattle.kdf_processor.specs.Effect.{Question, Effect, Starting}
+use Rattle.kdf_processor.specs.Lone.{is_live, lone_step, lone}
+use Rattle.kdf_processor.specs.Needs.{next_effect}
+use Rattle.kdf_processor.specs.Row.{transferred, perform}
+use Rattle.kdf_processor.specs.State.{State, Stock, begin, device_limit, fixture_at}
+use Rattle.kdf_processor.proofs.RowFacts.{next_answer}
+use Rattle.kdf_job.specs.declared.job.SlotJob.{SlotJob as ReadSlot}
+use Rattle.kdf_job.specs.Job.{JobDevice}
+use Rattle.kdf_job.specs.Shows.{shown_device, shown_slot}
+use Rattle.kdf_job.specs.WellFormed.{IsSlot}
+use Rattle.kdf_alone.specs.Loading.{fixture_numbered, slot_of}
+use Rattle.kdf_report.specs.Devices.{device_numbers, has_device}
+use Rattle.kdf_report.specs.MadeFrom.{IsProgramOf, own_numbers}
+
+-- ---- no order changes the size or which devices there are
+
+record Same (s t : State) : Type 0 where
+  size : s.stock.claims.size ≡ t.stock.claims.size
+  fixtures : s.stock.claims.fixtures ≡ t.stock.claims.fixtures
+
+same_moved : (d : ℕ) (o : TransferOrder) (first last : ℕ) (f : Option Fixture) (k : Stock) → ((transferred d o first last f k).claims.size ≡ k.claims.size) × ((transferred d o first last f k).claims.fixtures ≡ k.claims.fixtures)
+same_moved d o first last None k = (refl, refl)
+same_moved d o first last (Some f) k = (refl, refl)
+
+same_perform : (answer : Question → ℕ) (e : Effect) (s : State) → Same (perform answer e s) s
+same_perform answer (Starting d o first last after) s =
+    let both = same_moved d o first last (fixture_at s.stock.claims d) s.stock in record { size = both.0; fixtures = both.1 }
+same_perform answer e s = record { size = refl; fixtures = refl }
+
+same_step : (answers : List ℕ) (s : State) → Same (lone_step answers s) s
+same_step answers s =
+    ⊎_elim
+    (λ (live : is_live s.registers.state ≡ true). rw live (same_perform (next_answer answers s) (next_effect s) s))
+    (λ (over : is_live s.registers.state ≡ false). rw over (let same : Same s s = record { size = refl; fixtures = refl } in same))
+    (cases_Bool (is_live s.registers.state))
+
+same_lone : (start : State) (answers : List ℕ) (n : ℕ) → Same (lone start answers n) start
+same_lone start answers zero = record { size = refl; fixtures = refl }
+same_lone start answers (suc n) =
+    let step = same_step answers (lone start answers n) in
+    let before = same_lone start answers n in
+    record { size = step.size ∙ before.size; fixtures = step.fixtures ∙ before.fixtures }
+
+-- ---- the devices at the start are those of the slot
+
+filter_same : (p q : ℕ → Bool) (a n : ℕ) → ((k : ℕ) → k < a + n → p k ≡ q k) → filter p (range_with_len a n) ≡ filter q (range_with_len a n)
+filter_same p q a zero same = refl
+filter_same p q a (suc n) same =
+    let first : p a ≡ q a = same a (omega arith) in
+    let others = filter_same p q (a + 1) n (λ k h. same k (omega arith)) in
+    cc
+
+numbered_there : (devices : List (ℕ × Device)) (d : ℕ) → is_some (fixture_numbered devices d) ≡ list_any (λ (x : JobDevice). x.d == d) (map shown_device devices)
+numbered_there [] d = refl
+numbered_there (x ∷ devices) d = go (x.0 == d) (numbered_there devices d)
+  where
+    go : (b : Bool) → is_some (fixture_numbered devices d) ≡ list_any (λ (x : JobDevice). x.d == d) (map shown_device devices)
+        → is_some (option_map (λ (y : ℕ × Device). fixture_of y.1) (cond b (Some x) (find (λ (y : ℕ × Device). y.0 == d) devices)))
+        ≡ (b || list_any (λ (x : JobDevice). x.d == d) (map shown_device devices))
+    go true later = refl
+    go false later = later
+
+own_at_start : (slot : ReadSlot) (words : List ℕ) → own_numbers (begin (slot_of slot words)) ≡ device_numbers (shown_slot slot)
+unfolding own_numbers device_numbers
+own_at_start slot words =
+    filter_same (λ d. is_some (fixture_at (begin (slot_of slot words)).stock.claims d)) (has_device (shown_slot slot)) 0 device_limit
+    (λ k h. ap is_some (get_or-map-range_with_len (fixture_numbered slot.devices.items) 0 device_limit k k None (omega arith) (omega arith)) ∙ numbered_there slot.devices.items k)
+
+own_same : (s t : State) → s.stock.claims.fixtures ≡ t.stock.claims.fixtures → own_numbers s ≡ own_numbers t
+unfolding own_numbers
+own_same s t same = ap (λ (fs : List (Option Fixture)). filter (λ d. is_some (slice_index_or fs d None)) (range_with_len 0 device_limit)) same
+
+pub loaded : (slot : ReadSlot) (words answers : List ℕ) (n : ℕ) → IsSlot (shown_slot slot) → IsProgramOf (shown_slot slot) (lone (begin (slot_of slot words)) answers n)
+loaded slot words answers n is =
+    let same = same_lone (begin (slot_of slot words)) answers n in
+    record {
+      size = same.size;
+      shows = λ k d h. (is.shows k d h).1;
+      devices = own_same (lone (begin (slot_of slot words)) answers n) (begin (slot_of slot words)) same.fixtures ∙ own_at_start slot words;
+    }
+
+-- and so is what it comes to, step by step
+pub ran_from : (slot : ReadSlot) (words answers : List ℕ) (n : ℕ) (t s : State) → IsSlot (shown_slot slot) → t ≡ begin (slot_of slot words) → s ≡ lone t answers n → IsProgramOf (shown_slot slot) s
+ran_from slot words answers n t s is at_start after =
+    subst (IsProgramOf (shown_slot slot)) (sym (after ∙ ap (λ (x : State). lone x answers n) at_start)) (loaded slot words answers n is)

@@ -1,0 +1,14 @@
+-- What the tests know of the jobs that they read.
+use Rattle.std.proofs.Common.{◌≡◌, ℕ, ◌<◌, ◌∙◌, map, length, sym, ap, subst, arith}
+use Rattle.std.specs.Prelude.{slice_index_or}
+use Rattle.std.proofs.lemmas.List.{get_or-map, length-map}
+use Rattle.kdf_job.specs.declared.job.Job.{Job as ReadJob}
+use Rattle.kdf_job.specs.declared.job.SlotJob.{SlotJob as ReadSlot}
+use Rattle.kdf_job.specs.Shows.{shown_job, shown_slot}
+use Rattle.kdf_job.specs.WellFormed.{IsJob, IsSlot}
+
+-- each of the slots is well formed
+pub slot_at : (j : ReadJob) (k : ℕ) (s : ReadSlot) → IsJob (shown_job j) → k < length j.slots.items → s ≡ slice_index_or j.slots.items k s → IsSlot (shown_slot s)
+slot_at j k s is inside at =
+    let there : k < length (map shown_slot j.slots.items) = omega (arith, length-map j.slots.items shown_slot) in
+    subst IsSlot (get_or-map shown_slot j.slots.items k s (shown_slot s) inside ∙ ap shown_slot (sym at)) (is.slots.each k (shown_slot s) there)

@@ -1,0 +1,7 @@
+use Rattle.std.proofs.Common.{map, take}
+use Rattle.kdf_text.specs.Text.{Adds}
+use Rattle.kdf_report.specs.Devices.{block_line}
+use Rattle.kdf_report.proofs.blocks.write_finished.Given as goal
+
+abbrev pub invariant-loop-block : goal.invariant-loop-block
+invariant-loop-block l = Adds l.initial.out l.out (map block_line (take l.block-index l.blocks))

@@ -1,0 +1,67 @@
+-- The lines of a program's devices, each without the byte that ends it.
+use Rattle.std.specs.Prelude.{ℕ, ◌==◌, List, [], ◌∷◌, ◌++◌, map, Bool, if◌then◌else◌, Option, Some, None, codes, decimal}
+use Rattle.std.specs.List.{filter, list_any, range_with_len}
+use Rattle.kdf_word.specs.Characters.{codes_of_all}
+use Rattle.kdf_code.specs.Code.{host_of}
+use Rattle.kdf_journal.specs.Kinds.{kind_name}
+use Rattle.kdf_journal.specs.declared.kind.Kind.{Kind}
+use Rattle.kdf_journal.specs.declared.kind.Kind.TheVariants.{Tr, Tp, Cr, Lp, Mt}
+use Rattle.kdf_tape.specs.Tape.{Recorded}
+use Rattle.kdf_transfer.specs.Devices.{Fixture, Progress}
+use Rattle.kdf_processor.specs.Claims.{is_claimed}
+use Rattle.kdf_processor.specs.State.{State, device_at, device_limit, fixture_at}
+use Rattle.kdf_job.specs.Job.{JobDevice, SlotJob}
+
+-- characters, as the host has them
+abbrev pub host_text : List ℕ → List ℕ
+host_text characters = map host_of characters
+
+abbrev pub bit : Bool → List ℕ
+bit b = if b then codes "1" else codes "0"
+
+-- whether the program has claimed the device
+abbrev pub holding : Bool → List ℕ
+holding claimed = if claimed then codes "HELD" else codes "FREE"
+
+-- its number and kind, whether it is claimed, how far it has come, and its flag
+abbrev pub device_line : ℕ → Bool → Kind → Progress → List ℕ
+device_line d claimed kind x =
+    codes "DEVICE " ++ decimal d ++ codes " " ++ kind_name kind ++ codes " " ++ holding claimed
+    ++ codes " PLACE " ++ decimal x.place ++ codes " FLAG " ++ bit x.flag
+
+-- a finished block of a punch or a printer
+abbrev pub block_line : List ℕ → List ℕ
+block_line characters = codes "BLOCK " ++ host_text characters
+
+-- a block of a tape, which is named LAST where it has its mark
+abbrev pub block_name : Bool → List ℕ
+block_name mark = if mark then codes "LAST" else codes "BLOCK"
+
+abbrev pub tape_line : Recorded → List ℕ
+tape_line block = block_name block.mark ++ codes " " ++ host_text (codes_of_all block.words)
+
+-- the blocks of a device; readers have none
+abbrev pub block_lines : Kind → Progress → List (List ℕ)
+block_lines Tr x = []
+block_lines Tp x = map block_line x.blocks
+block_lines Cr x = []
+block_lines Lp x = map block_line x.blocks
+block_lines Mt x = map tape_line x.recorded
+
+-- a device that is such, and its blocks
+abbrev pub described : ℕ → Bool → Option Fixture → Progress → List (List ℕ)
+described d claimed None x = []
+described d claimed (Some f) x = device_line d claimed f.kind x ∷ block_lines f.kind x
+
+-- device d of a program; nothing where it has none of this number
+unfoldable pub device_lines : State → ℕ → List (List ℕ)
+device_lines s d =
+    described d (is_claimed s.stock.claims d) (fixture_at s.stock.claims d) (device_at s d)
+
+-- the slot has a device of this number
+abbrev pub has_device : SlotJob → ℕ → Bool
+has_device slot d = list_any (λ (x : JobDevice). x.d == d) slot.devices
+
+-- the numbers of the slot's devices, rising
+unfoldable pub device_numbers : SlotJob → List ℕ
+device_numbers slot = filter (has_device slot) (range_with_len 0 device_limit)

@@ -1,0 +1,16 @@
+-- What a section is made from: a slot of a job, and the state of its program.
+use Rattle.std.specs.Prelude.{◌≡◌, ℕ, ◌<◌, List, All, is_some}
+use Rattle.std.specs.List.{filter, range_with_len}
+use Rattle.kdf_processor.specs.State.{State, device_limit, fixture_at}
+use Rattle.kdf_job.specs.Job.{SlotJob}
+use Rattle.kdf_report.specs.Devices.{device_numbers}
+
+-- the numbers of the program's devices, rising
+unfoldable pub own_numbers : State → List ℕ
+own_numbers s = filter (λ d. is_some (fixture_at s.stock.claims d)) (range_with_len 0 device_limit)
+
+-- the program has the slot's size, the words that are to be shown, and exactly its device numbers
+pub record IsProgramOf (slot : SlotJob) (s : State) : Type 0 where
+  pub size : s.stock.claims.size ≡ slot.size
+  pub shows : All (λ show. show.1 < slot.size) slot.shows
+  pub devices : own_numbers s ≡ device_numbers slot

@@ -1,0 +1,102 @@
+-- The lines that are written of a program and of a journal, each without the byte that ends it.
+use Rattle.std.specs.Prelude.{ℕ, ◌+◌, ◌-◌, ◌/◌, ◌%◌, List, [], ◌∷◌, ◌++◌, map, length, ◌==◌, ◌&&◌, if◌then◌else◌, codes, decimal}
+use Rattle.std.specs.List.{flat_map, range_with_len}
+use Rattle.kdf_text.specs.Text.{text, octal}
+use Rattle.kdf_qstore.specs.declared.triple.Triple.{Triple}
+use Rattle.kdf_qstore.specs.Triples.{triple_at}
+use Rattle.kdf_journal.specs.Failures.{name_of}
+use Rattle.kdf_journal.specs.declared.entry.Entry.{Entry}
+use Rattle.kdf_journal.specs.declared.entry.Entry.TheVariants.{Ran, Start, Answer, Fail, Ended, Lov, Busy, Idle, Move, End, Clock}
+use Rattle.kdf_processor.specs.declared.registers.Life.{Life}
+use Rattle.kdf_processor.specs.declared.registers.Life.TheVariants as life
+use Rattle.kdf_processor.specs.declared.registers.Registers.{Registers}
+use Rattle.kdf_processor.specs.declared.spooled.Spooled.{Spooled}
+use Rattle.kdf_processor.specs.State.{State, word_at}
+use Rattle.kdf_job.specs.Job.{SlotJob}
+use Rattle.kdf_report.specs.Devices.{bit, device_lines, device_numbers, host_text}
+
+-- an entry of the journal
+abbrev pub entry_line : Entry → List ℕ
+entry_line (Ran p n) = codes "RAN " ++ decimal p ++ codes " " ++ decimal n
+entry_line (Start p d k) = codes "START " ++ decimal p ++ codes " " ++ decimal d ++ codes " " ++ decimal k
+entry_line (Answer p v) = codes "ANSWER " ++ decimal p ++ codes " " ++ decimal v
+entry_line (Fail p kind) = codes "FAIL " ++ decimal p ++ codes " " ++ name_of kind
+entry_line (Ended p) = codes "ENDED " ++ decimal p
+entry_line (Lov p group) = codes "LOV " ++ decimal p ++ codes " " ++ decimal group
+entry_line (Busy p d) = codes "BUSY " ++ decimal p ++ codes " " ++ decimal d
+entry_line (Idle n) = codes "IDLE " ++ decimal n
+entry_line (Move d n) = codes "MOVE " ++ decimal d ++ codes " " ++ decimal n
+entry_line (End d) = codes "END " ++ decimal d
+entry_line (Clock t) = codes "CLOCK " ++ decimal t
+
+abbrev pub life_line : Life → List ℕ
+life_line life.Live = codes "STATE LIVE"
+life_line life.Ended = codes "STATE ENDED"
+life_line (life.Failed kind) = codes "STATE FAILED " ++ name_of kind
+
+-- the nest, the top first, behind its number of words
+abbrev pub nest_line : List ℕ → List ℕ
+nest_line nest = codes "NEST " ++ decimal (length nest) ++ flat_map (λ w. codes " " ++ octal w) nest
+
+-- the links, the top first, behind their number: of each the word and the syllable
+abbrev pub links_line : List ℕ → List ℕ
+links_line links =
+    codes "LINKS " ++ decimal (length links)
+    ++ flat_map (λ l. codes " " ++ decimal (l % 8192) ++ codes "/" ++ decimal (l / 8192)) links
+
+-- a Q-store, unless all its parts are zero
+abbrev pub q_line : ℕ → Triple → List (List ℕ)
+q_line q t =
+    if t.c == 0 && t.i == 0 && t.m == 0 then []
+    else (codes "Q " ++ decimal q ++ codes " " ++ decimal t.c ++ codes " " ++ decimal t.i
+    ++ codes " " ++ decimal t.m) ∷ []
+
+-- Q1 to Q15
+abbrev pub q_lines : List Triple → List (List ℕ)
+q_lines qs = flat_map (λ q. q_line q (triple_at qs q)) (range_with_len 1 15)
+
+-- the registers; AT has the word and the syllable of the next order, FLAGS has V and TR
+abbrev pub registers_lines : Registers → List (List ℕ)
+registers_lines r =
+    life_line r.state
+    ∷ (codes "ORDERS " ++ decimal r.ran)
+    ∷ (codes "AT " ++ decimal (r.at / 6) ++ codes " " ++ decimal (r.at % 6))
+    ∷ (codes "FLAGS " ++ bit r.flags.v ++ codes " " ++ bit r.flags.tr)
+    ∷ nest_line r.nest
+    ∷ links_line r.links
+    ∷ q_lines r.q
+
+-- the word at an address
+abbrev pub word_line : State → ℕ → List ℕ
+word_line s a = codes "WORD " ++ decimal a ++ codes " " ++ octal (word_at s a)
+
+-- the words from the first to the last address
+abbrev pub show_lines : State → ℕ × ℕ → List (List ℕ)
+show_lines s show = map (word_line s) (range_with_len show.0 (show.1 + 1 - show.0))
+
+-- a text that was spooled, behind its stream
+abbrev pub spool_line : Spooled → List ℕ
+spool_line x = codes "SPOOL " ++ decimal x.stream ++ codes " " ++ host_text x.text
+
+-- the section of a slot, from the state of its program
+unfoldable pub section : SlotJob → State → List (List ℕ)
+section slot s =
+    (codes "SLOT " ++ decimal slot.p)
+    ∷ registers_lines s.registers
+    ++ flat_map (show_lines s) slot.shows
+    ++ map spool_line s.stock.spooled
+    ++ flat_map (device_lines s) (device_numbers slot)
+
+abbrev pub alone_line : ℕ → List ℕ
+alone_line p = codes "KDF9 ALONE " ++ decimal p
+
+abbrev pub end_line : List ℕ
+end_line = codes "ENDREPORT"
+
+-- the text of a program that ran alone
+abbrev pub alone_text : SlotJob → State → List ℕ
+alone_text slot s = text (alone_line slot.p ∷ section slot s ++ end_line ∷ [])
+
+-- the text of a slot that the job doesn't have
+abbrev pub absent_text : ℕ → List ℕ
+absent_text p = text (alone_line p ∷ end_line ∷ [])
