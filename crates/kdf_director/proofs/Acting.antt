@@ -8,7 +8,8 @@ use Rattle.kdf_lockout.proofs.Ranges.{none_in_range}
 use Rattle.kdf_transfer.specs.declared.order.TransferOrder.{TransferOrder}
 use Rattle.kdf_transfer.specs.Devices.{Fixture, Progress}
 use Rattle.kdf_transfer.specs.AtOnce.{has_area}
-use Rattle.kdf_director.specs.Physical.{device_count, by_number, own_words, has_group, with_lease}
+use Rattle.kdf_director.specs.Physical.{own_words, has_group, with_lease}
+use Rattle.kdf_director.specs.ByNumber.{device_count, by_number}
 use Rattle.kdf_processor.specs.declared.spooled.Spooled.{Spooled}
 use Rattle.kdf_director.specs.Physical as physical
 use Rattle.kdf_director.proofs.PhysicalLemmas as words

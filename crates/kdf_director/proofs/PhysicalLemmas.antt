@@ -7,7 +7,8 @@ use Rattle.std.proofs.lemmas.List.{get_or-set_same, get_or-set_other, length-set
 use Rattle.std.proofs.lemmas.List.FromFn.{length-map-range_with_len, get_or-map-range_with_len}
 use Rattle.kdf_lockout.specs.Groups.{Lent, group_at, words_in, with_lent_word}
 use Rattle.kdf_transfer.specs.InFlight.{lent_at}
-use Rattle.kdf_director.specs.Physical.{device_count, has_group, word_out, word_where, word_at_place, own_words, with_lease}
+use Rattle.kdf_director.specs.Physical.{has_group, word_out, word_where, word_at_place, own_words, with_lease}
+use Rattle.kdf_director.specs.ByNumber.{device_count}
 
 -- the store after a word is written to a group with these words
 abbrev pub put_word : List (Option (List ℕ)) → List ℕ → ℕ → ℕ → List (Option (List ℕ))
@@ -91,7 +92,7 @@ pub with_lease_other : (n d : ℕ) (l : Option Lent) (leases : ℕ → Option Le
 with_lease_other n d l leases ne = ap (λ b. cond b l (leases n)) (ne_eqb n d ne)
 
 -- the word of a group that one device alone has
-word_out_one : (n d : ℕ) (leases : ℕ → Option Lent) (x : ℕ) → d < n → has_group (leases d) (x / 32) ≡ true → ((e : ℕ) → e ≢ d → has_group (leases e) (x / 32) ≡ false) → word_out n leases x ≡ lent_at (leases d) x
+pub word_out_one : (n d : ℕ) (leases : ℕ → Option Lent) (x : ℕ) → d < n → has_group (leases d) (x / 32) ≡ true → ((e : ℕ) → e ≢ d → has_group (leases e) (x / 32) ≡ false) → word_out n leases x ≡ lent_at (leases d) x
 word_out_one zero d leases x lt is others = absurd (omega arith)
 word_out_one (suc n) d leases x lt is others =
     ⊎_elim

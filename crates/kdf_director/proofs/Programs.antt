@@ -1,14 +1,23 @@
 -- One program of all, and its slot.
-use Rattle.std.proofs.Common.{◌≡◌, ℕ, ◌<◌, List, [], length, map, get_or, set, sym, ap, ◌∙◌, subst, arith}
+use Rattle.std.specs.Prelude.{find}
+use Rattle.std.specs.List.{range_with_len}
+use Rattle.std.proofs.Common.{◌≡◌, ℕ, ◌-◌, ◌<◌, List, [], length, map, get_or, set, Option, None, sym, ap, ap₂, ◌∙◌, subst, arith}
 use Rattle.std.proofs.Math.Seq.{map-set_same}
 use Rattle.std.proofs.lemmas.List.{map-set, get_or-map, length-map}
 use Rattle.kdf_relocate.specs.declared.window.Window.{Window}
+use Rattle.kdf_journal.specs.declared.entry.Entry.{Entry}
+use Rattle.kdf_journal.specs.Counts.{clock}
+use Rattle.kdf_journal.specs.Steps.{added}
+use Rattle.kdf_processor.specs.declared.step.Need.{Need}
 use Rattle.kdf_processor.specs.declared.step.Step.{Step}
+use Rattle.kdf_director.specs.declared.machine.Progress.{Progress}
 use Rattle.kdf_director.specs.declared.note.Note.{Note}
 use Rattle.kdf_director.specs.declared.program.Program.{Program}
 use Rattle.kdf_director.specs.declared.slot.Loaded.{Loaded}
-use Rattle.kdf_director.specs.Parts.{Reach, Shared, reach_of, seat_of}
+use Rattle.kdf_director.specs.Going.{first_going, goes, goes_at, hold_at, AreNearHolds, IsNearHold}
+use Rattle.kdf_director.specs.Parts.{Reach, Seat, Shared, reach_of, seat_of, window_at}
 use Rattle.kdf_director.specs.Running.{no_seat, seat_at, reach_at, reaches_in, seats_in, IsRunning}
+use Rattle.kdf_director.specs.Taken.{HasTaken, hold_left, progress_of, step_told}
 use Rattle.kdf_director.specs.Turned.{HasRun, HasTurned}
 use Rattle.kdf_director.proofs.Turned.{turned, turned_running}
 
@@ -24,6 +33,22 @@ module _ (windows : List Window) (slots : List Loaded) (programs : List Program)
 
   pub within : i < length (seats_in programs)
   within = omega (arith, length-map programs seat_of)
+
+  -- what held it
+  pub hold_is : hold_at (map (λ (x : Program). x.hold) programs) i ≡ program.hold
+  hold_is = get_or-map (λ (x : Program). x.hold) programs i program None lt ∙ sym (ap (λ (x : Program). x.hold) program_is)
+
+  -- whether it goes on
+  pub goes_is : (s : Shared) → goes (seat_of program) (reach_of windows slot) s program.hold ≡ goes_at (reaches_in windows slots) (seats_in programs) (map (λ (x : Program). x.hold) programs) s i
+  goes_is s =
+      ap₂ (λ x r. goes x r s program.hold) seat_is reach_is
+      ∙ ap (goes (seat_at (seats_in programs) i) (reach_at (reaches_in windows slots) i) s) (sym hold_is)
+
+  pub near_is : AreNearHolds (reaches_in windows slots) (map (λ (x : Program). x.hold) programs) → IsNearHold (window_at windows slot.p).size program.hold
+  near_is near =
+      subst (λ (r : Reach). IsNearHold r.size program.hold) (sym reach_is)
+      (subst (IsNearHold (reach_at (reaches_in windows slots) i).size) hold_is
+      (near i (omega (arith, length-map programs (λ (x : Program). x.hold)))))
 
   module _ (t : ℕ) (s s' : Shared) (new : Program) (step : Step) (note : Note) (run : IsRunning (reaches_in windows slots) (seats_in programs) s) (ran : HasRun (reach_of windows slot) t (seat_of program) s (seat_of new) s' step note) where
     ran_at : HasRun (reach_at (reaches_in windows slots) i) t (seat_at (seats_in programs) i) s (seat_of new) s' step note
@@ -47,3 +72,35 @@ module _ (windows : List Window) (slots : List Loaded) (programs : List Program)
     -- the holds stay
     pub holds_all : new.hold ≡ program.hold → map (λ (x : Program). x.hold) (set programs i new) ≡ map (λ (x : Program). x.hold) programs
     holds_all same = map-set_same (λ (x : Program). x.hold) programs i new program (same ∙ ap (λ (x : Program). x.hold) program_is)
+
+-- ---- a program whose turn was entered
+module _ (programs : List Program) (i : ℕ) (lt : i < length programs) (program new : Program) (at : program ≡ get_or programs i program) (same : seat_of new ≡ seat_of program) where
+  -- has what it had
+  pub seats_entered : seats_in (set programs i new) ≡ seats_in programs
+  seats_entered = map-set_same seat_of programs i new program (same ∙ ap seat_of at)
+
+  seat_then : seat_at (seats_in (set programs i new)) i ≡ seat_of program
+  seat_then = ap (λ xs. seat_at xs i) seats_entered ∙ get_or-map seat_of programs i program no_seat lt ∙ sym (ap seat_of at)
+
+  pub running_entered : (reaches : List Reach) (s : Shared) → IsRunning reaches (seats_in programs) s → IsRunning reaches (seats_in (set programs i new)) s
+  running_entered reaches s run = subst (λ xs. IsRunning reaches xs s) (sym seats_entered) run
+
+  -- so its turn was taken
+  pub taken_entered : (reaches : List Reach) (before : List Seat) (s left : Shared) (holds : List (Option Need)) (J K : List Entry) (ended : Step) (noted : Note) (answer : Progress) → HasTurned reaches (clock J) i before s (seats_in programs) left ended noted → map (λ (x : Program). x.hold) programs ≡ holds → new.hold ≡ hold_left ended → K ≡ added J (step_told program.p program.registers.ran ended noted) → answer ≡ progress_of program.p ended
+      → HasTaken reaches i before s holds J (seats_in (set programs i new)) left (map (λ (x : Program). x.hold) (set programs i new)) K answer
+  taken_entered reaches before s left holds J K ended noted answer turned kept hold journal told =
+      record {
+        ended = ended;
+        noted = noted;
+        turned = subst (λ xs. HasTurned reaches (clock J) i before s xs left ended noted) (sym seats_entered) turned;
+        left_held = map-set (λ (x : Program). x.hold) programs i new ∙ ap₂ (λ xs h. set xs i h) kept hold;
+        entered = journal ∙ ap (λ (x : Seat). added J (step_told x.p x.registers.ran ended noted)) (sym seat_then);
+        answered = told ∙ ap (λ (x : Seat). progress_of x.p ended) (sym seat_then);
+      }
+
+-- the search for the first that goes on begins at the first of all
+pub first_of_all : (reaches : List Reach) (programs : List Program) (holds : List (Option Need)) (s : Shared) → first_going reaches (seats_in programs) holds s ≡ find (goes_at reaches (seats_in programs) holds s) (range_with_len 0 (length programs - 0))
+unfolding first_going
+first_of_all reaches programs holds s =
+    let count : length (seats_in programs) ≡ length programs - 0 = omega (arith, length-map programs seat_of) in
+    ap (λ n. find (goes_at reaches (seats_in programs) holds s) (range_with_len 0 n)) count

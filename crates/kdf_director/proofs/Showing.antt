@@ -7,7 +7,8 @@ use Rattle.std.proofs.lemmas.List.FromFn.{get_or-map-range_with_len}
 use Rattle.kdf_lockout.specs.Groups.{Cells, Lent, group_at, is_out, word_here}
 use Rattle.kdf_journal.specs.declared.kind.Kind.{Kind}
 use Rattle.kdf_transfer.specs.Devices.{Fixture}
-use Rattle.kdf_director.specs.Physical.{device_count, by_number, own_words}
+use Rattle.kdf_director.specs.Physical.{own_words}
+use Rattle.kdf_director.specs.ByNumber.{device_count}
 use Rattle.kdf_journal.specs.declared.kind.Kind.TheVariants.{Tr, Tp, Cr, Lp, Mt}
 use Rattle.kdf_director.specs.Physical as physical
 use Rattle.kdf_processor.specs.State.{new_progress, word_in, device_in, fixture_at}
@@ -45,7 +46,7 @@ ok_is false e w v not same = ap Ok same
 pub own_fixture_at : (q : Part) (s : Shared) (d : ℕ) → d < device_count → fixture_at (own_claims q s) d ≡ own_fixture q s.spots d
 own_fixture_at q s d lt = number_at (own_fixture q s.spots) d None lt
 
-none_kind : (k : Kind) → is_kind k None ≡ true → ⊥
+pub none_kind : (k : Kind) → is_kind k None ≡ true → ⊥
 none_kind Tr is = cc
 none_kind Tp is = cc
 none_kind Cr is = cc

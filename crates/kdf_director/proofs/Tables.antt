@@ -5,7 +5,7 @@ use Rattle.std.proofs.Common.{◌≡◌, ℕ, zero, suc, ◌+◌, ◌-◌, ◌<�
 use Rattle.std.specs.List.{range_with_len}
 use Rattle.std.proofs.lemmas.List.{get_or_past}
 use Rattle.std.proofs.lemmas.List.FromFn.{length-map-range_with_len, get_or-map-range_with_len}
-use Rattle.kdf_director.specs.Physical.{device_count, by_number}
+use Rattle.kdf_director.specs.ByNumber.{device_count, by_number}
 
 pub limit_is : device_count ≡ 16
 unfolding device_count

@@ -7,7 +7,8 @@ use Rattle.std.proofs.lemmas.List.{get_or-set_same, get_or-set_other, length-set
 use Rattle.kdf_lockout.specs.Groups.{Cells, Lent, group_at, with_groups, AreFull}
 use Rattle.kdf_transfer.specs.AtOnce.{is_input}
 use Rattle.kdf_transfer.specs.InFlight.{total_of, moves_of, put_words, lease_by, moved_by, ended_progress}
-use Rattle.kdf_director.specs.Physical.{device_count, by_number, own_words, has_group, with_lease}
+use Rattle.kdf_director.specs.Physical.{own_words, has_group, with_lease}
+use Rattle.kdf_director.specs.ByNumber.{device_count, by_number}
 use Rattle.kdf_director.specs.Physical as physical
 use Rattle.kdf_director.proofs.PhysicalLemmas.{brought, splice_in, splice_out, in_range, with_lease_is, with_lease_other, own_words_same, word_of-back}
 use Rattle.kdf_processor.specs.State.{new_progress}

@@ -1,7 +1,7 @@
 -- What a try of one order leaves of the machine.
 use Rattle.std.specs.Prelude.{Result, Ok, Err, OnOk, OnErr, IfOk}
 use Rattle.std.proofs.Common.{◌≡◌, ℕ, ◌+◌, ◌<◌, List, length, set, Option, refl, sym, ap, ap₂, ◌∙◌, subst}
-use Rattle.std.proofs.lemmas.List.{set-get_or}
+use Rattle.std.proofs.lemmas.List.{length-set, set-get_or}
 use Rattle.kdf_processor.specs.declared.step.Need.{Need}
 use Rattle.kdf_processor.specs.declared.step.Step.{Step}
 use Rattle.kdf_processor.specs.State.{word_at}
@@ -53,6 +53,8 @@ module _ (reaches : List Reach) (seats : List Seat) (t : ℕ) (s : Shared) (p : 
               ap₂ (λ x y. own_state reaches (set seats p x) y n j) new_is shared_is
               ∙ turn.tried_other reaches seats t s p run lt n hold refl j within ne;
           shared = λ n. shared_is ∙ ap (λ (x : Outcome). after_act (part_at reaches seats p) s x.act) (sym (at_is n));
+          count = length-set seats p new;
+          numbers = λ j. ap (λ x. (seat_at (set seats p x) j).p) new_is ∙ (turn.same_part reaches seats t s p run lt hold j).p;
         }
 
     pub turned_running : IsRunning reaches (set seats p new) s'

@@ -22,3 +22,15 @@ pub mod Sound
 pub mod Running
 pub mod Closing
 pub mod Turned
+pub mod Loading
+pub mod Following
+pub mod Shown
+pub mod Agrees
+pub mod Advance
+pub mod Owners
+pub mod Lends
+pub mod Going
+pub mod Taken
+pub mod Viewed
+pub mod Fields
+pub mod ByNumber

@@ -15,7 +15,8 @@ use Rattle.kdf_processor.specs.State.{Claims, Stock, new_progress}
 use Rattle.kdf_director.specs.declared.place.Place.{Place}
 use Rattle.kdf_director.specs.declared.program.Program.{Program}
 use Rattle.kdf_director.specs.declared.slot.Loaded.{Loaded}
-use Rattle.kdf_director.specs.Physical.{by_number, own_words}
+use Rattle.kdf_director.specs.Physical.{own_words}
+use Rattle.kdf_director.specs.ByNumber.{by_number}
 use Rattle.kdf_director.specs.Spots.{Spot, spot_of, spot_at, leases_of}
 
 -- what all programs share: the groups, and the places of the devices

@@ -4,14 +4,7 @@ use Rattle.std.specs.List.{range_with_len}
 use Rattle.kdf_lockout.specs.Groups.{Cells, Lent, group_at}
 use Rattle.kdf_transfer.specs.InFlight.{lent_at}
 use Rattle.std.proofs.Common.{zero, suc}
-
--- how many places of devices there are
-unfoldable pub device_count : ℕ
-device_count = 16
-
--- what stands at each place of a device, by number
-unfoldable pub by_number : {X : Type 0} → (ℕ → X) → List X
-by_number f = map f (range_with_len 0 device_count)
+pub use Rattle.kdf_director.specs.ByNumber.{device_count}
 
 -- a lease has a group
 abbrev pub has_group : Option Lent → ℕ → Bool

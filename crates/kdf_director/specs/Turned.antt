@@ -5,7 +5,7 @@ use Rattle.kdf_processor.specs.Outcome.{Outcome, outcome}
 use Rattle.kdf_director.specs.declared.note.Note.{Note}
 use Rattle.kdf_director.specs.Notes.{note_of}
 use Rattle.kdf_director.specs.Parts.{Part, Seat, Reach, Shared, part_in, part_after, asked_after}
-use Rattle.kdf_director.specs.Running.{part_at, own_state, outcome_at, tried}
+use Rattle.kdf_director.specs.Running.{seat_at, part_at, own_state, outcome_at, tried}
 use Rattle.kdf_director.specs.Shared.{view, after_act}
 
 -- what the next order of a program comes to
@@ -42,3 +42,5 @@ pub record HasTurned (reaches : List Reach) (time i : ℕ) (before : List Seat) 
       → own_state reaches after left asked j ≡ own_state reaches before s asked j
   pub shared : (asked : ℕ) →
       left ≡ after_act (part_at reaches before i) s (outcome_at reaches before s time asked i).act
+  pub count : length after ≡ length before
+  pub numbers : (j : ℕ) → (seat_at after j).p ≡ (seat_at before j).p

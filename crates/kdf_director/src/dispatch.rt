@@ -16,8 +16,8 @@ use kdf_relocate::Window;
 use kdf_transfer::Device;
 use std::alloc::{AllocError, Global};
 
-/// Obeys the next order of a live program. There is one such function, so that all of an order's ways stand in it.
-#[inline(never)]
+/// Obeys the next order of a live program. It has one caller and is inlined there, so what it answers goes through no memory.
+#[inline(always)]
 fn obey_next(registers: &mut Registers, turn: &mut Turn<'_>) -> Result<(Step, Note), AllocError>
     requires live { registers.old.state ≡ Life.Live }
     requires ran { registers.old.ran < u32.MAX }
@@ -109,7 +109,7 @@ pub(crate) fn run(
 }
 
 /// The window of a slot; one without a word where there is no such slot.
-fn window_of(windows: &[Window; 4], p: u8) -> Window
+pub(crate) fn window_of(windows: &[Window; 4], p: u8) -> Window
     ensures { result ≡ window_at windows.now p }
 {
     match windows.get(usize::from(p)) {

@@ -2,24 +2,34 @@
 //! their journals, and the laws of both.
 #![tactic(auto)]
 
+mod advance;
 mod devices;
 mod dispatch;
+mod entries;
 pub mod examples;
+mod fill;
 pub mod journals;
 pub mod laws;
+mod load;
+mod machine;
 mod moves;
+mod next;
 mod note;
 mod place;
 mod places;
 mod program;
 mod room;
+mod schedule;
+mod shown;
 mod slot;
 mod starting;
 mod text;
 mod turn;
 pub mod worked;
 
+pub use machine::{EVENT_LIMIT, Machine, Progress};
 pub use note::Note;
 pub use place::Place;
 pub use program::Program;
+pub use schedule::follow;
 pub use slot::Loaded;

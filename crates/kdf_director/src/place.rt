@@ -36,6 +36,7 @@ pub enum Wanted {
 
 impl Place {
     ghost use Rattle.std.specs.Option.{option_copied};
+    ghost use Rattle.kdf_director.specs.Owners.{IsDeviceOf};
     ghost use Rattle.kdf_director.specs.Shared.{moved_spot};
     ghost use Rattle.kdf_director.specs.Spots.{Held, spot_of, spot_kind, is_flying, is_of, lease_held, ring_in, IsReady};
 
@@ -89,6 +90,17 @@ impl Place {
         match self {
             Place::Absent | Place::Idle { .. } => false,
             Place::Busy { p: owner, .. } => *owner == p,
+        }
+    }
+
+    /// The device, as its transfer found it where it has one.
+    pub fn device(&self) -> Option<&Device>
+        ensures { IsDeviceOf (spot_of self.now) (option_copied result) }
+    {
+        match self {
+            Place::Absent => None,
+            Place::Idle { device, .. } => Some(device),
+            Place::Busy { transfer, .. } => Some(transfer.device()),
         }
     }
 

@@ -1,3 +1,11 @@
 pub mod Loaded
+pub mod Numbers
 pub mod Sections
+pub mod SeenPrograms
 pub mod Tried
+pub mod WorkedPaperTape
+pub mod WorkedPunches
+pub mod WorkedCards
+pub mod WorkedPrinters
+pub mod WorkedTapes
+pub mod WorkedPrograms

@@ -24,9 +24,9 @@ use Rattle.kdf_report.specs.MadeFrom.{IsProgramOf, own_numbers}
 
 -- ---- no order changes the size or which devices there are
 
-record Same (s t : State) : Type 0 where
-  size : s.stock.claims.size ≡ t.stock.claims.size
-  fixtures : s.stock.claims.fixtures ≡ t.stock.claims.fixtures
+pub record Same (s t : State) : Type 0 where
+  pub size : s.stock.claims.size ≡ t.stock.claims.size
+  pub fixtures : s.stock.claims.fixtures ≡ t.stock.claims.fixtures
 
 same_moved : (d : ℕ) (o : TransferOrder) (first last : ℕ) (f : Option Fixture) (k : Stock) → ((transferred d o first last f k).claims.size ≡ k.claims.size) × ((transferred d o first last f k).claims.fixtures ≡ k.claims.fixtures)
 same_moved d o first last None k = (refl, refl)
@@ -44,7 +44,7 @@ same_step answers s =
     (λ (over : is_live s.registers.state ≡ false). rw over (let same : Same s s = record { size = refl; fixtures = refl } in same))
     (cases_Bool (is_live s.registers.state))
 
-same_lone : (start : State) (answers : List ℕ) (n : ℕ) → Same (lone start answers n) start
+pub same_lone : (start : State) (answers : List ℕ) (n : ℕ) → Same (lone start answers n) start
 same_lone start answers zero = record { size = refl; fixtures = refl }
 same_lone start answers (suc n) =
     let step = same_step answers (lone start answers n) in
@@ -53,7 +53,7 @@ same_lone start answers (suc n) =
 
 -- ---- the devices at the start are those of the slot
 
-filter_same : (p q : ℕ → Bool) (a n : ℕ) → ((k : ℕ) → k < a + n → p k ≡ q k) → filter p (range_with_len a n) ≡ filter q (range_with_len a n)
+pub filter_same : (p q : ℕ → Bool) (a n : ℕ) → ((k : ℕ) → k < a + n → p k ≡ q k) → filter p (range_with_len a n) ≡ filter q (range_with_len a n)
 filter_same p q a zero same = refl
 filter_same p q a (suc n) same =
     let first : p a ≡ q a = same a (omega arith) in
@@ -76,7 +76,7 @@ own_at_start slot words =
     filter_same (λ d. is_some (fixture_at (begin (slot_of slot words)).stock.claims d)) (has_device (shown_slot slot)) 0 device_limit
     (λ k h. ap is_some (get_or-map-range_with_len (fixture_numbered slot.devices.items) 0 device_limit k k None (omega arith) (omega arith)) ∙ numbered_there slot.devices.items k)
 
-own_same : (s t : State) → s.stock.claims.fixtures ≡ t.stock.claims.fixtures → own_numbers s ≡ own_numbers t
+pub own_same : (s t : State) → s.stock.claims.fixtures ≡ t.stock.claims.fixtures → own_numbers s ≡ own_numbers t
 unfolding own_numbers
 own_same s t same = ap (λ (fs : List (Option Fixture)). filter (λ d. is_some (slice_index_or fs d None)) (range_with_len 0 device_limit)) same
 

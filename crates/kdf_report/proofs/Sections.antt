@@ -1,17 +1,21 @@
--- The text of a section, part by part.
-use Rattle.std.proofs.Common.{◌≡◌, ℕ, List, [], ◌∷◌, ◌++◌, Bool, true, false, cond, map, codes, decimal, Option, Some, None, is_some, refl, sym, ◌∙◌, ap, subst}
+-- The text of a section and of a report, part by part.
+use Rattle.std.proofs.Common.{◌≡◌, ℕ, ◌<◌, List, [], ◌∷◌, ◌++◌, All, Bool, true, false, cond, length, map, codes, decimal, Option, Some, None, is_some, refl, sym, ◌∙◌, ap, subst, arith}
 use Rattle.std.specs.List.{filter, flat_map, range_with_len}
+use Rattle.std.proofs.lemmas.List.{get_or-map, length-map}
+use Rattle.kdf_journal.specs.declared.entry.Entry.{Entry}
 use Rattle.kdf_processor.specs.declared.registers.Registers.{Registers}
 use Rattle.kdf_processor.specs.declared.spooled.Spooled.{Spooled}
 use Rattle.kdf_processor.specs.Claims.{is_claimed}
 use Rattle.kdf_processor.specs.State.{State, device_at, device_limit, fixture_at}
 use Rattle.kdf_transfer.specs.Devices.{Fixture, Progress}
-use Rattle.kdf_job.specs.Job.{SlotJob}
+use Rattle.kdf_job.specs.declared.job.SlotJob.{SlotJob as ReadSlot}
+use Rattle.kdf_job.specs.Job.{Job, SlotJob}
+use Rattle.kdf_job.specs.Shows.{shown_slot}
 use Rattle.kdf_text.specs.Text.{text}
 use Rattle.kdf_text.proofs.Texts.{text_more}
 use Rattle.kdf_report.specs.Devices.{described, device_lines, device_numbers}
 use Rattle.kdf_report.specs.MadeFrom.{own_numbers}
-use Rattle.kdf_report.specs.Text.{registers_lines, show_lines, spool_line, section, alone_line, end_line, alone_text}
+use Rattle.kdf_report.specs.Text.{registers_lines, show_lines, spool_line, section, alone_line, end_line, alone_text, entry_line, head_line, report_lines, report_text}
 
 -- what is left out has nothing
 flat_map-filter : {A B : Type 0} (f : A → List B) (p : A → Bool) → ((x : A) → p x ≡ false → f x ≡ []) → (xs : List A) → flat_map f (filter p xs) ≡ flat_map f xs
@@ -56,3 +60,24 @@ pub whole_text : (slot : SlotJob) (s : State) (none head body all : List ℕ) �
 whole_text slot s none head body all is_none first second third =
     let whole = text_more _ _ _ _ _ (text_more _ _ _ _ _ first second) third in
     subst (λ x. all ≡ x ++ alone_text slot s) is_none whole
+
+-- the text of a report, part by part
+pub report_whole : (job : Job) (J : List Entry) (states : ℕ → State) (slots : List SlotJob) (entries : List Entry) (none head journal sections all : List ℕ)
+    → none ≡ [] → entries ≡ J → slots ≡ job.slots
+    → head ≡ none ++ text (head_line ∷ [])
+    → journal ≡ head ++ text (map entry_line entries)
+    → sections ≡ journal ++ text (flat_map (λ (slot : SlotJob). section slot (states slot.p)) slots)
+    → all ≡ sections ++ text (end_line ∷ [])
+    → all ≡ report_text job J states
+unfolding report_lines
+report_whole job J states slots entries none head journal sections all is_none is_J is_slots first second third last =
+    let lines = subst (λ x. journal ≡ head ++ text (map entry_line x)) is_J second in
+    let parts = subst (λ x. sections ≡ journal ++ text (flat_map (λ (slot : SlotJob). section slot (states slot.p)) x)) is_slots third in
+    let whole = text_more _ _ _ _ _ (text_more _ _ _ _ _ (text_more _ _ _ _ _ first lines) parts) last in
+    subst (λ x. all ≡ x ++ report_text job J states) is_none whole
+
+-- what holds of each slot, as it is shown, holds of each that is read
+pub all_shown : (P : SlotJob → Type 0) (slots : List ReadSlot) → All P (map shown_slot slots) → All (λ (slot : ReadSlot). P (shown_slot slot)) slots
+all_shown P slots all k d lt =
+    let inside : k < length (map shown_slot slots) = omega (arith, length-map slots shown_slot) in
+    subst P (get_or-map shown_slot slots k d (shown_slot d) lt) (all k (shown_slot d) inside)

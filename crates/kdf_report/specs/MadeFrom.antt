@@ -1,8 +1,10 @@
--- What a section is made from: a slot of a job, and the state of its program.
-use Rattle.std.specs.Prelude.{◌≡◌, ℕ, ◌<◌, List, All, is_some}
+-- What a section is made from: a slot of a job, and the state of its program. And what a report is: a machine that has the program
+-- of each slot.
+use Rattle.std.specs.Prelude.{◌≡◌, ℕ, ◌<◌, List, All, IsSomeAnd, is_some}
 use Rattle.std.specs.List.{filter, range_with_len}
 use Rattle.kdf_processor.specs.State.{State, device_limit, fixture_at}
 use Rattle.kdf_job.specs.Job.{SlotJob}
+use Rattle.kdf_director.specs.Shown.{Shown, state_of}
 use Rattle.kdf_report.specs.Devices.{device_numbers}
 
 -- the numbers of the program's devices, rising
@@ -14,3 +16,7 @@ pub record IsProgramOf (slot : SlotJob) (s : State) : Type 0 where
   pub size : s.stock.claims.size ≡ slot.size
   pub shows : All (λ show. show.1 < slot.size) slot.shows
   pub devices : own_numbers s ≡ device_numbers slot
+
+-- the machine has the program of the slot
+abbrev pub HasProgram : Shown → SlotJob → Type 0
+HasProgram m slot = IsSomeAnd (state_of m slot.p) (IsProgramOf slot)

@@ -1,4 +1,4 @@
--- The lines that are written of a program and of a journal, each without the byte that ends it.
+-- The lines that are written of a program, of a journal and of a job, each without the byte that ends it.
 use Rattle.std.specs.Prelude.{ℕ, ◌+◌, ◌-◌, ◌/◌, ◌%◌, List, [], ◌∷◌, ◌++◌, map, length, ◌==◌, ◌&&◌, if◌then◌else◌, codes, decimal}
 use Rattle.std.specs.List.{flat_map, range_with_len}
 use Rattle.kdf_text.specs.Text.{text, octal}
@@ -12,7 +12,7 @@ use Rattle.kdf_processor.specs.declared.registers.Life.TheVariants as life
 use Rattle.kdf_processor.specs.declared.registers.Registers.{Registers}
 use Rattle.kdf_processor.specs.declared.spooled.Spooled.{Spooled}
 use Rattle.kdf_processor.specs.State.{State, word_at}
-use Rattle.kdf_job.specs.Job.{SlotJob}
+use Rattle.kdf_job.specs.Job.{Job, SlotJob}
 use Rattle.kdf_report.specs.Devices.{bit, device_lines, device_numbers, host_text}
 
 -- an entry of the journal
@@ -100,3 +100,16 @@ alone_text slot s = text (alone_line slot.p ∷ section slot s ++ end_line ∷ [
 -- the text of a slot that the job doesn't have
 abbrev pub absent_text : ℕ → List ℕ
 absent_text p = text (alone_line p ∷ end_line ∷ [])
+
+abbrev pub head_line : List ℕ
+head_line = codes "KDF9 REPORT 1"
+
+-- the report of a job: its journal, and a section for each slot, from the state of the program of its number
+unfoldable pub report_lines : Job → List Entry → (ℕ → State) → List (List ℕ)
+report_lines job J states =
+    (head_line ∷ map entry_line J)
+    ++ flat_map (λ (slot : SlotJob). section slot (states slot.p)) job.slots
+    ++ end_line ∷ []
+
+abbrev pub report_text : Job → List Entry → (ℕ → State) → List ℕ
+report_text job J states = text (report_lines job J states)

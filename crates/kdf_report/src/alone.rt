@@ -3,8 +3,9 @@ ghost use Rattle.std.specs.Prelude.{◌≡◌, [], ◌∷◌, IfOk, OnOk};
 ghost use Rattle.kdf_text.specs.Text.{Adds};
 ghost use Rattle.kdf_job.specs.Shows.{shown_slot};
 ghost use Rattle.kdf_report.specs.MadeFrom.{IsProgramOf};
-ghost use Rattle.kdf_report.specs.Text.{absent_text, alone_line, alone_text, end_line};
+ghost use Rattle.kdf_report.specs.Text.{absent_text, alone_line, alone_text};
 
+use crate::end::write_end;
 use crate::write_section;
 use kdf_alone::Alone;
 use kdf_job::SlotJob;
@@ -40,11 +41,4 @@ fn write_head(out: &mut String, slot: u8) -> Result<(), AllocError>
     ensures { OnOk result (Adds out.old out.new (alone_line slot ∷ [])) }
 {
     writeln!(out, "KDF9 ALONE {slot}")
-}
-
-#[tactic(auto, unfolding(kdf_text::specs::Text::text))]
-fn write_end(out: &mut String) -> Result<(), AllocError>
-    ensures { OnOk result (Adds out.old out.new (end_line ∷ [])) }
-{
-    writeln!(out, "ENDREPORT")
 }

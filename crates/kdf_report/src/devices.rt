@@ -1,5 +1,5 @@
 //! The lines of a program's devices.
-ghost use Rattle.std.specs.Prelude.{◌≡◌, ◌∷◌, [], OnOk, Some};
+ghost use Rattle.std.specs.Prelude.{◌≡◌, ◌<◌, ◌∷◌, [], OnOk, Some};
 ghost use Rattle.std.specs.List.{flat_map, range_with_len};
 ghost use Rattle.kdf_text.specs.Text.{Adds};
 ghost use Rattle.kdf_transfer.specs.Devices.{fixture_of, progress_of};
@@ -28,6 +28,7 @@ pub fn write_devices<P: Program>(out: &mut String, program: &P) -> Result<(), Al
 /// The lines of the device of this number, if the program has one.
 #[tactic(auto, unfolding(kdf_text::specs::Text::text, crate::specs::Devices::device_lines))]
 fn write_numbered<P: Program>(out: &mut String, d: u8, program: &P) -> Result<(), AllocError>
+    requires { d < device_limit }
     ensures { OnOk result (Adds out.old out.new (device_lines (P.state program.now) d)) }
 {
     match program.device(d) {

@@ -1,23 +1,28 @@
-//! The lines of a program's section and of a journal, and the text of a program that ran alone. Whatever is a `Program` is written by
-//! the same functions.
+//! The lines of a program's section and of a journal, the text of a program that ran alone, and the report of a machine. Whatever is a
+//! `Program` is written by the same functions.
 #![tactic(auto)]
 
 mod alone;
 mod blocks;
 mod characters;
 mod devices;
+mod end;
 mod entries;
 pub mod examples;
+mod in_slot;
 pub mod laws;
 mod program;
 mod registers;
+mod reports;
 mod section;
 mod shows;
 mod spool;
 #[cfg(test)]
 mod tests;
+pub mod worked;
 
 pub use alone::{alone_absent, alone_text};
 pub use entries::write_entries;
 pub use program::Program;
+pub use reports::report;
 pub use section::write_section;

@@ -2,7 +2,7 @@
 ghost use Rattle.std.specs.Prelude.{◌≡◌, ◌<◌};
 ghost use Rattle.std.specs.Option.{option_copied};
 ghost use Rattle.kdf_processor.specs.Claims.{is_claimed};
-ghost use Rattle.kdf_processor.specs.State.{State, word_at};
+ghost use Rattle.kdf_processor.specs.State.{State, device_limit, word_at};
 ghost use Rattle.kdf_alone.specs.Program.{IsDeviceAt};
 
 use kdf_alone::Alone;
@@ -24,12 +24,14 @@ pub trait Program {
         requires { address < (state self.now).stock.claims.size }
         ensures { result ≡ word_at (state self.now) address };
 
-    /// The device of this number, if the program has one.
+    /// The device of this number, below 16, if the program has one.
     fn device(&self, d: u8) -> Option<&Device>
+        requires { d < device_limit }
         ensures { IsDeviceAt (state self.now) d (option_copied result) };
 
-    /// Whether the program has claimed the device of this number.
+    /// Whether the program has claimed the device of this number, below 16.
     fn claimed(&self, d: u8) -> bool
+        requires { d < device_limit }
         ensures { result ≡ is_claimed (state self.now).stock.claims d };
 
     /// What it spooled, the oldest first.

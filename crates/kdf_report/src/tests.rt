@@ -7,6 +7,8 @@ ghost use Rattle.kdf_report.specs.MadeFrom.{IsProgramOf};
 mod journals;
 mod readers;
 mod registers;
+mod reports;
+mod schedules;
 mod tapes;
 mod writers;
 

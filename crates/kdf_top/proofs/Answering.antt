@@ -3,17 +3,19 @@ use Rattle.std.proofs.Common.{◌≡◌, ◌≢◌, ℕ, ◌≤◌, List, [], le
 use Rattle.std.proofs.lemmas.List.{append-nil}
 use Rattle.kdf_io.specs.Outside.{HasRisen, Added, AddedFront}
 use Rattle.kdf_usercode.specs.Faults.{Found}
-use Rattle.kdf_top.specs.declared.job.JobFault.{JobFault}
+use Rattle.kdf_job.specs.declared.fault.JobFault.{JobFault}
 use Rattle.kdf_top.specs.declared.status.Status.{Status}
 use Rattle.kdf_top.specs.declared.status.Status.TheVariants as status
 use Rattle.kdf_top.specs.Answered.{Outlet, IsGiven, IsRefusal}
 use Rattle.kdf_top.specs.Answers.{Answers, IsDue, IsMachineOf, Wrote, is_done, refusal_lines, report_of, status_of_decks, status_of_faults, status_of_job}
-use Rattle.kdf_top.specs.Follows.{IsJournal}
+use Rattle.kdf_director.specs.Follows.{IsJournal}
 use Rattle.kdf_top.specs.Deck.{deck_fault}
-use Rattle.kdf_top.specs.Job.{SlotJob, job, job_fault}
-use Rattle.kdf_top.specs.Shown.{Shown, slots_of}
+use Rattle.kdf_job.specs.Job.{SlotJob}
+use Rattle.kdf_job.specs.Reading.{job, job_fault}
+use Rattle.kdf_director.specs.Shown.{Shown}
+use Rattle.kdf_top.specs.Loaded.{slots_of}
 use Rattle.kdf_text.specs.Text.{text}
-use Rattle.kdf_top.proofs.OneJournal.{one_journal_lem}
+use Rattle.kdf_director.proofs.OneJournal.{one_journal_lem}
 
 -- one text is due
 pub one_due : (called : Status) (bytes d e : List ℕ) → IsDue called bytes d → IsDue called bytes e → d ≡ e

@@ -1,18 +1,18 @@
 -- The decks of a job: what its slots are loaded with, and the first that has a fault.
-use Rattle.std.proofs.Common.{◌≡◌, ℕ, zero, suc, ◌+◌, ◌<◌, ◌≤◌, List, [], ◌∷◌, ◌++◌, length, map, take, drop, get_or, Result, Ok, All, refl, sym, ap, subst, ◌∙◌, arith}
-use Rattle.std.proofs.lemmas.List.{at_drop_more, take_more, map-append}
+use Rattle.std.proofs.Common.{◌≡◌, ℕ, suc, ◌+◌, ◌<◌, ◌≤◌, List, [], ◌∷◌, ◌++◌, length, map, take, drop, get_or, Result, Ok, All, refl, sym, ap, subst, ◌∙◌, arith}
+use Rattle.std.proofs.lemmas.List.{at_drop_more, get_or-map, length-map, take_more, map-append}
 use Rattle.std.proofs.lemmas.List.Elements.{All-push}
 use Rattle.kdf_usercode.specs.Faults.{Found}
 use Rattle.kdf_place.specs.declared.image.Image.{Image}
 use Rattle.kdf_place.specs.Placement.{Picture}
-use Rattle.kdf_top.specs.declared.job.Job.{Job as ReadJob}
-use Rattle.kdf_top.specs.declared.job.SlotJob.{SlotJob as ReadSlot}
+use Rattle.kdf_job.specs.declared.job.Job.{Job as ReadJob}
+use Rattle.kdf_job.specs.declared.job.SlotJob.{SlotJob as ReadSlot}
+use Rattle.kdf_job.specs.Shows.{shown_job, shown_slot}
+use Rattle.kdf_job.specs.WellFormed.{IsJob, IsSlot}
+use Rattle.kdf_director.specs.Loading.{HaveImages}
 use Rattle.kdf_place.specs.Assembled.{assembled, image_words, words_or_none}
-use Rattle.kdf_top.specs.Deck.{first_of, deck_fault}
-use Rattle.kdf_top.specs.Loaded.{loaded, IsLoadable}
-use Rattle.kdf_top.specs.Shown.{slot_of_job}
-use Rattle.kdf_top.specs.Shows.{shown_slot}
-use Rattle.kdf_top.specs.WellFormed.{IsDeck, IsSlot, IsJob}
+use Rattle.kdf_top.specs.Deck.{first_of, deck_fault, IsDeck}
+use Rattle.kdf_top.specs.Loaded.{images_of}
 
 -- the words of an image, and those that a slot's deck comes to
 abbrev pub words_of : Image → List ℕ
@@ -24,37 +24,20 @@ words_due slot = image_words slot.size slot.deck.items
 abbrev pub Fitting : ReadSlot → Type 0
 Fitting slot = length (words_due slot) ≤ slot.size
 
-pub loaded_slots : (slots : List ReadSlot) (images : List Image) → map words_of images ≡ map words_due slots → loaded slots images ≡ map slot_of_job (map shown_slot slots)
-loaded_slots [] [] e = refl
-loaded_slots [] (i ∷ images) e = refl
-loaded_slots (s ∷ slots) [] e = absurd cc
-loaded_slots (s ∷ slots) (i ∷ images) e =
-    let first : words_of i ≡ words_due s = cc in
-    let rest : map words_of images ≡ map words_due slots = cc in
-    let later = loaded_slots slots images rest in
-    rw (first, later) refl
+pub same_images : (slots : List ReadSlot) → map words_due slots ≡ images_of (map shown_slot slots)
+same_images [] = refl
+same_images (s ∷ slots) = ap (λ (later : List (List ℕ)). words_due s ∷ later) (same_images slots)
 
-loadable_one : (slot : ReadSlot) (images : List Image) → IsSlot slot → map words_of images ≡ words_due slot ∷ [] → length (words_due slot) ≤ slot.size → IsLoadable (slot ∷ []) images
-loadable_one slot [] is e fits = absurd cc
-loadable_one slot (i ∷ []) is e fits =
-    let same : words_of i ≡ words_due slot = cc in
-    (is.number, is.least, is.most, subst (λ (words : List ℕ). length words ≤ slot.size) (sym same) fits)
-loadable_one slot (i ∷ k ∷ images) is e fits = absurd cc
+pub have_images : (slots : List ReadSlot) → All Fitting slots → HaveImages (map shown_slot slots) (images_of (map shown_slot slots))
+have_images [] fits = tt
+have_images (s ∷ slots) fits = (fits 0 s (omega arith), have_images slots (λ k d lt. fits (suc k) d (omega arith)))
 
-module _ (j : ReadJob) (well : IsJob j) where
-  pub all_decks : All IsDeck j.slots.items
-  all_decks = subst (λ (slots : List ReadSlot). All IsDeck slots) (sym well.only) one
-    where
-      one : All IsDeck (well.slot ∷ [])
-      one zero d lt = (well.is_slot.most, well.is_slot.deck)
-      one (suc k) d lt = absurd (omega arith)
-
-  pub loadable : (images : List Image) → map words_of images ≡ map words_due j.slots.items → All Fitting j.slots.items
-      → IsLoadable j.slots.items images
-  loadable images e fits =
-      subst (λ (slots : List ReadSlot). IsLoadable slots images) (sym well.only)
-      (loadable_one well.slot images well.is_slot (e ∙ ap (map words_due) well.only)
-      (subst (λ (slots : List ReadSlot). All Fitting slots) well.only fits 0 well.slot (omega arith)))
+pub all_decks : (j : ReadJob) → IsJob (shown_job j) → All IsDeck j.slots.items
+all_decks j well k d lt =
+    let inside : k < length (map shown_slot j.slots.items) = omega (arith, length-map j.slots.items shown_slot) in
+    let at : get_or (map shown_slot j.slots.items) k (shown_slot d) ≡ shown_slot (get_or j.slots.items k d) = get_or-map shown_slot j.slots.items k d (shown_slot d) lt in
+    let slot = subst IsSlot at (well.slots.each k (shown_slot d) inside) in
+    (slot.most, slot.deck)
 
 -- the image of one deck more
 module _ (slots : List ReadSlot) (i : ℕ) (d slot : ReadSlot) (lt : i < length slots) (is : get_or slots i d ≡ slot) (image : Image) (picture : Picture)

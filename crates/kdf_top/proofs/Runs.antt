@@ -5,15 +5,15 @@ use Rattle.kdf_io.specs.Outside.{HasRisen, Advances, NothingLeft}
 use Rattle.kdf_io.specs.Reading.{TakesAtMost, TookBefore}
 use Rattle.kdf_io.specs.declared.read_end.ReadEnd.TheVariants.{Large}
 use Rattle.kdf_usercode.specs.Faults.{Found}
-use Rattle.kdf_top.specs.declared.job.JobFault.{JobFault}
+use Rattle.kdf_job.specs.declared.fault.JobFault.{JobFault}
 use Rattle.kdf_top.specs.declared.status.Status.{Status}
 use Rattle.kdf_top.specs.declared.status.Status.TheVariants as status
 use Rattle.kdf_top.specs.Answered.{Inlet, Outlet, IsGiven, IsRun}
 use Rattle.kdf_top.specs.Answers.{Answers, called_for, status_of_bytes, status_of_faults, status_of_job}
 use Rattle.kdf_top.specs.Commands.{is_command}
 use Rattle.kdf_top.specs.Deck.{deck_fault}
-use Rattle.kdf_top.specs.Job.{job, job_fault}
-use Rattle.kdf_top.specs.Shown.{Shown}
+use Rattle.kdf_job.specs.Reading.{job, job_fault}
+use Rattle.kdf_director.specs.Shown.{Shown}
 use Rattle.kdf_top.specs.declared.command.TheConstants.{JOB_LIMIT}
 use Rattle.kdf_top.proofs.Answering.{given_memory, nothing_added, as_called, by_job_fault, by_deck_fault}
 

@@ -1,60 +1,41 @@
--- The events of a schedule, one after another.
-use Rattle.std.proofs.Common.{◌≡◌, ℕ, ◌+◌, ◌≤◌, ◌<◌, List, [], ◌∷◌, ◌++◌, false, refl, sym, ◌∙◌, ap, length, take, drop, get_or, drop-cons, add-one, subst}
-use Rattle.std.proofs.lemmas.List.{take_all, take_more, take-append-drop}
-use Rattle.kdf_processor.specs.State.{Slot}
-use Rattle.kdf_journal.specs.declared.entry.Entry.{Entry}
-use Rattle.kdf_journal.specs.Steps.{journal_of, steps}
-use Rattle.kdf_journal.proofs.Steps.{steps-nil}
+-- What a machine asks of a schedule, a well formed one has.
+use Rattle.std.proofs.Common.{ℕ, suc, ◌*◌, ◌≤◌, List, [], ◌∷◌, length, All, arith}
+use Rattle.std.specs.Prelude.{sum_by}
+use Rattle.std.proofs.lemmas.List.Sums.{sum_by-cons}
 use Rattle.kdf_schedule.specs.declared.event.Event.{Event}
 use Rattle.kdf_schedule.specs.declared.event.Event.TheVariants.{Orders, Move, End, Clock}
-use Rattle.kdf_schedule.specs.Calls.{Call, calls_of, calls_made}
-use Rattle.kdf_schedule.proofs.Schedules.{calls_made-append, calls_made-one, calls_made-nil}
-use Rattle.kdf_top.specs.Next.{any_live}
-use Rattle.kdf_top.specs.Legal.{IsLegal}
-use Rattle.kdf_top.specs.Follows.{IsRising, time_behind, IsJournal}
-use Rattle.kdf_top.specs.Course.{course}
-use Rattle.kdf_top.proofs.Courses.{course_dead, course-append, whole-course}
+use Rattle.kdf_schedule.specs.Events.{IsInRange}
+use Rattle.kdf_job.specs.WellFormed as job
+use Rattle.kdf_director.specs.Follows.{IsRising, entries_in, words_in}
 
--- before the first event
-pub begun : (slots : List Slot) (J : List Entry) → J ≡ [] → steps J ≡ course slots [] (calls_made [])
-begun slots J fresh = rw (fresh, calls_made-nil) steps-nil
+-- no event moves more words than a transfer can have
+few_words : (e : Event) → IsInRange e → words_in e ≤ 4096
+few_words (Orders n) is = omega arith
+few_words (Move d n) is = is.2
+few_words (End d) is = omega arith
+few_words (Clock t) is = omega arith
 
-journal-course : (slots : List Slot) (es : List Event) (J : List Entry) → IsLegal slots J → steps J ≡ course slots [] (calls_made es) → IsJournal slots es J
-journal-course slots es J l e = record { legal = l; whole = whole-course slots (calls_made es) J l e }
+pub words_bound : (es : List Event) → All IsInRange es → sum_by words_in es ≤ 4096 * length es
+words_bound [] each = omega arith
+words_bound (e ∷ es) each =
+    let first = few_words e (each 0 e (omega arith)) in
+    let others = words_bound es (λ k d lt. each (suc k) d (omega arith)) in
+    omega (arith, sum_by-cons words_in e es)
 
-module _ (slots0 : List Slot) (es : List Event) (i : ℕ) where
-  module _ (slots : List Slot) (J : List Entry) (l : IsLegal slots J) (same : slots ≡ slots0) (taken : steps J ≡ course slots0 [] (calls_made (take i es))) where
-    -- the events are over before their end, where no program is live
-    pub ended_early : any_live slots J ≡ false → IsJournal slots es J
-    ended_early dead =
-        let none : any_live slots0 (journal_of (course slots0 [] (calls_made (take i es)))) ≡ false = rw (← taken, l.in_form, ← same) dead in
-        let all : calls_made (take i es) ++ calls_made (drop i es) ≡ calls_made es = sym (calls_made-append (take i es) (drop i es)) ∙ ap calls_made (take-append-drop i es) in
-        let reached : steps J ≡ course slots0 [] (calls_made es) =
-        taken ∙ (sym (course_dead slots0 (course slots0 [] (calls_made (take i es))) (calls_made (drop i es)) none)
-        ∙ (sym (course-append slots0 [] (calls_made (take i es)) (calls_made (drop i es))) ∙ ap (course slots0 []) all)) in
-        journal-course slots es J l (rw same reached)
+-- each event is an entry at most
+one_entry : (e : Event) → entries_in e ≤ 1
+one_entry (Orders n) = omega arith
+one_entry (Move d n) = omega arith
+one_entry (End d) = omega arith
+one_entry (Clock t) = omega arith
 
-    pub ended_late : length es ≤ i → IsJournal slots es J
-    ended_late le = journal-course slots es J l (rw same (taken ∙ ap (λ (fs : List Event). course slots0 [] (calls_made fs)) (take_all i es le)))
+pub entries_bound : (es : List Event) → sum_by entries_in es ≤ length es
+entries_bound [] = omega arith
+entries_bound (e ∷ es) = let first = one_entry e in let others = entries_bound es in omega (arith, sum_by-cons entries_in e es)
 
-    pub one_more : (K : List Entry) (d : Event) → i < length es → steps K ≡ course slots (steps J) (calls_of (get_or es i d)) → steps K ≡ course slots0 [] (calls_made (take (i + 1) es))
-    one_more K d lt k =
-        let next : calls_made (take (i + 1) es) ≡ calls_made (take i es) ++ calls_of (get_or es i d) =
-        ap calls_made (take_more es i d lt) ∙ (calls_made-append (take i es) (get_or es i d ∷ []) ∙ ap (λ (cs : List Call). calls_made (take i es) ++ cs) (calls_made-one (get_or es i d))) in
-        k ∙ rw (same, taken, next, course-append) refl
-
--- the events from the next on
-pub rises-from : (es : List Event) (i : ℕ) (d : Event) (t : ℕ) → i < length es → IsRising t (drop i es) → IsRising t (get_or es i d ∷ drop (i + 1) es)
-rises-from es i d t lt rises = subst (IsRising t) (drop-cons es i d lt ∙ ap (λ (n : ℕ). get_or es i d ∷ drop n es) (sym (add-one i))) rises
-
-pub rises-first : (t : ℕ) (e : Event) (es : List Event) → IsRising t (e ∷ es) → IsRising t (e ∷ [])
-rises-first t (Orders n) es rises = tt
-rises-first t (Move d n) es rises = tt
-rises-first t (End d) es rises = tt
-rises-first t (Clock u) es rises = (rises.0, tt)
-
-pub rises-rest : (t : ℕ) (e : Event) (es : List Event) → IsRising t (e ∷ es) → IsRising (time_behind t e) es
-rises-rest t (Orders n) es rises = rises
-rises-rest t (Move d n) es rises = rises
-rises-rest t (End d) es rises = rises
-rises-rest t (Clock u) es rises = rises.1
+pub rises : (t : ℕ) (es : List Event) → job.IsRising t es → IsRising t es
+rises t [] rising = tt
+rises t (Clock u ∷ es) rising = (rising.0, rises u es rising.1)
+rises t (Orders n ∷ es) rising = rises t es rising
+rises t (Move d n ∷ es) rising = rises t es rising
+rises t (End d ∷ es) rising = rises t es rising

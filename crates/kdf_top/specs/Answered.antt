@@ -5,7 +5,7 @@ use Rattle.kdf_io.specs.Reading.{TakesAtMost}
 use Rattle.kdf_top.specs.declared.command.TheConstants.{JOB_LIMIT}
 use Rattle.kdf_top.specs.declared.status.Status.{Status}
 use Rattle.kdf_top.specs.declared.status.Status.TheVariants as status
-use Rattle.kdf_top.specs.Shown.{Shown}
+use Rattle.kdf_director.specs.Shown.{Shown}
 use Rattle.kdf_top.specs.Commands.{is_command}
 use Rattle.kdf_top.specs.Answers.{Answers, IsDue, IsReported, Wrote, WroteFront, called_for, is_done}
 

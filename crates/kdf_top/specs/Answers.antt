@@ -1,19 +1,22 @@
 -- What `run` answers to its words and to the bytes of its source, and what it writes.
 use Rattle.std.specs.Prelude.{◌≡◌, ℕ, List, [], ◌∷◌, length, nat_lt, Bool, true, false, Option, Some, None, if◌then◌else◌}
 use Rattle.kdf_journal.specs.declared.entry.Entry.{Entry}
-use Rattle.kdf_top.specs.declared.job.JobFault.{JobFault}
+use Rattle.kdf_job.specs.declared.fault.JobFault.{JobFault}
+use Rattle.kdf_job.specs.Reading.{job, job_fault}
+use Rattle.kdf_processor.specs.Lone.{is_live}
+use Rattle.kdf_director.specs.Follows.{IsJournal}
+use Rattle.kdf_director.specs.Shown.{Shown, ShowsSeen}
+use Rattle.kdf_director.specs.Told.{flights_of, own, seen_of}
+use Rattle.kdf_report.specs.Text.{report_text}
 use Rattle.kdf_top.specs.declared.status.Status.{Status}
 use Rattle.kdf_top.specs.declared.status.Status.TheVariants as status
 use Rattle.kdf_io.specs.Outside.{Added, AddedFront}
 use Rattle.kdf_usercode.specs.Faults.{Found}
 use Rattle.kdf_top.specs.Commands.{is_command}
-use Rattle.kdf_top.specs.Job.{job, job_fault}
 use Rattle.kdf_top.specs.Deck.{deck_fault}
-use Rattle.kdf_top.specs.Next.{own}
-use Rattle.kdf_top.specs.Follows.{IsJournal}
-use Rattle.kdf_top.specs.Shown.{Shown, ShowsLone, slots_of}
+use Rattle.kdf_top.specs.Loaded.{slots_of}
 use Rattle.kdf_text.specs.Text.{text}
-use Rattle.kdf_top.specs.Text.{report_lines, usage_line, large_line, job_fault_line, deck_fault_line}
+use Rattle.kdf_top.specs.Text.{usage_line, large_line, job_fault_line, deck_fault_line}
 use Rattle.kdf_top.specs.declared.command.TheConstants.{JOB_LIMIT}
 
 -- the answer that a job calls for: a fault of the job comes before one of a deck
@@ -50,20 +53,23 @@ refusal_lines (status.Deck slot fault place) = deck_fault_line slot fault place 
 refusal_lines status.Large = large_line ∷ []
 refusal_lines _ = []
 
--- the report of a job whose journal is J: the state of each program is that of its lone run
+-- the report of a job whose journal is J: the state of each program is what is seen of its lone run
 abbrev pub report_of : List ℕ → List Entry → List ℕ
-report_of bytes J = text (report_lines (job bytes) J (own (slots_of (job bytes)) J))
+report_of bytes J = report_text (job bytes) J (seen_of (slots_of (job bytes)) J)
 
 -- the text that is due where this answer is called for: a report of the job's journal, or the reason why there is none
 abbrev pub IsDue : Status → List ℕ → List ℕ → Type 0
 IsDue status.Done bytes due = (J : List Entry) × IsJournal (slots_of (job bytes)) (job bytes).events J × (due ≡ report_of bytes J)
 IsDue called bytes due = due ≡ text (refusal_lines called)
 
--- the machine is that of the job of these bytes: its journal is legal and whole, and what it shows are the lone runs
+-- the machine is that of the job of these bytes: its journal is legal and whole, what it shows is what is seen of the lone
+-- runs, and a program that isn't live has no transfer in flight
 pub record IsMachineOf (bytes : List ℕ) (m : Shown) : Type 0 where
   pub slots : m.slots ≡ slots_of (job bytes)
   pub journal : IsJournal m.slots (job bytes).events m.journal
-  pub lone : ShowsLone m
+  pub seen : ShowsSeen m
+  pub over : (p : ℕ) → is_live (own m.slots m.journal p).registers.state ≡ false
+      → (d : ℕ) → flights_of m.slots m.journal p d ≡ None
 
 abbrev pub is_done : Status → Bool
 is_done status.Done = true

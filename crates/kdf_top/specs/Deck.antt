@@ -1,11 +1,17 @@
--- The first deck of a job that has a fault.
-use Rattle.std.specs.Prelude.{◌≡◌, ℕ, List, [], ◌∷◌, Option, Some, None, Result, Ok, Err}
+-- The decks of a job: those that can be read and placed, and the first that has a fault.
+use Rattle.std.specs.Prelude.{◌≡◌, ℕ, ◌≤◌, List, [], ◌∷◌, length, Option, Some, None, Result, Ok, Err}
 use Rattle.kdf_usercode.specs.Faults.{Found, found}
 use Rattle.kdf_place.specs.Placement.{Picture}
 use Rattle.kdf_place.specs.Assembled.{assembled}
 use Rattle.kdf_top.specs.declared.decks.DecksError.{DecksError}
 use Rattle.kdf_top.specs.declared.decks.DecksError.TheVariants.{Fault, Memory}
-use Rattle.kdf_top.specs.Job.{SlotJob}
+use Rattle.kdf_job.specs.declared.job.TheConstants.{TEXT_LIMIT}
+use Rattle.kdf_job.specs.declared.job.SlotJob.{SlotJob as ReadSlot}
+use Rattle.kdf_job.specs.Job.{SlotJob}
+
+-- the deck can be read, and placed in a store of the slot's size
+abbrev pub IsDeck : ReadSlot → Type 0
+IsDeck s = (s.size ≤ 8192) × (length s.deck.items ≤ TEXT_LIMIT)
 
 -- the fault of slot p, or the first of those behind it
 abbrev pub first_of : ℕ → Result Picture Found → Option (ℕ × Found) → Option (ℕ × Found)

@@ -1,18 +1,14 @@
--- The slots that a job and its images are loaded into.
-use Rattle.std.specs.Prelude.{◌≡◌, ◌≤◌, List, [], ◌∷◌, length}
-use Rattle.kdf_place.specs.declared.image.Image.{Image}
+-- The slots of a job, as they are loaded.
+use Rattle.std.specs.Prelude.{ℕ, List, map}
+use Rattle.kdf_place.specs.Assembled.{image_words}
 use Rattle.kdf_processor.specs.State.{Slot}
-use Rattle.kdf_top.specs.Bare.{bare}
-use Rattle.kdf_top.specs.declared.job.SlotJob.{SlotJob}
+use Rattle.kdf_job.specs.Job.{Job, SlotJob}
+use Rattle.kdf_director.specs.Loading as loading
 
--- each slot with its image
-abbrev pub loaded : List SlotJob → List Image → List Slot
-loaded (slot ∷ slots) (image ∷ images) =
-    bare slot.p slot.size image.words.items ∷ loaded slots images
-loaded _ _ = []
+-- the words of the images of these slots' decks
+abbrev pub images_of : List SlotJob → List (List ℕ)
+images_of slots = map (λ (s : SlotJob). image_words s.size s.deck) slots
 
--- what can be loaded today: one slot, of number 0, with an image that fits its store
-abbrev pub IsLoadable : List SlotJob → List Image → Type 0
-IsLoadable (slot ∷ []) (image ∷ []) =
-    (slot.p ≡ 0) × (32 ≤ slot.size) × (slot.size ≤ 8192) × (length image.words.items ≤ slot.size)
-IsLoadable _ _ = ⊥
+-- each slot with the image of its deck
+abbrev pub slots_of : Job → List Slot
+slots_of job = loading.slots_of job.slots (images_of job.slots)

@@ -3,11 +3,10 @@
 ghost use Rattle.std.specs.Prelude.{◌≡◌, ◌≤◌, All, None, OnOk, IfOk, IfErr, length, map};
 ghost use Rattle.kdf_place.specs.Placement.{Gives};
 ghost use Rattle.kdf_place.specs.Assembled.{assembled, image_words};
-ghost use Rattle.kdf_top.specs.Deck.{deck_fault, Tells};
-ghost use Rattle.kdf_top.specs.Shows.{shown_slot};
-ghost use Rattle.kdf_top.specs.WellFormed.{IsDeck};
+ghost use Rattle.kdf_job.specs.Shows.{shown_slot};
+ghost use Rattle.kdf_top.specs.Deck.{deck_fault, IsDeck, Tells};
 
-use crate::job::SlotJob;
+use kdf_job::SlotJob;
 use kdf_place::{Image, assemble};
 use kdf_usercode::{DeckError, DeckFault, read_deck};
 use std::alloc::{AllocFailed, Global};

@@ -1,9 +1,9 @@
 //! What a call of `run` answers.
 
-use crate::{Machine, Status};
+use crate::Status;
+use kdf_director::Machine;
 
 /// How a call of `run` ended, and the machine that ran the job, where it is done.
-#[derive(Drop)]
 pub struct Outcome {
     /// How it ended.
     pub status: Status,
@@ -14,7 +14,8 @@ pub struct Outcome {
 impl Outcome {
     /// Gives up the machine.
     pub fn close(self) {
-        if let Some(machine) = self.machine {
+        let Outcome { status: _, machine } = self;
+        if let Some(machine) = machine {
             machine.close();
         }
     }

@@ -1,7 +1,7 @@
 //! How a call of `run` ended.
 ghost use Rattle.std.specs.Prelude.{◌≡◌};
 
-use crate::JobFault;
+use kdf_job::JobFault;
 use kdf_usercode::DeckFault;
 
 /// What `run` answers.

@@ -1,27 +1,30 @@
 //! The call that reads a job, assembles its decks, runs it, and writes its report or why there is none.
-ghost use Rattle.std.specs.Prelude.{◌≡◌, ◌≢◌, ℕ, ◌+◌, ◌<◌, ◌≤◌, ◌⊎◌, List, None, length, true, false, All, OnOk, IfOk, IfSome, is_some, map, string_bytes};
+ghost use Rattle.std.specs.Prelude.{◌≡◌, ◌≢◌, ℕ, ◌+◌, ◌<◌, ◌≤◌, ◌⊎◌, List, None, length, true, false, IfOk, IfSome, is_some, map, string_bytes};
 ghost use Rattle.kdf_io.specs.Outside.{HasRisen, Advances, NothingLeft};
 ghost use Rattle.kdf_io.specs.Reading.{TakesAtMost};
+ghost use Rattle.kdf_place.specs.declared.image.Image.{Image as Made};
+ghost use Rattle.kdf_job.specs.Reading.{job as job_of, job_fault};
+ghost use Rattle.kdf_job.specs.Shows.{shown_job};
+ghost use Rattle.kdf_job.specs.WellFormed.{IsJob};
+ghost use Rattle.kdf_director.specs.Follows.{IsJournal};
+ghost use Rattle.kdf_director.specs.Loading.{HaveImages};
+ghost use Rattle.kdf_director.specs.Shown.{ShowsSeen};
 ghost use Rattle.kdf_top.specs.Answered.{inlet, outlet, IsGiven, IsRefusal, IsRun};
 ghost use Rattle.kdf_top.specs.Answers.{Answers, IsDue, IsReported, Wrote, WroteFront, called_for, is_done, status_of_decks, status_of_job};
 ghost use Rattle.kdf_top.specs.Commands.{is_command};
 ghost use Rattle.kdf_top.specs.Deck.{deck_fault};
-ghost use Rattle.kdf_top.specs.Follows.{IsJournal};
-ghost use Rattle.kdf_top.specs.Job.{job as job_of, job_fault};
-ghost use Rattle.kdf_top.specs.Loaded.{loaded, IsLoadable};
-ghost use Rattle.kdf_top.specs.Shown.{ShowsLone, slots_of};
-ghost use Rattle.kdf_top.specs.Shows.{shown_job};
+ghost use Rattle.kdf_top.specs.Loaded.{images_of, slots_of};
 ghost use Rattle.kdf_top.specs.declared.command.TheConstants.{JOB_LIMIT};
-ghost use Rattle.kdf_top.specs.WellFormed.{IsJob};
 
 use crate::command::command_of;
 use crate::decks::{DecksError, assemble_decks};
-use crate::job_reader::read_job;
 use crate::refusal::refusal_text;
-use crate::report::report;
-use crate::{Job, JobError, Machine, Outcome, Status, follow};
+use crate::{Outcome, Status};
+use kdf_director::{Machine, follow};
 use kdf_io::{ReadEnd, Sink, Source, read_all, write_all};
+use kdf_job::{Job, JobError, read_job};
 use kdf_place::Image;
+use kdf_report::report;
 use std::alloc::{AllocError, Global};
 
 /// Reads a job from the source, assembles its decks, runs it, and writes its report to the sink, or why there is none.
@@ -65,8 +68,8 @@ pub fn run<S: Source, K: Sink>(
     // Whatever is answered, at most one byte more is taken than a job may have.
     ensures taken { TakesAtMost (JOB_LIMIT + 1) (S.left source.old) (S.left source.new) }
 
-    // The machine at Done: its journal is legal and whole, what it shows are the lone runs, and the sink took the
-    // report of them.
+    // The machine at Done: its journal is legal and whole, what it shows is what is seen of the lone runs, none of those
+    // that are over has a transfer in flight, and the sink took the report of it all.
     ensures machine { is_some result.machine ≡ is_done result.status }
     ensures ended { IfSome result.machine (λ m. NothingLeft (S.left source.new)) }
     ensures done { IfSome result.machine (λ m. IfSome (S.left source.old)
@@ -165,7 +168,7 @@ fn answer<K: Sink>(alloc: Global, bytes: &[u8], sink: &mut K) -> Outcome
 
 /// Assembles the decks of a job and runs it.
 fn answer_job<K: Sink>(alloc: Global, job: &Job, sink: &mut K) -> Outcome
-    requires { IsJob job.now }
+    requires { IsJob (shown_job job.now) }
     ensures { (bytes : List ℕ) → job_fault bytes ≡ None → shown_job job.now ≡ job_of bytes
         → IsGiven (status_of_decks (deck_fault (job_of bytes).slots)) bytes result.status result.machine
         (outlet (K.written sink.old) (K.faults sink.old) (K.room sink.old))
@@ -182,9 +185,9 @@ fn answer_job<K: Sink>(alloc: Global, job: &Job, sink: &mut K) -> Outcome
 
 /// Runs a job with the images of its decks, and writes its report.
 fn report_job<K: Sink>(alloc: Global, job: &Job, images: &[Image], sink: &mut K) -> Outcome
-    requires job { IsJob job.now }
-    requires loadable { IsLoadable job.now.slots.items images.now }
-    requires loaded { loaded job.now.slots.items images.now ≡ slots_of (shown_job job.now) }
+    requires job { IsJob (shown_job job.now) }
+    requires fits { HaveImages (shown_job job.now).slots (images_of (shown_job job.now).slots) }
+    requires images { map (λ (x : Made). x.words.items) images.now ≡ images_of (shown_job job.now).slots }
     ensures { (bytes : List ℕ) → job_fault bytes ≡ None → deck_fault (job_of bytes).slots ≡ None
         → shown_job job.now ≡ job_of bytes
         → IsGiven Status.Done bytes result.status result.machine
@@ -195,28 +198,43 @@ fn report_job<K: Sink>(alloc: Global, job: &Job, images: &[Image], sink: &mut K)
         return without_machine(Status::Memory);
     };
     let Ok(text) = report(alloc, job, &machine) else {
-        return without_machine(Status::Memory);
+        return give_up(machine, Status::Memory);
     };
     match write_all(sink, &text) {
         Ok(()) => Outcome {
             status: Status::Done,
             machine: Some(machine),
         },
-        Err(_) => without_machine(Status::WriteFault),
+        Err(_) => give_up(machine, Status::WriteFault),
     }
+}
+
+/// Gives up a machine whose report wasn't written.
+fn give_up(machine: Machine, status: Status) -> Outcome
+    ensures status { result.status ≡ status }
+    ensures machine { result.machine ≡ None }
+{
+    machine.close();
+    without_machine(status)
 }
 
 /// Loads a job and makes the calls of its schedule.
 fn run_job(alloc: Global, job: &Job, images: &[Image]) -> Result<Machine, AllocError>
-    requires job { IsJob job.now }
-    requires loadable { IsLoadable job.now.slots.items images.now }
-    ensures slots { IfOk result (λ m. m.slots ≡ loaded job.now.slots.items images.now) }
+    requires job { IsJob (shown_job job.now) }
+    requires fits { HaveImages (shown_job job.now).slots (images_of (shown_job job.now).slots) }
+    requires images { map (λ (x : Made). x.words.items) images.now ≡ images_of (shown_job job.now).slots }
+    ensures slots { IfOk result (λ m. m.slots ≡ slots_of (shown_job job.now)) }
     ensures journal { IfOk result (λ m. IsJournal m.slots (shown_job job.now).events m.journal) }
-    ensures lone { IfOk result ShowsLone }
+    ensures seen { IfOk result ShowsSeen }
 {
     let mut machine = Machine::load(alloc, job, images)?;
-    follow(&mut machine, &job.events)?;
-    Ok(machine)
+    match follow(&mut machine, &job.events) {
+        Ok(()) => Ok(machine),
+        Err(error) => {
+            machine.close();
+            Err(error)
+        }
+    }
 }
 
 #[cfg(test)]

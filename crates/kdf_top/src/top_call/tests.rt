@@ -1,9 +1,13 @@
 //! Whole calls over memory: each answer, and what is written at it.
 ghost use Rattle.std.specs.Prelude.{◌≤◌};
 
+mod devices;
+mod slots;
+
 use super::run;
-use crate::{JobFault, Status};
+use crate::Status;
 use kdf_io::{MemorySink, MemorySource};
+use kdf_job::JobFault;
 use kdf_usercode::DeckFault;
 use std::alloc::{AllocError, Global};
 use std::process::Abort;
@@ -77,8 +81,26 @@ fn whole<'a>(words: &'a [&'a str], job: &'a [u8]) -> Call<'a> {
         job,
         most: 1000,
         fail: &[],
-        room: 1000,
+        room: 4000,
     }
+}
+
+/// A job and its report.
+struct Case {
+    name: &'static str,
+    job: &'static str,
+    due: &'static str,
+}
+
+/// Runs jobs, and compares the report of each.
+fn check_all(rt: &impl Abort, alloc: Global, cases: &[Case]) -> Result<(), AllocError> {
+    for case in cases {
+        let (status, bytes) = answer(rt, alloc, &whole(&["run"], case.job.as_bytes()))?;
+        let name = case.name;
+        assert_eq!(rt; status, Status::Done, "{name}");
+        assert_eq!(rt; bytes.as_slice(), case.due.as_bytes(), "{name}");
+    }
+    Ok(())
 }
 
 /// What a call answers, and what it writes, by pieces of 5 bytes.
@@ -156,19 +178,40 @@ fn refusals_have_their_lines(rt: HostRuntime) -> Result<(), Fail> {
         line: 1,
     };
     expect(&rt, alloc, &whole(&["run"], b""), header, b"JOB Header 1\n")?;
-    let size = Status::Job {
-        fault: JobFault::NotYet,
-        line: 3,
-    };
-    expect(
-        &rt,
-        alloc,
-        &whole(&["run"], b"KDF9 JOB 1\nSLOT 0\nSTORE 33\n"),
-        size,
-        b"JOB NotYet 3\n",
-    )?;
+    for (job, fault, line, text) in JOB_FAULTS {
+        let status = Status::Job { fault, line };
+        expect(&rt, alloc, &whole(&["run"], job), status, text)?;
+    }
     Ok(())
 }
+
+/// Jobs, with their first faulty lines, and what is written.
+const JOB_FAULTS: [(&[u8], JobFault, u32, &[u8]); 4] = [
+    (
+        b"KDF9 JOB 1\nSLOT 0\nSTORE 33\n",
+        JobFault::SizeNotGroups,
+        3,
+        b"JOB SizeNotGroups 3\n",
+    ),
+    (
+        b"KDF9 JOB 1\nSLOT 0\nSTORE 64\nDECK\nENDDECK\nDEVICE 3 TR\n+AB\nDEVICE 3 TP\nSCHEDULE\nENDJOB\n",
+        JobFault::DeviceTwice,
+        8,
+        b"JOB DeviceTwice 8\n",
+    ),
+    (
+        b"KDF9 JOB 1\nSLOT 0\nSTORE 32\nDECK\nENDDECK\nSCHEDULE\nORDERS 10\nCLOCK 5\nCLOCK 4\nENDJOB\n",
+        JobFault::ClockFalls,
+        9,
+        b"JOB ClockFalls 9\n",
+    ),
+    (
+        b"KDF9 JOB 1\nSLOT 0\nSTORE 32\nDECK\nENDDECK\nSCHEDULE\nORDERS 10\n",
+        JobFault::BadLine,
+        8,
+        b"JOB BadLine 8\n",
+    ),
+];
 
 /// The lines of decks, with their first faults and the places of these, and what is written.
 const DECKS: [(&str, DeckFault, u32, &str); 5] = [
@@ -199,6 +242,10 @@ const DECKS: [(&str, DeckFault, u32, &str); 5] = [
     ),
 ];
 
+/// A job whose second deck has a fault.
+const SECOND_DECK: &[u8] =
+    b"KDF9 JOB 1\nSLOT 0\nSTORE 32\nDECK\nY0; PROGRAM; SET 5; SET 7; +; =Y0; ZERO; OUT; FINISH;\nENDDECK\nSLOT 1\nSTORE 32\nDECK\nPROGRAM; FOO; FINISH;\nENDDECK\nSCHEDULE\nORDERS 20\nENDJOB\n";
+
 /// A job with these lines of deck.
 fn job_with(alloc: Global, deck: &str, orders: u32) -> Result<String, AllocError> {
     format!(in alloc;
@@ -224,6 +271,18 @@ fn decks_have_faults(rt: HostRuntime) -> Result<(), Fail> {
             line.as_bytes(),
         )?;
     }
+    let second = Status::Deck {
+        slot: 1,
+        fault: DeckFault::UnknownOrder,
+        place: 9,
+    };
+    expect(
+        &rt,
+        alloc,
+        &whole(&["run"], SECOND_DECK),
+        second,
+        b"DECK 1 UnknownOrder 9\n",
+    )?;
     Ok(())
 }
 
@@ -231,7 +290,7 @@ fn decks_have_faults(rt: HostRuntime) -> Result<(), Fail> {
 fn a_fault_of_the_job_comes_first(rt: HostRuntime) -> Result<(), Fail> {
     let alloc = rt.alloc();
     let status = Status::Job {
-        fault: JobFault::NotYet,
+        fault: JobFault::BadNumber,
         line: 9,
     };
     let job = job_with(alloc, "PROGRAM;\n\n", 0)?;
@@ -240,7 +299,7 @@ fn a_fault_of_the_job_comes_first(rt: HostRuntime) -> Result<(), Fail> {
         alloc,
         &whole(&["run"], job.as_bytes()),
         status,
-        b"JOB NotYet 9\n",
+        b"JOB BadNumber 9\n",
     )?;
     Ok(())
 }
@@ -313,7 +372,7 @@ fn failures_of_the_outside_are_answered(rt: HostRuntime) -> Result<(), Fail> {
 #[test]
 fn statuses_have_their_numbers(rt: HostRuntime) {
     let job = Status::Job {
-        fault: JobFault::NotYet,
+        fault: JobFault::BadLine,
         line: 5,
     };
     let deck = Status::Deck {

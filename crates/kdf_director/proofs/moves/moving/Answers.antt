@@ -1,6 +1,6 @@
 use Rattle.std.proofs.Common.{◌≡◌, ◌<◌, List, map, set, ap, ◌∙◌, sym, subst, arith}
 use Rattle.std.proofs.lemmas.List.{length-map}
-use Rattle.kdf_director.specs.Physical.{device_count}
+use Rattle.kdf_director.specs.ByNumber.{device_count}
 use Rattle.kdf_director.specs.Spots.{spot_at, spot_of}
 use Rattle.kdf_director.specs.Shared.{after_move, moved_spot}
 use Rattle.kdf_director.specs.Parts.{Reach, Seat, Shared, seat_of, shared_in}

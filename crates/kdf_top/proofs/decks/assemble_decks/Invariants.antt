@@ -1,6 +1,6 @@
 use Rattle.std.proofs.Common.{◌≡◌, All, map, take, drop}
 use Rattle.kdf_top.specs.Deck.{deck_fault}
-use Rattle.kdf_top.specs.Shows.{shown_slot}
+use Rattle.kdf_job.specs.Shows.{shown_slot}
 use Rattle.kdf_top.proofs.LoadedDecks.{words_of, words_due, Fitting}
 use Rattle.kdf_top.proofs.decks.assemble_decks.Given as goal
 

@@ -1,22 +1,22 @@
-use Rattle.std.proofs.Common.{◌≡◌, Some, None, subst}
+use Rattle.std.proofs.Common.{◌≡◌, ◌∙◌, Some, None, subst}
 use Rattle.kdf_usercode.specs.Faults.{found}
 use Rattle.kdf_top.specs.Answers.{status_of_decks}
 use Rattle.kdf_top.specs.Deck.{deck_fault}
-use Rattle.kdf_top.specs.Job.{Job, job}
+use Rattle.kdf_job.specs.Job.{Job}
+use Rattle.kdf_job.specs.Reading.{job}
 use Rattle.kdf_top.proofs.Answering.{given_memory, as_called, by_deck_fault}
-use Rattle.kdf_top.proofs.LoadedDecks.{all_decks, loaded_slots, loadable}
+use Rattle.kdf_top.proofs.LoadedDecks.{all_decks, have_images, same_images}
 use Rattle.kdf_top.proofs.top_call.answer_job.Goals as goal
 
 pub assemble_decks-requires : goal.assemble_decks-requires
 assemble_decks-requires g c = rw c.deref.ensures.value (all_decks c.args.job.now c.requires)
 
-pub report_job-requires-clause-loadable : goal.report_job-requires-clause-loadable
-report_job-requires-clause-loadable g c =
-    rw c.deref-in-Ok.ensures.value (loadable c.args.job.now c.requires _ (rw c.deref.ensures.value at c.in-Ok.ensures.words) (rw c.deref.ensures.value at c.in-Ok.ensures.fits))
+pub report_job-requires-clause-fits : goal.report_job-requires-clause-fits
+report_job-requires-clause-fits g c = have_images c.args.job.now.slots.items (rw c.deref.ensures.value at c.in-Ok.ensures.fits)
 
-pub report_job-requires-clause-loaded : goal.report_job-requires-clause-loaded
-report_job-requires-clause-loaded g c =
-    rw c.deref-in-Ok.ensures.value (loaded_slots c.args.job.now.slots.items _ (rw c.deref.ensures.value at c.in-Ok.ensures.words))
+pub report_job-requires-clause-images : goal.report_job-requires-clause-images
+report_job-requires-clause-images g c =
+    rw c.deref-in-Ok.ensures.value ((rw c.deref.ensures.value at c.in-Ok.ensures.words) ∙ same_images c.args.job.now.slots.items)
 
 pub returns-in-Ok : goal.returns-in-Ok
 returns-in-Ok g c = λ bytes faultless shown.

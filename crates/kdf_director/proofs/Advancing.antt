@@ -1,0 +1,211 @@
+-- A machine whose program obeyed an order, or was held, stays as a machine is, and shows just that.
+use Rattle.std.specs.Prelude.{find, unwrap_or}
+use Rattle.std.specs.List.{AllPairs}
+use Rattle.std.proofs.Common.{◌≡◌, ◌≢◌, ℕ, suc, ◌<◌, true, List, [], ◌∷◌, length, get_or, map, Some, None, is_some, cond, refl, sym, ap, ap₂, ◌∙◌, ⊎_elim, arith}
+use Rattle.std.proofs.lemmas.Bool.{cases_eq, eq-eqb, ne_eqb}
+use Rattle.kdf_journal.specs.declared.entry.Entry.{Entry}
+use Rattle.kdf_journal.specs.declared.journal.TheConstants.{CALL_LIMIT}
+use Rattle.kdf_journal.specs.Counts.{calls, clock}
+use Rattle.kdf_journal.specs.Steps.{Note, Obeys, added}
+use Rattle.kdf_journal.proofs.Added.{calls-added, moves-added}
+use Rattle.kdf_processor.specs.declared.step.Step.{Step as Ending}
+use Rattle.kdf_processor.specs.declared.step.Step.TheVariants as ending
+use Rattle.kdf_processor.specs.Effect.{Question, Act, Nothing, Writes, Starts, Asks, Acquires, Releases, Spools}
+use Rattle.kdf_processor.specs.Needs.{needs}
+use Rattle.kdf_processor.specs.Outcome.{Outcome}
+use Rattle.kdf_processor.specs.State.{Slot, State}
+use Rattle.kdf_director.specs.Advance.{Obeyed, note_told, states_after}
+use Rattle.kdf_director.specs.Agrees.{Agrees}
+use Rattle.kdf_director.specs.Following.{asked_at}
+use Rattle.kdf_director.specs.Legal.{Meets, note_for, note_of, note_of_outcome}
+use Rattle.kdf_director.specs.Next.{next}
+use Rattle.kdf_director.specs.Notes as notes
+use Rattle.kdf_director.specs.Parts.{Reach, Seat, Shared}
+use Rattle.kdf_director.specs.Running.{outcome_at, hold_of, own_state, seat_at, IsRunning}
+use Rattle.kdf_director.specs.Seen.{begun_row, seen}
+use Rattle.kdf_director.specs.Shown.{Shown, state_at, state_in, world_of}
+use Rattle.kdf_director.specs.Viewed.{states_in}
+use Rattle.kdf_director.specs.Slots.{slot_of, start_of}
+use Rattle.kdf_director.specs.Told.{is_pending_after, lone_world, mine_after, own, seen_of, seen_world}
+use Rattle.kdf_director.specs.True.{truth}
+use Rattle.kdf_director.specs.Turned.{HasTurned}
+use Rattle.kdf_director.specs.World.{first_need}
+use Rattle.kdf_director.specs.declared.note.Note.{Note as Noted}
+use Rattle.kdf_director.proofs.Entering.{shows}
+use Rattle.kdf_director.proofs.Followed.{outcome_is, turn_follows}
+use Rattle.kdf_director.proofs.Judging.{hold_same}
+use Rattle.kdf_director.proofs.LegalFacts.{legal-added}
+use Rattle.kdf_director.proofs.Obeying.{obeys-others, obeys-seen}
+use Rattle.kdf_director.proofs.OnCourse.{legal-course}
+use Rattle.kdf_director.proofs.SeenJournals.{same-need, same-note}
+use Rattle.kdf_director.proofs.Worlds.{next-world, next_slot}
+
+-- ---- states by slots
+
+-- the state in a slot
+pub state_there : (g : ℕ → State) (p : ℕ) (slots : List Slot) → is_some (slot_of slots p) ≡ true → state_in slots (map (λ (x : Slot). g x.p) slots) p ≡ Some (g p)
+state_there g p [] is = cc
+state_there g p (x ∷ slots) is =
+    ⊎_elim
+    (λ (same : x.p ≡ p).
+    ap (λ b. cond b (Some (g x.p)) (state_in slots (map (λ (y : Slot). g y.p) slots) p)) (eq-eqb x.p p same) ∙ ap (λ k. Some (g k)) same)
+    (λ (ne : x.p ≢ p).
+    ap (λ b. cond b (Some (g x.p)) (state_in slots (map (λ (y : Slot). g y.p) slots) p)) (ne_eqb x.p p ne)
+    ∙ state_there g p slots (sym (ap (λ b. is_some (cond b (Some x) (slot_of slots p))) (ne_eqb x.p p ne)) ∙ is))
+    (cases_eq x.p p)
+
+-- slots that aren't the program's
+states_apart : (g h : ℕ → State) (p : ℕ) → ((k : ℕ) → k ≢ p → h k ≡ g k) → (slots : List Slot) → ((j : ℕ) (d : Slot) → j < length slots → (get_or slots j d).p ≢ p) → map (λ (x : Slot). h x.p) slots ≡ map (λ (x : Slot). g x.p) slots
+states_apart g h p same [] apart = refl
+states_apart g h p same (x ∷ slots) apart =
+    ap₂ (λ (a : State) (b : List State). a ∷ b) (same x.p (apart 0 x (omega arith)))
+    (states_apart g h p same slots (λ j d lt. apart (suc j) d (omega arith)))
+
+-- one program's state is another, and no other's
+states_row : (g h : ℕ → State) (p : ℕ) (answer : Question → ℕ) → h p ≡ begun_row (g p) answer → ((k : ℕ) → k ≢ p → h k ≡ g k) → (slots : List Slot) → AllPairs (λ (a b : Slot). a.p ≢ b.p) slots → map (λ (x : Slot). h x.p) slots ≡ states_after slots (map (λ (x : Slot). g x.p) slots) p answer
+states_row g h p answer this others [] pairs = refl
+states_row g h p answer this others (x ∷ slots) pairs =
+    ⊎_elim
+    (λ (same : x.p ≡ p).
+    ap₂ (λ (a : State) (b : List State). a ∷ b) (ap h same ∙ this ∙ ap (λ k. begun_row (g k) answer) (sym same))
+    (states_apart g h p others slots (λ j d lt e. pairs 0 (suc j) d (omega arith) (omega arith) (same ∙ sym e)))
+    ∙ sym (ap (λ b. cond b (begun_row (g x.p) answer ∷ rest) (g x.p ∷ states_after slots rest p answer)) (eq-eqb x.p p same)))
+    (λ (ne : x.p ≢ p).
+    ap₂ (λ (a : State) (b : List State). a ∷ b) (others x.p ne)
+    (states_row g h p answer this others slots (λ i j d low lt. pairs (suc i) (suc j) d (omega arith) (omega arith)))
+    ∙ sym (ap (λ b. cond b (begun_row (g x.p) answer ∷ rest) (g x.p ∷ states_after slots rest p answer)) (ne_eqb x.p p ne)))
+    (cases_eq x.p p)
+  where
+    rest : List State
+    rest = map (λ (y : Slot). g y.p) slots
+
+-- ---- notes
+told_act : (k : ℕ) (act : Act) (step : Ending) → note_told k step (notes.note_of act) ≡ note_for k step act
+told_act k Nothing (ending.Fails kind) = refl
+told_act k Nothing ending.Ends = refl
+told_act k Nothing ending.Done = refl
+told_act k Nothing (ending.Held need) = refl
+told_act k (Writes a w) (ending.Fails kind) = refl
+told_act k (Writes a w) ending.Ends = refl
+told_act k (Writes a w) ending.Done = refl
+told_act k (Writes a w) (ending.Held need) = refl
+told_act k (Starts d o first last) (ending.Fails kind) = refl
+told_act k (Starts d o first last) ending.Ends = refl
+told_act k (Starts d o first last) ending.Done = refl
+told_act k (Starts d o first last) (ending.Held need) = refl
+told_act k (Asks question answer) (ending.Fails kind) = refl
+told_act k (Asks question answer) ending.Ends = refl
+told_act k (Asks question answer) ending.Done = refl
+told_act k (Asks question answer) (ending.Held need) = refl
+told_act k (Acquires d) (ending.Fails kind) = refl
+told_act k (Acquires d) ending.Ends = refl
+told_act k (Acquires d) ending.Done = refl
+told_act k (Acquires d) (ending.Held need) = refl
+told_act k (Releases d) (ending.Fails kind) = refl
+told_act k (Releases d) ending.Ends = refl
+told_act k (Releases d) ending.Done = refl
+told_act k (Releases d) (ending.Held need) = refl
+told_act k (Spools stream first last) (ending.Fails kind) = refl
+told_act k (Spools stream first last) ending.Ends = refl
+told_act k (Spools stream first last) ending.Done = refl
+told_act k (Spools stream first last) (ending.Held need) = refl
+
+-- ---- a machine
+module _ (slots : List Slot) (reaches : List Reach) (seats : List Seat) (s : Shared) (J : List Entry) (room : ℕ) (a : Agrees slots reaches seats s J) (i : ℕ) (lt : i < length seats) where
+  abbrev p : ℕ
+  p = (seat_at seats i).p
+
+  abbrev m : Shown
+  m = record { slots = slots; states = states_in reaches seats s J; journal = J; room = room }
+
+  abbrev answer : Question → ℕ
+  answer = truth (lone_world slots J) J p
+
+  -- its own state is what is seen of it
+  state_is : is_some (slot_of slots p) ≡ true → state_at m p ≡ seen_of slots J p
+  state_is there =
+      ap (λ xs. unwrap_or (state_in slots xs p) (start_of None)) (shows slots reaches seats s J a)
+      ∙ ap (λ o. unwrap_or o (start_of None)) (state_there (seen_of slots J) p slots there)
+
+  by_state : is_some (slot_of slots p) ≡ true → first_need (world_of m) p ≡ first_need (seen_world slots J) p
+  unfolding first_need
+  by_state there = ap (λ x. find (is_pending_after slots J p) (needs x (mine_after J p))) (state_is there)
+
+  -- what holds it up by its own state
+  pub need_is : is_some (slot_of slots p) ≡ true → first_need (world_of m) p ≡ hold_of reaches seats s i
+  need_is there =
+      by_state there
+      ∙ sym (hold_same slots J reaches seats s a.running a.following i lt (legal-course slots J a.are a.legal p))
+
+  -- it is next, and nothing holds it up
+  module _ (turn : next (world_of m) slots J ≡ Some p) (free : hold_of reaches seats s i ≡ None) where
+    there : is_some (slot_of slots p) ≡ true
+    there = next_slot (world_of m) slots J p turn
+
+    turn_lone : next (lone_world slots J) slots J ≡ Some p
+    turn_lone = next-world (own slots J) (state_at m) slots J ∙ turn
+
+    free_lone : first_need (lone_world slots J) p ≡ None
+    free_lone =
+        sym (same-need slots J p)
+        ∙ sym (hold_same slots J reaches seats s a.running a.following i lt (legal-course slots J a.are a.legal p))
+        ∙ free
+
+    abbrev noted : Note
+    noted = note_of (own slots J p) answer
+
+    meets : Meets (lone_world slots J) slots J (Obeys p noted)
+    meets = (turn_lone, free_lone, refl)
+
+    noted_own : note_of (state_at m p) (truth (world_of m) J p) ≡ noted
+    noted_own = ap (λ (x : State). note_of x answer) (state_is there) ∙ same-note slots J p answer free_lone
+
+    module _ (seats' : List Seat) (s' : Shared) (ended : Ending) (beside : Noted) (turned : HasTurned reaches (clock J) i seats s seats' s' ended beside) (run : IsRunning reaches seats' s') (few : calls J < CALL_LIMIT) (numbers : map (λ (x : Seat). x.p) seats' ≡ map (λ (x : Seat). x.p) seats) where
+      abbrev o : Outcome
+      o = outcome_at reaches seats s (clock J) (asked_at seats J i) i
+
+      count : (seat_at seats' i).registers.ran ≡ (outcome_at reaches seats s (clock J) (asked_at seats J i) i).registers.ran
+      unfolding own_state
+      count = ap (λ (x : State). x.registers.ran) (turned.own (asked_at seats J i))
+
+      -- what is noted of it
+      pub told : note_told (seat_at seats' i).registers.ran ended beside ≡ noted
+      told =
+          ap₂ (λ e b. note_told (seat_at seats' i).registers.ran e b) (turned.step (asked_at seats J i)) (turned.note (asked_at seats J i))
+          ∙ ap (λ k. note_told k o.step (notes.note_of o.act)) count
+          ∙ told_act o.registers.ran o.act o.step
+          ∙ ap note_of_outcome (outcome_is slots J reaches seats s a.are a.legal a.running a.following i lt noted meets)
+          ∙ ap (λ (x : State). note_of x answer) (a.following.each i lt).is_seen
+          ∙ same-note slots J p answer free_lone
+
+      pub agrees_obeyed : Agrees slots reaches seats' s' (added J (Obeys p noted))
+      agrees_obeyed =
+          record {
+            are = a.are;
+            four = a.four;
+            numbers = numbers ∙ a.numbers;
+            running = run;
+            following = turn_follows slots J reaches seats s a.are a.legal a.running a.following i lt noted meets seats' s' ended beside turned;
+            legal = legal-added slots J (Obeys p noted) a.legal meets;
+            few_calls = omega (arith, calls-added J (Obeys p noted));
+            few_moves = (let k = a.few_moves in omega (arith, moves-added J (Obeys p noted)));
+          }
+
+      pub shows_obeyed : Obeyed m (record { slots = slots; states = states_in reaches seats' s' (added J (Obeys p noted)); journal = added J (Obeys p noted); room = room }) p
+      shows_obeyed =
+          record {
+            was_next = turn;
+            free = need_is there ∙ free;
+            states =
+                shows slots reaches seats' s' (added J (Obeys p noted)) agrees_obeyed
+                ∙ states_row (seen_of slots J) (seen_of slots (added J (Obeys p noted))) p answer
+                (obeys-seen slots J p noted a.legal meets a.are)
+                (λ k ne. other k (λ e. ne (sym e))) slots a.are.numbers
+                ∙ ap (λ xs. states_after slots xs p answer) (sym (shows slots reaches seats s J a));
+            journal = ap (λ x. added J (Obeys p x)) (sym noted_own);
+          }
+        where
+          other : (k : ℕ) → p ≢ k → seen_of slots (added J (Obeys p noted)) k ≡ seen_of slots J k
+          other k ne =
+              let stay = obeys-others slots J p noted a.legal meets a.are k ne in
+              ap₂ seen stay.1 stay.0

@@ -1,0 +1,209 @@
+-- What is loaded of a job that is well formed.
+use Rattle.std.proofs.Common.{◌≡◌, ◌≢◌, ◌⊎◌, inl, inr, ℕ, ◌+◌, ◌<◌, ◌≤◌, Bool, true, false, eqb, ◌||◌, List, [], ◌∷◌, ◌++◌, length, get_or, map, None, refl, sym, ap, ◌∙◌, subst, ⊎_elim, arith}
+use Rattle.std.specs.Prelude.{sum_by, nat_eq}
+use Rattle.std.specs.List.{All, AllByRecursion, AllPairs, IsDistinct, flat_map}
+use Rattle.std.proofs.lemmas.Bool.{cases_eq, cases_lt, eq-eqb, ne_eqb}
+use Rattle.std.proofs.lemmas.List.{get_or-map, length-map, map-append}
+use Rattle.std.proofs.lemmas.List.Concat.{flat_map-cons}
+use Rattle.std.proofs.lemmas.List.Elements.{All-cons, All-head, All-map, All-nil, All-tail}
+use Rattle.std.proofs.lemmas.List.Kept.{AllPairs-cons}
+use Rattle.std.proofs.lemmas.List.Sums.{sum_by-cons}
+use Rattle.kdf_job.specs.Draft.{numbers_of, words_in}
+use Rattle.kdf_job.specs.Job.{JobDevice, SlotJob}
+use Rattle.kdf_job.specs.WellFormed.{AreRising, AreSlots, IsSlot}
+use Rattle.kdf_director.specs.Loading.{HaveImages, SlotLoad, fixture_on, load_of, loads, numbered, progress_on, slot_of}
+use Rattle.kdf_director.specs.Fields.{AreApart, AreLoads, IsBelow, IsLoad, has, numbers_in}
+use Rattle.kdf_processor.specs.State.{Slot}
+use Rattle.kdf_director.specs.Flights.{device_count}
+use Rattle.kdf_director.specs.Parts.{owns}
+use Rattle.kdf_director.specs.Slots as director
+use Rattle.kdf_director.specs.Slots.{HaveOwnDevices}
+use Rattle.kdf_director.proofs.Numbered.{missing}
+use Rattle.kdf_director.proofs.Tables.{length-numbers, limit_is, number_at, number_past}
+
+-- an image for each
+pub one_each : (jobs : List SlotJob) (images : List (List ℕ)) → HaveImages jobs images → length jobs ≡ length images
+one_each [] [] have = refl
+one_each [] (ws ∷ images) have = absurd have
+one_each (s ∷ jobs) [] have = absurd have
+one_each (s ∷ jobs) (ws ∷ images) have = let e = one_each jobs images have.1 in omega arith
+
+each_is : (jobs : List SlotJob) (images : List (List ℕ)) → HaveImages jobs images → All IsSlot jobs → All IsLoad (loads jobs images)
+each_is [] images have each = All-nil IsLoad
+each_is (s ∷ jobs) [] have each = absurd have
+each_is (s ∷ jobs) (ws ∷ images) have each =
+    let this = All-head IsSlot s jobs each in
+    All-cons IsLoad (load_of s ws) (loads jobs images)
+    (record { number = this.number; groups = this.groups; fits = have.0; below = this.devices })
+    (each_is jobs images have.1 (All-tail IsSlot s jobs each))
+
+total_is : (jobs : List SlotJob) (images : List (List ℕ)) → HaveImages jobs images → sum_by (λ (l : SlotLoad). l.size) (loads jobs images) ≡ words_in jobs
+total_is [] images have = refl
+total_is (s ∷ jobs) [] have = absurd have
+total_is (s ∷ jobs) (ws ∷ images) have =
+    sum_by-cons (λ (l : SlotLoad). l.size) (load_of s ws) (loads jobs images)
+    ∙ ap (λ n. s.size + n) (total_is jobs images have.1)
+    ∙ sym (sum_by-cons (λ (t : SlotJob). t.size) s jobs)
+
+-- numbers that rise are above the first
+abbrev slot_numbers : List SlotJob → List ℕ
+slot_numbers jobs = map (λ (s : SlotJob). s.p) jobs
+
+later : (n : ℕ) (s : SlotJob) (jobs : List SlotJob) → n < s.p → AreRising (slot_numbers (s ∷ jobs)) → All (λ (t : SlotJob). n < t.p) (s ∷ jobs)
+later n s [] low rising = All-cons (λ (t : SlotJob). n < t.p) s [] low (All-nil (λ (t : SlotJob). n < t.p))
+later n s (t ∷ jobs) low rising =
+    let step : s.p < t.p = rising.0 in
+    All-cons (λ (t : SlotJob). n < t.p) s (t ∷ jobs) low (later n t jobs (omega arith) rising.1)
+
+rising_tail : (s : SlotJob) (jobs : List SlotJob) → AreRising (slot_numbers (s ∷ jobs)) → AreRising (slot_numbers jobs)
+rising_tail s [] rising = tt
+rising_tail s (t ∷ jobs) rising = rising.1
+
+above : (s : SlotJob) (jobs : List SlotJob) → AreRising (slot_numbers (s ∷ jobs)) → All (λ (t : SlotJob). s.p < t.p) jobs
+above s [] rising = All-nil (λ (t : SlotJob). s.p < t.p)
+above s (t ∷ jobs) rising = later s.p t jobs rising.0 rising.1
+
+-- what holds of each slot holds of what is loaded
+loaded_all : (P : ℕ → Type 0) (jobs : List SlotJob) (images : List (List ℕ)) → All (λ (t : SlotJob). P t.p) jobs → All (λ (l : SlotLoad). P l.p) (loads jobs images)
+loaded_all P [] images all = All-nil (λ (l : SlotLoad). P l.p)
+loaded_all P (s ∷ jobs) [] all = All-nil (λ (l : SlotLoad). P l.p)
+loaded_all P (s ∷ jobs) (ws ∷ images) all =
+    All-cons (λ (l : SlotLoad). P l.p) (load_of s ws) (loads jobs images) (All-head (λ (t : SlotJob). P t.p) s jobs all)
+    (loaded_all P jobs images (All-tail (λ (t : SlotJob). P t.p) s jobs all))
+
+no_pairs : (R : SlotLoad → SlotLoad → Type 0) → AllPairs R []
+no_pairs R i j d less lt = absurd (omega arith)
+
+rising_is : (jobs : List SlotJob) (images : List (List ℕ)) → AreRising (slot_numbers jobs) → AllPairs IsBelow (loads jobs images)
+rising_is [] images rising = no_pairs IsBelow
+rising_is (s ∷ jobs) [] rising = no_pairs IsBelow
+rising_is (s ∷ jobs) (ws ∷ images) rising =
+    AllPairs-cons IsBelow (load_of s ws) (loads jobs images) (loaded_all (λ n. s.p < n) jobs images (above s jobs rising))
+    (rising_is jobs images (rising_tail s jobs rising))
+
+-- numbers of which none stands twice
+or_false : (a b : Bool) → a ≡ false → b ≡ false → (a || b) ≡ false
+or_false false false p q = refl
+or_false false true p q = cc
+or_false true b p q = cc
+
+not_again : (n d : ℕ) (ns : List ℕ) → n ≡ d → AllByRecursion (λ y. nat_eq n y ≡ false) ns → owns ns d ≡ false
+not_again n d [] is other = refl
+not_again n d (m ∷ ns) is other =
+    let ne : m ≢ d = λ e. cc (sym other.0 ∙ eq-eqb n m (is ∙ sym e)) in
+    or_false (eqb m d) (owns ns d) (ne_eqb m d ne) (not_again n d ns is other.1)
+
+right_of : (P : ℕ → Type 0) (ms ns : List ℕ) → AllByRecursion P (ms ++ ns) → AllByRecursion P ns
+right_of P [] ns all = all
+right_of P (m ∷ ms) ns all = right_of P ms ns all.1
+
+distinct_rest : (ms ns : List ℕ) → IsDistinct nat_eq (ms ++ ns) → IsDistinct nat_eq ns
+unfolding IsDistinct
+distinct_rest [] ns is = is
+distinct_rest (m ∷ ms) ns is = distinct_rest ms ns is.1
+
+distinct_apart : (ms ns : List ℕ) (d : ℕ) → IsDistinct nat_eq (ms ++ ns) → owns ms d ≡ true → owns ns d ≡ false
+unfolding IsDistinct
+distinct_apart [] ns d is it = cc
+distinct_apart (m ∷ ms) ns d is it =
+    ⊎_elim
+    (λ (same : m ≡ d). not_again m d ns same (right_of (λ y. nat_eq m y ≡ false) ms ns is.0))
+    (λ (other : m ≢ d). distinct_apart ms ns d is.1 (sym (ap (λ b. b || owns ms d) (ne_eqb m d other)) ∙ it))
+    (cases_eq m d)
+
+numbers_cons : (s : SlotJob) (jobs : List SlotJob) → numbers_of (s ∷ jobs) ≡ numbers_in s.devices ++ numbers_of jobs
+numbers_cons s jobs =
+    ap numbers_in (flat_map-cons (λ (t : SlotJob). t.devices) s jobs)
+    ∙ map-append (λ (x : JobDevice). x.d) s.devices (flat_map (λ (t : SlotJob). t.devices) jobs)
+
+-- a number that no slot has, none of what is loaded has
+owns_left : (ms ns : List ℕ) (d : ℕ) → owns (ms ++ ns) d ≡ false → owns ms d ≡ false
+owns_left [] ns d is = refl
+owns_left (m ∷ ms) ns d is = parts (eqb m d) (owns (ms ++ ns) d) is (owns_left ms ns d)
+  where
+    parts : (a b : Bool) → (a || b) ≡ false → (b ≡ false → owns ms d ≡ false) → (a || owns ms d) ≡ false
+    parts false b is next = next is
+    parts true b is next = cc
+
+owns_right : (ms ns : List ℕ) (d : ℕ) → owns (ms ++ ns) d ≡ false → owns ns d ≡ false
+owns_right [] ns d is = is
+owns_right (m ∷ ms) ns d is = owns_right ms ns d (rest (eqb m d) (owns (ms ++ ns) d) is)
+  where
+    rest : (a b : Bool) → (a || b) ≡ false → b ≡ false
+    rest false b is = is
+    rest true b is = cc
+
+none_has : (d : ℕ) (jobs : List SlotJob) (images : List (List ℕ)) → owns (numbers_of jobs) d ≡ false → All (λ (l : SlotLoad). has l d ≡ false) (loads jobs images)
+none_has d [] images not = All-nil (λ (l : SlotLoad). has l d ≡ false)
+none_has d (s ∷ jobs) [] not = All-nil (λ (l : SlotLoad). has l d ≡ false)
+none_has d (s ∷ jobs) (ws ∷ images) not =
+    let both = sym (ap (λ ns. owns ns d) (numbers_cons s jobs)) ∙ not in
+    All-cons (λ (l : SlotLoad). has l d ≡ false) (load_of s ws) (loads jobs images)
+    (owns_left (numbers_in s.devices) (numbers_of jobs) d both)
+    (none_has d jobs images (owns_right (numbers_in s.devices) (numbers_of jobs) d both))
+
+apart_is : (jobs : List SlotJob) (images : List (List ℕ)) → IsDistinct nat_eq (numbers_of jobs) → AllPairs AreApart (loads jobs images)
+apart_is [] images is = no_pairs AreApart
+apart_is (s ∷ jobs) [] is = no_pairs AreApart
+apart_is (s ∷ jobs) (ws ∷ images) is =
+    let both = subst (IsDistinct nat_eq) (numbers_cons s jobs) is in
+    AllPairs-cons AreApart (load_of s ws) (loads jobs images)
+    (λ i e lt d h. none_has d jobs images (distinct_apart (numbers_in s.devices) (numbers_of jobs) d both h) i e lt)
+    (apart_is jobs images (distinct_rest (numbers_in s.devices) (numbers_of jobs) both))
+
+pub are_loads : (jobs : List SlotJob) (images : List (List ℕ)) → AreSlots jobs → HaveImages jobs images → AreLoads (loads jobs images)
+are_loads jobs images slots have =
+    record {
+      each = each_is jobs images have slots.each;
+      rising = rising_is jobs images slots.rising;
+      total = let e = total_is jobs images have in let f = slots.fits in omega arith;
+      apart = apart_is jobs images slots.apart;
+    }
+
+-- what is loaded are slots
+flight_places : device_count ≡ 16
+unfolding device_count
+flight_places = refl
+
+none_at : (l : SlotLoad) (d : ℕ) → has l d ≡ false → get_or (slot_of l).fixtures d None ≡ None
+none_at l d not =
+    ⊎_elim
+    (λ (lt : d < 16). number_at (λ d. fixture_on (numbered l.devices d)) d None (let e = limit_is in omega arith) ∙ ap fixture_on (missing l.devices d not))
+    (λ (past : 16 ≤ d). number_past (λ d. fixture_on (numbered l.devices d)) d None (let e = limit_is in omega arith))
+    (cases_lt d 16)
+
+own_devices : (a b : SlotLoad) → AreApart a b → HaveOwnDevices (slot_of a) (slot_of b)
+own_devices a b apart d = by_has (has a d) refl
+  where
+    by_has : (t : Bool) → has a d ≡ t → (get_or (slot_of a).fixtures d None ≡ None) ⊎ (get_or (slot_of b).fixtures d None ≡ None)
+    by_has false is = inl (none_at a d is)
+    by_has true is = inr (none_at b d (apart d is))
+
+is_slot : (l : SlotLoad) → IsLoad l → director.IsSlot (slot_of l)
+is_slot l is =
+    record {
+      fits = is.fits;
+      fixtures = length-numbers (λ d. fixture_on (numbered l.devices d)) ∙ limit_is ∙ sym flight_places;
+      devices = length-numbers (λ d. progress_on (numbered l.devices d)) ∙ limit_is ∙ sym flight_places;
+    }
+
+abbrev pub no_load : SlotLoad
+no_load = record { p = 0; size = 0; words = []; devices = [] }
+
+pairs_map : (R : Slot → Slot → Type 0) (xs : List SlotLoad) → AllPairs (λ a b. R (slot_of a) (slot_of b)) xs → AllPairs R (map slot_of xs)
+pairs_map R xs all i j d less lt =
+    let lj : j < length xs = let n = length-map xs slot_of in omega arith in
+    let li : i < length xs = omega arith in
+    subst (λ s. R s (get_or (map slot_of xs) j d)) (sym (get_or-map slot_of xs i no_load d li))
+    (subst (λ s. R (slot_of (get_or xs i no_load)) s) (sym (get_or-map slot_of xs j no_load d lj)) (all i j no_load less lj))
+
+below_ne : (a b : SlotLoad) → IsBelow a b → a.p ≢ b.p
+below_ne a b less e = omega arith
+
+pub are_slots : (xs : List SlotLoad) → AreLoads xs → director.AreSlots (map slot_of xs)
+are_slots xs are =
+    record {
+      each = All-map director.IsSlot slot_of xs (λ i l lt. is_slot (get_or xs i l) (are.each i l lt));
+      numbers = pairs_map (λ (a b : Slot). a.p ≢ b.p) xs (λ i j d less lt. below_ne (get_or xs i d) (get_or xs j d) (are.rising i j d less lt));
+      devices = pairs_map HaveOwnDevices xs (λ i j d less lt. own_devices (get_or xs i d) (get_or xs j d) (are.apart i j d less lt));
+    }

@@ -1,0 +1,187 @@
+-- What the fields of a machine show of it.
+use Rattle.std.specs.Prelude.{find, IfSome, IsSomeAnd}
+use Rattle.std.specs.List.{All}
+use Rattle.std.specs.Option.{option_copied, option_map}
+use denote.Ref.{Bor}
+use Rattle.std.proofs.Common.{◌≡◌, ℕ, ◌+◌, ◌*◌, ◌<◌, ◌≤◌, Bool, true, false, eqb, List, length, map, Option, Some, None, is_some, refl, sym, ap, ◌∙◌, subst}
+use Rattle.std.proofs.lemmas.List.{length-map}
+use Rattle.kdf_journal.specs.declared.entry.Entry.{Entry}
+use Rattle.kdf_journal.specs.Counts.{pending}
+use Rattle.kdf_lockout.specs.Groups.{Cells}
+use Rattle.kdf_relocate.specs.declared.window.Window.{Window}
+use Rattle.kdf_transfer.specs.InFlight.{Motion}
+use Rattle.kdf_transfer.specs.declared.device.Device.{Device}
+use Rattle.kdf_processor.specs.declared.spooled.Spooled.{Spooled}
+use Rattle.kdf_processor.specs.Claims.{is_claimed}
+use Rattle.kdf_processor.specs.Lone.{is_live}
+use Rattle.kdf_processor.specs.State.{Slot, State, fixture_at, word_at}
+use Rattle.kdf_director.specs.Agrees.{IsReady}
+use Rattle.kdf_director.specs.Following.{asked_at}
+use Rattle.kdf_director.specs.Going.{any_on}
+use Rattle.kdf_director.specs.Lends.{IsLent, IsStored, window_in}
+use Rattle.kdf_director.specs.Next.{any_live}
+use Rattle.kdf_director.specs.Owners.{IsDeviceOwned, is_claimed_by, owner_in}
+use Rattle.kdf_director.specs.Parts.{Reach, Seat, Shared, seat_of, shared_in, window_at}
+use Rattle.kdf_director.specs.Physical.{word_at_place}
+use Rattle.kdf_director.specs.Running.{own_state, reaches_in, seat_at, seats_in}
+use Rattle.kdf_director.specs.Shown.{IsDeviceAt, Shown, state_of}
+use Rattle.kdf_director.specs.Viewed.{slot_loaded, viewed}
+use Rattle.kdf_director.specs.Slots.{slot_of}
+use Rattle.kdf_director.specs.Spots.{Held, leases_of, spot_at, spot_of}
+use Rattle.kdf_director.specs.declared.place.Place.{Place}
+use Rattle.kdf_director.specs.declared.program.Program.{Program}
+use Rattle.kdf_director.specs.declared.slot.Loaded.{Loaded}
+use Rattle.kdf_director.proofs.ByNumber.{find_map}
+use Rattle.kdf_director.proofs.Calling.{any_map}
+use Rattle.kdf_director.proofs.Lending.{below, in_store, lent, stored, windows_same, word_own}
+use Rattle.kdf_director.proofs.NextPrograms.{any_same}
+use Rattle.kdf_director.proofs.OwnDevices.{claimed_none, claimed_own, device_none, device_own}
+use Rattle.kdf_director.proofs.OwnStates.{told_of}
+use Rattle.kdf_director.proofs.Tables.{limit_is}
+
+-- what holds of a state that is there
+some_and : (o : Option State) (P Q : State → Type 0) → ((x : State) → o ≡ Some x → P x → Q x) → IsSomeAnd o P → IsSomeAnd o Q
+some_and None P Q then is = is
+some_and (Some x) P Q then is = then x refl is
+
+if_some : (o : Option State) (Q : State → Type 0) → ((x : State) → o ≡ Some x → Q x) → IfSome o Q
+if_some None Q then = tt
+if_some (Some x) Q then = then x refl
+
+from_some : (o : Option State) (P : State → Type 0) (Q : Type 0) → ((x : State) → o ≡ Some x → P x → Q) → IsSomeAnd o P → Q
+from_some None P Q then is = absurd is
+from_some (Some x) P Q then is = then x refl is
+
+twice : {X Y Z : Type 0} (f : Y → Z) (g : X → Y) (o : Option X) → option_map f (option_map g o) ≡ option_map (λ x. f (g x)) o
+twice f g None = refl
+twice f g (Some x) = refl
+
+-- no borrow of a device
+pub none_copied : (o : Option (Bor Device)) → option_copied o ≡ None → o ≡ None
+none_copied None is = refl
+none_copied (Some x) is = cc
+
+module _ (slots : List Loaded) (windows : List Window) (store : Cells) (programs : List Program) (places : List Place) (J : List Entry) (spare room : ℕ) (ready : IsReady slots windows store programs places J spare room) where
+  abbrev xs : List Slot
+  xs = map slot_loaded slots
+
+  abbrev rs : List Reach
+  rs = reaches_in windows slots
+
+  abbrev ps : List Seat
+  ps = seats_in programs
+
+  abbrev s : Shared
+  s = shared_in store places
+
+  abbrev m : Shown
+  m = viewed slots windows store programs places J room
+
+  abbrev has_number : ℕ → Seat → Bool
+  has_number p x = eqb x.p p
+
+  many : length slots ≡ length ps
+  many = ready.many ∙ sym (length-map programs _)
+
+  -- ---- programs
+  found : (p : ℕ) → find (has_number p) ps ≡ option_map seat_of (find (λ (x : Program). eqb x.p p) programs)
+  found p = find_map seat_of (has_number p) programs
+
+  pub live_shown : any_on programs ≡ any_live xs J
+  live_shown = any_map seat_of (λ (x : Seat). is_live x.registers.state) programs ∙ any_same xs rs ps s J ready.agrees
+
+  registers_are : (i : ℕ) → (own_state rs ps s (asked_at ps J i) i).registers ≡ (seat_at ps i).registers
+  unfolding own_state
+  registers_are i = refl
+
+  texts_are : (i : ℕ) → (own_state rs ps s (asked_at ps J i) i).stock.spooled ≡ (seat_at ps i).spooled
+  unfolding own_state
+  texts_are i = refl
+
+  pub registers_shown : (p : ℕ) → option_map (λ (x : Program). x.registers) (find (λ (x : Program). eqb x.p p) programs) ≡ option_map (λ (x : State). x.registers) (state_of m p)
+  registers_shown p =
+      sym (twice (λ (x : Seat). x.registers) seat_of (find (λ (x : Program). eqb x.p p) programs))
+      ∙ ap (option_map (λ (x : Seat). x.registers)) (sym (found p))
+      ∙ told_of xs rs ps s J room ready.agrees (λ (x : Seat). x.registers) (λ (x : State). x.registers) p (λ i lt. registers_are i)
+
+  -- the texts of a program that is there
+  pub texts_shown : (p : ℕ) (texts : List Spooled) → is_some (state_of m p) ≡ true → IfSome (find (λ (x : Program). eqb x.p p) programs) (λ (x : Program). texts ≡ x.spooled.items) → IsSomeAnd (state_of m p) (λ (x : State). texts ≡ x.stock.spooled)
+  texts_shown p texts is told =
+      by_both (find (λ (x : Program). eqb x.p p) programs) (state_of m p) is
+      (sym (twice (λ (x : Seat). x.spooled) seat_of (find (λ (x : Program). eqb x.p p) programs))
+      ∙ ap (option_map (λ (x : Seat). x.spooled)) (sym (found p))
+      ∙ told_of xs rs ps s J room ready.agrees (λ (x : Seat). x.spooled) (λ (x : State). x.stock.spooled) p (λ i lt. texts_are i)) told
+    where
+      by_both : (o : Option Program) (k : Option State) → is_some k ≡ true → option_map (λ (x : Program). x.spooled.items) o ≡ option_map (λ (x : State). x.stock.spooled) k → IfSome o (λ (x : Program). texts ≡ x.spooled.items) → IsSomeAnd k (λ (x : State). texts ≡ x.stock.spooled)
+      by_both o None is same told = cc
+      by_both None (Some y) is same told = cc
+      by_both (Some x) (Some y) is same told = let e : x.spooled.items ≡ y.stock.spooled = cc in told ∙ e
+
+  -- ---- words
+  pub sixteen : length places ≡ 16
+  sixteen = sym (length-map places spot_of) ∙ ready.agrees.running.sound.spots ∙ limit_is
+
+  module _ (p address : ℕ) (there : IsSomeAnd (state_of m p) (λ (x : State). address < x.stock.claims.size)) (window : Window) (is : window ≡ window_at windows p) where
+    pub word_below : address < window.size
+    word_below =
+        subst (λ (w : Window). address < w.size) (sym is)
+        (from_some (state_of m p) (λ (x : State). address < x.stock.claims.size) _ (λ x is lt. below windows slots ps s J room many ready.agrees ready.placed p x is address lt) there)
+
+    pub word_in_store : window.base + window.size ≤ 32 * length store
+    word_in_store =
+        subst (λ (w : Window). w.base + w.size ≤ 32 * length store) (sym is)
+        (from_some (state_of m p) (λ (x : State). address < x.stock.claims.size) _ (λ x is lt. in_store windows slots ps s J room many ready.agrees ready.placed p x is) there)
+
+    pub word_shown : (w : ℕ) → w ≡ word_at_place store (leases_of (map spot_of places)) (window.base + address) → IsSomeAnd (state_of m p) (λ (x : State). w ≡ word_at x address)
+    word_shown w same =
+        some_and (state_of m p) (λ (x : State). address < x.stock.claims.size) _
+        (λ x there lt.
+        same
+        ∙ ap (λ (v : Window). word_at_place store (leases_of (map spot_of places)) (v.base + address)) is
+        ∙ word_own windows slots ps s J room many ready.agrees ready.placed p x there address lt)
+        there
+
+  -- ---- devices
+  module _ (d : ℕ) where
+    -- a device that was found for these slots and places, which are the machine's
+    module _ (o : Option Device) (slots' : List Loaded) (places' : List Place) (same : slots' ≡ slots) (same' : places' ≡ places) (is : IsDeviceOwned (owner_in slots' d) (spot_at (map spot_of places') d) o) where
+      owned : IsDeviceOwned (owner_in slots d) (spot_at (map spot_of places) d) o
+      owned =
+          subst (λ xs. IsDeviceOwned (owner_in xs d) (spot_at (map spot_of places) d) o) same
+          (subst (λ ps. IsDeviceOwned (owner_in slots' d) (spot_at (map spot_of ps) d) o) same' is)
+
+      pub device_shown : (p : ℕ) → IfSome (state_of m p) (λ (x : State). is_some (fixture_at x.stock.claims d) ≡ true → IsDeviceAt x d o)
+      device_shown p = if_some (state_of m p) _ (λ x there some. device_own windows slots xs ps s J room many ready.agrees d p x o there some owned)
+
+      pub device_absent : All (λ (x : State). fixture_at x.stock.claims d ≡ None) m.states → o ≡ None
+      device_absent none = device_none windows slots xs ps s J room many ready.agrees d o none owned
+
+    pub claimed_shown : (p : ℕ) (is : Bool) → is ≡ is_claimed_by (owner_in slots d) ps d → IfSome (state_of m p) (λ (x : State). is_some (fixture_at x.stock.claims d) ≡ true → is ≡ is_claimed x.stock.claims d)
+    claimed_shown p is same = if_some (state_of m p) _ (λ x there some. same ∙ claimed_own windows slots xs ps s J room many ready.agrees d p x there some)
+
+    pub claimed_absent : All (λ (x : State). fixture_at x.stock.claims d ≡ None) m.states → is_claimed_by (owner_in slots d) ps d ≡ false
+    claimed_absent none = claimed_none windows slots xs ps s J room many ready.agrees d none
+
+    pub transfer_shown : (t : Option Motion) → t ≡ option_map (λ (h : Held). h.motion) (spot_at (map spot_of places) d).flight → IsLent m d (pending d J) t
+    transfer_shown t is = lent windows slots ps s J room many ready.agrees ready.placed d t is
+
+  -- ---- the store
+  pub store_shown : (p a : ℕ) → IfSome (state_of m p) (λ (x : State). a < x.stock.claims.size → IsStored m store p a x)
+  store_shown p a = if_some (state_of m p) _ (λ x there lt. stored windows slots ps s J room many ready.agrees ready.placed p x there a lt)
+
+  -- the window of a program that is there
+  pub window_told : (p : ℕ) → option_map (λ (x : Program). window_at windows p) (find (λ (x : Program). eqb x.p p) programs) ≡ window_in xs p
+  window_told p =
+      same_there (find (λ (x : Program). eqb x.p p) programs) (slot_of xs p) (window_at windows p)
+      (sym (twice (λ (x : Seat). x.p) seat_of (find (λ (x : Program). eqb x.p p) programs))
+      ∙ ap (option_map (λ (x : Seat). x.p)) (sym (found p))
+      ∙ sym (find_map (λ (x : Seat). x.p) (λ k. eqb k p) ps)
+      ∙ ap (find (λ k. eqb k p)) ready.agrees.numbers
+      ∙ find_map (λ (x : Slot). x.p) (λ k. eqb k p) xs)
+      ∙ ap (λ (ws : List Window). option_map (λ (x : Slot). window_at ws p) (slot_of xs p)) (ready.placed ∙ windows_same slots)
+    where
+      same_there : (o : Option Program) (k : Option Slot) (w : Window) → option_map (λ (x : Program). x.p) o ≡ option_map (λ (x : Slot). x.p) k → option_map (λ (x : Program). w) o ≡ option_map (λ (x : Slot). w) k
+      same_there None None w same = refl
+      same_there None (Some y) w same = cc
+      same_there (Some x) None w same = cc
+      same_there (Some x) (Some y) w same = refl

@@ -1,0 +1,10 @@
+use Rattle.std.proofs.Common.{◌≡◌, ◌+◌, drop, length}
+use Rattle.kdf_director.specs.Fields.{with_words}
+use Rattle.kdf_director.proofs.fill.fill.Given as goal
+
+abbrev pub invariant-loop-i : goal.invariant-loop-i
+invariant-loop-i l =
+    record {
+      words : with_words l.store (l.place + l.i) (drop l.i l.words) ≡ with_words l.fn.store l.place l.words;
+      size : length l.store ≡ 1024;
+    }

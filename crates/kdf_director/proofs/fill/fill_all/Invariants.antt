@@ -1,0 +1,10 @@
+use Rattle.std.proofs.Common.{◌≡◌, drop, length, map}
+use Rattle.kdf_director.specs.Fields.{loaded, with_images}
+use Rattle.kdf_director.proofs.fill.fill_all.Given as goal
+
+abbrev pub invariant-loop-slot : goal.invariant-loop-slot
+invariant-loop-slot l =
+    record {
+      images : with_images l.windows l.store (map loaded (drop l.slot-index l.slots)) ≡ with_images l.windows l.fn.store (map loaded l.slots);
+      size : length l.store ≡ 1024;
+    }

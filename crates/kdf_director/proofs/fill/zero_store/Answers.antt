@@ -1,0 +1,6 @@
+use Rattle.std.proofs.Common.{refl}
+use Rattle.kdf_director.proofs.Filling.{ok_zero}
+use Rattle.kdf_director.proofs.fill.zero_store.Goals as goal
+
+pub returns-clause-cells : goal.returns-clause-cells
+returns-clause-cells c = ok_zero 1024 c.new.result refl c.new.ensures

@@ -1,0 +1,20 @@
+use Rattle.std.proofs.Common.{ap, ◌∙◌, subst}
+use Rattle.kdf_director.specs.Going.{any_on}
+use Rattle.kdf_director.specs.Next.{any_live}
+use Rattle.kdf_director.specs.Shown.{Shown, ShowsSeen}
+use Rattle.kdf_director.proofs.Entering.{shown_seen}
+use Rattle.kdf_director.proofs.Shows.{live_shown}
+use Rattle.kdf_director.proofs.machine.Machine.is_any_live.Goals as goal
+
+pub returns-clause-live : goal.returns-clause-live
+returns-clause-live c =
+    let m = c.self.inside in
+    c.is_any_on.ensures
+    ∙ ap any_on c.deref.ensures.value
+    ∙ live_shown m.slots.items m.windows m.store m.programs.items m.devices.items m.journal.entries m.journal.spare m.room c.self.invariant
+    ∙ ap (λ (v : Shown). any_live v.slots v.journal) c.self.view_is
+
+pub returns-clause-seen : goal.returns-clause-seen
+returns-clause-seen c =
+    let m = c.self.inside in
+    subst ShowsSeen c.self.view_is (shown_seen m.slots.items m.windows m.store m.programs.items m.devices.items m.journal.entries m.journal.spare m.room c.self.invariant)

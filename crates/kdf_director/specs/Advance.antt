@@ -1,0 +1,71 @@
+-- What one call of a machine does.
+use Rattle.std.specs.Prelude.{◌≡◌, ℕ, ◌==◌, List, ◌∷◌, Some, None, true, false, if◌then◌else◌}
+use Rattle.kdf_journal.specs.Steps.{Note, Quiet, Began, Answered, Failed, Finished, Step, Obeys, Holds, Waits, added}
+use Rattle.kdf_processor.specs.Effect.{Question}
+use Rattle.kdf_processor.specs.State.{Slot, State}
+use Rattle.kdf_processor.specs.declared.step.Need.{Need}
+use Rattle.kdf_processor.specs.declared.step.Step.{Step as Ending}
+use Rattle.kdf_processor.specs.declared.step.Step.TheVariants as ending
+use Rattle.kdf_director.specs.declared.machine.Progress.{Progress}
+use Rattle.kdf_director.specs.declared.machine.Progress.TheVariants as progress
+use Rattle.kdf_director.specs.declared.note.Note.{Note as Noted}
+use Rattle.kdf_director.specs.declared.note.Note.TheVariants as noted
+use Rattle.kdf_director.specs.Legal.{note_of}
+use Rattle.kdf_director.specs.Next.{any_live, next}
+use Rattle.kdf_director.specs.Seen.{begun_row}
+use Rattle.kdf_director.specs.Shown.{Shown, entered, state_at, world_of}
+use Rattle.kdf_director.specs.True.{truth}
+use Rattle.kdf_director.specs.World.{first_need, hold_of}
+
+-- the states after program p obeyed its next order, by which a transfer only begins, and which was answered so, if it asked
+abbrev pub states_after : List Slot → List State → ℕ → (Question → ℕ) → List State
+states_after (slot ∷ slots) (state ∷ states) p answer =
+    if slot.p == p
+    then begun_row state answer ∷ states
+    else state ∷ states_after slots states p answer
+states_after _ states p answer = states
+
+-- program p, which is next and which nothing holds up, obeyed its next order, truly answered, and the journal tells how that
+-- came out
+pub record Obeyed (old new : Shown) (p : ℕ) : Type 0 where
+  pub was_next : next (world_of old) old.slots old.journal ≡ Some p
+  pub free : first_need (world_of old) p ≡ None
+  pub states : new.states ≡ states_after old.slots old.states p (truth (world_of old) old.journal p)
+  pub journal : new.journal
+      ≡ added old.journal (Obeys p (note_of (state_at old p) (truth (world_of old) old.journal p)))
+
+-- program p, which is next, is held by the first of its needs that is pending, and nothing else changes
+pub record HeldUp (old new : Shown) (p : ℕ) (need : Need) : Type 0 where
+  pub was_next : next (world_of old) old.slots old.journal ≡ Some p
+  pub held : first_need (world_of old) p ≡ Some need
+  pub states : new.states ≡ old.states
+  pub journal : new.journal ≡ added old.journal (Holds p (hold_of need))
+
+-- no program that is live can go on, and nothing else changes
+pub record Waited (old new : Shown) : Type 0 where
+  pub live : any_live old.slots old.journal ≡ true
+  pub none_next : next (world_of old) old.slots old.journal ≡ None
+  pub states : new.states ≡ old.states
+  pub journal : new.journal ≡ added old.journal Waits
+
+-- the machine after a call that answers so
+abbrev pub Advance : Shown → Shown → Progress → Type 0
+Advance old new (progress.Ran p) = Obeyed old new p
+Advance old new (progress.Held p need) = HeldUp old new p need
+Advance old new progress.Idle = Waited old new
+Advance old new progress.AllEnded = (any_live old.slots old.journal ≡ false) × (new ≡ old)
+
+-- a machine in which an event was entered
+abbrev pub Enters : Shown → Shown → Step → Type 0
+Enters old new s = new ≡ entered old s
+
+-- the note of own order k, which ended so, and of which this was noted beside
+abbrev pub note_beside : ℕ → Noted → Note
+note_beside k noted.Quiet = Quiet
+note_beside k (noted.Began d) = Began d k
+note_beside k (noted.Told answer) = Answered answer
+
+abbrev pub note_told : ℕ → Ending → Noted → Note
+note_told k (ending.Fails kind) beside = Failed kind
+note_told k ending.Ends beside = Finished
+note_told k _ beside = note_beside k beside

@@ -1,0 +1,11 @@
+-- What stands at each place of a device.
+use Rattle.std.specs.Prelude.{ℕ, List, map}
+use Rattle.std.specs.List.{range_with_len}
+
+-- how many places of devices there are
+unfoldable pub device_count : ℕ
+device_count = 16
+
+-- what stands at each place of a device, by number
+unfoldable pub by_number : {X : Type 0} → (ℕ → X) → List X
+by_number f = map f (range_with_len 0 device_count)

@@ -1,0 +1,50 @@
+-- Which program goes on, by the fields of a machine.
+use Rattle.std.specs.Prelude.{ℕ, ◌+◌, ◌*◌, ◌/◌, ◌<◌, not, ◌&&◌, Bool, false, List, length, Option, Some, None, find, slice_index_or}
+use Rattle.std.specs.List.{list_any, range_with_len}
+use Rattle.kdf_lockout.specs.Groups.{is_out}
+use Rattle.kdf_processor.specs.Lone.{is_live}
+use Rattle.kdf_processor.specs.declared.step.Need.{Need}
+use Rattle.kdf_processor.specs.declared.step.Need.TheVariants.{Group, Device}
+use Rattle.kdf_director.specs.declared.program.Program.{Program}
+use Rattle.kdf_director.specs.Parts.{Reach, Seat, Shared}
+use Rattle.kdf_director.specs.Running.{reach_at, seat_at}
+use Rattle.kdf_director.specs.Shared.{is_busy_in}
+
+-- what held a program, whose window begins at base, is pending still
+abbrev pub is_stopped : ℕ → Shared → Option Need → Bool
+is_stopped base s None = false
+is_stopped base s (Some (Group g)) = is_out s.cells (base / 32 + g)
+is_stopped base s (Some (Device d)) = is_busy_in s d
+
+-- a live program that nothing holds up still
+abbrev pub goes : Seat → Reach → Shared → Option Need → Bool
+goes seat reach s hold = is_live seat.registers.state && not (is_stopped reach.base s hold)
+
+-- what held program i
+abbrev pub hold_at : List (Option Need) → ℕ → Option Need
+hold_at holds i = slice_index_or holds i None
+
+-- program i of all goes on
+abbrev pub goes_at : List Reach → List Seat → List (Option Need) → Shared → ℕ → Bool
+goes_at reaches seats holds s i =
+    goes (seat_at seats i) (reach_at reaches i) s (hold_at holds i)
+
+-- the first of them that does
+unfoldable pub first_going : List Reach → List Seat → List (Option Need) → Shared → Option ℕ
+first_going reaches seats holds s =
+    find (goes_at reaches seats holds s) (range_with_len 0 (length seats))
+
+-- one of the programs is live
+abbrev pub any_on : List Program → Bool
+any_on programs = list_any (λ (x : Program). is_live x.registers.state) programs
+
+-- a group that held a program is one of its store
+abbrev pub IsNearHold : ℕ → Option Need → Type 0
+IsNearHold size None = Unit {0}
+IsNearHold size (Some (Group g)) = 32 * g < size
+IsNearHold size (Some (Device d)) = Unit {0}
+
+-- and so it is with each
+abbrev pub AreNearHolds : List Reach → List (Option Need) → Type 0
+AreNearHolds reaches holds =
+    (i : ℕ) → i < length holds → IsNearHold (reach_at reaches i).size (hold_at holds i)

@@ -1,0 +1,127 @@
+//! One call of a machine.
+ghost use Rattle.std.specs.Prelude.{◌≡◌, ◌+◌, ◌<◌, ◌≤◌, if◌then◌else◌, length, map, Some, IfOk, OnErr};
+ghost use Rattle.kdf_journal.specs.Counts.{calls, moves};
+ghost use Rattle.kdf_journal.specs.Steps.{added, Waits};
+ghost use Rattle.kdf_processor.specs.Lone.{is_live};
+ghost use Rattle.kdf_director.specs.declared.machine.Progress.TheVariants.{AllEnded, Idle};
+ghost use Rattle.kdf_director.specs.declared.program.Program.{Program};
+ghost use Rattle.kdf_director.specs.Advance.{Advance};
+ghost use Rattle.kdf_director.specs.Agrees.{IsReady};
+ghost use Rattle.kdf_director.specs.Going.{any_on};
+ghost use Rattle.kdf_director.specs.Parts.{shared_in};
+ghost use Rattle.kdf_director.specs.Running.{reaches_in, seat_at, seats_in, IsRunning};
+ghost use Rattle.kdf_director.specs.Viewed.{viewed};
+ghost use Rattle.kdf_director.specs.Spots.{AreDry};
+ghost use Rattle.kdf_director.specs.Taken.{HasTaken};
+
+use crate::dispatch::turn;
+use crate::entries::enter;
+use crate::next::{is_any_on, next_of};
+use crate::{Loaded, Place, Program, Progress};
+use kdf_journal::{CALL_LIMIT, Entry, Journal, MOVE_LIMIT};
+use kdf_lockout::Store;
+use kdf_processor::Life;
+use kdf_relocate::Window;
+use std::alloc::{AllocError, Global};
+
+/// Tries the next order of program `i`, whose turn it is, and enters how that ended. At Err all is unchanged.
+fn take_turn(
+    alloc: Global,
+    windows: &[Window; 4],
+    slots: &[Loaded],
+    programs: &mut Vec<Program>,
+    store: &mut Store,
+    places: &mut Vec<Place>,
+    journal: &mut Journal,
+    i: usize,
+) -> Result<Progress, AllocError>
+    requires there { i < length programs.old.items }
+    requires slots { length slots.now ≡ length programs.old.items }
+    requires live { (seat_at (seats_in programs.old.items) i).registers.state ≡ Life.Live }
+    requires ran { (seat_at (seats_in programs.old.items) i).registers.ran < u32.MAX }
+    requires running { IsRunning (reaches_in windows.now slots.now) (seats_in programs.old.items)
+        (shared_in store.old places.old.items) }
+    requires dry { AreDry places.old.items }
+    requires room { 2 ≤ journal.old.spare }
+    requires few_calls { calls journal.old.entries < CALL_LIMIT }
+    requires few_moves { moves journal.old.entries ≤ MOVE_LIMIT }
+    ensures taken { IfOk result (HasTaken (reaches_in windows.now slots.now) i
+        (seats_in programs.old.items) (shared_in store.old places.old.items)
+        (map (λ (x : Program). x.hold) programs.old.items) journal.old.entries
+        (seats_in programs.new.items) (shared_in store.new places.new.items)
+        (map (λ (x : Program). x.hold) programs.new.items) journal.new.entries) }
+    ensures running { IsRunning (reaches_in windows.now slots.now) (seats_in programs.new.items)
+        (shared_in store.new places.new.items) }
+    ensures dry { AreDry places.new.items }
+    ensures many { length programs.new.items ≡ length programs.old.items }
+    ensures spare { journal.old.spare ≤ journal.new.spare + 2 }
+    ensures seats_err { OnErr result (seats_in programs.new.items ≡ seats_in programs.old.items) }
+    ensures shared_err { OnErr result (shared_in store.new places.new.items
+        ≡ shared_in store.old places.old.items) }
+    ensures holds_err { OnErr result (map (λ (x : Program). x.hold) programs.new.items
+        ≡ map (λ (x : Program). x.hold) programs.old.items) }
+    ensures journal_err { OnErr result (journal.new ≡ journal.old) }
+{
+    let (step, note) = turn(
+        alloc,
+        windows,
+        slots,
+        programs,
+        store,
+        places,
+        journal.clock(),
+        i,
+    )?;
+    Ok(enter(journal, &mut programs[i], step, note))
+}
+
+/// Enters that no program can go on, where one is live.
+fn wait(programs: &[Program], journal: &mut Journal) -> Progress
+    requires room { 1 ≤ journal.old.spare }
+    requires few_calls { calls journal.old.entries < CALL_LIMIT }
+    requires few_moves { moves journal.old.entries ≤ MOVE_LIMIT }
+    ensures answer { result ≡ (if any_on programs.now then Idle else AllEnded) }
+    ensures entries { journal.new.entries ≡ (if any_on programs.now
+        then added journal.old.entries Waits else journal.old.entries) }
+    ensures spare { journal.old.spare ≤ journal.new.spare + 1 }
+{
+    if is_any_on(programs) {
+        journal.push(Entry::Idle { n: 1 });
+        Progress::Idle
+    } else {
+        Progress::AllEnded
+    }
+}
+
+/// One call, over the fields of a machine. At Err they show what they showed.
+pub(crate) fn advance(
+    alloc: Global,
+    windows: &[Window; 4],
+    slots: &[Loaded],
+    programs: &mut Vec<Program>,
+    store: &mut Store,
+    places: &mut Vec<Place>,
+    journal: &mut Journal,
+    room: u32,
+) -> Result<Progress, AllocError>
+    requires ready { IsReady slots.now windows.now store.old programs.old.items places.old.items
+        journal.old.entries journal.old.spare room }
+    requires few_calls { calls journal.old.entries < CALL_LIMIT }
+    ensures ready { IsReady slots.now windows.now store.new programs.new.items places.new.items
+        journal.new.entries journal.new.spare room }
+    ensures took { IfOk result (Advance
+        (viewed slots.now windows.now store.old programs.old.items places.old.items
+        journal.old.entries room)
+        (viewed slots.now windows.now store.new programs.new.items places.new.items
+        journal.new.entries room)) }
+    ensures err { OnErr result (viewed slots.now windows.now store.new programs.new.items
+        places.new.items journal.new.entries room
+        ≡ viewed slots.now windows.now store.old programs.old.items places.old.items
+        journal.old.entries room) }
+{
+    journal.reserve(room + 2)?;
+    match next_of(windows, slots, programs, store, places) {
+        Some(i) => take_turn(alloc, windows, slots, programs, store, places, journal, i),
+        None => Ok(wait(programs, journal)),
+    }
+}

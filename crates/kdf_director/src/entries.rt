@@ -1,0 +1,91 @@
+//! What is entered of the turn of a program.
+ghost use Rattle.std.specs.Prelude.{◌≡◌, ◌+◌, ◌<◌, ◌≤◌};
+ghost use Rattle.kdf_journal.specs.Counts.{calls, moves};
+ghost use Rattle.kdf_journal.specs.Steps.{added, noted, Holds, Obeys};
+ghost use Rattle.kdf_director.specs.Advance.{note_beside, note_told};
+ghost use Rattle.kdf_director.specs.Parts.{seat_of};
+ghost use Rattle.kdf_director.specs.Taken.{hold_left, progress_of, step_told};
+ghost use Rattle.kdf_director.specs.World.{hold_of};
+
+use crate::{Note, Program, Progress};
+use kdf_journal::{CALL_LIMIT, Entry, Journal, MOVE_LIMIT};
+use kdf_processor::{Need, Step};
+
+/// Enters how the turn of a program ended, and tells it. From now on the program is held by what held its order, or by nothing.
+#[inline(always)]
+pub(crate) fn enter(
+    journal: &mut Journal,
+    program: &mut Program,
+    step: Step,
+    note: Note,
+) -> Progress
+    requires room { 2 ≤ journal.old.spare }
+    requires few_calls { calls journal.old.entries < CALL_LIMIT }
+    requires few_moves { moves journal.old.entries ≤ MOVE_LIMIT }
+    ensures entries { journal.new.entries ≡ added journal.old.entries
+        (step_told program.old.p program.old.registers.ran step note) }
+    ensures spare { journal.old.spare ≤ journal.new.spare + 2 }
+    ensures seat { seat_of program.new ≡ seat_of program.old }
+    ensures hold { program.new.hold ≡ hold_left step }
+    ensures answer { result ≡ progress_of program.old.p step }
+{
+    let p = program.p;
+    match step {
+        Step::Held(need) => {
+            write_hold(journal, p, need);
+            program.hold = Some(need);
+            Progress::Held(p, need)
+        }
+        Step::Done | Step::Fails(_) | Step::Ends => {
+            write(journal, p, program.registers.ran, step, note);
+            program.hold = None;
+            Progress::Ran(p)
+        }
+    }
+}
+
+/// Counts an order of program `p`, its own order `k`, which ended so, with its note.
+fn write(journal: &mut Journal, p: u8, k: u32, step: Step, note: Note)
+    requires room { 2 ≤ journal.old.spare }
+    requires few_calls { calls journal.old.entries < CALL_LIMIT }
+    requires few_moves { moves journal.old.entries ≤ MOVE_LIMIT }
+    ensures entries { journal.new.entries
+        ≡ added journal.old.entries (Obeys p (note_told k step note)) }
+    ensures spare { journal.old.spare ≤ journal.new.spare + 2 }
+{
+    journal.push(Entry::Ran { p, n: 1 });
+    match step {
+        Step::Fails(kind) => journal.push(Entry::Fail { p, kind }),
+        Step::Ends => journal.push(Entry::Ended { p }),
+        Step::Done | Step::Held(_) => write_note(journal, p, k, note),
+    }
+}
+
+/// Enters what was noted of the order just counted.
+fn write_note(journal: &mut Journal, p: u8, k: u32, note: Note)
+    requires room { 1 ≤ journal.old.spare }
+    requires few_calls { calls journal.old.entries ≤ CALL_LIMIT }
+    requires few_moves { moves journal.old.entries ≤ MOVE_LIMIT }
+    ensures entries { journal.new.entries ≡ noted journal.old.entries p (note_beside k note) }
+    ensures spare { journal.old.spare ≤ journal.new.spare + 1 }
+{
+    match note {
+        Note::Quiet => {}
+        Note::Began(d) => journal.push(Entry::Start { p, d, k }),
+        Note::Told(v) => journal.push(Entry::Answer { p, v }),
+    }
+}
+
+/// Enters that program `p` is held by a need.
+fn write_hold(journal: &mut Journal, p: u8, need: Need)
+    requires room { 1 ≤ journal.old.spare }
+    requires few_calls { calls journal.old.entries < CALL_LIMIT }
+    requires few_moves { moves journal.old.entries ≤ MOVE_LIMIT }
+    ensures entries { journal.new.entries ≡ added journal.old.entries (Holds p (hold_of need)) }
+    ensures spare { journal.old.spare ≤ journal.new.spare + 1 }
+{
+    match need {
+        Need::Group(group) => journal.push(Entry::Lov { p, group }),
+        Need::Device(d) => journal.push(Entry::Busy { p, d }),
+    }
+}

@@ -1,0 +1,319 @@
+//! The machine: programs in their slots, the store and the devices that they share, and the journal.
+ghost use Rattle.std.specs.Prelude.{◌≡◌, ℕ, ◌+◌, ◌<◌, ◌≤◌, length, map, true, false, is_some, None, IfOk, IfSome, IsSomeAnd, OnErr, []};
+ghost use Rattle.std.specs.List.{All};
+ghost use Rattle.std.specs.Option.{option_copied, option_map};
+ghost use Rattle.kdf_journal.specs.Counts.{calls, clock, moves, pending};
+ghost use Rattle.kdf_journal.specs.Steps.{Ends, Moves, Sets};
+ghost use Rattle.kdf_job.specs.Shows.{shown_slot};
+ghost use Rattle.kdf_job.specs.WellFormed.{AreSlots};
+ghost use Rattle.kdf_place.specs.declared.image.Image.{Image};
+ghost use Rattle.kdf_processor.specs.Claims.{is_claimed};
+ghost use Rattle.kdf_processor.specs.State.{State, begin, fixture_at, word_at};
+ghost use Rattle.kdf_director.specs.Advance.{Advance, Enters};
+ghost use Rattle.kdf_director.specs.Legal.{IsLegal};
+ghost use Rattle.kdf_director.specs.Lends.{IsLent, IsStored, window_in};
+ghost use Rattle.kdf_director.specs.Loading.{HaveImages, slots_of};
+ghost use Rattle.kdf_director.specs.Fields.{IsLoaded, loaded};
+ghost use Rattle.kdf_director.specs.Next.{any_live};
+ghost use Rattle.kdf_director.specs.Shown.{IsDeviceAt, ShowsSeen, state_of};
+ghost use Rattle.kdf_director.specs.Viewed.{slot_loaded};
+
+use crate::advance::advance;
+use crate::dispatch::window_of;
+use crate::load::{Parts, load_parts};
+use crate::moves::{ending, moving, word_of};
+use crate::next::is_any_on;
+use crate::places::transfer_in;
+use crate::shown::{device_in, is_claimed_in, registers_of, texts_of, window_given};
+use crate::starting::cancel_all;
+use crate::{Loaded, Place, Program};
+use kdf_job::Job;
+use kdf_journal::{CALL_LIMIT, Entry, Journal, MOVE_LIMIT};
+use kdf_lockout::Store;
+use kdf_place::Image;
+use kdf_processor::{Need, Registers, Spooled};
+use kdf_relocate::Window;
+use kdf_transfer::{Device, Transfer};
+use kdf_word::Word;
+use std::alloc::{AllocError, Global};
+use std::marker::Model;
+
+/// What a call of a machine did.
+#[derive(Clone, Copy, Debug, PartialEq, Eq)]
+pub enum Progress {
+    /// The program of this slot obeyed an order.
+    Ran(u8),
+    /// The program of this slot, whose turn it was, is held by this need.
+    Held(u8, Need),
+    /// Programs are live, and none can go on.
+    Idle,
+    /// No program is live.
+    AllEnded,
+}
+
+/// A schedule has so many events at most.
+pub const EVENT_LIMIT: u32 = 500_000;
+
+/// The programs of a job over the store and the devices that they share. Contracts see the slots as they were loaded, each
+/// program's own state, the journal, and how many events more can be entered in it.
+pub struct Machine {
+    alloc: Global,
+    slots: Vec<Loaded>,
+    windows: [Window; 4],
+    store: Store,
+    programs: Vec<Program>,
+    devices: Vec<Place>,
+    journal: Journal,
+    room: u32,
+}
+
+impl Model for Machine {
+    ghost use Rattle.kdf_director.specs.Shown.{Shown};
+    ghost use Rattle.kdf_director.specs.Viewed.{viewed};
+
+    ghost Value = { Shown };
+
+    ghost use Rattle.kdf_director.specs.Agrees.{IsReady};
+
+    ghost view = { λ m. viewed m.slots.items m.windows m.store m.programs.items m.devices.items
+        m.journal.entries m.room };
+
+    ghost invariant = { λ m. IsReady m.slots.items m.windows m.store m.programs.items m.devices.items
+        m.journal.entries m.journal.spare m.room };
+}
+
+impl Machine {
+    /// A machine before its first order: the slots of a well-formed job, each with its image, which fits it, and with copies
+    /// of its devices, an empty journal, and room for the job's events. At Err nothing is left.
+    pub fn load(alloc: Global, job: &Job, images: &[Image]) -> Result<Machine, AllocError>
+        requires slots { AreSlots (map shown_slot job.now.slots.items) }
+        requires images { HaveImages (map shown_slot job.now.slots.items)
+            (map (λ (x : Image). x.words.items) images.now) }
+        requires few_events { length job.now.events.items ≤ EVENT_LIMIT }
+        ensures slots { IfOk result (λ m. m.slots ≡ slots_of (map shown_slot job.now.slots.items)
+            (map (λ (x : Image). x.words.items) images.now)) }
+        ensures states { IfOk result (λ m. m.states ≡ map begin m.slots) }
+        ensures journal { IfOk result (λ m. m.journal ≡ []) }
+        ensures room { IfOk result (λ m. m.room ≡ length job.now.events.items) }
+    {
+        let room = job.events.len() as u32;
+        let mut journal = Journal::new(alloc);
+        journal.reserve(room)?;
+        let parts = load_parts(alloc, &job.slots, images)?;
+        Ok(first(alloc, parts, journal, room))
+    }
+
+    /// One call: the program of the highest priority that is live and has no standing hold obeys its next order, or is held by
+    /// the first of its needs that is pending; where each live program has one, that is entered, and where none is live, nothing
+    /// is. All memory is taken first; at Err the machine is unchanged.
+    pub fn order(&mut self) -> Result<Progress, AllocError>
+        requires { calls self.old.journal < CALL_LIMIT }
+        ensures took { IfOk result (Advance self.old self.new) }
+        ensures slots { self.new.slots ≡ self.old.slots }
+        ensures room { self.new.room ≡ self.old.room }
+        ensures err { OnErr result (self.new ≡ self.old) }
+    {
+        advance(
+            self.alloc,
+            &self.windows,
+            &self.slots,
+            &mut self.programs,
+            &mut self.store,
+            &mut self.devices,
+            &mut self.journal,
+            self.room,
+        )
+    }
+
+    /// How many events more can be entered.
+    pub fn room(&self) -> u32
+        ensures { result ≡ self.now.room }
+    {
+        self.room
+    }
+
+    /// Moves the next `n` words of the transfer on device `d`, or those that are left; where it has none, that they were
+    /// called for is entered all the same.
+    pub fn move_words(&mut self, d: u8, n: u16)
+        requires device { d < 16 }
+        requires room { 0 < self.old.room }
+        requires few_moves { moves self.old.journal + n ≤ MOVE_LIMIT }
+        ensures { Enters self.old self.new (Moves d n) }
+    {
+        moving(
+            &self.windows,
+            &self.slots,
+            &self.programs,
+            &self.store,
+            &mut self.devices,
+            d,
+            n,
+        );
+        self.journal.push(Entry::Move { d, n });
+        self.room -= 1;
+    }
+
+    /// Moves the rest of the transfer on device `d` and ends it; where it has none, its end is entered all the same.
+    pub fn end(&mut self, d: u8)
+        requires device { d < 16 }
+        requires room { 0 < self.old.room }
+        ensures { Enters self.old self.new (Ends d) }
+    {
+        ending(
+            &self.windows,
+            &self.slots,
+            &self.programs,
+            &mut self.store,
+            &mut self.devices,
+            d,
+        );
+        self.journal.push(Entry::End { d });
+        self.room -= 1;
+    }
+
+    /// Sets the clock, which never goes back.
+    pub fn clock(&mut self, t: u64)
+        requires room { 0 < self.old.room }
+        requires rises { clock self.old.journal ≤ t }
+        ensures { Enters self.old self.new (Sets t) }
+    {
+        self.journal.push(Entry::Clock { t });
+        self.room -= 1;
+    }
+
+    /// Whether a program is live.
+    pub(crate) fn is_any_live(&self) -> bool
+        ensures live { result ≡ any_live self.now.slots self.now.journal }
+        ensures legal { IsLegal self.now.slots self.now.journal }
+        ensures seen { ShowsSeen self.now }
+    {
+        is_any_on(&self.programs)
+    }
+
+    /// The registers of program `p`; None where there is no such slot.
+    pub fn seen(&self, p: u8) -> Option<&Registers>
+        ensures registers { option_copied result
+            ≡ option_map (λ state. state.registers) (state_of self.now p) }
+        ensures legal { IsLegal self.now.slots self.now.journal }
+        ensures seen { ShowsSeen self.now }
+    {
+        registers_of(&self.programs, p)
+    }
+
+    /// The word of program `p` at an address of its store.
+    pub fn word(&self, p: u8, address: u16) -> Word
+        requires { IsSomeAnd (state_of self.now p) (λ state. address < state.stock.claims.size) }
+        ensures { IsSomeAnd (state_of self.now p) (λ state. result ≡ word_at state address) }
+    {
+        let window = window_of(&self.windows, p);
+        word_of(window, &self.store, &self.devices, address)
+    }
+
+    /// The texts that program `p` spooled, the oldest first.
+    pub fn spooled(&self, p: u8) -> &[Spooled]
+        requires { is_some (state_of self.now p) ≡ true }
+        ensures { IsSomeAnd (state_of self.now p) (λ state. result.now ≡ state.stock.spooled) }
+    {
+        texts_of(&self.programs, p)
+    }
+
+    /// The device of this number, as it is seen; None where no slot has one.
+    pub fn device(&self, d: u8) -> Option<&Device>
+        ensures own { (p : ℕ) → IfSome (state_of self.now p) (λ state.
+            is_some (fixture_at state.stock.claims d) ≡ true → IsDeviceAt state d (option_copied result)) }
+        ensures none { All (λ (state : State). fixture_at state.stock.claims d ≡ None) self.now.states
+            → result ≡ None }
+    {
+        device_in(&self.slots, &self.devices, d)
+    }
+
+    /// Whether the device of this number is claimed, by the program that has it.
+    pub fn claimed(&self, d: u8) -> bool
+        ensures own { (p : ℕ) → IfSome (state_of self.now p) (λ state.
+            is_some (fixture_at state.stock.claims d) ≡ true → result ≡ is_claimed state.stock.claims d) }
+        ensures none { All (λ (state : State). fixture_at state.stock.claims d ≡ None) self.now.states
+            → result ≡ false }
+    {
+        is_claimed_in(&self.slots, &self.programs, d)
+    }
+
+    /// What happened so far. At each moment it is legal, and each program's own state is what is seen of its lone run.
+    pub fn journal(&self) -> &Journal
+        ensures entries { result.now.entries ≡ self.now.journal }
+        ensures legal { IsLegal self.now.slots self.now.journal }
+        ensures seen { ShowsSeen self.now }
+    {
+        &self.journal
+    }
+
+    /// The store. The group of an address is out of it exactly where it is pending for the program; where it is here, the program's word
+    /// is at its place.
+    pub fn store(&self) -> &Store
+        ensures { (p a : ℕ) → IfSome (state_of self.now p) (λ state.
+            a < state.stock.claims.size → IsStored self.now result.now p a state) }
+    {
+        &self.store
+    }
+
+    /// The window of program `p`; None where there is no such slot.
+    pub fn window(&self, p: u8) -> Option<Window>
+        ensures { result ≡ window_in self.now.slots p }
+    {
+        window_given(&self.windows, &self.programs, p)
+    }
+
+    /// The transfer on device `d`, where the journal has one pending: the flight that it tells.
+    pub fn transfer(&self, d: u8) -> Option<&Transfer>
+        ensures { IsLent self.now d (pending d self.now.journal) (option_map (λ t. t.now) result) }
+    {
+        transfer_in(&self.devices, usize::from(d))
+    }
+
+    /// Cancels each transfer, brings its groups back and gives all up.
+    pub fn close(self) {
+        let Machine {
+            alloc: _,
+            slots: _,
+            windows: _,
+            mut store,
+            programs: _,
+            devices,
+            journal: _,
+            room: _,
+        } = self;
+        cancel_all(devices, &mut store);
+    }
+}
+
+/// The machine of what was loaded, before its first order.
+fn first(alloc: Global, parts: Parts, journal: Journal, room: u32) -> Machine
+    requires loaded { IsLoaded (map loaded parts.slots.items) parts }
+    requires empty { journal.entries ≡ [] }
+    requires fits { room ≤ journal.spare }
+    requires few_events { room ≤ EVENT_LIMIT }
+    ensures slots { result.slots ≡ map slot_loaded parts.slots.items }
+    ensures states { result.states ≡ map begin result.slots }
+    ensures journal { result.journal ≡ [] }
+    ensures room { result.room ≡ room }
+{
+    let Parts {
+        slots,
+        windows,
+        store,
+        programs,
+        devices,
+    } = parts;
+    Machine {
+        alloc,
+        slots,
+        windows,
+        store,
+        programs,
+        devices,
+        journal,
+        room,
+    }
+}
+
+#[cfg(test)]
+mod tests;

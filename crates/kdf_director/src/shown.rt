@@ -1,0 +1,93 @@
+//! What a machine shows of its programs and of their devices.
+ghost use Rattle.std.specs.Prelude.{◌≡◌, ◌==◌, find, length, map, IfSome};
+ghost use Rattle.std.specs.Option.{option_copied, option_map};
+ghost use Rattle.kdf_director.specs.Owners.{IsDeviceOf, IsDeviceOwned, is_claimed_by, owner_in};
+ghost use Rattle.kdf_director.specs.Parts.{window_at};
+ghost use Rattle.kdf_director.specs.Running.{seats_in};
+ghost use Rattle.kdf_director.specs.Spots.{spot_at, spot_of};
+
+use crate::devices::owns;
+use crate::dispatch::window_of;
+use crate::{Loaded, Place, Program};
+use kdf_processor::{Registers, Spooled};
+use kdf_relocate::Window;
+use kdf_transfer::Device;
+
+/// The program of slot `p`, if there is one.
+fn program_of(programs: &[Program], p: u8) -> Option<&Program>
+    ensures { option_copied result ≡ find (λ (x : Program). x.p == p) programs.now }
+{
+    programs.iter().find(|program| program.p == p)
+}
+
+/// The registers of the program of slot `p`, if there is one.
+pub(crate) fn registers_of(programs: &[Program], p: u8) -> Option<&Registers>
+    ensures { option_copied result ≡ option_map (λ (x : Program). x.registers)
+        (find (λ (x : Program). x.p == p) programs.now) }
+{
+    match program_of(programs, p) {
+        Some(program) => Some(&program.registers),
+        None => None,
+    }
+}
+
+/// The texts that the program of slot `p` spooled, the oldest first; none where there is no such slot.
+pub(crate) fn texts_of(programs: &[Program], p: u8) -> &[Spooled]
+    ensures { IfSome (find (λ (x : Program). x.p == p) programs.now)
+        (λ program. result.now ≡ program.spooled.items) }
+{
+    match program_of(programs, p) {
+        Some(program) => program.spooled.as_slice(),
+        None => &[],
+    }
+}
+
+/// Which slot has the device of this number.
+fn owner_of(slots: &[Loaded], d: u8) -> Option<usize>
+    ensures { result ≡ owner_in slots.now d }
+{
+    slots.iter().position(|slot| owns(&slot.devices, d))
+}
+
+/// The device of this number, as its transfer found it where it has one; None where no slot has such a device.
+pub(crate) fn device_in<'a>(slots: &[Loaded], places: &'a [Place], d: u8) -> Option<&'a Device>
+    ensures { IsDeviceOwned (owner_in slots.now d) (spot_at (map spot_of places.now) d)
+        (option_copied result) }
+{
+    match owner_of(slots, d) {
+        Some(_) => device_at(places, d),
+        None => None,
+    }
+}
+
+/// The device of a place.
+fn device_at(places: &[Place], d: u8) -> Option<&Device>
+    ensures { IsDeviceOf (spot_at (map spot_of places.now) d) (option_copied result) }
+{
+    match places.get(usize::from(d)) {
+        Some(place) => place.device(),
+        None => None,
+    }
+}
+
+/// Whether the program that has the device of this number has claimed it.
+pub(crate) fn is_claimed_in(slots: &[Loaded], programs: &[Program], d: u8) -> bool
+    requires { length slots.now ≡ length programs.now }
+    ensures { result ≡ is_claimed_by (owner_in slots.now d) (seats_in programs.now) d }
+{
+    match owner_of(slots, d) {
+        Some(owner) => d < 16 && programs[owner].claimed[usize::from(d)],
+        None => false,
+    }
+}
+
+/// The window of slot `p`, if there is one.
+pub(crate) fn window_given(windows: &[Window; 4], programs: &[Program], p: u8) -> Option<Window>
+    ensures { result ≡ option_map (λ (x : Program). window_at windows.now p)
+        (find (λ (x : Program). x.p == p) programs.now) }
+{
+    match program_of(programs, p) {
+        Some(_) => Some(window_of(windows, p)),
+        None => None,
+    }
+}
