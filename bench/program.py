@@ -1,4 +1,4 @@
-"""What the benchmarks share: jobs of one deck, and runs of the program with their processor time and peak memory. For Linux."""
+"""What the benchmarks share: jobs, and runs of the program with their processor time and peak memory. For Linux."""
 import ctypes
 import os
 import subprocess
@@ -19,9 +19,19 @@ Run = namedtuple("Run", "seconds peak status report")
 Best = namedtuple("Best", "seconds peak runs")
 
 
-def job(deck, store, orders):
-    """A job of this deck, for a store of so many words and so many orders."""
-    return b"KDF9 JOB 1\nSLOT 0\nSTORE %d\nDECK\n%sENDDECK\nSCHEDULE\nORDERS %d\nENDJOB\n" % (store, deck, orders)
+def slot(p, store, deck, devices=b""):
+    """The lines of a slot: its store of so many words, its deck, and its devices with their media."""
+    return b"SLOT %d\nSTORE %d\nDECK\n%sENDDECK\n%s" % (p, store, deck, devices)
+
+
+def job(slots, schedule):
+    """A job of these slots under a schedule."""
+    return b"KDF9 JOB 1\n%sSCHEDULE\n%sENDJOB\n" % (b"".join(slots), schedule)
+
+
+def job_of_deck(deck, store, orders):
+    """A job of this deck alone, for a store of so many words and so many orders."""
+    return job([slot(0, store, deck)], b"ORDERS %d\n" % orders)
 
 
 def programs():
