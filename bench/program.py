@@ -51,10 +51,10 @@ def peak_at_end(number):
     return peak * 1024
 
 
-def run(program, text):
-    """One run of the program: the seconds of the processor, the peak in bytes, the status, and what was written."""
+def run(program, text, words=("run",)):
+    """One run of the program by these words: the seconds of the processor, the peak in bytes, the status, and what was written."""
     with tempfile.TemporaryFile() as report:
-        child = subprocess.Popen([program, "run"], stdin=subprocess.PIPE, stdout=report)
+        child = subprocess.Popen([program, *words], stdin=subprocess.PIPE, stdout=report)
         if trace(PTRACE_SEIZE, child.pid, None, PTRACE_O_TRACEEXIT):
             sys.exit(f"the peak of a run can't be read here: {os.strerror(ctypes.get_errno())}")
         with child.stdin:
@@ -65,7 +65,7 @@ def run(program, text):
         return Run(usage.ru_utime + usage.ru_stime, peak, os.waitstatus_to_exitcode(status), report.read())
 
 
-def measure(programs, text):
+def measure(programs, text, words=("run",)):
     """Runs each program fifteen times, in turn: for each its least time, its highest peak and its runs."""
-    runs = [[run(program, text) for program in programs] for _ in range(RUNS)]
+    runs = [[run(program, text, words) for program in programs] for _ in range(RUNS)]
     return [Best(min(one.seconds for one in its), max(one.peak for one in its), its) for its in zip(*runs)]

@@ -1,21 +1,15 @@
--- How many orders a lone run can have obeyed.
-use Rattle.std.proofs.Common.{◌≡◌, ℕ, zero, suc, ◌+◌, ◌≤◌, true, false, List, ⊎_elim, sym, subst, arith}
-use Rattle.std.proofs.lemmas.Bool.{cases_Bool}
-use Rattle.kdf_processor.proofs.RowFacts.{ran_row, next_answer}
-use Rattle.kdf_processor.specs.Lone.{is_live, lone_step, lone}
+-- The orders of a lone run.
+use Rattle.std.proofs.Common.{◌≡◌, ℕ, ◌+◌, ◌≤◌, false, List, sym, ap, subst, ◌∙◌}
+use Rattle.kdf_processor.proofs.LoneLemmas.{stopped}
+use Rattle.kdf_processor.proofs.RowFacts.{counts_lone}
+use Rattle.kdf_processor.specs.Lone.{is_live, lone}
 use Rattle.kdf_processor.specs.State.{State}
 
-step_ran : (xs : List ℕ) (s : State) → (lone_step xs s).registers.ran ≤ s.registers.ran + 1
-step_ran xs s =
-    ⊎_elim
-    (λ (live : is_live s.registers.state ≡ true). rw live (omega (arith, ran_row (next_answer xs s) s)))
-    (λ (over : is_live s.registers.state ≡ false). rw over (omega arith))
-    (cases_Bool (is_live s.registers.state))
-
-lone_ran : (xs : List ℕ) (s : State) (n : ℕ) → (lone s xs n).registers.ran ≤ s.registers.ran + n
-lone_ran xs s zero = omega arith
-lone_ran xs s (suc n) = omega (arith, lone_ran xs s n, step_ran xs (lone s xs n))
-
--- of a state that is one of the run
+-- how many a state of the run can have obeyed
 pub run_ran : (xs : List ℕ) (s t : State) (n : ℕ) → t ≡ lone s xs n → t.registers.ran ≤ s.registers.ran + n
-run_ran xs s t n e = subst (λ (u : State). u.registers.ran ≤ s.registers.ran + n) (sym e) (lone_ran xs s n)
+run_ran xs s t n e = subst (λ (u : State). u.registers.ran ≤ s.registers.ran + n) (sym e) (counts_lone s xs n).0
+
+-- where the program has stopped, it stays
+pub no_more : (xs : List ℕ) (s t : State) (n m : ℕ) → t ≡ lone s xs n → is_live t.registers.state ≡ false → n ≤ m → t ≡ lone s xs m
+no_more xs s t n m e over more =
+    e ∙ sym (stopped s xs n m (ap (λ (u : State). is_live u.registers.state) (sym e) ∙ over) more)

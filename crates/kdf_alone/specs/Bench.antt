@@ -15,7 +15,6 @@ use Rattle.kdf_processor.specs.View.{View, by_itself}
 use Rattle.kdf_alone.specs.declared.bench.Bench.{Bench}
 use Rattle.kdf_alone.specs.declared.places.Wanted.{Wanted}
 use Rattle.kdf_alone.specs.Places.{fixture_in, is_wanted, progress_in, IsReady}
-use Rattle.kdf_alone.specs.Replies.{told_by, told_after}
 
 -- what its program is checked against: the size of its store, and its devices by number
 abbrev pub claims_of : Bench → Claims
@@ -38,20 +37,18 @@ unfoldable pub first_free : Wanted → Claims → Option ℕ
 first_free wanted c =
     find (λ d. is_wanted wanted (fixture_at c d) && not (is_claimed c d)) (range_with_len 0 device_limit)
 
--- nothing is locked out or busy
+-- nothing is locked out or busy, and whatever is asked has the one answer
 abbrev pub shown : Bench → View
-shown b = by_itself (told_by b.reply) (stock_of b)
+shown b = by_itself (λ _. b.answer) (stock_of b)
 
--- an acting call does at once what it does, and leaves the answer that it took
-pub record Acts (old : Bench) (act : Act) (new : Bench) : Type 0 where
-  pub stock : stock_of new ≡ at_once act (stock_of old)
-  pub told : new.told ≡ told_after act old.told
+-- an acting call does at once what it does
+abbrev pub Acts : Bench → Act → Bench → Type 0
+Acts old act new = stock_of new ≡ at_once act (stock_of old)
 
 -- nothing but its spare memory changes
 pub record Stays (old new : Bench) : Type 0 where
   pub stock : stock_of new ≡ stock_of old
-  pub reply : new.reply ≡ old.reply
-  pub told : new.told ≡ old.told
+  pub answer : new.answer ≡ old.answer
 
 -- there is memory for a transfer: for the blocks that its device gains, and for the characters of its area
 pub record CanStart (b : Bench) (d : ℕ) (order : TransferOrder) (first last : ℕ) : Type 0 where

@@ -2,5 +2,4 @@ pub mod Bench
 pub mod Loading
 pub mod Places
 pub mod Program
-pub mod Replies
 pub mod Worked

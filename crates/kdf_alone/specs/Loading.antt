@@ -1,26 +1,20 @@
 -- The slot that a job's slot and the words of an image are loaded into.
-use Rattle.std.specs.Prelude.{ℕ, ◌==◌, List, map, Option, Some, None, find}
+use Rattle.std.specs.Prelude.{ℕ, List, map, Option}
 use Rattle.std.specs.List.{range_with_len}
-use Rattle.std.specs.Option.{option_map}
+use Rattle.kdf_job.specs.Numbered.{device_numbered}
 use Rattle.kdf_job.specs.declared.job.SlotJob.{SlotJob}
-use Rattle.kdf_transfer.specs.Devices.{Fixture, Progress, fixture_of, progress_of}
+use Rattle.kdf_transfer.specs.Devices.{Fixture, Progress}
 use Rattle.kdf_transfer.specs.declared.device.Device.{Device}
-use Rattle.kdf_processor.specs.State.{Slot, device_limit, new_progress}
+use Rattle.kdf_processor.specs.State.{Slot, device_limit}
+use Rattle.kdf_alone.specs.Places.{fixture_in, progress_in}
 
--- the device of this number
-abbrev pub numbered : List (ℕ × Device) → ℕ → Option (ℕ × Device)
-numbered devices d = find (λ (x : ℕ × Device). x.0 == d) devices
-
+-- what the device of this number is
 abbrev pub fixture_numbered : List (ℕ × Device) → ℕ → Option Fixture
-fixture_numbered devices d = option_map (λ (x : ℕ × Device). fixture_of x.1) (numbered devices d)
+fixture_numbered devices d = fixture_in (device_numbered devices d)
 
--- how far a device has come, where there is one
-abbrev pub progress_or_new : Option (ℕ × Device) → Progress
-progress_or_new None = new_progress
-progress_or_new (Some x) = progress_of x.1
-
+-- and how far it has come
 abbrev pub progress_numbered : List (ℕ × Device) → ℕ → Progress
-progress_numbered devices d = progress_or_new (numbered devices d)
+progress_numbered devices d = progress_in (device_numbered devices d)
 
 -- a slot with these words at the front of its store, and its devices by number
 abbrev pub slot_of : SlotJob → List ℕ → Slot

@@ -1,24 +1,13 @@
--- What a program by itself is asked and told.
+-- What a program by itself is answered, and a device as its state has it.
 use Rattle.std.specs.Prelude.{◌≡◌, ℕ, List, Option, Some, None, slice_index}
 use Rattle.kdf_transfer.specs.Devices.{fixture_of, progress_of}
 use Rattle.kdf_transfer.specs.declared.device.Device.{Device}
-use Rattle.kdf_processor.specs.Effect.{Question, IsBusy, IsOut, Time, Act, Asks}
+use Rattle.kdf_processor.specs.Effect.{Question}
 use Rattle.kdf_processor.specs.State.{State, device_at, fixture_at}
 
 -- the answer whose place is the number of those that were taken, or 0 past the end, whatever is asked
 abbrev pub given_by : List ℕ → State → Question → ℕ
 given_by answers s question = slice_index answers s.stock.asked
-
--- the answers at this time, where nothing is busy and nothing is locked out
-abbrev pub idle_at : ℕ → Question → ℕ
-idle_at t (IsBusy d) = 0
-idle_at t (IsOut first last) = 0
-idle_at t Time = t
-
--- what an act was answered, where it asks
-abbrev pub answer_in : Act → Option ℕ
-answer_in (Asks question answer) = Some answer
-answer_in _ = None
 
 -- a device as a state has it: what it is, and how far it has come
 abbrev pub IsDeviceAt : State → ℕ → Option Device → Type 0

@@ -1,17 +1,16 @@
 //! A program that runs by itself.
-ghost use Rattle.std.specs.Prelude.{◌≡◌, ◌+◌, ◌<◌, ◌≤◌, length, slice_index, slice_index_or, false, true, IfOk, OnOk, OnErr};
+ghost use Rattle.std.specs.Prelude.{◌≡◌, ◌+◌, ◌<◌, ◌≤◌, length, slice_index, true, IfOk, OnOk, OnErr};
 ghost use Rattle.std.specs.Option.{option_copied};
 ghost use Rattle.kdf_processor.specs.Claims.{is_claimed};
-ghost use Rattle.kdf_processor.specs.Lone.{is_live, lone, lone_step};
+ghost use Rattle.kdf_processor.specs.Lone.{is_live, lone};
 ghost use Rattle.kdf_processor.specs.Row.{next_of, row};
 ghost use Rattle.kdf_processor.specs.State.{begin, word_at};
 ghost use Rattle.kdf_alone.specs.Loading.{slot_of};
-ghost use Rattle.kdf_alone.specs.Program.{answer_in, given_by, idle_at, IsDeviceAt};
+ghost use Rattle.kdf_alone.specs.Program.{given_by, IsDeviceAt};
 
 use crate::bench::Bench;
 use crate::loading::{places, store};
 use crate::obeying::obey_next;
-use crate::reply::{Reply, answer_at};
 use kdf_job::SlotJob;
 use kdf_place::Image;
 use kdf_processor::{Life, Port, Registers, Spooled, Step};
@@ -19,15 +18,6 @@ use kdf_transfer::Device;
 use kdf_word::Word;
 use std::alloc::{AllocError, Global};
 use std::marker::Model;
-
-/// How an order came out.
-#[derive(Clone, Copy, Debug, PartialEq, Eq)]
-pub struct Obeyed {
-    /// How it ended; it is never held.
-    pub step: Step,
-    /// What it was answered, if it asked.
-    pub answer: Option<u64>,
-}
 
 /// A program with its registers, store and devices. Contracts see its state.
 #[derive(Drop)]
@@ -56,7 +46,7 @@ impl Alone {
         ensures { IfOk result (λ a. a ≡ begin (slot_of slot.now image.now.words.items)) }
     {
         let words = store(alloc, slot.size, &image.words)?;
-        let devices = places(alloc, &slot.devices)?;
+        let devices = places(alloc, slot)?;
         Ok(Alone {
             registers: Registers::new(),
             bench: Bench::new(alloc, slot.size, words, devices),
@@ -65,6 +55,7 @@ impl Alone {
 
     /// Obeys the next order; one that asks takes the answer whose place is the number of earlier asks,
     /// or 0 past the end. Without memory nothing has changed; it is never held.
+    #[inline(always)]
     pub fn order(&mut self, answers: &[u64]) -> Result<Step, AllocError>
         requires live { is_live self.old.registers.state ≡ true }
         requires ran { self.old.registers.ran < u32.MAX }
@@ -73,24 +64,7 @@ impl Alone {
         ensures err { OnErr result (self.new ≡ self.old) }
     {
         let answer = answer_at(answers, self.bench.asked());
-        obey_next(&mut self.registers, &mut self.bench, Reply::Given(answer))
-    }
-
-    /// Obeys the next order at a time; nothing is ever busy or locked out. Without memory nothing has
-    /// changed.
-    pub fn order_at(&mut self, time: u64) -> Result<Obeyed, AllocError>
-        requires live { is_live self.old.registers.state ≡ true }
-        requires ran { self.old.registers.ran < u32.MAX }
-        ensures state { OnOk result (self.new ≡ row self.old (idle_at time)) }
-        ensures step { IfOk result (λ o. o.step ≡ (next_of self.old (idle_at time)).step) }
-        ensures answer { IfOk result (λ o. o.answer ≡ answer_in (next_of self.old (idle_at time)).act) }
-        ensures err { OnErr result (self.new ≡ self.old) }
-    {
-        let step = obey_next(&mut self.registers, &mut self.bench, Reply::Idle(time))?;
-        Ok(Obeyed {
-            step,
-            answer: self.bench.told(),
-        })
+        obey_next(&mut self.registers, &mut self.bench, answer)
     }
 
     /// Obeys `n` orders, or fewer where the program stops.
@@ -99,20 +73,19 @@ impl Alone {
         ensures { OnOk result (self.new ≡ lone self.old answers.now n) }
     {
         for _i in 0..n {
-            self.order_if_live(answers)?;
+            if !self.is_live() {
+                return Ok(());
+            }
+            self.order(answers)?;
         }
         Ok(())
     }
 
-    /// Obeys the next order, if the program is live.
-    fn order_if_live(&mut self, answers: &[u64]) -> Result<(), AllocError>
-        requires { self.old.registers.ran < u32.MAX }
-        ensures { OnOk result (self.new ≡ lone_step answers.now self.old) }
+    /// Whether the program runs.
+    fn is_live(&self) -> bool
+        ensures { result ≡ is_live self.now.registers.state }
     {
-        if self.registers.state == Life::Live {
-            self.order(answers)?;
-        }
-        Ok(())
+        matches!(self.registers.state, Life::Live)
     }
 
     /// The registers.
@@ -157,4 +130,11 @@ impl Alone {
     {
         self.bench.spooled()
     }
+}
+
+/// The answer at a place, or 0 past the end.
+fn answer_at(answers: &[u64], place: u32) -> u64
+    ensures { result ≡ slice_index answers.now place }
+{
+    answers.get(place as usize).copied().unwrap_or(0)
 }

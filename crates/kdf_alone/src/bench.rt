@@ -2,7 +2,6 @@
 ghost use Rattle.std.specs.Prelude.{◌≡◌, [], length};
 
 use crate::places::{Wanted, is_wanted, kind_in, make_ready, test_in, transfer};
-use crate::reply::Reply;
 use crate::text::{characters_in, characters_out, text_of};
 use kdf_journal::Kind;
 use kdf_processor::{Ahead, Port, Spooled, Test};
@@ -23,9 +22,7 @@ pub struct Bench {
     /// How many answers were taken.
     asked: u32,
     /// What the next order is answered that asks.
-    reply: Reply,
-    /// What the order was answered that is obeyed, if it asked.
-    told: Option<u64>,
+    answer: u64,
     /// Memory for the characters that an order moves.
     block: Vec<u8>,
     ghost whole: { length words.items ≡ size },
@@ -34,10 +31,10 @@ pub struct Bench {
 }
 
 impl Bench {
-    ghost use Rattle.std.specs.Prelude.{◌&&◌, ◌+◌, ◌-◌, ◌<◌, ℕ, map, true, not, find, slice_index, slice_index_or, Option, None, Some, IfSome, IfNone, OnOk};
+    ghost use Rattle.std.specs.Prelude.{◌&&◌, ◌+◌, ◌-◌, ◌<◌, map, true, not, slice_index, slice_index_or, Option, None, Some, IfSome, IfNone, OnOk};
     ghost use Rattle.std.specs.Option.{option_copied};
     ghost use Rattle.kdf_processor.specs.Claims.{claim, is_claimed};
-    ghost use Rattle.kdf_processor.specs.Effect.{Acquires, Asks, Question};
+    ghost use Rattle.kdf_processor.specs.Effect.{Acquires};
     ghost use Rattle.kdf_processor.specs.State.{fixture_at, unclaimed};
     ghost use Rattle.kdf_alone.specs.Bench.{claims_of, first_free, stock_of, Acts, CanSpool, CanStart};
     ghost use Rattle.kdf_alone.specs.Bench.{HasRoomAhead, Stays};
@@ -64,8 +61,7 @@ impl Bench {
             claimed: [false; 16],
             spooled: Vec::new(alloc),
             asked: 0,
-            reply: Reply::Idle(0),
-            told: None,
+            answer: 0,
             block: Vec::new(alloc),
         }
     }
@@ -102,21 +98,12 @@ impl Bench {
         self.asked
     }
 
-    /// What the order was answered that was obeyed last, if it asked.
-    pub fn told(&self) -> Option<u64>
-        ensures { result ≡ self.now.told }
-    {
-        self.told
-    }
-
     /// Sets what the next order is answered if it asks.
-    pub fn prepare(&mut self, reply: Reply)
+    pub fn prepare(&mut self, answer: u64)
         ensures stock { stock_of self.new ≡ stock_of self.old }
-        ensures reply { self.new.reply ≡ reply }
-        ensures told { self.new.told ≡ None }
+        ensures answer { self.new.answer ≡ answer }
     {
-        self.reply = reply;
-        self.told = None;
+        self.answer = answer;
     }
 
     /// Takes the memory that an act wants. Without it nothing else has changed either.
@@ -165,13 +152,14 @@ impl Bench {
         self.block.reserve(characters_in(first, last))
     }
 
-    /// Takes an answer.
-    fn take_answer(&mut self, answer: u64)
+    /// Takes the answer.
+    fn take_answer(&mut self) -> u64
         requires { self.old.asked < u32.MAX }
-        ensures { (question : Question) → Acts self.old (Asks question answer) self.new }
+        ensures answer { result ≡ self.old.answer }
+        ensures taken { stock_of self.new ≡ record (stock_of self.old) { asked = self.old.asked + 1 } }
     {
         self.asked += 1;
-        self.told = Some(answer);
+        self.answer
     }
 
     /// The least device that is wanted and isn't claimed.
@@ -268,21 +256,15 @@ impl Port for Bench {
     }
 
     fn ask_busy(&mut self, _device: u8) -> bool {
-        let answer = self.reply.is_waiting();
-        self.take_answer(answer);
-        answer != 0
+        self.take_answer() != 0
     }
 
     fn ask_area(&mut self, _first: u16, _last: u16) -> bool {
-        let answer = self.reply.is_waiting();
-        self.take_answer(answer);
-        answer != 0
+        self.take_answer() != 0
     }
 
     fn ask_time(&mut self) -> u64 {
-        let answer = self.reply.time();
-        self.take_answer(answer);
-        answer
+        self.take_answer()
     }
 
     #[tactic(auto, using(crate::proofs::Claiming::label_free))]
@@ -308,5 +290,5 @@ impl Port for Bench {
         self.spooled.push_reserved(Spooled { stream, text });
     }
 
-    ghost stays = { λ _. record { stock = refl; told = refl } };
+    ghost stays = { λ _. refl };
 }

@@ -7,10 +7,9 @@ mod loading;
 mod memory;
 mod obeying;
 mod places;
-mod reply;
 #[cfg(test)]
 mod tests;
 mod text;
 pub mod worked;
 
-pub use alone::{Alone, Obeyed};
+pub use alone::Alone;

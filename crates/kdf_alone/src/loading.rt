@@ -1,13 +1,12 @@
 //! The store and the devices of a slot as it is loaded.
 ghost use Rattle.std.specs.Prelude.{◌≡◌, ◌≤◌, length, map, IfOk};
 ghost use Rattle.std.specs.List.{range_with_len};
-ghost use Rattle.std.specs.Option.{option_copied, option_map};
-ghost use Rattle.kdf_transfer.specs.declared.device.Device.{Device};
+ghost use Rattle.std.specs.Option.{option_copied};
 ghost use Rattle.kdf_processor.specs.State.{device_limit, filled};
-ghost use Rattle.kdf_transfer.specs.Devices.{fixture_of};
-ghost use Rattle.kdf_alone.specs.Loading.{fixture_numbered, numbered, progress_numbered, progress_or_new};
+ghost use Rattle.kdf_alone.specs.Loading.{fixture_numbered, progress_numbered};
 ghost use Rattle.kdf_alone.specs.Places.{fixture_in, progress_in};
 
+use kdf_job::SlotJob;
 use kdf_transfer::Device;
 use kdf_word::Word;
 use std::alloc::{AllocError, Global};
@@ -23,37 +22,28 @@ pub fn store(alloc: Global, size: u16, image: &[Word]) -> Result<Vec<Word>, Allo
     Ok(words)
 }
 
-/// Copies of the devices by number, sixteen places.
-pub fn places(alloc: Global, given: &[(u8, Device)]) -> Result<Vec<Option<Device>>, AllocError>
-    ensures fixtures { IfOk result (λ places.
-        map fixture_in places.items ≡ map (fixture_numbered given.now) (range_with_len 0 device_limit)) }
-    ensures progresses { IfOk result (λ places.
-        map progress_in places.items ≡ map (progress_numbered given.now) (range_with_len 0 device_limit)) }
+/// Copies of a slot's devices by number, sixteen places.
+pub fn places(alloc: Global, slot: &SlotJob) -> Result<Vec<Option<Device>>, AllocError>
+    ensures fixtures { IfOk result (λ places. map fixture_in places.items
+        ≡ map (fixture_numbered slot.now.devices.items) (range_with_len 0 device_limit)) }
+    ensures progresses { IfOk result (λ places. map progress_in places.items
+        ≡ map (progress_numbered slot.now.devices.items) (range_with_len 0 device_limit)) }
     ensures sixteen { IfOk result (λ places. length places.items ≡ 16) }
 {
     let mut places = Vec::new(alloc);
     for d in 0..16u8 {
-        places.push(copied(alloc, numbered(given, d))?)?;
+        places.push(copied(alloc, slot.device(d))?)?;
     }
     Ok(places)
 }
 
-/// The device of this number.
-fn numbered(given: &[(u8, Device)], d: u8) -> Option<&(u8, Device)>
-    ensures { option_copied result ≡ numbered given.now d }
+/// A copy of a device, where there is one.
+fn copied(alloc: Global, device: Option<&Device>) -> Result<Option<Device>, AllocError>
+    ensures fixture { IfOk result (λ place. fixture_in place ≡ fixture_in (option_copied device.entry)) }
+    ensures progress { IfOk result (λ place. progress_in place ≡ progress_in (option_copied device.entry)) }
 {
-    given.iter().find(|device| device.0 == d)
-}
-
-/// A copy of a device.
-fn copied(alloc: Global, given: Option<&(u8, Device)>) -> Result<Option<Device>, AllocError>
-    ensures fixture { IfOk result (λ place.
-        fixture_in place ≡ option_map (λ x. fixture_of x.1) (option_copied given.entry)) }
-    ensures progress { IfOk result (λ place.
-        progress_in place ≡ progress_or_new (option_copied given.entry)) }
-{
-    match given {
-        Some(device) => Ok(Some(device.1.copy(alloc)?)),
+    match device {
+        Some(device) => Ok(Some(device.copy(alloc)?)),
         None => Ok(None),
     }
 }

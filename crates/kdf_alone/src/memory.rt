@@ -1,5 +1,5 @@
 //! Memory, taken before an order is obeyed.
-ghost use Rattle.std.specs.Prelude.{◌≡◌, ◌<◌, OnOk};
+ghost use Rattle.std.specs.Prelude.{◌<◌, OnOk};
 ghost use Rattle.kdf_processor.specs.Fetch.{IsFetchedAt};
 ghost use Rattle.kdf_processor.specs.Outcome.{outcome};
 ghost use Rattle.kdf_processor.specs.declared.fetch.Fetched.TheVariants.{Spelt};

@@ -16,7 +16,7 @@ use Rattle.kdf_processor.specs.Effect.{Change, Refused, Going, of_change, Effect
 use Rattle.kdf_processor.specs.Needs.{effect_or_liv, order_at, next_effect}
 use Rattle.kdf_processor.specs.State.{Claims, State, device_limit, word_at}
 use Rattle.kdf_processor.specs.Table.{change_of, device_effect, direct_effect, effect, guarded, indirect_effect, is_area, on_top, out_effect, plain_row, query_effect}
-use Rattle.kdf_director.specs.Flights.{device_count}
+use Rattle.kdf_director.specs.ByNumber.{device_count}
 
 -- its device is claimed and of its kind, and its area is one of the store
 abbrev pub IsChecked : Claims → Effect → Type 0

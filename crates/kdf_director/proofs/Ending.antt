@@ -6,7 +6,8 @@ use Rattle.std.proofs.lemmas.List.{get_or-set_same, get_or-set_other, length-set
 use Rattle.kdf_transfer.specs.AtOnce.{written}
 use Rattle.kdf_transfer.specs.Devices.{Progress}
 use Rattle.kdf_processor.specs.State.{State, word_at, device_at, device_in, new_progress}
-use Rattle.kdf_director.specs.Flights.{Flight, move_count, arrivals, unmoved, completed, touches, device_count, with_flight, moved_to, with_moved}
+use Rattle.kdf_director.specs.ByNumber.{device_count}
+use Rattle.kdf_director.specs.Flights.{Flight, move_count, arrivals, unmoved, completed, touches, with_flight, moved_to, with_moved}
 use Rattle.kdf_director.specs.Seen.{covers, seen_device, seen, with_store, with_both}
 use Rattle.kdf_director.specs.Flying.{InFlight, IfFlight, AreFlying}
 use Rattle.kdf_director.proofs.SeenStates.{same_states, seen_word_at, seen_device_at, seen_size, seen_number}

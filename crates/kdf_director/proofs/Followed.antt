@@ -14,17 +14,15 @@ use Rattle.kdf_transfer.specs.AtOnce.{has_area, order_words}
 use Rattle.kdf_transfer.specs.Devices.{Fixture}
 use Rattle.kdf_transfer.specs.InFlight.{area_words, lent_at}
 use Rattle.kdf_processor.specs.declared.registers.Registers.{Registers}
-use Rattle.kdf_processor.specs.Effect.{Question, Act, Nothing, Writes, Starts, Asks, Acquires, Releases, Spools, Effect, Failing, Ending, Changing, Fetching, Keeping, Testing, Starting, Asking, Claiming, Returning, Spooling}
+use Rattle.kdf_processor.specs.Effect.{Question, Effect, Failing, Ending, Changing, Fetching, Keeping, Testing, Starting, Asking, Claiming, Returning, Spooling}
 use Rattle.kdf_processor.specs.Needs.{effect_needs, next_effect}
 use Rattle.kdf_processor.specs.Outcome.{Outcome, held_or}
 use Rattle.kdf_processor.specs.Row.{done_by, next_of}
-use Rattle.kdf_processor.specs.State.{Claims, Slot, State, Stock, device_at, fixture_at, word_at}
+use Rattle.kdf_processor.specs.State.{Claims, Slot, State, device_at, fixture_at, word_at}
 use Rattle.kdf_processor.specs.View.{first_pending}
 use Rattle.kdf_director.specs.Flights.{Flight, beginning, flights_after, with_flight}
-use Rattle.kdf_director.specs.Flights as flights
 use Rattle.kdf_director.specs.Legal.{IsLegal, Meets, note_of, note_of_outcome}
-use Rattle.kdf_director.specs.Seen as model
-use Rattle.kdf_director.specs.Seen.{begun_row, seen, seen_device}
+use Rattle.kdf_director.specs.Seen.{begun_row, seen, seen_device, touched_below, tried}
 use Rattle.kdf_director.specs.Slots.{AreSlots}
 use Rattle.kdf_director.specs.Told.{flights_of, lone_world, mine_after, own, seen_of, seen_world}
 use Rattle.kdf_director.specs.True.{truth}
@@ -32,10 +30,9 @@ use Rattle.kdf_director.specs.World.{first_need}
 use Rattle.kdf_director.specs.Physical as physical
 use Rattle.kdf_director.specs.ByNumber.{device_count}
 use Rattle.kdf_director.specs.Spots.{Held, Spot, no_spot, spot_at, fixture_or, leases_of, own_from}
-use Rattle.kdf_director.specs.Parts as parts
-use Rattle.kdf_director.specs.Parts.{Part, Seat, Reach, Shared, asked_after, has_device, own_fixture, own_progress, own_stock}
+use Rattle.kdf_director.specs.Parts.{Part, Seat, Reach, Shared, asked_after, has_device, own_progress, own_stock}
 use Rattle.kdf_director.specs.Shared.{view, after_act, start_lease, start_spot}
-use Rattle.kdf_director.specs.Running.{seat_at, part_at, own_state, hold_of, outcome_at, answers_at, tried, IsRunning}
+use Rattle.kdf_director.specs.Running.{seat_at, part_at, own_state, hold_of, outcome_at, answers_at, IsRunning}
 use Rattle.kdf_director.specs.Turned.{HasTurned}
 use Rattle.kdf_director.specs.declared.note.Note.{Note as Noted}
 use Rattle.kdf_processor.specs.declared.step.Step.{Step as Ended}
@@ -71,16 +68,6 @@ lent_here cells from n x fits low high =
 or_some : (x : Option Fixture) → is_some x ≡ true → x ≡ Some (fixture_or x)
 or_some None h = cc
 or_some (Some y) h = refl
-
--- a transfer only begins, by both words for it
-begun_same : (act : Act) (k : Stock) → parts.begun act k ≡ model.begun act k
-begun_same Nothing k = refl
-begun_same (Writes a w) k = refl
-begun_same (Starts d o first last) k = refl
-begun_same (Asks question answer) k = refl
-begun_same (Acquires d) k = refl
-begun_same (Releases d) k = refl
-begun_same (Spools stream first last) k = refl
 
 -- an answer is counted where its note tells it
 asked_told : (n : ℕ) (answer : Question → ℕ) (e : Effect) (s : State) → n + length (answer_in_note (note_of_outcome (done_by answer e s))) ≡ asked_after n (done_by answer e s).act
@@ -160,7 +147,6 @@ module _ (slots : List Slot) (J : List Entry) (reaches : List Reach) (seats : Li
   tried_is : tried (outcome_at reaches seats s (clock J) n i) mine ≡ seen_of slots J' p
   tried_is =
       ap (λ o. tried o mine) outcome_is
-      ∙ ap (λ k. let x : State = record { registers = (next_of mine answer).registers; stock = k } in x) (begun_same (next_of mine answer).act mine.stock)
       ∙ ap (λ (x : State). begun_row x answer) fol.is_seen
       ∙ sym (obeys-seen slots J p note legal meets are)
 
@@ -262,7 +248,7 @@ module _ (slots : List Slot) (J : List Entry) (reaches : List Reach) (seats : Li
         let not_out : is_out s.cells ((q.base + a) / 32) ≡ false = ap is_none here.1 in
         let group : (q.base + a) / 32 ≡ q.base / 32 + a / 32 = omega arith in
         let near : 32 * (a / 32) < q.size = omega arith in
-        let untouched : model.touched_below flights.device_count fs (a / 32) ≡ false =
+        let untouched : touched_below device_count fs (a / 32) ≡ false =
         sym (group_same slots J reaches seats s run old i lt course (a / 32) near) ∙ ap (is_out s.cells) (sym group) ∙ not_out in
         let lt : a < q.size = omega arith in
         let within : a < length l.stock.store = omega (arith, size_same) in
@@ -271,7 +257,7 @@ module _ (slots : List Slot) (J : List Entry) (reaches : List Reach) (seats : Li
         ∙ sym (word_own a lt ∙ here_word s.cells _ (q.base + a) not_out)
         ∙ ap (λ z. word_at z a) fol.is_seen
         ∙ seen_word_at fs l a within
-        ∙ seen_apart flights.device_count fs a (word_at l a) untouched
+        ∙ seen_apart device_count fs a (word_at l a) untouched
 
     area_is : area_words o (q.base + first) (q.base + last) (start_lease o (q.base + first) (q.base + last) s.cells) ≡ order_words o first last l.stock.store
     area_is =

@@ -17,14 +17,13 @@ use Rattle.kdf_processor.specs.Needs.{needs}
 use Rattle.kdf_processor.specs.Row.{done_by}
 use Rattle.kdf_processor.specs.State.{Slot, State}
 use Rattle.kdf_processor.specs.View.{groups_of, is_pending}
-use Rattle.kdf_director.specs.Flights as flights
+use Rattle.kdf_director.specs.ByNumber.{device_count}
 use Rattle.kdf_director.specs.Flights.{Flight, touches}
 use Rattle.kdf_director.specs.Seen.{touched_below}
 use Rattle.kdf_director.specs.Told.{flights_of, is_pending_after, mine_after, own, seen_of, seen_world}
 use Rattle.kdf_director.specs.Told as told
 use Rattle.kdf_director.specs.True.{known}
 use Rattle.kdf_director.specs.World.{first_need}
-use Rattle.kdf_director.specs.Physical as physical
 use Rattle.kdf_director.specs.Physical.{has_group}
 use Rattle.kdf_director.specs.Spots.{Held, Spot, no_spot, spot_at, is_of, lease_held, leases_of, own_from}
 use Rattle.kdf_director.specs.Parts.{Part, Seat, Reach, Shared}
@@ -35,13 +34,7 @@ use Rattle.kdf_director.specs.Following.{IsLink, Linked, IsFollowing, AreFollowi
 use Rattle.kdf_director.proofs.Inside.{IsInside, IsNear, AreNear, needs_near, near_area, find_near, any_near}
 use Rattle.kdf_director.proofs.Linking.{linked_own}
 use Rattle.kdf_director.proofs.OnCourse.{IsOnCourse}
-use Rattle.kdf_director.proofs.Sixteen.{flights_is}
-use Rattle.kdf_director.proofs.Tables.{limit_is}
 use Rattle.kdf_director.proofs.Turning.{numbers_apart}
-
--- there are sixteen places of devices
-pub counts_same : flights.device_count ≡ physical.device_count
-counts_same = flights_is ∙ sym limit_is
 
 -- two truths that follow from each other are one
 both_ways : (a b : Bool) → (a ≡ true → b ≡ true) → (b ≡ true → a ≡ true) → a ≡ b
@@ -181,7 +174,7 @@ module _ (slots : List Slot) (J : List Entry) (reaches : List Reach) (seats : Li
           (ap (λ o. has_group o (q.base / 32 + g)) (ap lease_held flies ∙ lease.1) ∙ and_from _ _ (le-leb lease.0.first (q.base / 32 + g) in_low) (lt-ltb (q.base / 32 + g) (lease.0.first + length lease.0.groups) in_high)))
 
   -- and a group of its window that is out is touched by one of them
-  out_touched : (g : ℕ) → 32 * g < q.size → is_out s.cells (q.base / 32 + g) ≡ true → touched_below flights.device_count fs g ≡ true
+  out_touched : (g : ℕ) → 32 * g < q.size → is_out s.cells (q.base / 32 + g) ≡ true → touched_below device_count fs g ≡ true
   out_touched g near out =
       let at = run.at_group i lt in
       let fits = run.in_store i lt in
@@ -189,7 +182,7 @@ module _ (slots : List Slot) (J : List Entry) (reaches : List Reach) (seats : Li
       let lease = run.sound.held (q.base / 32 + g) inside (none_here (group_at s.cells (q.base / 32 + g)) out) in
       by_flight lease.0 (spot_at s.spots lease.0).flight refl lease.1
     where
-      by_flight : (d : ℕ) (o : Option Held) → (spot_at s.spots d).flight ≡ o → has_group (leases_of s.spots d) (q.base / 32 + g) ≡ true → touched_below flights.device_count fs g ≡ true
+      by_flight : (d : ℕ) (o : Option Held) → (spot_at s.spots d).flight ≡ o → has_group (leases_of s.spots d) (q.base / 32 + g) ≡ true → touched_below device_count fs g ≡ true
       by_flight d None idle has = cc (sym (ap (λ o. has_group (lease_held o) (q.base / 32 + g)) idle) ∙ has)
       by_flight d (Some h) flies has =
           let same = its d h flies g near has in
@@ -209,26 +202,26 @@ module _ (slots : List Slot) (J : List Entry) (reaches : List Reach) (seats : Li
           let last = f.2.last in
           let low : f.0.first / 32 ≤ g = omega arith in
           let high : g ≤ f.0.last / 32 = omega arith in
-          let small : d < flights.device_count = there d h flies in
-          touched_by flights.device_count fs g d small
+          let small : d < device_count = there d h flies in
+          touched_by device_count fs g d small
           (ap (λ o. touches o g) f.1 ∙ and_from _ _ (sym (ap has_area f.2.order) ∙ area) (and_from _ _ (le-leb (f.0.first / 32) g low) (le-leb g (f.0.last / 32) high)))
         where
           lease_of : (o : Option Lent) → has_group o (q.base / 32 + g) ≡ true → (k : Lent) × (o ≡ Some k)
           lease_of None is = cc
           lease_of (Some k) is = (k, refl)
 
-          there : (d : ℕ) (h : Held) → (spot_at s.spots d).flight ≡ Some h → d < flights.device_count
+          there : (d : ℕ) (h : Held) → (spot_at s.spots d).flight ≡ Some h → d < device_count
           there d h flies =
               ⊎_elim
-              (λ (small : d < length s.spots). let n = run.sound.spots in let m = counts_same in omega arith)
+              (λ (small : d < length s.spots). let n = run.sound.spots in omega arith)
               (λ (past : length s.spots ≤ d). cc (sym (ap (λ (x : Spot). x.flight) (get_or_past s.spots d no_spot past)) ∙ flies))
               (cases_lt d (length s.spots))
 
   -- a group of its window is out exactly where it is pending
-  pub group_same : (g : ℕ) → 32 * g < q.size → is_out s.cells (q.base / 32 + g) ≡ touched_below flights.device_count fs g
+  pub group_same : (g : ℕ) → 32 * g < q.size → is_out s.cells (q.base / 32 + g) ≡ touched_below device_count fs g
   group_same g near =
       both_ways _ _ (out_touched g near)
-      (λ is. let d = touched_some flights.device_count fs g is in touched_out d.0 g d.1)
+      (λ is. let d = touched_some device_count fs g is in touched_out d.0 g d.1)
 
   -- so a need is pending in the machine exactly where it is by the journal
   pub pending_same : (t : ℕ) (n : Need) → IsNear q.size n → is_pending (view q t s) n ≡ is_pending_after slots J q.p n
@@ -240,7 +233,7 @@ module _ (slots : List Slot) (J : List Entry) (reaches : List Reach) (seats : Li
   unfolding mine_after
   mine_same =
       own_from_is q.p (λ d. told.is_of q.p (pending d J)) 0 s.spots (λ k lt'. linked_of q k (spot_at s.spots k).flight (fs k) (fol.linked k) ∙ course.mine k ∙ ap (λ d. told.is_of q.p (pending d J)) (let e : k ≡ 0 + k = omega arith in e))
-      ∙ ap (λ n. filter (λ d. told.is_of q.p (pending d J)) (range_with_len 0 n)) (run.sound.spots ∙ sym counts_same)
+      ∙ ap (λ n. filter (λ d. told.is_of q.p (pending d J)) (range_with_len 0 n)) run.sound.spots
 
   -- its needs don't hang on what it was answered
   any_asked : (n : ℕ) (mine : List ℕ) → needs (own_state reaches seats s n i) mine ≡ needs (own_state reaches seats s (asked_at seats J i) i) mine
@@ -270,4 +263,4 @@ module _ (slots : List Slot) (J : List Entry) (reaches : List Reach) (seats : Li
   pub out_same : (first last : ℕ) → AreNear q.size (map Group (groups_of first last)) → answers_at reaches seats (clock J) s i (IsOut first last) ≡ known (is_pending_after slots J q.p) (clock J) (IsOut first last)
   out_same first last near =
       ap (λ b. cond b 1 0)
-      (any_near q.size (λ g. is_out s.cells (q.base / 32 + g)) (touched_below flights.device_count fs) group_same (groups_of first last) near)
+      (any_near q.size (λ g. is_out s.cells (q.base / 32 + g)) (touched_below device_count fs) group_same (groups_of first last) near)

@@ -16,15 +16,15 @@ use Rattle.kdf_processor.specs.Claims.{is_claimed, is_kind}
 use Rattle.kdf_processor.specs.Effect.{Effect, Failing, Ending, Changing, Fetching, Keeping, Testing, Starting, Asking, Claiming, Returning, Spooling}
 use Rattle.kdf_processor.specs.Needs.{next_effect}
 use Rattle.kdf_processor.specs.State.{Slot, State, word_at}
+use Rattle.kdf_director.specs.ByNumber.{device_count}
 use Rattle.kdf_director.specs.Agrees.{Agrees}
-use Rattle.kdf_director.specs.Flights.{Flight, device_count, touches}
+use Rattle.kdf_director.specs.Flights.{Flight, touches}
 use Rattle.kdf_director.specs.Flying.{IfFlight}
 use Rattle.kdf_director.specs.Following.{IsLink, Linked, asked_at}
 use Rattle.kdf_director.specs.Lends.{IsBegun, IsFlight, IsLent, IsStored, place_of, size_in, windows_in}
 use Rattle.kdf_director.specs.Fields.{loaded, size_at, sizes_of}
 use Rattle.kdf_director.specs.Parts.{Part, Reach, Seat, Shared, reach_of, window_at}
 use Rattle.kdf_director.specs.Physical.{has_group, word_at_place, word_where}
-use Rattle.kdf_director.specs.Physical as physical
 use Rattle.kdf_director.specs.Running.{no_seat, own_state, part_at, reach_at, reaches_in, seat_at}
 use Rattle.kdf_director.specs.Shown.{Shown, state_of}
 use Rattle.kdf_director.specs.Viewed.{slot_loaded, states_in}
@@ -196,7 +196,7 @@ module _ (windows : List Window) (loads : List Loaded) (seats : List Seat) (s : 
     abbrev q : ℕ → Part
     q i = part_at reaches seats i
 
-    small : (h : Held) → (spot_at s.spots d).flight ≡ Some h → d < physical.device_count
+    small : (h : Held) → (spot_at s.spots d).flight ≡ Some h → d < device_count
     small h flies =
         ⊎_elim
         (λ (low : d < length s.spots). let n = a.running.sound.spots in omega arith)
@@ -225,7 +225,7 @@ module _ (windows : List Window) (loads : List Loaded) (seats : List Seat) (s : 
         let has : has_group (leases_of s.spots d) (((reach_at reaches i).base + x) / 32) ≡ true =
         ap (λ o. has_group o (((reach_at reaches i).base + x) / 32)) (held ∙ lease.1) ∙ and_from _ _ (le-leb lease.0.first (((reach_at reaches i).base + x) / 32) in_low) (lt-ltb (((reach_at reaches i).base + x) / 32) (lease.0.first + length lease.0.groups) in_high) in
         sym (ap (λ o. lent_at o ((reach_at reaches i).base + x)) held)
-        ∙ sym (word_out_one physical.device_count d (leases_of s.spots) ((reach_at reaches i).base + x) (small h flies) has (λ e ne. a.running.sound.alone d e (((reach_at reaches i).base + x) / 32) ne has))
+        ∙ sym (word_out_one device_count d (leases_of s.spots) ((reach_at reaches i).base + x) (small h flies) has (λ e ne. a.running.sound.alone d e (((reach_at reaches i).base + x) / 32) ne has))
         ∙ sym (ap (word_where (leases_of s.spots) ((reach_at reaches i).base + x)) (a.running.sound.out d (((reach_at reaches i).base + x) / 32) has))
         ∙ word_shown reaches seats s (asked_at seats J i) i x inside
 

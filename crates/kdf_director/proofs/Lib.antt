@@ -13,6 +13,7 @@ pub mod Worlds
 pub mod LegalFacts
 pub mod Courses
 pub mod OneJournal
+pub mod Cuts
 pub mod Schedules
 pub mod SlotLemmas
 pub mod FlightsAdded
@@ -51,7 +52,6 @@ pub mod Loads
 pub mod Numbered
 pub mod Sizes
 pub mod Inside
-pub mod Sixteen
 pub mod Linking
 pub mod Lasting
 pub mod Judging

@@ -14,7 +14,6 @@ use Rattle.kdf_job.specs.WellFormed.{AreRising, AreSlots, IsSlot}
 use Rattle.kdf_director.specs.Loading.{HaveImages, SlotLoad, fixture_on, load_of, loads, numbered, progress_on, slot_of}
 use Rattle.kdf_director.specs.Fields.{AreApart, AreLoads, IsBelow, IsLoad, has, numbers_in}
 use Rattle.kdf_processor.specs.State.{Slot}
-use Rattle.kdf_director.specs.Flights.{device_count}
 use Rattle.kdf_director.specs.Parts.{owns}
 use Rattle.kdf_director.specs.Slots as director
 use Rattle.kdf_director.specs.Slots.{HaveOwnDevices}
@@ -161,10 +160,6 @@ are_loads jobs images slots have =
     }
 
 -- what is loaded are slots
-flight_places : device_count ≡ 16
-unfolding device_count
-flight_places = refl
-
 none_at : (l : SlotLoad) (d : ℕ) → has l d ≡ false → get_or (slot_of l).fixtures d None ≡ None
 none_at l d not =
     ⊎_elim
@@ -183,8 +178,8 @@ is_slot : (l : SlotLoad) → IsLoad l → director.IsSlot (slot_of l)
 is_slot l is =
     record {
       fits = is.fits;
-      fixtures = length-numbers (λ d. fixture_on (numbered l.devices d)) ∙ limit_is ∙ sym flight_places;
-      devices = length-numbers (λ d. progress_on (numbered l.devices d)) ∙ limit_is ∙ sym flight_places;
+      fixtures = length-numbers (λ d. fixture_on (numbered l.devices d));
+      devices = length-numbers (λ d. progress_on (numbered l.devices d));
     }
 
 abbrev pub no_load : SlotLoad

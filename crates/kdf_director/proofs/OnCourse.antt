@@ -17,7 +17,8 @@ use Rattle.kdf_journal.specs.declared.entry.Entry.{Entry}
 use Rattle.kdf_journal.specs.Counts.{ran, answers, pending as pending_in, moved_if}
 use Rattle.kdf_journal.specs.Steps.{Step, Obeys, Holds, Waits, Moves, Ends, Sets, added, journal_of, steps}
 use Rattle.kdf_journal.proofs.Added.{ran_by, ran-added, answer_in_note, answers_by, pending_by, pending-added, moved_by}
-use Rattle.kdf_director.specs.Flights.{Flight, beginning, device_count, flights_after, mine_of, move_count, with_flight}
+use Rattle.kdf_director.specs.ByNumber.{device_count}
+use Rattle.kdf_director.specs.Flights.{Flight, beginning, flights_after, mine_of, move_count, with_flight}
 use Rattle.kdf_director.specs.Flying.{AreFlying}
 use Rattle.kdf_director.specs.Legal.{note_of, note_of_outcome, Meets, EachMeets, IsLegal}
 use Rattle.kdf_director.specs.Seen.{begun_row, pending, seen}

@@ -12,7 +12,8 @@ use Rattle.kdf_processor.specs.Needs.{group_of, effect_needs}
 use Rattle.kdf_processor.specs.Row.{perform}
 use Rattle.kdf_processor.specs.State.{State, word_at, device_at, new_progress}
 use Rattle.kdf_processor.proofs.FrameLemmas.{perform_agree, perform_leaves}
-use Rattle.kdf_director.specs.Flights.{Flight, touches, device_count}
+use Rattle.kdf_director.specs.ByNumber.{device_count}
+use Rattle.kdf_director.specs.Flights.{Flight, touches}
 use Rattle.kdf_director.specs.Seen.{covers, word_before, seen_word, seen_device, seen, touched_below, pending}
 use Rattle.kdf_director.proofs.Completed.{arrivals_outside}
 

@@ -7,6 +7,7 @@ use Rattle.std.proofs.lemmas.List.FromFn.{get_or-map-range_with_len}
 use Rattle.kdf_lockout.specs.Groups.{Cells, Lent, group_at, is_out, word_here}
 use Rattle.kdf_journal.specs.declared.kind.Kind.{Kind}
 use Rattle.kdf_transfer.specs.Devices.{Fixture}
+use Rattle.kdf_director.specs.True.{one_if}
 use Rattle.kdf_director.specs.Physical.{own_words}
 use Rattle.kdf_director.specs.ByNumber.{device_count}
 use Rattle.kdf_journal.specs.declared.kind.Kind.TheVariants.{Tr, Tp, Cr, Lp, Mt}
@@ -15,7 +16,6 @@ use Rattle.kdf_processor.specs.State.{new_progress, word_in, device_in, fixture_
 use Rattle.kdf_processor.specs.Claims.{kind_at, is_kind, claim, is_claimed}
 use Rattle.kdf_director.specs.declared.place.Place.{Place}
 use Rattle.kdf_director.specs.declared.place.Place.TheVariants.{Absent}
-use Rattle.kdf_director.specs.Shared.{one_if}
 use Rattle.kdf_director.specs.Spots.{spot_at, spot_of, no_spot, leases_of, spot_kind, kind_in, is_wanted}
 use Rattle.kdf_director.specs.declared.place.Wanted.{Wanted}
 use Rattle.kdf_director.specs.declared.place.Wanted.TheVariants.{Kinded, Labelled}

@@ -15,7 +15,8 @@ use Rattle.kdf_processor.specs.State.{Claims, State, fixture_at}
 use Rattle.kdf_processor.specs.View.{groups_of, order_groups}
 use Rattle.kdf_processor.proofs.AreaLemmas.{area_apart}
 use Rattle.kdf_processor.proofs.FrameLemmas.{perform_leaves}
-use Rattle.kdf_director.specs.Flights.{Flight, beginning, device_count, flights_after, touches, with_flight}
+use Rattle.kdf_director.specs.ByNumber.{device_count}
+use Rattle.kdf_director.specs.Flights.{Flight, beginning, flights_after, touches, with_flight}
 use Rattle.kdf_director.specs.Flying.{InFlight, IfFlight, AreFlying}
 use Rattle.kdf_director.specs.Seen.{pending, touched_below}
 use Rattle.kdf_director.proofs.Beginning.{with_flight_is, with_flight_other, parts_apart}

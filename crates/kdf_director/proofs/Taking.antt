@@ -18,6 +18,7 @@ use Rattle.kdf_processor.specs.Needs.{next_effect}
 use Rattle.kdf_processor.specs.Outcome.{Outcome, held_or}
 use Rattle.kdf_processor.specs.Row.{done_by, next_of}
 use Rattle.kdf_processor.specs.State.{Slot, State}
+use Rattle.kdf_director.specs.Seen.{tried}
 use Rattle.kdf_director.specs.declared.machine.Progress.{Progress}
 use Rattle.kdf_director.specs.declared.machine.Progress.TheVariants as progress
 use Rattle.kdf_director.specs.declared.note.Note.{Note as Noted}
@@ -27,7 +28,7 @@ use Rattle.kdf_director.specs.Following.{AreFollowing, IsFollowing, asked_at}
 use Rattle.kdf_director.specs.Legal.{Meets, note_of}
 use Rattle.kdf_director.specs.Next.{any_live, next}
 use Rattle.kdf_director.specs.Parts.{Part, Reach, Seat, Shared, asked_after}
-use Rattle.kdf_director.specs.Running.{no_seat, answers_at, hold_of, outcome_at, own_state, part_at, seat_at, tried, IsRunning}
+use Rattle.kdf_director.specs.Running.{no_seat, answers_at, hold_of, outcome_at, own_state, part_at, seat_at, IsRunning}
 use Rattle.kdf_director.specs.Shared.{after_act}
 use Rattle.kdf_director.specs.Shown.{Shown, state_at, world_of}
 use Rattle.kdf_director.specs.Viewed.{states_in}

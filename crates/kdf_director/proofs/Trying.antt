@@ -4,6 +4,7 @@ use Rattle.std.proofs.lemmas.Bool.{cases_Bool}
 use Rattle.kdf_lockout.specs.Groups.{is_out}
 use Rattle.kdf_transfer.specs.declared.order.TransferOrder.{TransferOrder}
 use Rattle.kdf_transfer.specs.AtOnce.{kind_of, has_area}
+use Rattle.kdf_director.specs.Seen.{begun}
 use Rattle.kdf_director.specs.ByNumber.{device_count}
 use Rattle.kdf_processor.specs.declared.step.Need.TheVariants.{Group}
 use Rattle.kdf_processor.specs.declared.registers.Registers.{Registers}
@@ -13,7 +14,7 @@ use Rattle.kdf_processor.specs.Outcome.{done}
 use Rattle.kdf_processor.specs.View.{first_pending}
 use Rattle.kdf_director.proofs.Lawful.{IsLawful}
 use Rattle.kdf_director.specs.Spots.{spot_at}
-use Rattle.kdf_director.specs.Parts.{Part, Shared, has_device, own_stock, own_claims, part_after, asked_after, begun}
+use Rattle.kdf_director.specs.Parts.{Part, Shared, has_device, own_stock, own_claims, part_after, asked_after}
 use Rattle.kdf_director.specs.Shared.{view, is_out_of, after_act, IsFreeArea}
 use Rattle.kdf_director.specs.Sound.{IsSound}
 use Rattle.kdf_director.proofs.Acting.{writes_own, writes_other, starts_own}

@@ -6,11 +6,12 @@ use Rattle.kdf_processor.specs.declared.step.Need.{Need}
 use Rattle.kdf_processor.specs.declared.step.Step.{Step}
 use Rattle.kdf_processor.specs.State.{word_at}
 use Rattle.kdf_processor.specs.Outcome.{Outcome}
+use Rattle.kdf_director.specs.Seen.{tried}
 use Rattle.kdf_director.specs.declared.note.Note.{Note}
 use Rattle.kdf_director.specs.Notes.{note_of}
 use Rattle.kdf_director.specs.Parts.{Seat, Reach, Shared, asked_after}
 use Rattle.kdf_director.specs.Physical.{word_at_place}
-use Rattle.kdf_director.specs.Running.{no_seat, seat_at, reach_at, part_at, own_state, hold_of, outcome_at, tried, IsRunning}
+use Rattle.kdf_director.specs.Running.{no_seat, seat_at, reach_at, part_at, own_state, hold_of, outcome_at, IsRunning}
 use Rattle.kdf_director.specs.Shared.{after_act}
 use Rattle.kdf_director.specs.Spots.{leases_of}
 use Rattle.kdf_director.specs.Turned.{outcome_over, seat_after, HasRun, HasTurned}

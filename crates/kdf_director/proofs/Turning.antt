@@ -9,9 +9,10 @@ use Rattle.kdf_processor.specs.Effect.{Effect, Act, Nothing, Writes, Starts, Ask
 use Rattle.kdf_processor.specs.Needs.{fetch_needs, effect_needs, next_effect}
 use Rattle.kdf_processor.specs.Outcome.{Outcome, done, held_or, outcome}
 use Rattle.kdf_processor.specs.View.{first_pending}
-use Rattle.kdf_director.specs.Parts.{Part, Seat, Reach, Shared, part_in, part_after, asked_after, own_stock, begun}
+use Rattle.kdf_director.specs.Seen.{begun, tried}
+use Rattle.kdf_director.specs.Parts.{Part, Seat, Reach, Shared, part_in, part_after, asked_after, own_stock}
 use Rattle.kdf_director.specs.Shared.{view, after_act}
-use Rattle.kdf_director.specs.Running.{no_seat, seat_at, reach_at, part_at, own_state, hold_of, outcome_at, tried, IsRunning}
+use Rattle.kdf_director.specs.Running.{no_seat, seat_at, reach_at, part_at, own_state, hold_of, outcome_at, IsRunning}
 use Rattle.kdf_director.specs.Sound.{IsSound}
 use Rattle.kdf_director.specs.Spots.{own_from}
 use Rattle.kdf_director.specs.Turned.{seat_after}

@@ -1,5 +1,5 @@
 -- Programs with transfers in flight, worked out by computation.
-use Rattle.std.proofs.Common.{◌≡◌, [], ◌∷◌, false, refl}
+use Rattle.std.proofs.Common.{◌≡◌, ◌∙◌, [], ◌∷◌, ap, false, refl, sym}
 use Rattle.std.specs.Prelude.{replicate}
 use Rattle.kdf_word.specs.Characters.{first_word, words_of}
 use Rattle.kdf_decode.specs.Decoding.{decoded}
@@ -9,6 +9,7 @@ use Rattle.kdf_arith.specs.Shifts.{shift_row}
 use Rattle.kdf_journal.specs.declared.entry.Entry.TheVariants.{Ran, Start, Answer, Fail, Ended, Lov, Busy, Idle}
 use Rattle.kdf_journal.specs.declared.entry.Entry.TheVariants as entry
 use Rattle.kdf_journal.specs.declared.failure.Failure.TheVariants.{Liv}
+use Rattle.kdf_journal.specs.Steps.{steps}
 use Rattle.kdf_schedule.specs.declared.event.Event.TheVariants.{Orders, Move, End, Clock}
 use Rattle.kdf_schedule.specs.Calls.{calls_made}
 use Rattle.kdf_media.specs.Media.{after_card, after_read, printed}
@@ -17,15 +18,37 @@ use Rattle.kdf_transfer.specs.Examples.{having, placed}
 use Rattle.kdf_processor.specs.Claims.{free_kind, free_label}
 use Rattle.kdf_processor.specs.State.{unclaimed}
 use Rattle.kdf_processor.specs.Table.{brought, changed, copied, decision, direct_effect, exit_row, from_top, guarded, indirect_effect, out_effect, plain_row, query_effect, single_row, transfer_of}
-use Rattle.kdf_director.specs.Flights.{device_count}
+use Rattle.kdf_director.specs.ByNumber.{device_count}
+use Rattle.kdf_director.specs.Cut.{cut}
 use Rattle.kdf_director.specs.Next.{any_live, can_go, lives, next}
 use Rattle.kdf_director.specs.Told.{flights_of, mine_after, own}
-use Rattle.kdf_director.specs.Worked.{asks, device_seen, journal_under, keeps, looks, loops, overruns, prints, punches, reads, words_seen}
+use Rattle.kdf_director.specs.Worked.{asks, device_seen, journal_under, keeps, looks, loops, overruns, prints, punches, reads, reads_journal, words_seen}
 use Rattle.kdf_director.specs.World.{first_need}
 
 pub tape_journal : journal_under (reads ∷ []) (Orders 12 ∷ End 3 ∷ Orders 5 ∷ []) ≡ Ran 0 8 ∷ Start 0 3 8 ∷ Lov 0 1 ∷ Idle 3 ∷ entry.End 3 ∷ Ran 0 3 ∷ Ended 0 ∷ []
 unfolding own flights_of mine_after lives can_go next any_live first_need calls_made device_count unclaimed free_kind free_label decoded arith arith_row shift_row plain_row out_effect brought from_top changed single_row copied indirect_effect direct_effect decision exit_row transfer_of query_effect guarded given offered finished after_read first_word words_of printed after_card
 tape_journal = refl
+
+-- what it is cut to
+pub cut_idle : cut 10 reads_journal ≡ Ran 0 8 ∷ Start 0 3 8 ∷ Lov 0 1 ∷ Idle 1 ∷ []
+unfolding steps
+cut_idle = ap (cut 10) tape_journal
+
+pub cut_before : cut 7 reads_journal ≡ Ran 0 7 ∷ []
+unfolding steps
+cut_before = ap (cut 7) tape_journal
+
+pub cut_note : cut 8 reads_journal ≡ Ran 0 8 ∷ Start 0 3 8 ∷ []
+unfolding steps
+cut_note = ap (cut 8) tape_journal
+
+pub cut_orders : cut 15 reads_journal ≡ Ran 0 8 ∷ Start 0 3 8 ∷ Lov 0 1 ∷ Idle 3 ∷ entry.End 3 ∷ Ran 0 2 ∷ []
+unfolding steps
+cut_orders = ap (cut 15) tape_journal
+
+pub cut_all : cut 18 reads_journal ≡ reads_journal
+unfolding steps
+cut_all = ap (cut 18) tape_journal ∙ sym tape_journal
 
 pub tape_words : words_seen (reads ∷ []) (journal_under (reads ∷ []) (Orders 12 ∷ End 3 ∷ [])) ≡ 0o4142434445464750 ∷ 0o5152535455565760 ∷ []
 unfolding own flights_of mine_after lives can_go next any_live first_need calls_made device_count unclaimed free_kind free_label decoded arith arith_row shift_row plain_row out_effect brought from_top changed single_row copied indirect_effect direct_effect decision exit_row transfer_of query_effect guarded given offered finished after_read first_word words_of printed after_card

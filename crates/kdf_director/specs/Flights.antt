@@ -7,7 +7,8 @@ use Rattle.kdf_transfer.specs.declared.order.TransferOrder.{TransferOrder}
 use Rattle.kdf_processor.specs.Effect.{Effect, Starting}
 use Rattle.kdf_processor.specs.Needs.{group_of}
 use Rattle.kdf_processor.specs.Row.{transferred}
-use Rattle.kdf_processor.specs.State.{State, Stock, device_at, device_limit, fixture_at}
+use Rattle.kdf_processor.specs.State.{State, Stock, device_at, fixture_at}
+use Rattle.kdf_director.specs.ByNumber.{device_count}
 
 -- a transfer: its order and area, the lone state that the order met, and how many words it has moved
 pub record Flight : Type 0 where
@@ -50,10 +51,6 @@ abbrev pub touches : Option Flight → ℕ → Bool
 touches None g = false
 touches (Some f) g =
     has_area f.order && (nat_le (group_of f.first) g && nat_le g (group_of f.last))
-
--- devices have numbers below this; opaque, so that no goal has a case for each of them
-unfoldable pub device_count : ℕ
-device_count = device_limit
 
 -- the devices on which there is one, rising
 abbrev pub mine_of : (ℕ → Option Flight) → List ℕ

@@ -10,6 +10,7 @@ pub mod True
 pub mod Legal
 pub mod Course
 pub mod Follows
+pub mod Cut
 pub mod Worked
 pub mod Physical
 pub mod Spots

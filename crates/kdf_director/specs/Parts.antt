@@ -10,7 +10,7 @@ use Rattle.kdf_transfer.specs.declared.device.Device.{Device}
 use Rattle.kdf_processor.specs.declared.registers.Registers.{Registers}
 use Rattle.kdf_processor.specs.declared.spooled.Spooled.{Spooled}
 use Rattle.kdf_processor.specs.Effect.{Act, Nothing, Writes, Starts, Asks, Acquires, Releases, Spools}
-use Rattle.kdf_processor.specs.Row.{area_words, at_once}
+use Rattle.kdf_processor.specs.Row.{area_words}
 use Rattle.kdf_processor.specs.State.{Claims, Stock, new_progress}
 use Rattle.kdf_director.specs.declared.place.Place.{Place}
 use Rattle.kdf_director.specs.declared.program.Program.{Program}
@@ -138,13 +138,3 @@ asked_after asked (Asks question answer) = asked + 1
 asked_after asked (Acquires d) = asked
 asked_after asked (Releases d) = asked
 asked_after asked (Spools stream first last) = asked
-
--- an acting call, done to what a program has: a transfer only begins
-abbrev pub begun : Act → Stock → Stock
-begun Nothing k = k
-begun (Writes a w) k = at_once (Writes a w) k
-begun (Starts d o first last) k = k
-begun (Asks question answer) k = at_once (Asks question answer) k
-begun (Acquires d) k = at_once (Acquires d) k
-begun (Releases d) k = at_once (Releases d) k
-begun (Spools stream first last) k = at_once (Spools stream first last) k

@@ -12,7 +12,7 @@ use Rattle.kdf_processor.specs.State.{State, new_registers}
 use Rattle.kdf_processor.specs.View.{first_pending}
 use Rattle.kdf_director.specs.declared.program.Program.{Program}
 use Rattle.kdf_director.specs.declared.slot.Loaded.{Loaded}
-use Rattle.kdf_director.specs.Parts.{Part, Shared, Seat, Reach, seat_of, reach_of, part_in, has_device, own_stock, begun}
+use Rattle.kdf_director.specs.Parts.{Part, Shared, Seat, Reach, seat_of, reach_of, part_in, has_device, own_stock}
 use Rattle.kdf_director.specs.Shared.{answer_in, view, flight_moves}
 use Rattle.kdf_director.specs.Sound.{IsSound, IsFlightOf}
 use Rattle.kdf_director.specs.Spots.{Held, Spot, spot_at, own_from}
@@ -59,10 +59,6 @@ unfoldable pub outcome_at : List Reach → List Seat → Shared → ℕ → ℕ 
 outcome_at reaches seats s time asked i =
     held_or (seat_at seats i).registers (hold_of reaches seats s i)
     (next_of (own_state reaches seats s asked i) (answers_at reaches seats time s i))
-
--- a state behind an outcome: a transfer only begins
-abbrev pub tried : Outcome → State → State
-tried o s = record { registers = o.registers; stock = begun o.act s.stock }
 
 -- a transfer is of one of the programs
 pub record IsHeld (reaches : List Reach) (seats : List Seat) (d : ℕ) (x : Spot) (h : Held) : Type 0 where

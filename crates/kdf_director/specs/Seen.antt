@@ -10,7 +10,8 @@ use Rattle.kdf_processor.specs.Needs.{next_effect}
 use Rattle.kdf_processor.specs.Outcome.{Outcome}
 use Rattle.kdf_processor.specs.Row.{at_once, done_by}
 use Rattle.kdf_processor.specs.State.{State, Stock, word_at, device_at}
-use Rattle.kdf_director.specs.Flights.{Flight, unmoved, touches, device_count}
+use Rattle.kdf_director.specs.ByNumber.{device_count}
+use Rattle.kdf_director.specs.Flights.{Flight, unmoved, touches}
 
 -- the transfer on d has still to move a word to this address
 abbrev pub covers : ℕ → Option Flight → ℕ → Bool
@@ -64,12 +65,12 @@ begun (Starts d o first last) k = k
 begun act k = at_once act k
 
 -- an outcome on a state
-abbrev pub entered : Outcome → State → State
-entered o s = record { registers = o.registers; stock = begun o.act s.stock }
+abbrev pub tried : Outcome → State → State
+tried o s = record { registers = o.registers; stock = begun o.act s.stock }
 
 -- an effect
 abbrev pub begun_by : (Question → ℕ) → Effect → State → State
-begun_by answer e s = entered (done_by answer e s) s
+begun_by answer e s = tried (done_by answer e s) s
 
 -- the next order
 abbrev pub begun_row : State → (Question → ℕ) → State

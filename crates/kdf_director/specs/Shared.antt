@@ -7,6 +7,7 @@ use Rattle.kdf_transfer.specs.AtOnce.{is_input, has_area, addressed}
 use Rattle.kdf_transfer.specs.InFlight.{Motion, moved_by, words_of, total_of, ended_progress}
 use Rattle.kdf_processor.specs.Effect.{Question, IsBusy, IsOut, Time, Act, Nothing, Writes, Starts, Asks, Acquires, Releases, Spools}
 use Rattle.kdf_processor.specs.View.{View, by_itself, groups_of}
+use Rattle.kdf_director.specs.True.{one_if}
 use Rattle.kdf_director.specs.Spots.{Held, Spot, spot_at, own_from, fixture_or}
 use Rattle.kdf_director.specs.Parts.{Shared, Part, own_stock}
 
@@ -17,9 +18,6 @@ is_out_of q s g = is_out s.cells (q.base / 32 + g)
 -- a device has a transfer
 abbrev pub is_busy_in : Shared → ℕ → Bool
 is_busy_in s d = is_some (spot_at s.spots d).flight
-
-abbrev pub one_if : Bool → ℕ
-one_if b = if b then 1 else 0
 
 -- what the machine answers at a time
 abbrev pub answer_in : Part → ℕ → Shared → Question → ℕ

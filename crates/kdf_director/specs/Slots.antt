@@ -3,7 +3,7 @@ use Rattle.std.specs.Prelude.{◌≡◌, ◌≢◌, ℕ, ◌≤◌, ◌==◌, �
 use Rattle.std.specs.List.{All, AllPairs}
 use Rattle.kdf_transfer.specs.Devices.{Fixture}
 use Rattle.kdf_processor.specs.State.{Slot, State, begin}
-use Rattle.kdf_director.specs.Flights.{device_count}
+use Rattle.kdf_director.specs.ByNumber.{device_count}
 
 -- a slot without words and devices
 abbrev pub no_slot : Slot

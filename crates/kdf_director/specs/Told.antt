@@ -10,7 +10,8 @@ use Rattle.kdf_processor.specs.Effect.{Effect, Starting}
 use Rattle.kdf_processor.specs.Lone.{lone}
 use Rattle.kdf_processor.specs.Needs.{next_effect}
 use Rattle.kdf_processor.specs.State.{Slot, State}
-use Rattle.kdf_director.specs.Flights.{Flight, beginning, device_count, move_count, moved_to}
+use Rattle.kdf_director.specs.ByNumber.{device_count}
+use Rattle.kdf_director.specs.Flights.{Flight, beginning, move_count, moved_to}
 use Rattle.kdf_director.specs.Seen.{seen, touched_below}
 use Rattle.kdf_director.specs.Slots.{start}
 use Rattle.kdf_director.specs.World.{World}

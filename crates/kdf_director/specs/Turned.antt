@@ -2,10 +2,11 @@
 use Rattle.std.specs.Prelude.{◌≡◌, ◌≢◌, ◌<◌, ℕ, List, length}
 use Rattle.kdf_processor.specs.declared.step.Step.{Step}
 use Rattle.kdf_processor.specs.Outcome.{Outcome, outcome}
+use Rattle.kdf_director.specs.Seen.{tried}
 use Rattle.kdf_director.specs.declared.note.Note.{Note}
 use Rattle.kdf_director.specs.Notes.{note_of}
 use Rattle.kdf_director.specs.Parts.{Part, Seat, Reach, Shared, part_in, part_after, asked_after}
-use Rattle.kdf_director.specs.Running.{seat_at, part_at, own_state, outcome_at, tried}
+use Rattle.kdf_director.specs.Running.{seat_at, part_at, own_state, outcome_at}
 use Rattle.kdf_director.specs.Shared.{view, after_act}
 
 -- what the next order of a program comes to

@@ -5,12 +5,13 @@ use Rattle.kdf_journal.specs.declared.entry.Entry.{Entry}
 use Rattle.kdf_journal.specs.declared.kind.Kind.TheVariants.{Lp, Tp}
 use Rattle.kdf_journal.specs.Steps.{journal_of}
 use Rattle.kdf_schedule.specs.declared.event.Event.{Event}
+use Rattle.kdf_schedule.specs.declared.event.Event.TheVariants.{Orders, End}
 use Rattle.kdf_schedule.specs.Calls.{calls_made}
 use Rattle.kdf_transfer.specs.Devices.{Fixture, Progress}
 use Rattle.kdf_transfer.specs.Examples.{paper, writer}
 use Rattle.kdf_processor.specs.State.{Slot, device_at, new_progress, word_at}
+use Rattle.kdf_director.specs.ByNumber.{device_count}
 use Rattle.kdf_director.specs.Course.{course}
-use Rattle.kdf_director.specs.Flights.{device_count}
 use Rattle.kdf_director.specs.Told.{seen_of}
 
 -- the journal of slots under a schedule
@@ -93,6 +94,10 @@ prints =
 -- 1; J1;
 abbrev pub loops : Slot
 loops = slot_with 1 32 (0xa00001010101 ∷ 0xa00001010101 ∷ []) no_devices
+
+-- the journal of the first of these under ORDERS 12, END 3 and ORDERS 5
+abbrev pub reads_journal : List Entry
+reads_journal = journal_under (reads ∷ []) (Orders 12 ∷ End 3 ∷ Orders 5 ∷ [])
 
 -- what is seen of program 0 after a journal: words 32 and 33, and how far a device has come
 abbrev pub words_seen : List Slot → List Entry → List ℕ

@@ -1,12 +1,12 @@
 //! Laws of journals of programs whose transfers take their time, each the contract of a function that does nothing. In
 //! each of them `slots` are those that are loaded, and `J` is a journal.
-ghost use Rattle.std.specs.Prelude.{◌≡◌, ◌≢◌, ℕ, ◌-◌, ◌≤◌, List, [], ◌∷◌, Some, None, false, is_some, min, not, slice_set, take};
+ghost use Rattle.std.specs.Prelude.{◌≡◌, ◌≢◌, ℕ, ◌-◌, ◌≤◌, List, [], ◌∷◌, ◌++◌, Some, None, false, is_some, length, min, not, slice_set, take};
 ghost use Rattle.kdf_journal.specs.declared.entry.Entry.{Entry};
 ghost use Rattle.kdf_journal.specs.Counts.{Hold, answers, moved, over, pending, ran};
 ghost use Rattle.kdf_journal.specs.Steps.{Note, Step, Obeys, Holds, Waits, Moves, Ends, Sets};
 ghost use Rattle.kdf_journal.specs.Steps.{added, journal_of};
 ghost use Rattle.kdf_schedule.specs.declared.event.Event.{Event};
-ghost use Rattle.kdf_schedule.specs.Calls.{Call};
+ghost use Rattle.kdf_schedule.specs.Calls.{Call, calls_made};
 ghost use Rattle.kdf_transfer.specs.AtOnce.{written};
 ghost use Rattle.kdf_processor.specs.Effect.{Question};
 ghost use Rattle.kdf_processor.specs.Lone.{is_live};
@@ -14,10 +14,11 @@ ghost use Rattle.kdf_processor.specs.Needs.{next_effect};
 ghost use Rattle.kdf_processor.specs.Row.{row};
 ghost use Rattle.kdf_processor.specs.State.{Slot, device_in};
 ghost use Rattle.kdf_director.specs.Course.{lone_step_at, step_at};
+ghost use Rattle.kdf_director.specs.Cut.{cut};
 ghost use Rattle.kdf_director.specs.Flights.{Flight, completed, flights_after, mine_of, move_count};
 ghost use Rattle.kdf_director.specs.Flights.{unmoved, with_flight};
 ghost use Rattle.kdf_director.specs.Flying.{AreFlying};
-ghost use Rattle.kdf_director.specs.Follows.{IsJournal, IsRising};
+ghost use Rattle.kdf_director.specs.Follows.{IsJournal, IsRising, IsWhole};
 ghost use Rattle.kdf_director.specs.Legal.{note_of, IsLegal, Meets};
 ghost use Rattle.kdf_director.specs.Next.{next};
 ghost use Rattle.kdf_director.specs.Seen.{begun_row, with_both, with_store};
@@ -37,6 +38,20 @@ pub fn one_journal()
 pub fn a_journal()
     ensures { (slots : List Slot) (events : List Event) → IsRising 0 events
         → (J : List Entry) × IsJournal slots events J }
+{}
+
+/// A schedule may be cut anywhere, also in the middle of an event of orders: of the journal of the slots, what answers the
+/// calls before the cut is their journal under those calls.
+pub fn cut()
+    ensures legal { (slots : List Slot) (events : List Event) (before behind : List Call) (J : List Entry)
+        → IsJournal slots events J → calls_made events ≡ before ++ behind →
+        IsLegal slots (cut (length before) J) }
+    ensures whole { (slots : List Slot) (events : List Event) (before behind : List Call) (J : List Entry)
+        → IsJournal slots events J → calls_made events ≡ before ++ behind →
+        IsWhole slots before (cut (length before) J) }
+    ensures journal { (slots : List Slot) (events earlier : List Event) (behind : List Call) (J : List Entry)
+        → IsJournal slots events J → calls_made events ≡ calls_made earlier ++ behind →
+        IsJournal slots earlier (cut (length (calls_made earlier)) J) }
 {}
 
 /// A journal without entries is legal, and each program is then at its start, with no transfer. A legal journal stays

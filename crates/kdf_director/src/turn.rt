@@ -1,6 +1,6 @@
 //! The port of one program of the machine for one order: a window of the store, and the devices of its slot.
 ghost use Rattle.std.specs.Prelude.{◌≡◌, ◌+◌, ◌*◌, ◌%◌, ◌<◌, ◌≤◌, length};
-ghost use Rattle.kdf_director.specs.Shared.{one_if};
+ghost use Rattle.kdf_director.specs.True.{one_if};
 ghost use Rattle.kdf_director.specs.Spots.{AreDry};
 
 use crate::devices::{is_free, kind_claimed};

@@ -6,9 +6,10 @@ ghost use Rattle.kdf_journal.specs.declared.entry.Entry.TheVariants as entry;
 ghost use Rattle.kdf_journal.specs.declared.failure.Failure.TheVariants.{Liv};
 ghost use Rattle.kdf_schedule.specs.declared.event.Event.TheVariants.{Orders, Move, End, Clock};
 ghost use Rattle.kdf_transfer.specs.Examples.{having, placed};
+ghost use Rattle.kdf_director.specs.Cut.{cut};
 ghost use Rattle.kdf_director.specs.Slots.{AreSlots};
 ghost use Rattle.kdf_director.specs.Worked.{asks, device_seen, journal_under, keeps, looks, loops, overruns};
-ghost use Rattle.kdf_director.specs.Worked.{prints, punches, reads, words_seen};
+ghost use Rattle.kdf_director.specs.Worked.{prints, punches, reads, reads_journal, words_seen};
 
 /// A program reads a paper tape to its store and is held up by the group of the area until the transfer ends.
 pub fn reads_tape()
@@ -18,6 +19,17 @@ pub fn reads_tape()
         ≡ 0o4142434445464750 ∷ 0o5152535455565760 ∷ [] }
     ensures device { device_seen (reads ∷ []) (journal_under (reads ∷ []) (Orders 12 ∷ End 3 ∷ [])) 3
         ≡ placed 16 false }
+{}
+
+/// Its journal, cut behind so many calls: an entry of orders or of idle calls has those before the cut, and a note stays with
+/// its order.
+pub fn is_cut()
+    ensures idle { cut 10 reads_journal ≡ Ran 0 8 ∷ Start 0 3 8 ∷ Lov 0 1 ∷ Idle 1 ∷ [] }
+    ensures before { cut 7 reads_journal ≡ Ran 0 7 ∷ [] }
+    ensures note { cut 8 reads_journal ≡ Ran 0 8 ∷ Start 0 3 8 ∷ [] }
+    ensures orders { cut 15 reads_journal
+        ≡ Ran 0 8 ∷ Start 0 3 8 ∷ Lov 0 1 ∷ Idle 3 ∷ entry.End 3 ∷ Ran 0 2 ∷ [] }
+    ensures all { cut 18 reads_journal ≡ reads_journal }
 {}
 
 /// While the transfer is in flight, the words that were called for are seen, and nothing of the device.

@@ -8,3 +8,7 @@ pub mod Begins
 pub mod Told
 pub mod Finished
 pub mod Passing
+pub mod MadeTexts
+pub mod MadeLengths
+pub mod StoreLines
+pub mod SlotReadings

@@ -1,5 +1,7 @@
 pub mod Limits
 pub mod Job
+pub mod Numbered
+pub mod Made
 pub mod Faults
 pub mod Media
 pub mod Adding
@@ -7,6 +9,7 @@ pub mod Lengths
 pub mod Forms
 pub mod Draft
 pub mod Reading
+pub mod SlotLines
 pub mod Shows
 pub mod WellFormed
 pub mod Kept

@@ -1,6 +1,6 @@
 //! Lines with what they tell, media, faults and a job, each computed from the definitions, as the contract of a
 //! function that does nothing.
-#![tactic(auto, unfolding(kdf_text::specs::Lines::lines, kdf_text::specs::Lines::words, kdf_text::specs::Numbers::value, kdf_text::specs::Text::text, kdf_schedule::specs::Events::event, kdf_code::specs::Code::code_of, kdf_word::specs::Characters::first_word, kdf_word::specs::Characters::words_of, crate::specs::Media::codes_in, crate::specs::Reading::read_line, crate::specs::Reading::job_fault, crate::specs::Reading::job))]
+#![tactic(auto, unfolding(kdf_text::specs::Lines::lines, kdf_text::specs::Lines::words, kdf_text::specs::Numbers::value, kdf_text::specs::Text::text, kdf_schedule::specs::Events::event, kdf_code::specs::Code::code_of, kdf_word::specs::Characters::first_word, kdf_word::specs::Characters::words_of, crate::specs::Media::codes_in, crate::specs::Made::after_steps, crate::specs::Made::letters_from, crate::specs::Reading::read_line, crate::specs::Reading::job_fault, crate::specs::Reading::job, crate::specs::SlotLines::slot_lines))]
 
 ghost use Rattle.std.specs.Prelude.{◌≡◌, ◌*◌, ◌^◌, [], ◌∷◌, ◌++◌, true, false, Some, None, Ok, Err, codes, replicate};
 ghost use Rattle.kdf_text.specs.Text.{text};
@@ -10,8 +10,10 @@ ghost use Rattle.kdf_job.specs.declared.fault.JobFault.TheVariants as fault;
 ghost use Rattle.kdf_job.specs.declared.place.Place.TheVariants as place;
 ghost use Rattle.kdf_job.specs.Draft.{event_fault, new_slot, show_fault, slot_fault, slot_of, store_fault};
 ghost use Rattle.kdf_job.specs.Forms.{ADeckLine, ADevice, AMedium, AShow, ASlot, AStore, AnEndDeck, AnEndJob, AnEvent, told_at};
+ghost use Rattle.kdf_job.specs.Made.{letter, reader_line, step};
 ghost use Rattle.kdf_job.specs.Media.{card_of, filled, fits, is_label, word_of_text};
 ghost use Rattle.kdf_job.specs.Reading.{job, job_fault};
+ghost use Rattle.kdf_job.specs.SlotLines.{slot_lines};
 
 /// What lines tell in their places.
 pub fn lines_tell()
@@ -109,4 +111,31 @@ pub fn jobs()
     ensures line_behind { job_fault (text (codes "KDF9 JOB 1" ∷ codes "SLOT 2" ∷ codes "STORE 32"
         ∷ codes "DECK" ∷ codes "ENDDECK" ∷ codes "SCHEDULE" ∷ codes "ENDJOB" ∷ [] ∷ []))
         ≡ Some (fault.BadLine, 8) }
+{}
+
+/// Numbers and the letters that come of them.
+pub fn made_letters()
+    ensures first { step 0 ≡ 13849 }
+    ensures next { step 13849 ≡ 48742 }
+    ensures letter { letter 0 0 ≡ 67 }
+    ensures line { reader_line 0 0 0 ≡ codes "+CIRPCFURSWAPFPNF" }
+    ensures next_line { reader_line 0 0 1 ≡ codes "+KQNAMPHPZMBIFXXF" }
+{}
+
+/// The lines of slots. Lines of a deck belong to it, whatever they read.
+pub fn lines_of_slots()
+    ensures first { slot_lines 0 (text (codes "KDF9 JOB 1" ∷ codes "SLOT 0" ∷ codes "STORE 32"
+        ∷ codes "DECK" ∷ codes "SLOT 3" ∷ codes "ENDDECK" ∷ codes "SLOT 3" ∷ codes "STORE 64"
+        ∷ codes "DECK" ∷ codes "SCHEDULE" ∷ codes "ENDDECK" ∷ codes "SHOW 0 1"
+        ∷ codes "SCHEDULE" ∷ codes "ENDJOB" ∷ []))
+        ≡ codes "SLOT 0" ∷ codes "STORE 32" ∷ codes "DECK" ∷ codes "SLOT 3" ∷ codes "ENDDECK" ∷ [] }
+    ensures second { slot_lines 3 (text (codes "KDF9 JOB 1" ∷ codes "SLOT 0" ∷ codes "STORE 32"
+        ∷ codes "DECK" ∷ codes "SLOT 3" ∷ codes "ENDDECK" ∷ codes "SLOT 3" ∷ codes "STORE 64"
+        ∷ codes "DECK" ∷ codes "SCHEDULE" ∷ codes "ENDDECK" ∷ codes "SHOW 0 1"
+        ∷ codes "SCHEDULE" ∷ codes "ENDJOB" ∷ []))
+        ≡ codes "SLOT 3" ∷ codes "STORE 64" ∷ codes "DECK" ∷ codes "SCHEDULE" ∷ codes "ENDDECK"
+        ∷ codes "SHOW 0 1" ∷ [] }
+    ensures absent { slot_lines 1 (text (codes "KDF9 JOB 1" ∷ codes "SLOT 0" ∷ codes "STORE 32"
+        ∷ codes "DECK" ∷ codes "SLOT 1" ∷ codes "ENDDECK" ∷ codes "SCHEDULE" ∷ codes "ENDJOB"
+        ∷ [])) ≡ [] }
 {}

@@ -1,4 +1,8 @@
 //! A job, as it was read.
+ghost use Rattle.std.specs.Prelude.{◌≡◌};
+ghost use Rattle.std.specs.Option.{option_copied};
+ghost use Rattle.kdf_job.specs.Numbered.{device_numbered};
+
 use kdf_schedule::Event;
 use kdf_transfer::Device;
 
@@ -27,4 +31,14 @@ pub struct SlotJob {
     pub devices: Vec<(u8, Device)>,
     /// The first and the last address of each run of words that the report shows.
     pub shows: Vec<(u16, u16)>,
+}
+
+impl SlotJob {
+    /// The device of this number, the first where several have it; None where none has it.
+    pub fn device(&self, d: u8) -> Option<&Device>
+        ensures { option_copied result ≡ device_numbered self.now.devices.items d }
+    {
+        let (_, device) = self.devices.iter().find(|device| device.0 == d)?;
+        Some(device)
+    }
 }

@@ -2,7 +2,9 @@
 ghost use Rattle.std.specs.Prelude.{◌≤◌, length};
 ghost use Rattle.kdf_job.specs.declared.job.TheConstants.{TEXT_LIMIT};
 
-use crate::{Job, JobError, JobFault, TEXT_LIMIT, read_job};
+use crate::{Job, JobError, JobFault, SlotJob, TEXT_LIMIT, read_job};
+use kdf_journal::Kind;
+use kdf_media::{Cards, Printer, Punch};
 use kdf_schedule::Event;
 use kdf_tape::TapeBlock;
 use kdf_transfer::Device;
@@ -386,6 +388,35 @@ fn a_job_is_read(rt: HostRuntime) -> Result<(), Fail> {
             }
         }
         Err(_) => assert!(rt; false, "it is right"),
+    }
+    Ok(())
+}
+
+#[test]
+fn devices_of_a_slot_have_numbers(rt: HostRuntime) -> Result<(), Fail> {
+    let cards = Device::Cr(Cards::new(Vec::new(rt.alloc())));
+    let punch = Device::Tp(Punch::new(rt.alloc()));
+    let printer = Device::Lp(Printer::new(rt.alloc()));
+    let slot = SlotJob {
+        p: 0,
+        size: 32,
+        deck: Vec::new(rt.alloc()),
+        devices: vec![in rt.alloc(); (5, cards), (3, punch), (5, printer)]?,
+        shows: Vec::new(rt.alloc()),
+    };
+    let cases = [
+        (0, None),
+        (3, Some(Kind::Tp)),
+        (4, None),
+        (5, Some(Kind::Cr)),
+        (15, None),
+    ];
+    for (d, kind) in cases {
+        assert_eq!(rt;
+            slot.device(d).map(|device| device.kind()),
+            kind,
+            "of number {d}"
+        );
     }
     Ok(())
 }

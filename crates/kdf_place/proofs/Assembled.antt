@@ -13,7 +13,7 @@ use Rattle.kdf_place.specs.declared.names.Meanings.{Meanings}
 use Rattle.kdf_place.specs.Layout.{front}
 use Rattle.kdf_place.specs.Names.{Names, names, openings, labels, constants}
 use Rattle.kdf_place.specs.Late.{twice, wrongs, late_faults}
-use Rattle.kdf_place.specs.Placement.{Picture, label_of, start_of, words, picture_of, sized, verdict, placed}
+use Rattle.kdf_place.specs.Placement.{Picture, shown_image, label_of, start_of, words, picture_of, sized, verdict, placed}
 use Rattle.kdf_place.specs.Tables.{meaning}
 use Rattle.kdf_place.proofs.Lengths.{words-length}
 
@@ -49,7 +49,7 @@ has-room m ss y size e ye le = rw (← total m ss e, ← ye) le
 
 same-picture : (ss ss' : List Statement) (meant : Names) (refs : List Label) (image : Image) → ss' ≡ ss → meant ≡ names ss → refs ≡ map label_of (labels front ss)
     → image.words.items ≡ words meant ss' → image.start ≡ start_of meant → image.labels.items ≡ refs
-    → picture_of ss ≡ record { words = image.words.items; start = image.start; labels = image.labels.items }
+    → picture_of ss ≡ shown_image image
 same-picture ss ss' meant refs image s m l w f r =
     let made : List ℕ → ℕ → List Label → Picture = λ a b c. record { words = a; start = b; labels = c } in
     sym (ap (λ a. made a image.start image.labels.items) (w ∙ ap (λ ns. words ns ss') m ∙ ap (λ x. words (names ss) x) s)
@@ -59,7 +59,7 @@ same-picture ss ss' meant refs image s m l w f r =
 pub with-room : (m : Meanings) (ss ss' : List Statement) (refs : List Label) (image : Image) (y len size : ℕ) → ss' ≡ ss → meaning m ≡ names ss → refs ≡ map label_of (labels front ss)
     → image.words.items ≡ words (meaning m) ss' → image.start ≡ start_of (meaning m) → image.labels.items ≡ refs
     → y ≡ sum m.groups → m.behind + y ≤ size
-    → (sized (picture_of ss) len size ≡ Ok (record { words = image.words.items; start = image.start; labels = image.labels.items })) × (length image.words.items ≤ size)
+    → (sized (picture_of ss) len size ≡ Ok (shown_image image)) × (length image.words.items ≤ size)
 with-room m ss ss' refs image y len size s e l w f r ye le =
     let room = has-room m ss y size e ye le in
     let same = same-picture ss ss' (meaning m) refs image s e l w f r in (

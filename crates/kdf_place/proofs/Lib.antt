@@ -5,6 +5,7 @@ mod Piecewise
 mod Assembled
 pub mod Lengths
 pub mod Packed
+mod Listed
 mod Settled
 mod Walks
 mod Syllables

@@ -4,6 +4,7 @@ pub mod Late
 pub mod Placement
 pub mod Assembled
 pub mod Stands
+pub mod Listing
 pub mod Keys
 pub mod Tables
 pub mod Pending

@@ -144,9 +144,16 @@ verdict (Some f) rest = Err f
 unfoldable pub placed : List Statement → ℕ → ℕ → Result Picture Found
 placed ss len size = verdict (least (late_faults ss)) (sized (picture_of ss) len size)
 
+-- what an image shows
+abbrev pub shown_image : Image → Picture
+shown_image image = record {
+  words = image.words.items;
+  start = image.start;
+  labels = image.labels.items;
+}
+
 -- what a function returned is this, unless memory ran out
 abbrev pub Gives : Result Image DeckError → Result Picture Found → Type 0
-Gives (Ok image) due =
-    due ≡ Ok (record { words = image.words.items; start = image.start; labels = image.labels.items })
+Gives (Ok image) due = due ≡ Ok (shown_image image)
 Gives (Err errors.Memory) due = Unit {0}
 Gives (Err (errors.Fault fault place)) due = due ≡ Err (found fault place)

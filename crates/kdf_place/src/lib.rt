@@ -6,7 +6,7 @@
 //! numbers (`table`) those that stand twice are found (`twice`), and of each the first meaning counts
 //! (`meanings`, `names`): parts, references, the stores of the groups. With these each statement is
 //! held against what it names (`late`), and where nothing is wrong, it is spelt into the image
-//! (`picture`, with `spell`, `words` and `constants`).
+//! (`picture`, with `spell`, `words` and `constants`). What came of it can be printed (`listings`).
 #![tactic(auto)]
 
 mod assembler;
@@ -17,6 +17,7 @@ mod here;
 mod image;
 mod late;
 pub mod laws;
+mod listings;
 mod meanings;
 mod names;
 mod picture;
@@ -29,3 +30,4 @@ mod words;
 
 pub use assembler::assemble;
 pub use image::{Image, Label};
+pub use listings::{listing, listing_absent};

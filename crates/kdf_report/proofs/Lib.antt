@@ -1,8 +1,12 @@
+pub mod FaultlessJobs
 pub mod Loaded
+pub mod LoadedJobs
 pub mod Numbers
 pub mod Sections
 pub mod SeenPrograms
+pub mod SummaryTexts
 pub mod Tried
+pub mod TwoWorlds
 pub mod WorkedPaperTape
 pub mod WorkedPunches
 pub mod WorkedCards

@@ -5,7 +5,7 @@ use Rattle.std.specs.Option.{option_map}
 use Rattle.std.specs.Prelude.{slice_index_or}
 use Rattle.std.proofs.lemmas.Bool.{cases_Bool}
 use Rattle.std.proofs.lemmas.List.FromFn.{get_or-map-range_with_len}
-use Rattle.kdf_transfer.specs.Devices.{Fixture, fixture_of}
+use Rattle.kdf_transfer.specs.Devices.{Fixture}
 use Rattle.kdf_transfer.specs.declared.device.Device.{Device}
 use Rattle.kdf_transfer.specs.declared.order.TransferOrder.{TransferOrder}
 use Rattle.kdf_processor.specs.Effect.{Question, Effect, Starting}
@@ -19,6 +19,7 @@ use Rattle.kdf_job.specs.Job.{JobDevice}
 use Rattle.kdf_job.specs.Shows.{shown_device, shown_slot}
 use Rattle.kdf_job.specs.WellFormed.{IsSlot}
 use Rattle.kdf_alone.specs.Loading.{fixture_numbered, slot_of}
+use Rattle.kdf_alone.specs.Places.{fixture_in}
 use Rattle.kdf_report.specs.Devices.{device_numbers, has_device}
 use Rattle.kdf_report.specs.MadeFrom.{IsProgramOf, own_numbers}
 
@@ -65,7 +66,7 @@ numbered_there [] d = refl
 numbered_there (x ∷ devices) d = go (x.0 == d) (numbered_there devices d)
   where
     go : (b : Bool) → is_some (fixture_numbered devices d) ≡ list_any (λ (x : JobDevice). x.d == d) (map shown_device devices)
-        → is_some (option_map (λ (y : ℕ × Device). fixture_of y.1) (cond b (Some x) (find (λ (y : ℕ × Device). y.0 == d) devices)))
+        → is_some (fixture_in (option_map (λ (y : ℕ × Device). y.1) (cond b (Some x) (find (λ (y : ℕ × Device). y.0 == d) devices))))
         ≡ (b || list_any (λ (x : JobDevice). x.d == d) (map shown_device devices))
     go true later = refl
     go false later = later

@@ -130,7 +130,7 @@ has_programs m slots images are have same shows k d lt =
 -- ---- the report of what is seen
 
 -- of a program that is there, the state is what is seen of it
-state_at-seen : (m : Shown) (p : ℕ) (P : State → Type 0) → ShowsSeen m → IsSomeAnd (state_of m p) P → state_at m p ≡ seen_of m.slots m.journal p
+pub state_at-seen : (m : Shown) (p : ℕ) (P : State → Type 0) → ShowsSeen m → IsSomeAnd (state_of m p) P → state_at m p ≡ seen_of m.slots m.journal p
 state_at-seen m p P shows there = go (slot_of m.slots p) refl (subst (λ o. IsSomeAnd o P) (state_of-seen m p shows) there)
   where
     go : (o : Option Slot) → slot_of m.slots p ≡ o → IsSomeAnd (option_map (λ (s : Slot). seen_of m.slots m.journal s.p) o) P → state_at m p ≡ seen_of m.slots m.journal p

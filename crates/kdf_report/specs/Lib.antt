@@ -1,5 +1,8 @@
 pub mod Devices
 pub mod Examples
+pub mod Loaded
 pub mod MadeFrom
+pub mod Summary
 pub mod Text
 pub mod Worked
+pub mod Worlds

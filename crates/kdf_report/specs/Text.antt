@@ -1,7 +1,8 @@
 -- The lines that are written of a program, of a journal and of a job, each without the byte that ends it.
 use Rattle.std.specs.Prelude.{ℕ, ◌+◌, ◌-◌, ◌/◌, ◌%◌, List, [], ◌∷◌, ◌++◌, map, length, ◌==◌, ◌&&◌, if◌then◌else◌, codes, decimal}
 use Rattle.std.specs.List.{flat_map, range_with_len}
-use Rattle.kdf_text.specs.Text.{text, octal}
+use Rattle.kdf_text.specs.Text.{text, octal, word_line as line_of_word}
+pub use Rattle.kdf_text.specs.Text.{end_line}
 use Rattle.kdf_qstore.specs.declared.triple.Triple.{Triple}
 use Rattle.kdf_qstore.specs.Triples.{triple_at}
 use Rattle.kdf_journal.specs.Failures.{name_of}
@@ -29,10 +30,14 @@ entry_line (Move d n) = codes "MOVE " ++ decimal d ++ codes " " ++ decimal n
 entry_line (End d) = codes "END " ++ decimal d
 entry_line (Clock t) = codes "CLOCK " ++ decimal t
 
+-- a life, as it is printed
+abbrev pub life_name : Life → List ℕ
+life_name life.Live = codes "LIVE"
+life_name life.Ended = codes "ENDED"
+life_name (life.Failed kind) = codes "FAILED " ++ name_of kind
+
 abbrev pub life_line : Life → List ℕ
-life_line life.Live = codes "STATE LIVE"
-life_line life.Ended = codes "STATE ENDED"
-life_line (life.Failed kind) = codes "STATE FAILED " ++ name_of kind
+life_line life = codes "STATE " ++ life_name life
 
 -- the nest, the top first, behind its number of words
 abbrev pub nest_line : List ℕ → List ℕ
@@ -68,7 +73,7 @@ registers_lines r =
 
 -- the word at an address
 abbrev pub word_line : State → ℕ → List ℕ
-word_line s a = codes "WORD " ++ decimal a ++ codes " " ++ octal (word_at s a)
+word_line s a = line_of_word a (word_at s a)
 
 -- the words from the first to the last address
 abbrev pub show_lines : State → ℕ × ℕ → List (List ℕ)
@@ -89,9 +94,6 @@ section slot s =
 
 abbrev pub alone_line : ℕ → List ℕ
 alone_line p = codes "KDF9 ALONE " ++ decimal p
-
-abbrev pub end_line : List ℕ
-end_line = codes "ENDREPORT"
 
 -- the text of a program that ran alone
 abbrev pub alone_text : SlotJob → State → List ℕ

@@ -5,10 +5,10 @@ ghost use Rattle.kdf_job.specs.Shows.{shown_slot};
 ghost use Rattle.kdf_report.specs.MadeFrom.{IsProgramOf};
 ghost use Rattle.kdf_report.specs.Text.{absent_text, alone_line, alone_text};
 
-use crate::end::write_end;
 use crate::write_section;
 use kdf_alone::Alone;
 use kdf_job::SlotJob;
+use kdf_text::write_end;
 use std::alloc::{AllocError, Global};
 use std::fmt::Write;
 

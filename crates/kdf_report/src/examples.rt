@@ -5,11 +5,13 @@ ghost use Rattle.std.specs.Prelude.{◌≡◌, [], ◌∷◌, ◌++◌, true, fa
 ghost use Rattle.kdf_journal.specs.declared.entry.Entry.TheVariants.{Ran, Start, Answer, Fail, Ended, Lov, Busy, Idle, Move, End, Clock};
 ghost use Rattle.kdf_journal.specs.declared.failure.Failure.TheVariants.{Claim, Nouv};
 ghost use Rattle.kdf_journal.specs.declared.kind.Kind.TheVariants.{Cr, Lp, Mt, Tp, Tr};
+ghost use Rattle.kdf_processor.specs.declared.registers.Life.TheVariants as life;
 ghost use Rattle.kdf_processor.specs.declared.registers.Life.TheVariants.{Failed};
 ghost use Rattle.kdf_processor.specs.State.{new_registers};
 ghost use Rattle.kdf_qstore.specs.Triples.{with_triple, zero_triples};
 ghost use Rattle.kdf_report.specs.Devices.{block_lines, described, device_line, device_lines, device_numbers};
 ghost use Rattle.kdf_report.specs.Examples.{a_program, a_slot, come, on_tape, two_blocks, wrote};
+ghost use Rattle.kdf_report.specs.Summary.{entries_line, job_line, make_line, punched, slot_line};
 ghost use Rattle.kdf_report.specs.Text.{entry_line, registers_lines, section, show_lines, spool_line};
 
 /// What a line says of a device: its number and kind, HELD or FREE, its place and its flag.
@@ -53,6 +55,18 @@ pub fn entries()
         ≡ codes "START 0 15 10" ∷ codes "LOV 0 2" ∷ codes "BUSY 1 6" ∷ codes "IDLE 20" ∷ [] }
     ensures events { map entry_line (Move 3 4096 ∷ End 3 ∷ Clock 50 ∷ [])
         ≡ codes "MOVE 3 4096" ∷ codes "END 3" ∷ codes "CLOCK 50" ∷ [] }
+{}
+
+/// The lines of a summary: its first ones, and that of a slot; only what was punched counts as blocks.
+pub fn summaries()
+    ensures front { make_line 0 ∷ job_line 39175 ∷ entries_line (Ran 0 49 ∷ Ended 0 ∷ []) ∷ []
+        ≡ codes "KDF9 MAKE 0" ∷ codes "JOB 39175" ∷ codes "ENTRIES 2" ∷ [] }
+    ensures ended { slot_line 3 (record new_registers { ran = 2218; state = life.Ended }) 200 0o34231504240514
+        ≡ codes "SLOT 3 ENDED ORDERS 2218 BLOCKS 200 WORD 0034231504240514" }
+    ensures failed { slot_line 0 (record new_registers { ran = 18; state = Failed Nouv }) 0 0
+        ≡ codes "SLOT 0 FAILED NOUV ORDERS 18 BLOCKS 0 WORD 0000000000000000" }
+    ensures blocks { punched Tp (wrote 2 ((33 ∷ []) ∷ [] ∷ [])) ≡ 2 }
+    ensures lines { punched Lp (wrote 1 ((33 ∷ []) ∷ [])) ≡ 0 }
 {}
 
 /// What is said of registers: the place of the next order, V and TR, the nest and the links, the top first, and the Q-stores.

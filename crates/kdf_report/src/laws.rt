@@ -1,17 +1,26 @@
 //! Laws of the definitions, each the contract of a function that does nothing.
-ghost use Rattle.std.specs.Prelude.{◌≡◌, ℕ, All, List};
-ghost use Rattle.kdf_processor.specs.Lone.{lone};
-ghost use Rattle.kdf_processor.specs.State.{begin};
+ghost use Rattle.std.specs.Prelude.{◌≡◌, ℕ, ◌++◌, All, List, None, Some, false};
+ghost use Rattle.kdf_journal.specs.declared.entry.Entry.{Entry};
+ghost use Rattle.kdf_journal.specs.Counts.{answers};
+ghost use Rattle.kdf_processor.specs.Lone.{is_live, lone};
+ghost use Rattle.kdf_processor.specs.State.{State, begin};
 ghost use Rattle.kdf_job.specs.declared.job.SlotJob.{SlotJob};
 ghost use Rattle.kdf_job.specs.Job.{Job, SlotJob as JobSlot};
+ghost use Rattle.kdf_job.specs.Reading.{job, job_fault};
 ghost use Rattle.kdf_job.specs.Shows.{shown_slot};
+ghost use Rattle.kdf_job.specs.SlotLines.{slot_lines};
 ghost use Rattle.kdf_job.specs.WellFormed.{AreSlots, IsSlot};
 ghost use Rattle.kdf_alone.specs.Loading.{slot_of};
-ghost use Rattle.kdf_director.specs.Loading.{HaveImages, slots_of};
+ghost use Rattle.kdf_director.specs.Legal.{IsLegal};
+ghost use Rattle.kdf_director.specs.Loading as loading;
+ghost use Rattle.kdf_director.specs.Loading.{HaveImages};
 ghost use Rattle.kdf_director.specs.Shown.{Shown, ShowsSeen, state_at};
-ghost use Rattle.kdf_director.specs.Told.{seen_of};
+ghost use Rattle.kdf_director.specs.Told.{own, seen_of};
+ghost use Rattle.kdf_report.specs.Loaded.{slot_numbered, slots_of};
 ghost use Rattle.kdf_report.specs.MadeFrom.{HasProgram, IsProgramOf};
-ghost use Rattle.kdf_report.specs.Text.{report_text};
+ghost use Rattle.kdf_report.specs.Summary.{summary_text};
+ghost use Rattle.kdf_report.specs.Text.{report_lines, report_text};
+ghost use Rattle.kdf_report.specs.Worlds.{section_of};
 
 /// A program that was loaded from a slot of a job is one of that slot, whatever it is answered and however many orders it obeys.
 pub fn program_of_slot()
@@ -23,11 +32,46 @@ pub fn program_of_slot()
 /// program of each of these slots, whatever its journal.
 pub fn programs_of_slots()
     ensures { (m : Shown) (slots : List JobSlot) (images : List (List ℕ)) → AreSlots slots →
-        HaveImages slots images → m.slots ≡ slots_of slots images → ShowsSeen m → All (HasProgram m) slots }
+        HaveImages slots images → m.slots ≡ loading.slots_of slots images → ShowsSeen m → All (HasProgram m) slots }
 {}
 
 /// The report of such a machine is that of what its journal tells to be seen of each program.
 pub fn report_of_seen()
     ensures { (m : Shown) (job : Job) → ShowsSeen m → All (HasProgram m) job.slots →
         report_text job m.journal (state_at m) ≡ report_text job m.journal (seen_of m.slots m.journal) }
+{}
+
+/// The summary of such a machine likewise, whatever number and bytes it tells.
+pub fn summary_of_seen()
+    ensures { (n bytes : ℕ) (m : Shown) (job : Job) → ShowsSeen m → All (HasProgram m) job.slots →
+        summary_text n bytes job m.journal (state_at m)
+        ≡ summary_text n bytes job m.journal (seen_of m.slots m.journal) }
+{}
+
+/// The section of a program stands in the report of its job.
+pub fn section_in_report()
+    ensures { (job : Job) (J : List Entry) (states : ℕ → State) (p : ℕ) (lines : List (List ℕ)) →
+        section_of p job states ≡ Some lines → (front : List (List ℕ)) × (rest : List (List ℕ))
+        × (report_lines job J states ≡ front ++ lines ++ rest) }
+{}
+
+/// Let two jobs without a fault have the same lines of slot p, or the same slot p, each a legal journal by which program p isn't
+/// live, and the program be answered alike in both. Then it has the same section in both reports, whatever the other slots and the
+/// schedules are.
+pub fn two_worlds()
+    ensures lines { (first second : List ℕ) (J K : List Entry) (p : ℕ) →
+        job_fault first ≡ None → job_fault second ≡ None → slot_lines p first ≡ slot_lines p second →
+        IsLegal (slots_of (job first)) J → IsLegal (slots_of (job second)) K → answers p J ≡ answers p K →
+        is_live (own (slots_of (job first)) J p).registers.state ≡ false →
+        is_live (own (slots_of (job second)) K p).registers.state ≡ false →
+        section_of p (job first) (seen_of (slots_of (job first)) J)
+        ≡ section_of p (job second) (seen_of (slots_of (job second)) K) }
+    ensures slots { (first second : List ℕ) (J K : List Entry) (p : ℕ) →
+        job_fault first ≡ None → job_fault second ≡ None →
+        slot_numbered (job first).slots p ≡ slot_numbered (job second).slots p →
+        IsLegal (slots_of (job first)) J → IsLegal (slots_of (job second)) K → answers p J ≡ answers p K →
+        is_live (own (slots_of (job first)) J p).registers.state ≡ false →
+        is_live (own (slots_of (job second)) K p).registers.state ≡ false →
+        section_of p (job first) (seen_of (slots_of (job first)) J)
+        ≡ section_of p (job second) (seen_of (slots_of (job second)) K) }
 {}

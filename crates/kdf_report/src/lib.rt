@@ -1,12 +1,11 @@
-//! The lines of a program's section and of a journal, the text of a program that ran alone, and the report of a machine. Whatever is a
-//! `Program` is written by the same functions.
+//! The lines of a program's section and of a journal, the text of a program that ran alone, and the report and the summary of a
+//! machine. Whatever is a `Program` is written by the same functions.
 #![tactic(auto)]
 
 mod alone;
 mod blocks;
 mod characters;
 mod devices;
-mod end;
 mod entries;
 pub mod examples;
 mod in_slot;
@@ -17,6 +16,7 @@ mod reports;
 mod section;
 mod shows;
 mod spool;
+mod summaries;
 #[cfg(test)]
 mod tests;
 pub mod worked;
@@ -26,3 +26,4 @@ pub use entries::write_entries;
 pub use program::Program;
 pub use reports::report;
 pub use section::write_section;
+pub use summaries::summary;

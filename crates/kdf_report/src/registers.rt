@@ -4,7 +4,7 @@ ghost use Rattle.std.specs.List.{flat_map};
 ghost use Rattle.kdf_qstore.specs.Triples.{triple_at};
 ghost use Rattle.kdf_text.specs.Text.{octal, Adds};
 ghost use Rattle.kdf_report.specs.Devices.{bit};
-ghost use Rattle.kdf_report.specs.Text.{life_line, nest_line, links_line, q_line, q_lines, registers_lines};
+ghost use Rattle.kdf_report.specs.Text.{life_line, life_name, nest_line, links_line, q_line, q_lines, registers_lines};
 
 use kdf_processor::{Flags, Life, Links, Nest, QStores, Registers};
 use kdf_qstore::Part;
@@ -28,12 +28,21 @@ pub fn write_registers(out: &mut String, registers: &Registers) -> Result<(), Al
 fn write_life(out: &mut String, life: Life) -> Result<(), AllocError>
     ensures { OnOk result (Adds out.old out.new (life_line life ∷ [])) }
 {
+    write!(out, "STATE ")?;
+    write_life_name(out, life)?;
+    writeln!(out)
+}
+
+/// Writes whether a program is live, has ended, or how it failed.
+pub fn write_life_name(out: &mut String, life: Life) -> Result<(), AllocError>
+    ensures { OnOk result (string_bytes out.new ≡ string_bytes out.old ++ life_name life) }
+{
     match life {
-        Life::Live => writeln!(out, "STATE LIVE"),
-        Life::Ended => writeln!(out, "STATE ENDED"),
+        Life::Live => write!(out, "LIVE"),
+        Life::Ended => write!(out, "ENDED"),
         Life::Failed(kind) => {
             let name = kind.name();
-            writeln!(out, "STATE FAILED {name}")
+            write!(out, "FAILED {name}")
         }
     }
 }

@@ -7,11 +7,11 @@ ghost use Rattle.kdf_text.specs.Text.{Adds};
 ghost use Rattle.kdf_report.specs.MadeFrom.{HasProgram};
 ghost use Rattle.kdf_report.specs.Text.{head_line, report_text, section};
 
-use crate::end::write_end;
 use crate::in_slot::InSlot;
 use crate::{write_entries, write_section};
 use kdf_director::Machine;
 use kdf_job::{Job, SlotJob};
+use kdf_text::write_end;
 use std::alloc::{AllocError, Global};
 use std::fmt::Write;
 

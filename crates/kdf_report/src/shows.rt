@@ -1,14 +1,12 @@
 //! The lines of the words that are to be shown.
-ghost use Rattle.std.specs.Prelude.{◌≡◌, ◌<◌, ◌++◌, [], ◌∷◌, All, OnOk, codes, decimal};
+ghost use Rattle.std.specs.Prelude.{◌<◌, [], ◌∷◌, All, OnOk};
 ghost use Rattle.std.specs.List.{flat_map};
-ghost use Rattle.kdf_text.specs.Text.{octal, Adds};
+ghost use Rattle.kdf_text.specs.Text.{Adds};
 ghost use Rattle.kdf_report.specs.Text.{show_lines, word_line};
 
 use crate::Program;
-use kdf_text::write_octal;
-use kdf_word::Word;
+use kdf_text::write_word;
 use std::alloc::AllocError;
-use std::fmt::Write;
 
 /// Writes the words between each two addresses.
 #[tactic(auto, unfolding(kdf_text::specs::Text::text))]
@@ -38,25 +36,15 @@ fn write_show<P: Program>(
     ensures { OnOk result (Adds out.old out.new (show_lines (P.state program.now) (first, last))) }
 {
     for address in first..=last {
-        write_word(out, address, program)?;
+        show_word(out, address, program)?;
     }
     Ok(())
 }
 
 /// The word at an address.
-fn write_word<P: Program>(out: &mut String, address: u16, program: &P) -> Result<(), AllocError>
+fn show_word<P: Program>(out: &mut String, address: u16, program: &P) -> Result<(), AllocError>
     requires { address < (P.state program.now).stock.claims.size }
     ensures { OnOk result (Adds out.old out.new (word_line (P.state program.now) address ∷ [])) }
 {
-    write_word_line(out, address, program.word(address))
-}
-
-#[tactic(auto, unfolding(kdf_text::specs::Text::text))]
-fn write_word_line(out: &mut String, address: u16, word: Word) -> Result<(), AllocError>
-    ensures { OnOk result (Adds out.old out.new (
-        (codes "WORD " ++ decimal address ++ codes " " ++ octal word) ∷ [])) }
-{
-    write!(out, "WORD {address} ")?;
-    write_octal(out, word.bits())?;
-    writeln!(out)
+    write_word(out, address, program.word(address).bits())
 }

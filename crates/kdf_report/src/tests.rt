@@ -9,6 +9,7 @@ mod readers;
 mod registers;
 mod reports;
 mod schedules;
+mod summaries;
 mod tapes;
 mod writers;
 

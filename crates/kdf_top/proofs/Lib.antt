@@ -4,3 +4,7 @@ pub mod Reported
 pub mod Runs
 pub mod Schedules
 pub mod WorkedAnswers
+pub mod Found
+pub mod Loads
+pub mod Values
+pub mod MadeTexts

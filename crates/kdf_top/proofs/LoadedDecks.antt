@@ -1,5 +1,5 @@
 -- The decks of a job: what its slots are loaded with, and the first that has a fault.
-use Rattle.std.proofs.Common.{◌≡◌, ℕ, suc, ◌+◌, ◌<◌, ◌≤◌, List, [], ◌∷◌, ◌++◌, length, map, take, drop, get_or, Result, Ok, All, refl, sym, ap, subst, ◌∙◌, arith}
+use Rattle.std.proofs.Common.{◌≡◌, ℕ, zero, suc, ◌+◌, ◌<◌, ◌≤◌, List, [], ◌∷◌, ◌++◌, length, map, take, drop, get_or, Result, Ok, All, refl, sym, ap, subst, ◌∙◌, arith}
 use Rattle.std.proofs.lemmas.List.{at_drop_more, get_or-map, length-map, take_more, map-append}
 use Rattle.std.proofs.lemmas.List.Elements.{All-push}
 use Rattle.kdf_usercode.specs.Faults.{Found}
@@ -12,11 +12,12 @@ use Rattle.kdf_job.specs.WellFormed.{IsJob, IsSlot}
 use Rattle.kdf_director.specs.Loading.{HaveImages}
 use Rattle.kdf_place.specs.Assembled.{assembled, image_words, words_or_none}
 use Rattle.kdf_top.specs.Deck.{first_of, deck_fault, IsDeck}
-use Rattle.kdf_top.specs.Loaded.{images_of}
+use Rattle.kdf_top.specs.Loaded.{HasImages, images_of, pictures_of}
+use Rattle.kdf_place.specs.Placement.{shown_image}
 
--- the words of an image, and those that a slot's deck comes to
-abbrev pub words_of : Image → List ℕ
-words_of image = image.words.items
+-- what a slot's deck comes to
+abbrev pub picture_due : ReadSlot → Result Picture Found
+picture_due slot = assembled slot.size slot.deck.items
 
 abbrev pub words_due : ReadSlot → List ℕ
 words_due slot = image_words slot.size slot.deck.items
@@ -24,13 +25,49 @@ words_due slot = image_words slot.size slot.deck.items
 abbrev pub Fitting : ReadSlot → Type 0
 Fitting slot = length (words_due slot) ≤ slot.size
 
-pub same_images : (slots : List ReadSlot) → map words_due slots ≡ images_of (map shown_slot slots)
-same_images [] = refl
-same_images (s ∷ slots) = ap (λ (later : List (List ℕ)). words_due s ∷ later) (same_images slots)
+abbrev pub pictured : Image → Result Picture Found
+pictured image = Ok (shown_image image)
 
-pub have_images : (slots : List ReadSlot) → All Fitting slots → HaveImages (map shown_slot slots) (images_of (map shown_slot slots))
+pub same_pictures : (slots : List ReadSlot) → map picture_due slots ≡ pictures_of (map shown_slot slots)
+same_pictures [] = refl
+same_pictures (s ∷ slots) = ap (λ (later : List (Result Picture Found)). picture_due s ∷ later) (same_pictures slots)
+
+have_images : (slots : List ReadSlot) → All Fitting slots → HaveImages (map shown_slot slots) (images_of (map shown_slot slots))
 have_images [] fits = tt
 have_images (s ∷ slots) fits = (fits 0 s (omega arith), have_images slots (λ k d lt. fits (suc k) d (omega arith)))
+
+-- all of a list is taken
+pub all_taken : {X : Type 0} (xs : List X) (k : ℕ) → length xs ≤ k → take k xs ≡ xs
+all_taken [] zero long = refl
+all_taken [] (suc k) long = refl
+all_taken (x ∷ xs) zero long = absurd (omega arith)
+all_taken (x ∷ xs) (suc k) long = ap (λ (ys : List _). x ∷ ys) (all_taken xs k (omega arith))
+
+pub has_images : (slots : List ReadSlot) (images : List Image) → map pictured images ≡ map picture_due slots → All Fitting slots
+    → HasImages (map shown_slot slots) images
+has_images slots images made fits = record { pictures = made ∙ same_pictures slots; fits = have_images slots fits }
+
+-- the words of these images are those that the decks come to
+words_of_pictures : (slots : List ReadSlot) (images : List Image) → map pictured images ≡ map picture_due slots
+    → map (λ (image : Image). image.words.items) images ≡ images_of (map shown_slot slots)
+words_of_pictures [] [] e = refl
+words_of_pictures [] (image ∷ images) e = cc
+words_of_pictures (s ∷ slots) [] e = cc
+words_of_pictures (s ∷ slots) (image ∷ images) e =
+    let first : pictured image ≡ picture_due s = cc in
+    let others : map pictured images ≡ map picture_due slots = cc in
+    let words : image.words.items ≡ words_due s = ap words_or_none first in
+    let later = words_of_pictures slots images others in
+    cc
+
+pub same_words : (slots : List ReadSlot) (images : List Image) → HasImages (map shown_slot slots) images
+    → map (λ (image : Image). image.words.items) images ≡ images_of (map shown_slot slots)
+same_words slots images have = words_of_pictures slots images (have.pictures ∙ sym (same_pictures slots))
+
+pub fitting_images : (slots : List ReadSlot) (images : List Image) → HasImages (map shown_slot slots) images
+    → HaveImages (map shown_slot slots) (map (λ (image : Image). image.words.items) images)
+fitting_images slots images have =
+    subst (λ (xs : List (List ℕ)). HaveImages (map shown_slot slots) xs) (sym (same_words slots images have)) have.fits
 
 pub all_decks : (j : ReadJob) → IsJob (shown_job j) → All IsDeck j.slots.items
 all_decks j well k d lt =
@@ -40,28 +77,26 @@ all_decks j well k d lt =
     (slot.most, slot.deck)
 
 -- the image of one deck more
-module _ (slots : List ReadSlot) (i : ℕ) (d slot : ReadSlot) (lt : i < length slots) (is : get_or slots i d ≡ slot) (image : Image) (picture : Picture)
-    (made : assembled slot.size slot.deck.items ≡ Ok picture) (pictured : picture.words ≡ words_of image) where
-  same_words : words_of image ≡ words_due slot
-  same_words = sym (ap words_or_none made ∙ pictured)
-
+module _ (slots : List ReadSlot) (i : ℕ) (d slot : ReadSlot) (lt : i < length slots) (is : get_or slots i d ≡ slot) (image : Image)
+    (made : picture_due slot ≡ pictured image) where
   pub first-on : deck_fault (map shown_slot (drop i slots)) ≡ deck_fault (map shown_slot (drop (i + 1) slots))
   first-on =
       let later = deck_fault (map shown_slot (drop (i + 1) slots)) in
       at_drop_more (λ (xs : List ReadSlot). deck_fault (map shown_slot xs)) slots i d lt
-      ∙ ap (λ (s : ReadSlot). first_of s.p (assembled s.size s.deck.items) later) is
+      ∙ ap (λ (s : ReadSlot). first_of s.p (picture_due s) later) is
       ∙ ap (λ (m : Result Picture Found). first_of slot.p m later) made
 
   take_one : take (i + 1) slots ≡ take i slots ++ slot ∷ []
   take_one = take_more slots i d lt ∙ ap (λ (s : ReadSlot). take i slots ++ s ∷ []) is
 
-  pub words-on : (images : List Image) → map words_of images ≡ map words_due (take i slots) → map words_of (images ++ image ∷ []) ≡ map words_due (take (i + 1) slots)
-  words-on images e =
-      map-append words_of images (image ∷ []) ∙ ap (λ (ws : List (List ℕ)). ws ++ words_of image ∷ []) e
-      ∙ ap (λ (w : List ℕ). map words_due (take i slots) ++ w ∷ []) same_words
-      ∙ sym (ap (map words_due) take_one ∙ map-append words_due (take i slots) (slot ∷ []))
+  pub pictures-on : (images : List Image) → map pictured images ≡ map picture_due (take i slots) → map pictured (images ++ image ∷ []) ≡ map picture_due (take (i + 1) slots)
+  pictures-on images e =
+      map-append pictured images (image ∷ []) ∙ ap (λ (ps : List (Result Picture Found)). ps ++ pictured image ∷ []) e
+      ∙ ap (λ (p : Result Picture Found). map picture_due (take i slots) ++ p ∷ []) (sym made)
+      ∙ sym (ap (map picture_due) take_one ∙ map-append picture_due (take i slots) (slot ∷ []))
 
-  pub fits-on : length (words_of image) ≤ slot.size → All Fitting (take i slots) → All Fitting (take (i + 1) slots)
+  pub fits-on : length image.words.items ≤ slot.size → All Fitting (take i slots) → All Fitting (take (i + 1) slots)
   fits-on fits all =
+      let same : image.words.items ≡ words_due slot = sym (ap words_or_none made) in
       subst (λ (xs : List ReadSlot). All Fitting xs) (sym take_one)
-      (All-push Fitting (take i slots) slot all (subst (λ (words : List ℕ). length words ≤ slot.size) same_words fits))
+      (All-push Fitting (take i slots) slot all (subst (λ (words : List ℕ). length words ≤ slot.size) same fits))

@@ -1,5 +1,5 @@
--- The report of a machine that was loaded from a job and shows what is seen of the lone runs is the report of the job.
-use Rattle.std.proofs.Common.{◌≡◌, ℕ, List, sym, ◌∙◌, ap, subst, All}
+-- What is written of a machine that was loaded from a job and shows what is seen of the lone runs is what is due of the job.
+use Rattle.std.proofs.Common.{◌≡◌, ℕ, List, length, sym, ◌∙◌, ap, subst, All}
 use Rattle.kdf_processor.specs.State.{Slot}
 use Rattle.kdf_job.specs.Job.{Job}
 use Rattle.kdf_job.specs.Reading.{job}
@@ -14,8 +14,10 @@ use Rattle.kdf_director.proofs.OnCourse.{legal-course}
 use Rattle.kdf_report.specs.MadeFrom.{HasProgram}
 use Rattle.kdf_report.specs.Text.{report_text}
 use Rattle.kdf_report.proofs.SeenPrograms.{has_programs, report_seen}
-use Rattle.kdf_top.specs.Answers.{IsMachineOf, report_of}
+use Rattle.kdf_top.specs.Due.{IsMachineOf, report_of, summary_of}
 use Rattle.kdf_top.specs.Loaded.{images_of, slots_of}
+use Rattle.kdf_report.specs.Summary.{summary_text}
+use Rattle.kdf_report.proofs.SummaryTexts.{summary_seen}
 
 module _ (j : Job) (m : Shown) (are : AreSlots j.slots) (fits : HaveImages j.slots (images_of j.slots)) (loaded : m.slots ≡ slots_of j) (seen : ShowsSeen m) where
   -- what is loaded are slots
@@ -40,3 +42,10 @@ module _ (j : Job) (m : Shown) (are : AreSlots j.slots) (fits : HaveImages j.slo
         let of_slots : t ≡ report_text j m.journal (seen_of (slots_of j) m.journal) =
         e ∙ report_seen m j seen programs ∙ ap (λ (slots : List Slot). report_text j m.journal (seen_of slots m.journal)) loaded in
         subst (λ (x : Job). t ≡ report_text x m.journal (seen_of (slots_of x) m.journal)) is_job of_slots
+
+    pub summary_own : (n len : ℕ) (t : List ℕ) → len ≡ length bytes → t ≡ summary_text n len j m.journal (state_at m) → t ≡ summary_of n bytes m.journal
+    summary_own n len t is_length e =
+        let of_slots : t ≡ summary_text n (length bytes) j m.journal (seen_of (slots_of j) m.journal) =
+        e ∙ summary_seen n len m j seen programs ∙ ap (λ (slots : List Slot). summary_text n len j m.journal (seen_of slots m.journal)) loaded
+        ∙ ap (λ (x : ℕ). summary_text n x j m.journal (seen_of (slots_of j) m.journal)) is_length in
+        subst (λ (x : Job). t ≡ summary_text n (length bytes) x m.journal (seen_of (slots_of x) m.journal)) is_job of_slots

@@ -1,13 +1,15 @@
 -- What a call came to, from its answer and from what its source and its sink told before and after it.
-use Rattle.std.specs.Prelude.{◌≡◌, ◌≢◌, ℕ, ◌+◌, ◌≤◌, List, length, true, false, Option, is_some, IfSome}
+use Rattle.std.specs.Prelude.{◌≡◌, ◌≢◌, ℕ, ◌+◌, ◌≤◌, ◌&&◌, List, [], length, true, false, Option, Some, None, is_some, IfSome}
 use Rattle.kdf_io.specs.Outside.{HasRisen, Advances, NothingLeft}
 use Rattle.kdf_io.specs.Reading.{TakesAtMost}
-use Rattle.kdf_top.specs.declared.command.TheConstants.{JOB_LIMIT}
+use Rattle.kdf_director.specs.Shown.{Shown}
+use Rattle.kdf_top.specs.Answers.{Answers, IsDoneBy, IsDoneOver, IsDue, IsDueBy, Wrote, WroteFront, WroteFrontBy, called_by, is_done, keeps_by, reads_by}
+use Rattle.kdf_top.specs.Commands.{input_of}
+use Rattle.kdf_top.specs.declared.command.Command.{Command}
+use Rattle.kdf_top.specs.declared.command.Input.{Input}
+use Rattle.kdf_top.specs.declared.command.Input.TheVariants.{Read, Made}
 use Rattle.kdf_top.specs.declared.status.Status.{Status}
 use Rattle.kdf_top.specs.declared.status.Status.TheVariants as status
-use Rattle.kdf_director.specs.Shown.{Shown}
-use Rattle.kdf_top.specs.Commands.{is_command}
-use Rattle.kdf_top.specs.Answers.{Answers, IsDue, IsReported, Wrote, WroteFront, called_for, is_done}
 
 -- what a source tells: the bytes that are left, and its count of faults
 pub record Inlet : Type 0 where
@@ -26,18 +28,19 @@ inlet left faults = record { left = left; faults = faults }
 abbrev pub outlet : Option (List ℕ) → ℕ → ℕ → Outlet
 outlet written faults room = record { written = written; faults = faults; room = room }
 
--- an answer that is given where this one is called for over the bytes of a job
-pub record IsGiven (called : Status) (bytes : List ℕ) (given : Status) (kept : Option Shown) (old new : Outlet) : Type 0 where
+-- an answer that is given where this one is called for, to a command or to words that are none, over a job
+pub record IsGiven (called : Status) (c : Option Command) (job_bytes : List ℕ) (given : Status) (kept : Option Shown)
+    (old new : Outlet) : Type 0 where
   pub answer : Answers called given ⊥ (HasRisen old.faults new.faults)
   pub wrote : Wrote given old.written new.written
-  pub machine : is_some kept ≡ is_done given
-  pub done : IfSome kept (λ m. IsReported bytes m old.written new.written)
-  pub front : given ≡ status.WriteFault → WroteFront called bytes old.written new.written
-  pub room_writes : (due : List ℕ) → IsDue called bytes due → length due ≤ old.room → given ≢ status.WriteFault
-  pub room_count : (due : List ℕ) → IsDue called bytes due → length due ≤ old.room → new.faults ≡ old.faults
+  pub machine : is_some kept ≡ (is_done given && keeps_by c)
+  pub done : given ≡ status.Done → IsDoneOver c job_bytes kept old.written new.written
+  pub front : given ≡ status.WriteFault → WroteFront called c job_bytes old.written new.written
+  pub room_writes : (due : List ℕ) → IsDue called c job_bytes due → length due ≤ old.room → given ≢ status.WriteFault
+  pub room_count : (due : List ℕ) → IsDue called c job_bytes due → length due ≤ old.room → new.faults ≡ old.faults
   pub never_falls : old.faults ≤ new.faults
 
--- an answer that has a line of its own in place of a report
+-- an answer that has a line of its own in place of a command's text
 abbrev pub IsRefusal : Status → Type 0
 IsRefusal status.Usage = Unit {0}
 IsRefusal (status.Job fault line) = Unit {0}
@@ -45,27 +48,40 @@ IsRefusal (status.Deck slot fault place) = Unit {0}
 IsRefusal status.Large = Unit {0}
 IsRefusal _ = ⊥
 
--- an answer to words, over a source and a sink
-pub record IsRun (words : List (List ℕ)) (given : Status) (kept : Option Shown) (source source' : Inlet)
+-- at most one byte more is taken than may be read, and nothing by a command that makes its job
+abbrev pub TakesBy : Input → (before after : Option (List ℕ)) → Type 0
+TakesBy (Read limit) before after = TakesAtMost (limit + 1) before after
+TakesBy (Made n) before after = after ≡ before
+
+abbrev pub Takes : Option Command → (before after : Option (List ℕ)) → Type 0
+Takes None before after = after ≡ before
+Takes (Some c) before after = TakesBy (input_of c) before after
+
+-- all was read by a command that reads
+abbrev pub ReadsAll : Option Command → Option (List ℕ) → Type 0
+ReadsAll c left = reads_by c ≡ true → NothingLeft left
+
+-- an answer to a command, or to words that are none, over a source and a sink
+pub record IsRun (c : Option Command) (given : Status) (kept : Option Shown) (source source' : Inlet)
     (sink sink' : Outlet) : Type 0 where
-  pub answer : IfSome source.left (λ bytes. Answers (called_for words bytes) given
+  pub answer : IfSome source.left (λ bytes. Answers (called_by c bytes) given
       (HasRisen source.faults source'.faults) (HasRisen sink.faults sink'.faults))
-  pub usage : is_command words ≡ false → Answers status.Usage given ⊥ (HasRisen sink.faults sink'.faults)
-  pub command : is_command words ≡ true → given ≢ status.Usage
+  pub unread : reads_by c ≡ false → Answers (called_by c []) given ⊥ (HasRisen sink.faults sink'.faults)
+  pub command : is_some c ≡ true → given ≢ status.Usage
   pub read_fault : given ≡ status.ReadFault → HasRisen source.faults source'.faults
   pub write_fault : given ≡ status.WriteFault → HasRisen sink.faults sink'.faults
   pub wrote : Wrote given sink.written sink'.written
-  pub machine : is_some kept ≡ is_done given
-  pub ended : IfSome kept (λ m. NothingLeft source'.left)
-  pub done : IfSome kept (λ m. (bytes : List ℕ) × Advances source.left bytes source'.left
-      × IsReported bytes m sink.written sink'.written)
-  pub told : IfSome kept (λ m. IfSome source.left (λ bytes. IsReported bytes m sink.written sink'.written))
+  pub machine : is_some kept ≡ (is_done given && keeps_by c)
+  pub ended : given ≡ status.Done → ReadsAll c source'.left
+  pub done : given ≡ status.Done → (bytes : List ℕ) × Advances source.left bytes source'.left
+      × IsDoneBy c bytes kept sink.written sink'.written
+  pub told : given ≡ status.Done → IfSome source.left (λ bytes. IsDoneBy c bytes kept sink.written sink'.written)
   pub front : given ≡ status.WriteFault
-      → IfSome source.left (λ bytes. WroteFront (called_for words bytes) bytes sink.written sink'.written)
-  pub room_writes : IfSome source.left (λ bytes. (due : List ℕ) → IsDue (called_for words bytes) bytes due
+      → IfSome source.left (λ bytes. WroteFrontBy c bytes sink.written sink'.written)
+  pub room_writes : IfSome source.left (λ bytes. (due : List ℕ) → IsDueBy c bytes due
       → length due ≤ sink.room → given ≢ status.WriteFault)
-  pub room_count : IfSome source.left (λ bytes. (due : List ℕ) → IsDue (called_for words bytes) bytes due
+  pub room_count : IfSome source.left (λ bytes. (due : List ℕ) → IsDueBy c bytes due
       → length due ≤ sink.room → sink'.faults ≡ sink.faults)
-  pub taken : TakesAtMost (JOB_LIMIT + 1) source.left source'.left
+  pub taken : Takes c source.left source'.left
   pub source_counts : source.faults ≤ source'.faults
   pub sink_counts : sink.faults ≤ sink'.faults

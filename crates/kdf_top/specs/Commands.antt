@@ -1,8 +1,71 @@
 -- The words behind the program's name that are a command.
-use Rattle.std.specs.Prelude.{ℕ, Bool, false, List, [], ◌∷◌, codes}
+use Rattle.std.specs.Prelude.{◌<◌, ℕ, Bool, true, false, List, [], ◌∷◌, Option, Some, None, is_some, length, nat_lt, option_map, if◌then◌else◌, codes}
 use Rattle.kdf_text.specs.Lines.{is_text}
+use Rattle.kdf_text.specs.Numbers.{number_in}
+use Rattle.kdf_job.specs.Made.{made_text}
+use Rattle.kdf_top.specs.declared.command.TheConstants.{JOB_LIMIT}
+use Rattle.kdf_top.specs.declared.command.Input.{Input}
+use Rattle.kdf_top.specs.declared.command.Input.TheVariants.{Read, Made}
+use Rattle.kdf_top.specs.declared.command.Command.{Command}
+use Rattle.kdf_top.specs.declared.command.Command.TheVariants.{Run, Alone, Asm, Make}
 
--- the word `run`, alone
-unfoldable pub is_command : List (List ℕ) → Bool
-is_command (word ∷ []) = is_text (codes "run") word
-is_command _ = false
+-- a slot's number as a word: 0, 1, 2 or 3
+abbrev pub slot_of_word : List ℕ → Option ℕ
+slot_of_word word = number_in 0 3 word
+
+-- the number of a made job as a word: 0 to 65535, decimal, without leading zeros
+abbrev pub made_of_word : List ℕ → Option ℕ
+made_of_word word = number_in 0 65535 word
+
+-- the commands of a name alone
+abbrev pub command_of_name : List ℕ → Option Command
+command_of_name name = if is_text (codes "run") name then Some Run else None
+
+-- the commands of a name and a value
+abbrev pub command_of_value : List ℕ → List ℕ → Option Command
+command_of_value name value =
+    if is_text (codes "alone") name then option_map Alone (slot_of_word value)
+    else (if is_text (codes "asm") name then option_map Asm (slot_of_word value)
+    else (if is_text (codes "make") name then option_map Make (made_of_word value)
+    else None))
+
+-- what the words ask for: `run`, `alone K`, `asm K` or `make N`; no other list of words is a command
+unfoldable pub command : List (List ℕ) → Option Command
+command (name ∷ []) = command_of_name name
+command (name ∷ value ∷ []) = command_of_value name value
+command _ = None
+
+abbrev pub is_command : List (List ℕ) → Bool
+is_command words = is_some (command words)
+
+-- where a command's job comes from: it is read, or made from a number
+abbrev pub input_of : Command → Input
+input_of (Make n) = Made n
+input_of _ = Read JOB_LIMIT
+
+-- a job is read
+abbrev pub is_read : Input → Bool
+is_read (Read limit) = true
+is_read (Made n) = false
+
+-- these are more bytes than may be read
+abbrev pub is_too_long : Input → List ℕ → Bool
+is_too_long (Read limit) bytes = nat_lt limit (length bytes)
+is_too_long (Made n) bytes = false
+
+-- the text of the job: the one that is made, or else the bytes that are read
+abbrev pub text_in : Input → List ℕ → List ℕ
+text_in (Read limit) bytes = bytes
+text_in (Made n) bytes = made_text n
+
+-- a command that runs a job under Director, and keeps the machine
+abbrev pub keeps_machine : Command → Bool
+keeps_machine Run = true
+keeps_machine (Make n) = true
+keeps_machine _ = false
+
+-- the slot that a command names is one of the four
+abbrev pub HasSlot : Command → Type 0
+HasSlot (Alone slot) = slot < 4
+HasSlot (Asm slot) = slot < 4
+HasSlot _ = Unit {0}

@@ -5,3 +5,5 @@ pub mod Commands
 pub mod Answers
 pub mod Codes
 pub mod Answered
+pub mod Due
+pub mod Values

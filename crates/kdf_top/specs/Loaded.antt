@@ -1,14 +1,35 @@
--- The slots of a job, as they are loaded.
-use Rattle.std.specs.Prelude.{ℕ, List, map}
-use Rattle.kdf_place.specs.Assembled.{image_words}
-use Rattle.kdf_processor.specs.State.{Slot}
-use Rattle.kdf_job.specs.Job.{Job, SlotJob}
-use Rattle.kdf_director.specs.Loading as loading
+-- The slots of a job with the images of their decks, and how they are loaded.
+use Rattle.std.specs.Prelude.{◌≡◌, ℕ, ◌≤◌, List, length, map, Some, Result, Ok}
+use Rattle.kdf_usercode.specs.Faults.{Found}
+use Rattle.kdf_place.specs.Assembled.{assembled}
+use Rattle.kdf_place.specs.Placement.{Picture, shown_image}
+use Rattle.kdf_place.specs.declared.image.Image.{Image}
+use Rattle.kdf_job.specs.declared.job.Job.{Job as ReadJob}
+use Rattle.kdf_job.specs.declared.job.SlotJob.{SlotJob as ReadSlot}
+use Rattle.kdf_job.specs.Job.{SlotJob}
+use Rattle.kdf_job.specs.Reading.{job}
+use Rattle.kdf_job.specs.Shows.{shown_job, shown_slot}
+use Rattle.kdf_job.specs.WellFormed.{IsSlot}
+use Rattle.kdf_director.specs.Loading.{HaveImages}
+pub use Rattle.kdf_report.specs.Loaded.{images_of, slot_numbered, slots_of}
 
--- the words of the images of these slots' decks
-abbrev pub images_of : List SlotJob → List (List ℕ)
-images_of slots = map (λ (s : SlotJob). image_words s.size s.deck) slots
+-- what the decks of these slots come to
+abbrev pub pictures_of : List SlotJob → List (Result Picture Found)
+pictures_of slots = map (λ (s : SlotJob). assembled s.size s.deck) slots
 
--- each slot with the image of its deck
-abbrev pub slots_of : Job → List Slot
-slots_of job = loading.slots_of job.slots (images_of job.slots)
+-- these are the images of the slots' decks, each of which fits its store
+pub record HasImages (slots : List SlotJob) (images : List Image) : Type 0 where
+  pub pictures : map (λ (x : Image). Ok (shown_image x)) images ≡ pictures_of slots
+  pub fits : HaveImages slots (images_of slots)
+
+-- the slot of number p, and the image of its deck
+pub record IsFound (slots : List SlotJob) (p : ℕ) (slot : ReadSlot) (image : Image) : Type 0 where
+  pub found : slot_numbered slots p ≡ Some (shown_slot slot)
+  pub well_formed : IsSlot (shown_slot slot)
+  pub picture : assembled slot.size slot.deck.items ≡ Ok (shown_image image)
+  pub fits : length image.words.items ≤ slot.size
+
+-- a job that was read from a text of so many bytes
+pub record IsJobOf (j : ReadJob) (len : ℕ) (job_bytes : List ℕ) : Type 0 where
+  pub told : shown_job j ≡ job job_bytes
+  pub bytes : len ≡ length job_bytes

@@ -1,35 +1,108 @@
 //! The commands of the program.
-ghost use Rattle.std.specs.Prelude.{◌≡◌, is_some, map, string_bytes};
-ghost use Rattle.kdf_top.specs.Commands.{is_command};
+ghost use Rattle.std.specs.Prelude.{◌≡◌, ◌∷◌, true, false, IfOk, IfSome, is_some, map, string_bytes};
+ghost use Rattle.kdf_top.specs.Commands.{HasSlot, command, input_of, made_of_word, slot_of_word};
+ghost use Rattle.kdf_top.specs.Values.{any_hyphen};
 
-/// What the words behind the program's name ask for.
+mod values;
+pub mod worked;
+
+use kdf_text::number_in;
+use std::alloc::{AllocError, Global};
+use values::{Values, any_hyphen};
+
+/// What the words behind the program's name ask for. A slot is below 4.
 #[derive(Clone, Copy, Debug, PartialEq, Eq)]
 pub enum Command {
-    /// `run`: reads a job, runs it and writes its report.
+    /// `run`: reads a job, runs it under Director and writes its report.
     Run,
+    /// `alone K`: reads a job, runs the program of slot K alone and writes what it comes to.
+    Alone(u8),
+    /// `asm K`: reads a job, assembles the deck of slot K and writes its listing.
+    Asm(u8),
+    /// `make N`: makes job N, runs it under Director and writes a summary.
+    Make(u16),
 }
 
-/// A job may have so many bytes.
+/// Where the job of a command comes from.
+#[derive(Clone, Copy, Debug, PartialEq, Eq)]
+pub enum Input {
+    /// It is read, and has at most so many bytes.
+    Read(usize),
+    /// It is made from a number.
+    Made(u16),
+}
+
+/// A job that is read may have so many bytes.
 pub const JOB_LIMIT: usize = 4_194_304;
 
+/// The highest number of a slot.
+const LAST_SLOT: u64 = 3;
+
+/// The highest number of a made job.
+const LAST_MADE: u64 = 65_535;
+
 impl Command {
-    /// How many bytes of input the command takes at most.
-    pub fn limit(self) -> usize
-        ensures { result ≡ JOB_LIMIT }
+    /// Where the command's job comes from.
+    pub fn input(self) -> Input
+        ensures { result ≡ input_of self }
     {
         match self {
-            Command::Run => JOB_LIMIT,
+            Command::Run | Command::Alone(_) | Command::Asm(_) => Input::Read(JOB_LIMIT),
+            Command::Make(n) => Input::Made(n),
         }
     }
 }
 
 /// The command of these words, or none.
-#[tactic(auto, unfolding(crate::specs::Commands::is_command))]
-pub fn command_of(words: &[String]) -> Option<Command>
-    ensures { is_some result ≡ is_command (map string_bytes words.now) }
+#[tactic(auto, unfolding(crate::specs::Commands::command))]
+pub fn command_of(alloc: Global, words: &[String]) -> Result<Option<Command>, AllocError>
+    ensures value { IfOk result (λ c. c ≡ command (map string_bytes words.now)) }
+    ensures slot { IfOk result (λ c. IfSome c HasSlot) }
+    ensures hyphen { IfOk result (λ c. is_some c ≡ true
+        → any_hyphen (map string_bytes words.now) ≡ false) }
 {
+    if any_hyphen(words) {
+        return Ok(None);
+    }
     match words {
-        [word] if word.as_str() == "run" => Some(Command::Run),
-        _ => None,
+        [] => Ok(None),
+        [name, words @ ..] => command_of_name(Values {
+            alloc,
+            name: name.as_str(),
+            words,
+        }),
     }
 }
+
+/// The commands: of each its name, the value that it takes, if any, and how that is read.
+#[tactic(auto, unfolding(crate::specs::Commands::command))]
+fn command_of_name(values: Values<'_>) -> Result<Option<Command>, AllocError>
+    ensures value { IfOk result (λ c. c
+        ≡ command (values.entry.name.now ∷ map string_bytes values.entry.words.now)) }
+    ensures slot { IfOk result (λ c. IfSome c HasSlot) }
+{
+    match values.name {
+        "run" => Ok(values.none()?.then_some(Command::Run)),
+        "alone" => Ok(values.one("K")?.and_then(slot).map(Command::Alone)),
+        "asm" => Ok(values.one("K")?.and_then(slot).map(Command::Asm)),
+        "make" => Ok(values.one("N")?.and_then(made).map(Command::Make)),
+        _ => Ok(None),
+    }
+}
+
+/// The slot that a word names.
+fn slot(word: &str) -> Option<u8>
+    ensures { result ≡ slot_of_word word.now }
+{
+    Some(number_in(0, LAST_SLOT, word.as_bytes())? as u8)
+}
+
+/// The made job that a word names.
+fn made(word: &str) -> Option<u16>
+    ensures { result ≡ made_of_word word.now }
+{
+    Some(number_in(0, LAST_MADE, word.as_bytes())? as u16)
+}
+
+#[cfg(test)]
+mod tests;

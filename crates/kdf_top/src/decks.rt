@@ -2,9 +2,10 @@
 
 ghost use Rattle.std.specs.Prelude.{◌≡◌, ◌≤◌, All, None, OnOk, IfOk, IfErr, length, map};
 ghost use Rattle.kdf_place.specs.Placement.{Gives};
-ghost use Rattle.kdf_place.specs.Assembled.{assembled, image_words};
+ghost use Rattle.kdf_place.specs.Assembled.{assembled};
 ghost use Rattle.kdf_job.specs.Shows.{shown_slot};
 ghost use Rattle.kdf_top.specs.Deck.{deck_fault, IsDeck, Tells};
+ghost use Rattle.kdf_top.specs.Loaded.{HasImages};
 
 use kdf_job::SlotJob;
 use kdf_place::{Image, assemble};
@@ -46,10 +47,7 @@ pub fn assemble_decks(alloc: Global, slots: &[SlotJob]) -> Result<Vec<Image>, De
     requires { All IsDeck slots.now }
     ensures ok { OnOk result (deck_fault (map shown_slot slots.now) ≡ None) }
     ensures fault { IfErr result (λ e. Tells e (deck_fault (map shown_slot slots.now))) }
-    ensures words { IfOk result (λ images. map (λ made. made.words.items) images.items
-        ≡ map (λ slot. image_words slot.size slot.deck.items) slots.now) }
-    ensures fits { OnOk result (All
-        (λ slot. length (image_words slot.size slot.deck.items) ≤ slot.size) slots.now) }
+    ensures images { IfOk result (λ images. HasImages (map shown_slot slots.now) images.items) }
 {
     let mut images = Vec::new(alloc);
     for slot in slots {

@@ -1,33 +1,33 @@
-//! The call that reads a job, assembles its decks, runs it, and writes its report or why there is none.
-ghost use Rattle.std.specs.Prelude.{◌≡◌, ◌≢◌, ℕ, ◌+◌, ◌<◌, ◌≤◌, ◌⊎◌, List, None, length, true, false, IfOk, IfSome, is_some, map, string_bytes};
-ghost use Rattle.kdf_io.specs.Outside.{HasRisen, Advances, NothingLeft};
-ghost use Rattle.kdf_io.specs.Reading.{TakesAtMost};
-ghost use Rattle.kdf_place.specs.declared.image.Image.{Image as Made};
+//! The call that answers the words of a command: it reads or makes a job, assembles its decks, and writes the command's text, or why
+//! there is none.
+ghost use Rattle.std.specs.Prelude.{◌≡◌, ◌≢◌, ℕ, ◌≤◌, ◌⊎◌, List, [], Option, None, Some, length, true, false, IfOk, IfSome, is_some, map, string_bytes};
+ghost use Rattle.kdf_io.specs.Outside.{HasRisen, Advances};
+ghost use Rattle.kdf_job.specs.Made.{made_text};
 ghost use Rattle.kdf_job.specs.Reading.{job as job_of, job_fault};
 ghost use Rattle.kdf_job.specs.Shows.{shown_job};
 ghost use Rattle.kdf_job.specs.WellFormed.{IsJob};
-ghost use Rattle.kdf_director.specs.Follows.{IsJournal};
-ghost use Rattle.kdf_director.specs.Loading.{HaveImages};
-ghost use Rattle.kdf_director.specs.Shown.{ShowsSeen};
-ghost use Rattle.kdf_top.specs.Answered.{inlet, outlet, IsGiven, IsRefusal, IsRun};
-ghost use Rattle.kdf_top.specs.Answers.{Answers, IsDue, IsReported, Wrote, WroteFront, called_for, is_done, status_of_decks, status_of_job};
-ghost use Rattle.kdf_top.specs.Commands.{is_command};
+ghost use Rattle.kdf_job.specs.declared.job.TheConstants.{TEXT_LIMIT};
+ghost use Rattle.kdf_top.specs.Answered.{inlet, outlet, IsGiven, IsRefusal, IsRun, ReadsAll, Takes};
+ghost use Rattle.kdf_top.specs.Answers.{Answers, IsDoneBy, IsDueFor, Wrote, WroteFrontBy, called_for, is_done, is_kept, job_text, reads, reads_by, status_of_decks, status_of_job};
+ghost use Rattle.kdf_top.specs.Commands.{command, input_of, is_command, is_too_long};
 ghost use Rattle.kdf_top.specs.Deck.{deck_fault};
-ghost use Rattle.kdf_top.specs.Loaded.{images_of, slots_of};
-ghost use Rattle.kdf_top.specs.declared.command.TheConstants.{JOB_LIMIT};
+ghost use Rattle.kdf_top.specs.Due.{IsMade};
+ghost use Rattle.kdf_top.specs.Loaded.{IsJobOf};
+ghost use Rattle.kdf_top.specs.declared.command.Command.{Command as Asked};
+ghost use Rattle.kdf_top.specs.declared.command.Input.TheVariants as input;
 
-use crate::command::command_of;
+use crate::command::{Command, Input, command_of};
 use crate::decks::{DecksError, assemble_decks};
+use crate::making::{Made, make};
 use crate::refusal::refusal_text;
 use crate::{Outcome, Status};
-use kdf_director::{Machine, follow};
+use kdf_director::Machine;
 use kdf_io::{ReadEnd, Sink, Source, read_all, write_all};
-use kdf_job::{Job, JobError, read_job};
-use kdf_place::Image;
-use kdf_report::report;
+use kdf_job::{Job, JobError, generated, read_job};
 use std::alloc::{AllocError, Global};
 
-/// Reads a job from the source, assembles its decks, runs it, and writes its report to the sink, or why there is none.
+/// Answers the words of a command: reads its job from the source or makes it, assembles its decks, and writes the command's text to
+/// the sink, or why there is none.
 ///
 /// The words are those behind the program's name. The text is made whole before its first byte is written.
 pub fn run<S: Source, K: Sink>(
@@ -42,11 +42,11 @@ pub fn run<S: Source, K: Sink>(
         IfSome (S.left source.old)
         (λ bytes. Answers (called_for (map string_bytes words.now) bytes) result.status read_failed write_failed) }
 
-    // Where nothing fails, a job without a fault, no deck of which has one, is done, and other words are told how to
+    // Where nothing fails, a command over a job without a fault, no deck of which has one, is done, and other words are told how to
     // use the program; or there was no memory.
-    ensures complete { is_command (map string_bytes words.now) ≡ true
-        → IfSome (S.left source.old) (λ bytes. length bytes ≤ JOB_LIMIT
-        → job_fault bytes ≡ None → deck_fault (job_of bytes).slots ≡ None
+    ensures complete { (c : Asked) → command (map string_bytes words.now) ≡ Some c
+        → IfSome (S.left source.old) (λ bytes. is_too_long (input_of c) bytes ≡ false
+        → job_fault (job_text c bytes) ≡ None → deck_fault (job_of (job_text c bytes)).slots ≡ None
         → ¬ (HasRisen (S.faults source.old) (S.faults source.new))
         → ¬ (HasRisen (K.faults sink.old) (K.faults sink.new))
         → (result.status ≡ Status.Done) ⊎ (result.status ≡ Status.Memory)) }
@@ -54,10 +54,12 @@ pub fn run<S: Source, K: Sink>(
         → ¬ (HasRisen (K.faults sink.old) (K.faults sink.new))
         → (result.status ≡ Status.Usage) ⊎ (result.status ≡ Status.Memory) }
 
-    // Causes that hold also where the source tells nothing. Words that are no command read nothing.
-    ensures usage { is_command (map string_bytes words.now) ≡ false
-        → Answers Status.Usage result.status ⊥ (HasRisen (K.faults sink.old) (K.faults sink.new)) }
-    ensures unread { is_command (map string_bytes words.now) ≡ false → source.new ≡ source.old }
+    // Causes that hold also where the source tells nothing. Words that are no command read nothing, nor does a command that makes its
+    // job, and their answer goes by the words alone.
+    ensures unread { reads (map string_bytes words.now) ≡ false
+        → Answers (called_for (map string_bytes words.now) []) result.status ⊥
+        (HasRisen (K.faults sink.old) (K.faults sink.new)) }
+    ensures untouched { reads (map string_bytes words.now) ≡ false → source.new ≡ source.old }
     ensures command { is_command (map string_bytes words.now) ≡ true
         → result.status ≢ Status.Usage }
     ensures read_fault { result.status ≡ Status.ReadFault
@@ -65,33 +67,37 @@ pub fn run<S: Source, K: Sink>(
     ensures write_fault { result.status ≡ Status.WriteFault
         → HasRisen (K.faults sink.old) (K.faults sink.new) }
 
-    // Whatever is answered, at most one byte more is taken than a job may have.
-    ensures taken { TakesAtMost (JOB_LIMIT + 1) (S.left source.old) (S.left source.new) }
+    // Whatever is answered, at most one byte more is taken than the command may read.
+    ensures taken { Takes (command (map string_bytes words.now)) (S.left source.old) (S.left source.new) }
 
-    // The machine at Done: its journal is legal and whole, what it shows is what is seen of the lone runs, none of those
-    // that are over has a transfer in flight, and the sink took the report of it all.
-    ensures machine { is_some result.machine ≡ is_done result.status }
-    ensures ended { IfSome result.machine (λ m. NothingLeft (S.left source.new)) }
-    ensures done { IfSome result.machine (λ m. IfSome (S.left source.old)
-        (λ bytes. IsReported bytes m (K.written sink.old) (K.written sink.new))) }
-    ensures done_untold { IfSome result.machine (λ m. (bytes : List ℕ)
+    // At Done a command that reads has read all. One that runs its job under Director keeps the machine: its journal is legal, true and
+    // whole, what it shows is what is seen of the lone runs, and none of those that are over has a transfer in flight. The sink took
+    // the command's text.
+    ensures machine { is_some result.machine ≡ is_kept (map string_bytes words.now) result.status }
+    ensures ended { result.status ≡ Status.Done
+        → ReadsAll (command (map string_bytes words.now)) (S.left source.new) }
+    ensures done { result.status ≡ Status.Done → IfSome (S.left source.old)
+        (λ bytes. IsDoneBy (command (map string_bytes words.now)) bytes result.machine
+        (K.written sink.old) (K.written sink.new)) }
+    ensures done_untold { result.status ≡ Status.Done → (bytes : List ℕ)
         × Advances (S.left source.old) bytes (S.left source.new)
-        × IsReported bytes m (K.written sink.old) (K.written sink.new)) }
+        × IsDoneBy (command (map string_bytes words.now)) bytes result.machine
+        (K.written sink.old) (K.written sink.new) }
 
     // What is written at the other answers.
     ensures wrote { Wrote result.status (K.written sink.old) (K.written sink.new) }
     ensures front { result.status ≡ Status.WriteFault → IfSome (S.left source.old)
-        (λ bytes. WroteFront (called_for (map string_bytes words.now) bytes) bytes
+        (λ bytes. WroteFrontBy (command (map string_bytes words.now)) bytes
         (K.written sink.old) (K.written sink.new)) }
 
     // A steady source, and a sink with room for the text that is due, don't fail.
     ensures steady_reads { S.steady source.old → result.status ≢ Status.ReadFault }
     ensures steady_count { S.steady source.old → S.faults source.new ≡ S.faults source.old }
     ensures room_writes { IfSome (S.left source.old) (λ bytes. (due : List ℕ)
-        → IsDue (called_for (map string_bytes words.now) bytes) bytes due
+        → IsDueFor (map string_bytes words.now) bytes due
         → length due ≤ K.room sink.old → result.status ≢ Status.WriteFault) }
     ensures room_count { IfSome (S.left source.old) (λ bytes. (due : List ℕ)
-        → IsDue (called_for (map string_bytes words.now) bytes) bytes due
+        → IsDueFor (map string_bytes words.now) bytes due
         → length due ≤ K.room sink.old → K.faults sink.new ≡ K.faults sink.old) }
     ensures source_counts { S.faults source.old ≤ S.faults source.new }
     ensures sink_counts { K.faults sink.old ≤ K.faults sink.new }
@@ -99,29 +105,83 @@ pub fn run<S: Source, K: Sink>(
     answer_words(alloc, words, source, sink)
 }
 
-/// Reads what the words ask for, and answers it.
+/// Answers the words of a command, or other words.
 fn answer_words<S: Source, K: Sink>(
     alloc: Global,
     words: &[String],
     source: &mut S,
     sink: &mut K,
 ) -> Outcome
-    ensures run { IsRun (map string_bytes words.now) result.status result.machine
+    ensures run { IsRun (command (map string_bytes words.now)) result.status result.machine
         (inlet (S.left source.old) (S.faults source.old)) (inlet (S.left source.new) (S.faults source.new))
         (outlet (K.written sink.old) (K.faults sink.old) (K.room sink.old))
         (outlet (K.written sink.new) (K.faults sink.new) (K.room sink.new)) }
-    ensures unread { is_command (map string_bytes words.now) ≡ false → source.new ≡ source.old }
+    ensures untouched { reads (map string_bytes words.now) ≡ false → source.new ≡ source.old }
     ensures steady_reads { S.steady source.old → result.status ≢ Status.ReadFault }
     ensures steady_count { S.steady source.old → S.faults source.new ≡ S.faults source.old }
 {
-    let Some(command) = command_of(words) else {
-        return refuse(alloc, Status::Usage, sink);
-    };
-    match read_all(alloc, source, command.limit()) {
-        Ok(bytes) => answer(alloc, &bytes, sink),
+    match command_of(alloc, words) {
+        Ok(Some(command)) => answer_command(alloc, command, source, sink),
+        Ok(None) => refuse(alloc, Status::Usage, sink),
+        Err(_) => without_machine(Status::Memory),
+    }
+}
+
+/// Answers a command over the job that it reads or makes.
+fn answer_command<S: Source, K: Sink>(
+    alloc: Global,
+    command: Command,
+    source: &mut S,
+    sink: &mut K,
+) -> Outcome
+    ensures run { IsRun (Some command) result.status result.machine
+        (inlet (S.left source.old) (S.faults source.old)) (inlet (S.left source.new) (S.faults source.new))
+        (outlet (K.written sink.old) (K.faults sink.old) (K.room sink.old))
+        (outlet (K.written sink.new) (K.faults sink.new) (K.room sink.new)) }
+    ensures untouched { reads_by (Some command) ≡ false → source.new ≡ source.old }
+    ensures steady_reads { S.steady source.old → result.status ≢ Status.ReadFault }
+    ensures steady_count { S.steady source.old → S.faults source.new ≡ S.faults source.old }
+{
+    match command.input() {
+        Input::Read(limit) => answer_read(alloc, command, limit, source, sink),
+        Input::Made(n) => answer_made(alloc, command, n, sink),
+    }
+}
+
+/// Answers a command over the job that it reads, of at most so many bytes.
+fn answer_read<S: Source, K: Sink>(
+    alloc: Global,
+    command: Command,
+    limit: usize,
+    source: &mut S,
+    sink: &mut K,
+) -> Outcome
+    requires input { input_of command ≡ input.Read limit }
+    requires within { limit ≤ TEXT_LIMIT }
+    ensures run { IsRun (Some command) result.status result.machine
+        (inlet (S.left source.old) (S.faults source.old)) (inlet (S.left source.new) (S.faults source.new))
+        (outlet (K.written sink.old) (K.faults sink.old) (K.room sink.old))
+        (outlet (K.written sink.new) (K.faults sink.new) (K.room sink.new)) }
+    ensures steady_reads { S.steady source.old → result.status ≢ Status.ReadFault }
+    ensures steady_count { S.steady source.old → S.faults source.new ≡ S.faults source.old }
+{
+    match read_all(alloc, source, limit) {
+        Ok(job_bytes) => answer_text(alloc, command, &job_bytes, sink),
         Err(ReadEnd::Large) => refuse(alloc, Status::Large, sink),
         Err(ReadEnd::Fault) => without_machine(Status::ReadFault),
         Err(ReadEnd::Memory) => without_machine(Status::Memory),
+    }
+}
+
+/// Answers a command over the job that it makes from a number.
+fn answer_made<K: Sink>(alloc: Global, command: Command, n: u16, sink: &mut K) -> Outcome
+    ensures { IsGiven (status_of_job (made_text n)) (Some command) (made_text n) result.status result.machine
+        (outlet (K.written sink.old) (K.faults sink.old) (K.room sink.old))
+        (outlet (K.written sink.new) (K.faults sink.new) (K.room sink.new)) }
+{
+    match generated(alloc, n) {
+        Ok(job_bytes) => answer_text(alloc, command, &job_bytes, sink),
+        Err(_) => without_machine(Status::Memory),
     }
 }
 
@@ -135,11 +195,11 @@ fn without_machine(status: Status) -> Outcome
     }
 }
 
-/// Answers why there is no report.
+/// Answers why there is no text of a command.
 fn refuse<K: Sink>(alloc: Global, status: Status, sink: &mut K) -> Outcome
     requires { IsRefusal status }
     ensures machine { result.machine ≡ None }
-    ensures given { (bytes : List ℕ) → IsGiven status bytes result.status result.machine
+    ensures given { (c : Option Asked) (job_bytes : List ℕ) → IsGiven status c job_bytes result.status result.machine
         (outlet (K.written sink.old) (K.faults sink.old) (K.room sink.old))
         (outlet (K.written sink.new) (K.faults sink.new) (K.room sink.new)) }
 {
@@ -152,30 +212,36 @@ fn refuse<K: Sink>(alloc: Global, status: Status, sink: &mut K) -> Outcome
     }
 }
 
-/// Answers a job of these bytes.
-fn answer<K: Sink>(alloc: Global, bytes: &[u8], sink: &mut K) -> Outcome
-    requires { length bytes.now ≤ JOB_LIMIT }
-    ensures { IsGiven (status_of_job bytes.now) bytes.now result.status result.machine
+/// Answers a command over the job of these bytes.
+fn answer_text<K: Sink>(alloc: Global, command: Command, job_bytes: &[u8], sink: &mut K) -> Outcome
+    requires { length job_bytes.now ≤ TEXT_LIMIT }
+    ensures { IsGiven (status_of_job job_bytes.now) (Some command) job_bytes.now result.status result.machine
         (outlet (K.written sink.old) (K.faults sink.old) (K.room sink.old))
         (outlet (K.written sink.new) (K.faults sink.new) (K.room sink.new)) }
 {
-    match read_job(alloc, bytes) {
-        Ok(job) => answer_job(alloc, &job, sink),
+    match read_job(alloc, job_bytes) {
+        Ok(job) => answer_job(alloc, command, &job, job_bytes.len() as u32, sink),
         Err(JobError::Fault(fault, line)) => refuse(alloc, Status::Job { fault, line }, sink),
         Err(JobError::Memory) => without_machine(Status::Memory),
     }
 }
 
-/// Assembles the decks of a job and runs it.
-fn answer_job<K: Sink>(alloc: Global, job: &Job, sink: &mut K) -> Outcome
+/// Assembles the decks of a job, and answers a command over it.
+fn answer_job<K: Sink>(
+    alloc: Global,
+    command: Command,
+    job: &Job,
+    length: u32,
+    sink: &mut K,
+) -> Outcome
     requires { IsJob (shown_job job.now) }
-    ensures { (bytes : List ℕ) → job_fault bytes ≡ None → shown_job job.now ≡ job_of bytes
-        → IsGiven (status_of_decks (deck_fault (job_of bytes).slots)) bytes result.status result.machine
+    ensures { (job_bytes : List ℕ) → job_fault job_bytes ≡ None → IsJobOf job.now length job_bytes
+        → IsGiven (status_of_decks (deck_fault (job_of job_bytes).slots)) (Some command) job_bytes result.status result.machine
         (outlet (K.written sink.old) (K.faults sink.old) (K.room sink.old))
         (outlet (K.written sink.new) (K.faults sink.new) (K.room sink.new)) }
 {
     match assemble_decks(alloc, &job.slots) {
-        Ok(images) => report_job(alloc, job, &images, sink),
+        Ok(images) => write_made(make(alloc, command, job, length, &images), sink),
         Err(DecksError::Fault(slot, fault, place)) => {
             refuse(alloc, Status::Deck { slot, fault, place }, sink)
         }
@@ -183,58 +249,35 @@ fn answer_job<K: Sink>(alloc: Global, job: &Job, sink: &mut K) -> Outcome
     }
 }
 
-/// Runs a job with the images of its decks, and writes its report.
-fn report_job<K: Sink>(alloc: Global, job: &Job, images: &[Image], sink: &mut K) -> Outcome
-    requires job { IsJob (shown_job job.now) }
-    requires fits { HaveImages (shown_job job.now).slots (images_of (shown_job job.now).slots) }
-    requires images { map (λ (x : Made). x.words.items) images.now ≡ images_of (shown_job job.now).slots }
-    ensures { (bytes : List ℕ) → job_fault bytes ≡ None → deck_fault (job_of bytes).slots ≡ None
-        → shown_job job.now ≡ job_of bytes
-        → IsGiven Status.Done bytes result.status result.machine
+/// Writes what a command made of a job.
+fn write_made<K: Sink>(made: Result<Made, AllocError>, sink: &mut K) -> Outcome
+    ensures { (c : Asked) (job_bytes : List ℕ) → job_fault job_bytes ≡ None → deck_fault (job_of job_bytes).slots ≡ None
+        → IfOk made (λ x. IsMade c job_bytes x.text.items x.machine)
+        → IsGiven Status.Done (Some c) job_bytes result.status result.machine
         (outlet (K.written sink.old) (K.faults sink.old) (K.room sink.old))
         (outlet (K.written sink.new) (K.faults sink.new) (K.room sink.new)) }
 {
-    let Ok(machine) = run_job(alloc, job, images) else {
+    let Ok(Made { text: due, machine }) = made else {
         return without_machine(Status::Memory);
     };
-    let Ok(text) = report(alloc, job, &machine) else {
-        return give_up(machine, Status::Memory);
-    };
-    match write_all(sink, &text) {
+    match write_all(sink, &due) {
         Ok(()) => Outcome {
             status: Status::Done,
-            machine: Some(machine),
+            machine,
         },
-        Err(_) => give_up(machine, Status::WriteFault),
+        Err(_) => give_up(machine),
     }
 }
 
-/// Gives up a machine whose report wasn't written.
-fn give_up(machine: Machine, status: Status) -> Outcome
-    ensures status { result.status ≡ status }
+/// Gives up the machine of a command whose text wasn't written.
+fn give_up(machine: Option<Machine>) -> Outcome
+    ensures status { result.status ≡ Status.WriteFault }
     ensures machine { result.machine ≡ None }
 {
-    machine.close();
-    without_machine(status)
-}
-
-/// Loads a job and makes the calls of its schedule.
-fn run_job(alloc: Global, job: &Job, images: &[Image]) -> Result<Machine, AllocError>
-    requires job { IsJob (shown_job job.now) }
-    requires fits { HaveImages (shown_job job.now).slots (images_of (shown_job job.now).slots) }
-    requires images { map (λ (x : Made). x.words.items) images.now ≡ images_of (shown_job job.now).slots }
-    ensures slots { IfOk result (λ m. m.slots ≡ slots_of (shown_job job.now)) }
-    ensures journal { IfOk result (λ m. IsJournal m.slots (shown_job job.now).events m.journal) }
-    ensures seen { IfOk result ShowsSeen }
-{
-    let mut machine = Machine::load(alloc, job, images)?;
-    match follow(&mut machine, &job.events) {
-        Ok(()) => Ok(machine),
-        Err(error) => {
-            machine.close();
-            Err(error)
-        }
+    if let Some(machine) = machine {
+        machine.close();
     }
+    without_machine(Status::WriteFault)
 }
 
 #[cfg(test)]

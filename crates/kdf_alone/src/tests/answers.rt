@@ -1,6 +1,6 @@
 //! Orders that ask, and what they are answered.
 use super::{Case, job_of, job_text, load};
-use crate::{Alone, Obeyed};
+use crate::Alone;
 use kdf_processor::{Life, Step};
 use std::alloc::{AllocError, Global};
 use std::process::Abort;
@@ -43,11 +43,11 @@ fn obey(
     program.orders(answers, orders)
 }
 
-/// Obeys the next order of a live program at a time.
-fn obey_at(rt: &impl Abort, program: &mut Alone, time: u64) -> Result<Obeyed, AllocError> {
+/// Obeys the next order of a live program.
+fn obey_one(rt: &impl Abort, program: &mut Alone, answers: &[u64]) -> Result<Step, AllocError> {
     assert!(rt; program.registers().state == Life::Live);
     assert!(rt; program.registers().ran < 1000);
-    program.order_at(time)
+    program.order(answers)
 }
 
 /// The words of the nest, of which there are so many, the top first.
@@ -84,9 +84,7 @@ fn cuts_a_long_answer(rt: HostRuntime) -> Result<(), Fail> {
 fn answers_single_orders(rt: HostRuntime) -> Result<(), Fail> {
     let mut program = loaded(&rt, rt.alloc(), &TIMES)?;
     for _ in 0..9 {
-        assert!(rt; program.registers().state == Life::Live);
-        assert!(rt; program.registers().ran < 1000);
-        program.order(&[5, 62])?;
+        obey_one(&rt, &mut program, &[5, 62])?;
     }
     assert!(rt; program.registers().state == Life::Ended);
     assert_nest(&rt, &program, &[0, 62, 5]);
@@ -105,25 +103,25 @@ fn any_answer_but_nought_sets_tr(rt: HostRuntime) -> Result<(), Fail> {
     Ok(())
 }
 
-/// At a time nothing is locked out, and the answers are told.
+/// Each order tells how it ended, and its answer is seen in TR or in the nest behind it.
 #[test]
-fn tells_answers(rt: HostRuntime) -> Result<(), Fail> {
+fn tells_steps(rt: HostRuntime) -> Result<(), Fail> {
     let mut program = loaded(&rt, rt.alloc(), &AREAS)?;
     let due = [
-        (Step::Done, None),
-        (Step::Done, None),
-        (Step::Done, None),
-        (Step::Done, Some(0)),
-        (Step::Done, None),
-        (Step::Done, Some(50)),
-        (Step::Done, Some(0)),
-        (Step::Done, None),
-        (Step::Ends, None),
+        (Step::Done, false, 0),
+        (Step::Done, false, 1),
+        (Step::Done, false, 0),
+        (Step::Done, true, 0),
+        (Step::Done, true, 1),
+        (Step::Done, true, 1),
+        (Step::Done, false, 1),
+        (Step::Done, false, 2),
+        (Step::Ends, false, 1),
     ];
-    for (step, answer) in due {
-        let obeyed = obey_at(&rt, &mut program, 50)?;
-        assert_eq!(rt; obeyed, Obeyed { step, answer });
-        assert!(rt; !program.registers().flags.tr);
+    for (step, tr, depth) in due {
+        assert_eq!(rt; obey_one(&rt, &mut program, &[7, 50])?, step);
+        assert_eq!(rt; program.registers().flags.tr, tr);
+        assert_eq!(rt; program.registers().nest.depth(), depth);
     }
     assert_nest(&rt, &program, &[50]);
     Ok(())

@@ -72,6 +72,22 @@ pub fn image_of(rt: &impl Abort, alloc: Global, slot: &SlotJob) -> Result<Image,
     }
 }
 
+/// The image of each slot's deck; none of them has a fault.
+pub fn images_of(
+    rt: &impl Abort,
+    alloc: Global,
+    slots: &[SlotJob],
+) -> Result<Vec<Image>, AllocError>
+    ensures { IfOk result (λ images. HaveImages (map shown_slot slots.now)
+        (map (λ (x : Made). x.words.items) images.items)) }
+{
+    let mut images = Vec::new(alloc);
+    for slot in slots {
+        images.push(image_of(rt, alloc, slot)?)?;
+    }
+    Ok(images)
+}
+
 /// The report of a job's machine after so many orders.
 fn reported(
     rt: &impl Abort,
@@ -107,10 +123,8 @@ fn obey(rt: &impl Abort, machine: &mut Machine, orders: u32) -> Result<(), Alloc
 fn reports_two_slots(rt: HostRuntime) -> Result<(), Fail> {
     let alloc = rt.alloc();
     let job = job_of(&rt, alloc, TWO_SLOTS)?;
-    assert!(rt; job.slots.len() == 2);
-    let first = image_of(&rt, alloc, &job.slots[0])?;
-    let second = image_of(&rt, alloc, &job.slots[1])?;
-    let text = reported(&rt, alloc, &job, &[first, second], 5)?;
+    let images = images_of(&rt, alloc, &job.slots)?;
+    let text = reported(&rt, alloc, &job, &images, 5)?;
     assert_eq!(rt; text.as_slice(), DUE.as_bytes());
     Ok(())
 }

@@ -1,5 +1,5 @@
-//! Programs that share a machine, under twenty schedules: each ends in the section that it has alone, with the answers that the
-//! journal tells.
+//! Programs that share a machine, under twenty schedules: the section of each is the one that it has alone, with the answers that
+//! the journal tells.
 ghost use Rattle.std.specs.Prelude.{◌≡◌, ◌≤◌, IfOk, length, map};
 ghost use Rattle.kdf_place.specs.declared.image.Image.{Image as Made};
 ghost use Rattle.kdf_director.specs.Loading.{HaveImages, slots_of};
@@ -8,9 +8,12 @@ ghost use Rattle.kdf_job.specs.WellFormed.{IsJob, IsSlot};
 ghost use Rattle.kdf_journal.specs.Counts.{moves};
 ghost use Rattle.kdf_report.specs.MadeFrom.{IsProgramOf};
 
-use super::reports::image_of;
+mod jobs;
+
+use super::reports::images_of;
 use super::{job_of, slot_at};
 use crate::{alone_text, report};
+use jobs::{JOBS, Shared};
 use kdf_alone::Alone;
 use kdf_director::Machine;
 use kdf_job::{Job, SlotJob};
@@ -24,32 +27,14 @@ use std::process::Abort;
 use std::string::String;
 use std::test::Fail;
 
-/// Programs of two slots, and the numbers of their devices.
-struct Shared {
-    name: &'static str,
-    /// The job up to its schedule.
-    front: &'static str,
-    devices: [u8; 4],
-}
-
-const JOBS: [Shared; 2] = [
-    Shared {
-        name: "adds cards while a tape is copied",
-        front: "KDF9 JOB 1\nSLOT 0\nSTORE 128\nDECK\nY0; PROGRAM V4; V0=Q0/64/73; V1=B1212121212121212; V2=Q0/96/96;\nV3=B1717171717171717; V4=B2020202020202020;\nSET 4; SET 5; OUT; V0; =Q1; =C1; SET 3; SET 5; OUT; V2; =Q2; =C2;\n1; CRQ1; PARQ1; J2TR; E64; V3; AND; V1; TOB; Y0; +; =Y0; J1;\n2; Y0; V1; FRB; V4; OR; =E96; LPQ2; ZERO; OUT; FINISH;\nENDDECK\nDEVICE 4 CR\n+00000125\n+00000250\nDEVICE 5 LP\nSLOT 1\nSTORE 96\nDECK\nPROGRAM V2; V0=PIN; V1=POUT; V2=Q0/64/65;\nV0; SET 4; OUT; V2; =Q1; =C1; V1; SET 4; OUT; V2; =Q2; =C2;\n1; MFRQ1; PARQ1; J2TR; MWQ2; J1; 2; ZERO; OUT; FINISH;\nENDDECK\nDEVICE 6 MT IN\n+FIRST BLOCK 0001\n=FINAL BLOCK 0002\nDEVICE 8 MT OUT\nSCHEDULE\n",
-        devices: [4, 5, 6, 8],
-    },
-    Shared {
-        name: "asks while another fails behind its punches",
-        front: "KDF9 JOB 1\nSLOT 1\nSTORE 64\nDECK\nPROGRAM V0; V0=Q0/32/33; SET 2; SET 5; OUT; V0; =Q1; =C1; PRQ1; BUSYQ1; SET 9; OUT; TLOQ1; INTQ1; BUSYQ1; SET 9; OUT; ZERO; OUT; FINISH;\nENDDECK\nDEVICE 3 TR\n+ABCDEFGHIJKLMNOP\nSHOW 32 33\nSLOT 2\nSTORE 96\nDECK\nPROGRAM V1; V0=Q0/32/32; V1=Q0/64/64; SET 1; SET 5; OUT; V0; =Q1; =C1; SET 1; SET 5; OUT; V1; =Q2; =C2; PWQ2; PWQ1; E96; FINISH;\nENDDECK\nDEVICE 1 TP\nDEVICE 7 TP\nSCHEDULE\n",
-        devices: [1, 3, 7, 9],
-    },
-];
-
 /// How many orders a round of a schedule has.
 const ORDERS: [u32; 8] = [1, 2, 3, 5, 7, 11, 20, 60];
 
+/// How many rounds a schedule has.
+const ROUNDS: u32 = 160;
+
 /// Round `i` of schedule `k`: orders, and then of each device a word that moves or not, and its end in this round or in a later one.
-fn write_round(out: &mut String, k: u32, i: u32, devices: [u8; 4]) -> Result<(), AllocError> {
+fn write_round(out: &mut String, k: u32, i: u32, devices: &[u8]) -> Result<(), AllocError> {
     let orders = ORDERS[(k % 8) as usize];
     writeln!(out, "ORDERS {orders}")?;
     if k % 3 == 1 {
@@ -59,7 +44,7 @@ fn write_round(out: &mut String, k: u32, i: u32, devices: [u8; 4]) -> Result<(),
         if k % 4 == 2 {
             writeln!(out, "MOVE {d} 1")?;
         }
-        if i % (k % 5 + 1) == u32::from(d) % (k % 5 + 1) {
+        if i % (k % 5 + 1) == u32::from(*d) % (k % 5 + 1) {
             writeln!(out, "END {d}")?;
         }
     }
@@ -69,7 +54,8 @@ fn write_round(out: &mut String, k: u32, i: u32, devices: [u8; 4]) -> Result<(),
 /// The job under schedule `k`.
 fn job_text(alloc: Global, shared: &Shared, k: u32) -> Result<String, AllocError> {
     let mut out = String::from_str(alloc, shared.front)?;
-    for i in 0..150u32 {
+    out.push_str("SCHEDULE\n")?;
+    for i in 0..ROUNDS {
         write_round(&mut out, k, i, shared.devices)?;
     }
     out.push_str("ENDJOB\n")?;
@@ -125,7 +111,7 @@ fn enter(rt: &impl Abort, machine: &mut Machine, event: Event) -> Result<(), All
 }
 
 /// Runs a machine under a schedule.
-fn run(rt: &impl Abort, machine: &mut Machine, events: &[Event]) -> Result<(), AllocError>
+pub fn run(rt: &impl Abort, machine: &mut Machine, events: &[Event]) -> Result<(), AllocError>
     ensures { machine.new.slots ≡ machine.old.slots }
 {
     for event in events {
@@ -151,7 +137,7 @@ fn alone_after(
     Ok(program)
 }
 
-/// Whether the section of a program in a report is that of the program alone, which has ended or failed.
+/// Finds the section of a program alone in a report, and answers whether the program is live.
 fn compare(
     rt: &impl Abort,
     alloc: Global,
@@ -167,12 +153,14 @@ fn compare(
     let orders = machine.journal().ran(slot.p);
     let program = alone_after(alloc, slot, image, &answers, orders)?;
     let alone = alone_text(alloc, slot, &program)?;
-    assert!(rt; alone.len() > 24 && text.len() < 1_000_000);
+    assert!(rt; alone.len() > 24);
     let section = &alone[13..alone.len() - 10];
-    Ok(
-        program.registers().state != Life::Live
-            && text.windows(section.len()).any(|part| part == section),
-    )
+    let p = slot.p;
+    assert!(rt;
+        text.windows(section.len()).any(|part| part == section),
+        "slot {p}"
+    );
+    Ok(program.registers().state == Life::Live)
 }
 
 /// The report of a machine behind the schedule of its job.
@@ -194,14 +182,14 @@ fn reported(
     report(alloc, job, machine)
 }
 
-/// Whether both programs come out of the machine as they do alone.
-fn compared(
+/// Compares each program of the machine with the same one alone, and answers how many are live.
+fn compare_all(
     rt: &impl Abort,
     alloc: Global,
     machine: &mut Machine,
     job: &Job,
     images: &[Image],
-) -> Result<bool, AllocError>
+) -> Result<usize, AllocError>
     requires job { IsJob (shown_job job.now) }
     requires images { HaveImages (map shown_slot job.now.slots.items)
         (map (λ (x : Made). x.words.items) images.now) }
@@ -209,33 +197,38 @@ fn compared(
         (map (λ (x : Made). x.words.items) images.now) }
 {
     let text = reported(rt, alloc, machine, job, images)?;
-    assert!(rt; job.slots.len() == 2 && images.len() == 2);
-    let first = compare(rt, alloc, machine, slot_at(job, 0), &images[0], &text)?;
-    let second = compare(rt, alloc, machine, slot_at(job, 1), &images[1], &text)?;
-    Ok(first && second)
+    assert!(rt; text.len() < 1_000_000 && images.len() == job.slots.len());
+    let mut live = 0usize;
+    for i in 0..job.slots.len() {
+        assert!(rt; live < 4);
+        live += usize::from(compare(rt, alloc, machine, slot_at(job, i), &images[i], &text)?);
+    }
+    Ok(live)
 }
 
-/// Whether it is so under schedule `k`.
-fn is_alike(rt: &impl Abort, alloc: Global, shared: &Shared, k: u32) -> Result<bool, AllocError> {
+/// Compares the programs of a job under schedule `k`, and answers how many are live.
+fn live_after(
+    rt: &impl Abort,
+    alloc: Global,
+    shared: &Shared,
+    k: u32,
+) -> Result<usize, AllocError> {
     let text = job_text(alloc, shared, k)?;
     let job = job_of(rt, alloc, text.as_str())?;
-    assert!(rt; job.slots.len() == 2);
-    let first = image_of(rt, alloc, &job.slots[0])?;
-    let second = image_of(rt, alloc, &job.slots[1])?;
-    let images = [first, second];
+    let images = images_of(rt, alloc, &job.slots)?;
     let mut machine = Machine::load(alloc, &job, &images)?;
-    let alike = compared(rt, alloc, &mut machine, &job, &images);
+    let live = compare_all(rt, alloc, &mut machine, &job, &images);
     machine.close();
-    alike
+    live
 }
 
 #[test]
 fn ends_as_alone(rt: HostRuntime) -> Result<(), Fail> {
     for shared in &JOBS {
         for k in 0..20u32 {
-            let alike = is_alike(&rt, rt.alloc(), shared, k)?;
+            let live = live_after(&rt, rt.alloc(), shared, k)?;
             let name = shared.name;
-            assert!(rt; alike, "{name}, schedule {k}");
+            assert_eq!(rt; live, shared.endless, "{name}, schedule {k}");
         }
     }
     Ok(())

@@ -1,8 +1,11 @@
 //! Whole calls over memory: each answer, and what is written at it.
 ghost use Rattle.std.specs.Prelude.{◌≤◌};
 
+mod commands;
 mod devices;
+mod outside;
 mod slots;
+mod truncated;
 
 use super::run;
 use crate::Status;
@@ -64,7 +67,8 @@ const JOBS: [(&[u8], &[u8]); 6] = [
 
 const USAGE: &[u8] = b"USAGE kdf9 run, alone K, asm K, make N\n";
 
-/// Words, and a source and a sink: how many bytes it gives a read, which reads fail, and for how many bytes there is room.
+/// Words, and a source and a sink: how many bytes a read gives at most, which reads fail, for how many bytes there is room, how many
+/// a put takes at most, and which puts fail.
 #[derive(Clone, Copy)]
 struct Call<'a> {
     words: &'a [&'a str],
@@ -72,6 +76,8 @@ struct Call<'a> {
     most: usize,
     fail: &'a [u32],
     room: usize,
+    put_most: usize,
+    put_fail: &'a [u32],
 }
 
 /// A call over a source and a sink that don't fail.
@@ -82,6 +88,8 @@ fn whole<'a>(words: &'a [&'a str], job: &'a [u8]) -> Call<'a> {
         most: 1000,
         fail: &[],
         room: 4000,
+        put_most: 5,
+        put_fail: &[],
     }
 }
 
@@ -103,19 +111,25 @@ fn check_all(rt: &impl Abort, alloc: Global, cases: &[Case]) -> Result<(), Alloc
     Ok(())
 }
 
-/// What a call answers, and what it writes, by pieces of 5 bytes.
+/// What a call answers, and what it writes. Of these commands `run` and `make` keep the machine where they are done.
 fn answer(rt: &impl Abort, alloc: Global, call: &Call) -> Result<(Status, Vec<u8>), AllocError> {
     let mut words = Vec::new(alloc);
     for word in call.words {
         words.push(String::from_str(alloc, word)?)?;
     }
-    assert!(rt; call.most >= 1);
+    assert!(rt; call.most >= 1 && call.put_most >= 1);
     let bytes = Vec::from_slice(alloc, call.job)?;
     let mut source = MemorySource::new(bytes, call.most, Vec::from_slice(alloc, call.fail)?);
-    let mut sink = MemorySink::new(alloc, call.room, 5, Vec::new(alloc))?;
+    let mut sink = MemorySink::new(
+        alloc,
+        call.room,
+        call.put_most,
+        Vec::from_slice(alloc, call.put_fail)?,
+    )?;
     let outcome = run(alloc, &words, &mut source, &mut sink);
     let status = outcome.status;
-    assert_eq!(rt; outcome.machine.is_some(), status == Status::Done);
+    let keeps = matches!(call.words.first(), Some(&"run" | &"make"));
+    assert_eq!(rt; outcome.machine.is_some(), keeps && status == Status::Done);
     outcome.close();
     Ok((status, Vec::from_slice(alloc, sink.bytes())?))
 }
@@ -312,21 +326,13 @@ fn a_job_has_a_limit(rt: HostRuntime) -> Result<(), Fail> {
         line: 1,
     };
     let bytes = vec![in alloc; 0u8; 4_194_305]?;
-    let large = Call {
-        words: &["run"],
-        job: &bytes,
-        most: 5000,
-        fail: &[],
-        room: 1000,
-    };
+    let mut large = whole(&["run"], &bytes);
+    large.most = 5000;
+    large.room = 1000;
     expect(&rt, alloc, &large, Status::Large, b"LARGE 4194304\n")?;
-    let fits = Call {
-        words: &["run"],
-        job: &bytes[1..],
-        most: 5000,
-        fail: &[],
-        room: 1000,
-    };
+    let mut fits = whole(&["run"], &bytes[1..]);
+    fits.most = 5000;
+    fits.room = 1000;
     expect(&rt, alloc, &fits, header, b"JOB Header 1\n")?;
     Ok(())
 }
@@ -334,37 +340,23 @@ fn a_job_has_a_limit(rt: HostRuntime) -> Result<(), Fail> {
 #[test]
 fn failures_of_the_outside_are_answered(rt: HostRuntime) -> Result<(), Fail> {
     let alloc = rt.alloc();
-    let read_fails = Call {
-        words: &["run"],
-        job: JOB,
-        most: 1,
-        fail: &[2],
-        room: 1000,
-    };
+    let mut read_fails = whole(&["run"], JOB);
+    read_fails.most = 1;
+    read_fails.fail = &[2];
+    read_fails.room = 1000;
     expect(&rt, alloc, &read_fails, Status::ReadFault, b"")?;
-    let unread = Call {
-        words: &["ran"],
-        job: JOB,
-        most: 1,
-        fail: &[1],
-        room: 1000,
-    };
+    let mut unread = whole(&["ran"], JOB);
+    unread.most = 1;
+    unread.fail = &[1];
+    unread.room = 1000;
     expect(&rt, alloc, &unread, Status::Usage, USAGE)?;
-    let write_fails = Call {
-        words: &["run"],
-        job: JOB,
-        most: 1000,
-        fail: &[],
-        room: 7,
-    };
+    let mut write_fails = whole(&["run"], JOB);
+    write_fails.most = 1000;
+    write_fails.room = 7;
     expect(&rt, alloc, &write_fails, Status::WriteFault, b"KDF9 RE")?;
-    let usage_fails = Call {
-        words: &[],
-        job: JOB,
-        most: 1000,
-        fail: &[],
-        room: 7,
-    };
+    let mut usage_fails = whole(&[], JOB);
+    usage_fails.most = 1000;
+    usage_fails.room = 7;
     expect(&rt, alloc, &usage_fails, Status::WriteFault, b"USAGE k")?;
     Ok(())
 }

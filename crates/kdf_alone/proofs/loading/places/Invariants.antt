@@ -7,7 +7,7 @@ use Rattle.kdf_alone.proofs.loading.places.Given as goal
 abbrev pub invariant-loop-d : goal.invariant-loop-d
 invariant-loop-d l =
     record {
-      fixtures : map fixture_in l.places.items ≡ map (fixture_numbered l.given) (range_with_len 0 l.d);
-      progresses : map progress_in l.places.items ≡ map (progress_numbered l.given) (range_with_len 0 l.d);
+      fixtures : map fixture_in l.places.items ≡ map (fixture_numbered l.slot.devices.items) (range_with_len 0 l.d);
+      progresses : map progress_in l.places.items ≡ map (progress_numbered l.slot.devices.items) (range_with_len 0 l.d);
       count : length l.places.items ≡ l.d;
     }

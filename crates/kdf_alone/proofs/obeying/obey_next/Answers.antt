@@ -1,26 +1,18 @@
 use Rattle.std.proofs.Common.{ap, ◌∙◌}
 use Rattle.kdf_processor.specs.Outcome.{Outcome}
-use Rattle.kdf_alone.proofs.Rows.{next_over, row_over, told_over}
+use Rattle.kdf_alone.proofs.Rows.{next_over, row_over}
 use Rattle.kdf_alone.proofs.obeying.obey_next.Goals as goal
 
 pub returns-clause-state : goal.returns-clause-state
 returns-clause-state c =
-    row_over c.args.bench.now c.make_room.new.bench c.obey_fetched.new.port c.args.reply c.args.registers.now c.obey_fetched.new.registers
+    row_over c.args.bench.now c.make_room.new.bench c.obey_fetched.new.port c.args.answer c.args.registers.now c.obey_fetched.new.registers
     (c.in_ok-make_room.ensures.stays.stock ∙ c.prepare.ensures.stock)
-    (c.in_ok-make_room.ensures.stays.reply ∙ c.prepare.ensures.reply)
+    (c.in_ok-make_room.ensures.stays.answer ∙ c.prepare.ensures.answer)
     c.obey_fetched.ensures.registers c.obey_fetched.ensures.acted
 
 pub returns-clause-step : goal.returns-clause-step
 returns-clause-step c =
     c.obey_fetched.ensures.step
-    ∙ ap (λ (o : Outcome). o.step) (next_over c.args.bench.now c.make_room.new.bench c.args.reply c.args.registers.now
+    ∙ ap (λ (o : Outcome). o.step) (next_over c.args.bench.now c.make_room.new.bench c.args.answer c.args.registers.now
     (c.in_ok-make_room.ensures.stays.stock ∙ c.prepare.ensures.stock)
-    (c.in_ok-make_room.ensures.stays.reply ∙ c.prepare.ensures.reply))
-
-pub returns-clause-told : goal.returns-clause-told
-returns-clause-told c =
-    told_over c.args.bench.now c.make_room.new.bench c.obey_fetched.new.port c.args.reply c.args.registers.now
-    (c.in_ok-make_room.ensures.stays.stock ∙ c.prepare.ensures.stock)
-    (c.in_ok-make_room.ensures.stays.reply ∙ c.prepare.ensures.reply)
-    (c.in_ok-make_room.ensures.stays.told ∙ c.prepare.ensures.told)
-    c.obey_fetched.ensures.acted
+    (c.in_ok-make_room.ensures.stays.answer ∙ c.prepare.ensures.answer))

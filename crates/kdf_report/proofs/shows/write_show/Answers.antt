@@ -6,7 +6,7 @@ use Rattle.kdf_report.proofs.shows.write_show.Goals as goal
 pub loop-address-preserved : goal.loop-address-preserved
 loop-address-preserved g c = record {
   written = text_range_more (word_line (g.P.Program.state c.args.program.now)) c.args.first c.loop-address.address _ _ _ (omega arith)
-      c.loop-address.invariant.written c.in_ok-write_word.ensures;
+      c.loop-address.invariant.written c.in_ok-show_word.ensures;
   some = λ _. omega arith;
   none = λ h. absurd (omega arith);
 }
@@ -18,9 +18,9 @@ returns g c =
     let first : c.loop-address.address - c.args.first ≡ c.args.last + 1 - c.args.first = let h = c.loop-address.invariant.none none in omega arith in
     rw (← first) c.loop-address.invariant.written
 
-pub returns-in_ok-write_word : goal.returns-in_ok-write_word
-returns-in_ok-write_word g c =
+pub returns-in_ok-show_word : goal.returns-in_ok-show_word
+returns-in_ok-show_word g c =
     let last : c.loop-address.address ≡ c.args.last = omega arith in
     let all = text_range_more (word_line (g.P.Program.state c.args.program.now)) c.args.first c.loop-address.address _ _ _ (omega arith)
-    c.loop-address.invariant.written c.in_ok-write_word.ensures in
+    c.loop-address.invariant.written c.in_ok-show_word.ensures in
     rw last at all

@@ -1,5 +1,5 @@
-use Rattle.std.proofs.Common.{◌≡◌, ◌<◌, ◌++◌, ◌∷◌, [], get_or, length, rules, refl, ◌∙◌, arith}
-use Rattle.kdf_top.proofs.LoadedDecks.{first-on, words-on, fits-on}
+use Rattle.std.proofs.Common.{◌≡◌, take, ◌<◌, ◌++◌, ◌∷◌, [], get_or, length, rules, ◌∙◌, arith}
+use Rattle.kdf_top.proofs.LoadedDecks.{first-on, pictures-on, fits-on, has_images, all_taken}
 use Rattle.kdf_top.proofs.decks.assemble_decks.Goals as goal
 
 pub loop-slot-preserved : goal.loop-slot-preserved
@@ -12,7 +12,13 @@ loop-slot-preserved c =
     let is : get_or slots i slot ≡ slot = search rules in
     let pushed : c.push.new.self.items ≡ c.loop-slot.images.items ++ image ∷ [] = search rules in
     record {
-      words = rw pushed (words-on slots i slot slot lt is image _ c.in-Ok.ensures.answer refl c.loop-slot.images.items c.loop-slot.invariant.words);
-      fits = fits-on slots i slot slot lt is image _ c.in-Ok.ensures.answer refl c.in-Ok.ensures.fits c.loop-slot.invariant.fits;
-      first = c.loop-slot.invariant.first ∙ first-on slots i slot slot lt is image _ c.in-Ok.ensures.answer refl;
+      pictures = rw pushed (pictures-on slots i slot slot lt is image c.in-Ok.ensures.answer c.loop-slot.images.items c.loop-slot.invariant.pictures);
+      fits = fits-on slots i slot slot lt is image c.in-Ok.ensures.answer c.in-Ok.ensures.fits c.loop-slot.invariant.fits;
+      first = c.loop-slot.invariant.first ∙ first-on slots i slot slot lt is image c.in-Ok.ensures.answer;
     }
+
+pub returns-clause-images : goal.returns-clause-images
+returns-clause-images c =
+    let slots = c.args.slots.now in
+    let all : take c.loop-slot.slot-index slots ≡ slots = all_taken slots c.loop-slot.slot-index (omega arith) in
+    has_images slots c.loop-slot.images.items (rw all at c.loop-slot.invariant.pictures) (rw all at c.loop-slot.invariant.fits)

@@ -14,6 +14,5 @@ returns-clause-stays c =
     record {
       stock = same_stock b.size b.claimed b.devices.items b.spooled.items b.asked b.words.items c.from-place.result c.make_ready.new.place
           (c.make_ready.ensures.fixture ∙ ap fixture_in here) (c.make_ready.ensures.progress ∙ ap progress_in here);
-      reply = refl;
-      told = refl;
+      answer = refl;
     }

@@ -1,4 +1,4 @@
-use Rattle.std.proofs.Common.{◌≡◌, ◌<◌, Some, None, get_or, set, length, refl, ap, ◌∙◌, arith}
+use Rattle.std.proofs.Common.{◌≡◌, ◌<◌, Some, None, get_or, set, length, ap, ◌∙◌, arith}
 use Rattle.std.specs.Vec.{with_items}
 use Rattle.std.proofs.lemmas.List.{get_or_default, with_items_is}
 use Rattle.kdf_transfer.specs.AtOnce.{kind_of}
@@ -17,9 +17,5 @@ returns c =
     let words = with_items_is b.words c.transfer.new.words (c.transfer.auto.words ∙ c.deref_mut.ensures.len) in
     let moved = moved_at c.args.order c.from.result c.args.first c.from-2.result c.args.last found.0 c.deref_mut.result.now b.words.items c.transfer.new.place c.transfer.new.words (with_items b.words c.transfer.new.words).items
     c.from.ensures c.from-2.ensures c.deref_mut.ensures.value words (c.transfer.ensures found.0 device) in
-    record {
-      stock =
-          ap (λ n. stock b.size b.claimed (set ds n c.transfer.new.place) b.spooled.items b.asked (with_items b.words c.transfer.new.words).items) c.from-3.ensures
-          ∙ stock_moved b.size b.claimed ds b.spooled.items b.asked b.words.items c.args.device c.args.order c.args.first c.args.last found.0 c.transfer.new.place (with_items b.words c.transfer.new.words).items found.1 moved;
-      told = refl;
-    }
+    ap (λ n. stock b.size b.claimed (set ds n c.transfer.new.place) b.spooled.items b.asked (with_items b.words c.transfer.new.words).items) c.from-3.ensures
+    ∙ stock_moved b.size b.claimed ds b.spooled.items b.asked b.words.items c.args.device c.args.order c.args.first c.args.last found.0 c.transfer.new.place (with_items b.words c.transfer.new.words).items found.1 moved

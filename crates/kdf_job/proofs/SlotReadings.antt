@@ -1,0 +1,242 @@
+-- The slots of a job without a fault, each by its lines.
+use Rattle.std.proofs.Common.{◌≡◌, ℕ, ◌+◌, Bool, true, false, cond, List, [], ◌∷◌, ◌++◌, Option, Some, None, Result, Ok, Err, refl, sym, ap, subst, ◌∙◌, append_assoc, append-nil}
+use Rattle.std.specs.Prelude.{◌==◌, codes, find}
+use Rattle.std.specs.Option.{option_map, option_to_list}
+use Rattle.std.proofs.lemmas.Bool.{eq-eqb, eqb-true}
+use Rattle.kdf_text.specs.Lines.{is_text, lines, words}
+use Rattle.kdf_schedule.specs.declared.event.Event.{Event}
+use Rattle.kdf_schedule.specs.declared.event.EventFault.{EventFault}
+use Rattle.kdf_schedule.specs.declared.event.EventFault.TheVariants as event_fault
+use Rattle.kdf_schedule.specs.Events.{event}
+use Rattle.kdf_job.specs.declared.fault.JobFault.{JobFault}
+use Rattle.kdf_job.specs.declared.place.Place.{Place}
+use Rattle.kdf_job.specs.declared.place.Place.TheVariants.{First, BehindHeader, BehindSlot, BehindStore, InDeck, BehindDeck, BehindDevice, BehindShow, InSchedule, BehindEnd}
+use Rattle.kdf_job.specs.Draft.{SlotDraft, Draft, blank, fault_of, new_slot, number_at, slot_of, slot_with, slots_told, slots_with, tells, with_line}
+use Rattle.kdf_job.specs.Forms.{Form, ASlot, AStore, ADeckLine, ASchedule, AnEndJob, told, first_told, behind, number_line, of_event, told_at}
+use Rattle.kdf_job.specs.Job.{SlotJob}
+use Rattle.kdf_job.specs.Reading.{behind_line, draft_of, fault_from, job, job_fault, or_fault, or_same, read_line, with_told}
+use Rattle.kdf_job.specs.SlotLines.{begins, ends, lines_from, place_behind, rest_of_slot, slot_lines}
+use Rattle.kdf_job.proofs.StoreLines.{IsBehindSlot, stores_only}
+
+-- ---- slots that lines tell, of which only the places and the slot that is read count
+
+-- the slot behind a line of this form
+abbrev next_slot : Form → Place → Option SlotDraft → Option SlotDraft
+next_slot (AStore n) place slot = Some (new_slot (number_at place) n)
+next_slot form place slot = option_map (tells form) slot
+
+-- the slot that a line of this form ends
+abbrev ended : Form → Option SlotDraft → List SlotJob
+ended (AStore n) slot = option_to_list (option_map slot_of slot)
+ended form slot = []
+
+abbrev told_line : Place → Option SlotDraft → Result Form JobFault → (Place → Option SlotDraft → List SlotJob) → List SlotJob
+told_line place slot (Err fault) follows = follows place slot
+told_line place slot (Ok form) follows = ended form slot ++ follows (behind form) (next_slot form place slot)
+
+abbrev slots_from : Place → Option SlotDraft → List (List ℕ) → List SlotJob
+slots_from place slot [] = option_to_list (option_map slot_of slot)
+slots_from place slot (line ∷ ls) = told_line place slot (told_at place line) (λ at s. slots_from at s ls)
+
+slots_split : (form : Form) (d : Draft) → slots_with form d ≡ d.slots ++ ended form d.slot
+slots_split (AStore n) d = refl
+slots_split form d = sym (append-nil d.slots)
+
+slot_is : (form : Form) (d : Draft) → slot_with form d ≡ next_slot form d.place d.slot
+slot_is (AStore n) d = refl
+slot_is form d = refl
+
+-- lines without a fault tell these slots
+told_slots : (n : ℕ) (d : Draft) (ls : List (List ℕ)) → fault_from n d ls ≡ None → slots_told (draft_of d ls) ≡ d.slots ++ slots_from d.place d.slot ls
+unfolding read_line
+told_slots n d [] none = refl
+told_slots n d (line ∷ ls) none = step (told_at d.place line) (λ (e : Draft). told_slots (n + 1) e ls) none
+  where
+    taken : (form : Form) (fault : Option JobFault) → ((e : Draft) → fault_from (n + 1) e ls ≡ None → slots_told (draft_of e ls) ≡ e.slots ++ slots_from e.place e.slot ls)
+        → behind_line n (or_fault form d fault) (λ e. fault_from (n + 1) e ls) ≡ None
+        → slots_told (draft_of (or_same d (or_fault form d fault)) ls) ≡ d.slots ++ (ended form d.slot ++ slots_from (behind form) (next_slot form d.place d.slot) ls)
+    taken form (Some fault) rest none = absurd cc
+    taken form None rest none =
+        rest (with_line form d) none
+        ∙ ap (λ (s : Option SlotDraft). slots_with form d ++ slots_from (behind form) s ls) (slot_is form d)
+        ∙ ap (λ (ss : List SlotJob). ss ++ slots_from (behind form) (next_slot form d.place d.slot) ls) (slots_split form d)
+        ∙ append_assoc d.slots (ended form d.slot) (slots_from (behind form) (next_slot form d.place d.slot) ls)
+
+    step : (r : Result Form JobFault) → ((e : Draft) → fault_from (n + 1) e ls ≡ None → slots_told (draft_of e ls) ≡ e.slots ++ slots_from e.place e.slot ls)
+        → behind_line n (with_told d r) (λ e. fault_from (n + 1) e ls) ≡ None
+        → slots_told (draft_of (or_same d (with_told d r)) ls) ≡ d.slots ++ told_line d.place d.slot r (λ at s. slots_from at s ls)
+    step (Err fault) rest none = absurd cc
+    step (Ok form) rest none = taken form (fault_of form d) rest none
+
+-- ---- the slot that the lines of one tell
+
+abbrev after_line : Place → Option SlotDraft → Result Form JobFault → (Place → Option SlotDraft → Option SlotDraft) → Option SlotDraft
+after_line place slot (Err fault) follows = follows place slot
+after_line place slot (Ok form) follows = follows (behind form) (next_slot form place slot)
+
+abbrev slot_after : Place → Option SlotDraft → List (List ℕ) → Option SlotDraft
+slot_after place slot [] = slot
+slot_after place slot (line ∷ ls) = after_line place slot (told_at place line) (λ at s. slot_after at s ls)
+
+-- the slot of number p, of its lines
+abbrev slot_of_lines : ℕ → List (List ℕ) → Option SlotJob
+slot_of_lines p [] = None
+slot_of_lines p (first ∷ ls) = option_map slot_of (slot_after (BehindSlot p) None ls)
+
+-- up to the line that ends it
+abbrev within_line : Place → Option SlotDraft → Result Form JobFault → (Place → Option SlotDraft → Option SlotDraft) → Option SlotDraft
+within_line place slot (Err fault) follows = follows place slot
+within_line place slot (Ok (ASlot q)) follows = slot
+within_line place slot (Ok ASchedule) follows = slot
+within_line place slot (Ok form) follows = follows (behind form) (next_slot form place slot)
+
+abbrev slot_within : Place → Option SlotDraft → List (List ℕ) → Option SlotDraft
+slot_within place slot [] = slot
+slot_within place slot (line ∷ ls) = within_line place slot (told_at place line) (λ at s. slot_within at s ls)
+
+slot_after_rest : (place : Place) (slot : Option SlotDraft) (ls : List (List ℕ)) → slot_after place slot (rest_of_slot place ls) ≡ slot_within place slot ls
+slot_after_rest place slot [] = refl
+slot_after_rest place slot (line ∷ ls) = step (told_at place line) refl (λ (at : Place) (s : Option SlotDraft). slot_after_rest at s ls)
+  where
+    step : (r : Result Form JobFault) → told_at place line ≡ r → ((at : Place) (s : Option SlotDraft) → slot_after at s (rest_of_slot at ls) ≡ slot_within at s ls)
+        → slot_after place slot (cond (ends r) [] (line ∷ rest_of_slot (place_behind place r) ls)) ≡ within_line place slot r (λ at s. slot_within at s ls)
+    step (Err fault) e rest =
+        ap (λ (r : Result Form JobFault). after_line place slot r (λ at s. slot_after at s (rest_of_slot place ls))) e ∙ rest place slot
+    step (Ok (ASlot q)) e rest = refl
+    step (Ok ASchedule) e rest = refl
+    step (Ok form) e rest =
+        ap (λ (r : Result Form JobFault). after_line place slot r (λ at s. slot_after at s (rest_of_slot (behind form) ls))) e ∙ rest (behind form) (next_slot form place slot)
+
+-- ---- the slot of a number among those that lines tell
+
+abbrev is_slot : ℕ → SlotJob → Bool
+is_slot p s = s.p == p
+
+-- the slot that is read is another
+abbrev IsOther : ℕ → Option SlotDraft → Type 0
+IsOther p None = Unit {0}
+IsOther p (Some s) = (s.p == p) ≡ false
+
+-- nor is this number the one that waits for its slot
+abbrev IsAway : ℕ → Place → Type 0
+IsAway p (BehindSlot q) = (q == p) ≡ false
+IsAway p _ = Unit {0}
+
+not_found : (p : ℕ) (slot : Option SlotDraft) (ss : List SlotJob) → IsOther p slot → find (is_slot p) (option_to_list (option_map slot_of slot) ++ ss) ≡ find (is_slot p) ss
+not_found p None ss other = refl
+not_found p (Some s) ss other = rw other refl
+
+not_found_last : (p : ℕ) (slot : Option SlotDraft) → IsOther p slot → find (is_slot p) (option_to_list (option_map slot_of slot)) ≡ None
+not_found_last p None other = refl
+not_found_last p (Some s) other = rw other refl
+
+other_still : (p : ℕ) (form : Form) (slot : Option SlotDraft) → IsOther p slot → IsOther p (option_map (tells form) slot)
+other_still p form None other = other
+other_still p (ADeckLine text) (Some s) other = other
+other_still p form (Some s) other = other
+
+-- the schedule tells nothing of a slot
+at_the_end : (s : SlotDraft) (ls : List (List ℕ)) → slots_from BehindEnd (Some s) ls ≡ slot_of s ∷ []
+at_the_end s [] = refl
+at_the_end s (line ∷ ls) = at_the_end s ls
+
+in_schedule : (s : SlotDraft) (ls : List (List ℕ)) → slots_from InSchedule (Some s) ls ≡ slot_of s ∷ []
+in_schedule s [] = refl
+in_schedule s (line ∷ ls) = step (event line) (is_text (codes "ENDJOB") line) (in_schedule s ls)
+  where
+    step : (r : Result Event EventFault) (b : Bool) → slots_from InSchedule (Some s) ls ≡ slot_of s ∷ []
+        → told_line InSchedule (Some s) (first_told (of_event r ∷ cond b (Some (Ok AnEndJob)) None ∷ [])) (λ at t. slots_from at t ls) ≡ slot_of s ∷ []
+    step (Ok what) b rest = rest
+    step (Err event_fault.Number) b rest = rest
+    step (Err event_fault.Form) true rest = at_the_end s ls
+    step (Err event_fault.Form) false rest = rest
+
+-- a slot that was read stands first of what follows
+read_stays : (p q : ℕ) (s : SlotDraft) (ls : List (List ℕ)) → (s.p == p) ≡ true → find (is_slot p) (slots_from (BehindSlot q) (Some s) ls) ≡ Some (slot_of s)
+read_stays p q s [] is = rw is refl
+read_stays p q s (line ∷ ls) is = step (number_line (codes "STORE") 32 8192 (words line)) (read_stays p q s ls is)
+  where
+    step : (x : Option (Result ℕ JobFault)) → find (is_slot p) (slots_from (BehindSlot q) (Some s) ls) ≡ Some (slot_of s)
+        → find (is_slot p) (told_line (BehindSlot q) (Some s) (first_told (told AStore x ∷ [])) (λ at t. slots_from at t ls)) ≡ Some (slot_of s)
+    step None rest = rest
+    step (Some (Err fault)) rest = rest
+    step (Some (Ok n)) rest = rw is refl
+
+-- in the slot
+inside : (p : ℕ) (place : Place) (s : SlotDraft) (ls : List (List ℕ)) → (IsBehindSlot place → ⊥) → (s.p == p) ≡ true
+    → find (is_slot p) (slots_from place (Some s) ls) ≡ option_map slot_of (slot_within place (Some s) ls)
+inside p place s [] away is = rw is refl
+inside p place s (line ∷ ls) away is = step (told_at place line) refl (λ (at : Place) (t : SlotDraft). inside p at t ls)
+  where
+    step : (r : Result Form JobFault) → told_at place line ≡ r
+        → ((at : Place) (t : SlotDraft) → (IsBehindSlot at → ⊥) → (t.p == p) ≡ true → find (is_slot p) (slots_from at (Some t) ls) ≡ option_map slot_of (slot_within at (Some t) ls))
+        → find (is_slot p) (told_line place (Some s) r (λ at t. slots_from at t ls)) ≡ option_map slot_of (within_line place (Some s) r (λ at t. slot_within at t ls))
+    step (Err fault) e rest = rest place s away is
+    step (Ok (ASlot q)) e rest = read_stays p q s ls is
+    step (Ok ASchedule) e rest = ap (find (is_slot p)) (in_schedule s ls) ∙ rw is refl
+    step (Ok (AStore n)) e rest = absurd (away (stores_only place line n e))
+    step (Ok form) e rest = rest (behind form) (tells form s) (λ no. no) is
+
+-- behind `SLOT p`
+begun : (p : ℕ) (slot : Option SlotDraft) (ls : List (List ℕ)) → IsOther p slot
+    → find (is_slot p) (slots_from (BehindSlot p) slot ls) ≡ option_map slot_of (slot_within (BehindSlot p) None ls)
+begun p slot [] other = not_found_last p slot other
+begun p slot (line ∷ ls) other = step (number_line (codes "STORE") 32 8192 (words line)) (begun p slot ls other)
+  where
+    step : (x : Option (Result ℕ JobFault)) → find (is_slot p) (slots_from (BehindSlot p) slot ls) ≡ option_map slot_of (slot_within (BehindSlot p) None ls)
+        → find (is_slot p) (told_line (BehindSlot p) slot (first_told (told AStore x ∷ [])) (λ at t. slots_from at t ls))
+        ≡ option_map slot_of (within_line (BehindSlot p) None (first_told (told AStore x ∷ [])) (λ at t. slot_within at t ls))
+    step None rest = rest
+    step (Some (Err fault)) rest = rest
+    step (Some (Ok n)) rest =
+        not_found p slot (slots_from BehindStore (Some (new_slot p n)) ls) other ∙ inside p BehindStore (new_slot p n) ls (λ no. no) (eq-eqb p p refl)
+
+-- the number that waits is another
+waits : (p : ℕ) (place : Place) → IsBehindSlot place → IsAway p place → (number_at place == p) ≡ false
+waits p (BehindSlot q) is away = away
+waits p First is away = absurd is
+waits p BehindHeader is away = absurd is
+waits p BehindStore is away = absurd is
+waits p InDeck is away = absurd is
+waits p BehindDeck is away = absurd is
+waits p BehindDevice is away = absurd is
+waits p BehindShow is away = absurd is
+waits p InSchedule is away = absurd is
+waits p BehindEnd is away = absurd is
+
+-- outside of the slot
+outside : (p : ℕ) (place : Place) (slot : Option SlotDraft) (ls : List (List ℕ)) → IsOther p slot → IsAway p place
+    → find (is_slot p) (slots_from place slot ls) ≡ slot_of_lines p (lines_from p place ls)
+outside p place slot [] other away = not_found_last p slot other
+outside p place slot (line ∷ ls) other away = step (told_at place line) refl (λ (at : Place) (s : Option SlotDraft). outside p at s ls)
+  where
+    picked : (q : ℕ) (b : Bool) → (q == p) ≡ b
+        → ((at : Place) (s : Option SlotDraft) → IsOther p s → IsAway p at → find (is_slot p) (slots_from at s ls) ≡ slot_of_lines p (lines_from p at ls))
+        → find (is_slot p) (slots_from (BehindSlot q) (option_map (tells (ASlot q)) slot) ls) ≡ slot_of_lines p (cond b (line ∷ rest_of_slot (BehindSlot p) ls) (lines_from p (BehindSlot q) ls))
+    picked q true e rest =
+        subst
+        (λ (x : ℕ). find (is_slot p) (slots_from (BehindSlot x) (option_map (tells (ASlot x)) slot) ls) ≡ slot_of_lines p (line ∷ rest_of_slot (BehindSlot p) ls))
+        (sym (eqb-true q p e))
+        (begun p (option_map (tells (ASlot p)) slot) ls (other_still p (ASlot p) slot other) ∙ ap (option_map slot_of) (sym (slot_after_rest (BehindSlot p) None ls)))
+    picked q false e rest = rest (BehindSlot q) (option_map (tells (ASlot q)) slot) (other_still p (ASlot q) slot other) e
+
+    step : (r : Result Form JobFault) → told_at place line ≡ r
+        → ((at : Place) (s : Option SlotDraft) → IsOther p s → IsAway p at → find (is_slot p) (slots_from at s ls) ≡ slot_of_lines p (lines_from p at ls))
+        → find (is_slot p) (told_line place slot r (λ at s. slots_from at s ls))
+        ≡ slot_of_lines p (cond (begins p r) (line ∷ rest_of_slot (BehindSlot p) ls) (lines_from p (place_behind place r) ls))
+    step (Err fault) e rest = rest place slot other away
+    step (Ok (ASlot q)) e rest = picked q (q == p) refl rest
+    step (Ok (AStore n)) e rest =
+        not_found p slot (slots_from BehindStore (Some (new_slot (number_at place) n)) ls) other
+        ∙ rest BehindStore (Some (new_slot (number_at place) n)) (waits p place (stores_only place line n e) away) (tt {0})
+    step (Ok form) e rest = rest (behind form) (option_map (tells form) slot) (other_still p form slot other) (tt {0})
+
+-- ---- the slot of a job
+
+slot_told : (p : ℕ) (bytes : List ℕ) → job_fault bytes ≡ None → find (is_slot p) (job bytes).slots ≡ slot_of_lines p (slot_lines p bytes)
+unfolding job job_fault slot_lines
+slot_told p bytes none = ap (find (is_slot p)) (told_slots 1 blank (lines bytes) none) ∙ outside p First None (lines bytes) (tt {0}) (tt {0})
+
+pub slots_told_alike : (one other : List ℕ) (p : ℕ) → job_fault one ≡ None → job_fault other ≡ None → slot_lines p one ≡ slot_lines p other
+    → find (λ (s : SlotJob). s.p == p) (job one).slots ≡ find (λ (s : SlotJob). s.p == p) (job other).slots
+slots_told_alike one other p here there same = slot_told p one here ∙ ap (slot_of_lines p) same ∙ sym (slot_told p other there)

@@ -1,0 +1,123 @@
+-- A line tells the size of a store behind `SLOT p` alone.
+use Rattle.std.proofs.Common.{◌≡◌, ℕ, Bool, true, false, cond, List, [], ◌∷◌, Option, Some, None, Result, Ok, Err, subst}
+use Rattle.std.specs.Prelude.{◌==◌, codes}
+use Rattle.kdf_text.specs.Lines.{is_text, words}
+use Rattle.kdf_text.specs.Numbers.{number_in}
+use Rattle.kdf_journal.specs.declared.kind.Kind.{Kind}
+use Rattle.kdf_journal.specs.declared.kind.Kind.TheVariants.{Mt}
+use Rattle.kdf_schedule.specs.declared.event.Event.{Event}
+use Rattle.kdf_schedule.specs.declared.event.EventFault.{EventFault}
+use Rattle.kdf_schedule.specs.declared.event.EventFault.TheVariants as event_fault
+use Rattle.kdf_schedule.specs.Events.{event}
+use Rattle.kdf_job.specs.declared.fault.JobFault.{JobFault}
+use Rattle.kdf_job.specs.declared.fault.JobFault.TheVariants.{Header}
+use Rattle.kdf_job.specs.declared.place.Place.{Place}
+use Rattle.kdf_job.specs.declared.place.Place.TheVariants.{First, BehindHeader, BehindSlot, BehindStore, InDeck, BehindDeck, BehindDevice, BehindShow, InSchedule, BehindEnd}
+use Rattle.kdf_job.specs.Forms.{Form, AHeader, ASlot, AStore, ADeck, ADeckLine, AnEndDeck, ADevice, AMedium, AShow, ASchedule, AnEndJob, Told, told, first_told, addresses, alone, described, device_named, device_or_end, device_words, event_line, kind_named, medium_line, number_line, numbered, of_event, or_bad, show_line, slot_ends, slot_line, told_at}
+
+abbrev pub IsBehindSlot : Place → Type 0
+IsBehindSlot (BehindSlot p) = Unit {0}
+IsBehindSlot _ = ⊥
+
+abbrev NoStore : Form → Type 0
+NoStore (AStore n) = ⊥
+NoStore _ = Unit {0}
+
+abbrev TellsNone : Result Form JobFault → Type 0
+TellsNone (Ok form) = NoStore form
+TellsNone (Err fault) = Unit {0}
+
+abbrev MayTellNone : Told → Type 0
+MayTellNone None = Unit {0}
+MayTellNone (Some r) = TellsNone r
+
+abbrev AllTellNone : List Told → Type 0
+AllTellNone [] = Unit {0}
+AllTellNone (t ∷ ts) = MayTellNone t × AllTellNone ts
+
+first_none : (ts : List Told) → AllTellNone ts → TellsNone (first_told ts)
+first_none [] h = tt {0}
+first_none (None ∷ ts) h = first_none ts h.1
+first_none (Some r ∷ ts) h = h.0
+
+either : (b : Bool) (r s : Result Form JobFault) → TellsNone r → TellsNone s → TellsNone (cond b r s)
+either true r s h k = h
+either false r s h k = k
+
+choice : (b : Bool) (t u : Told) → MayTellNone t → MayTellNone u → MayTellNone (cond b t u)
+choice true t u h k = h
+choice false t u h k = k
+
+made : {X : Type 0} (make : X → Form) → ((x : X) → NoStore (make x)) → (o : Option (Result X JobFault)) → MayTellNone (told make o)
+made make none None = tt {0}
+made make none (Some (Ok x)) = none x
+made make none (Some (Err fault)) = tt {0}
+
+slot_none : (line : List ℕ) → MayTellNone (slot_line line)
+slot_none line = made ASlot (λ p. tt {0}) (number_line (codes "SLOT") 0 3 (words line))
+
+show_none : (line : List ℕ) → MayTellNone (show_line line)
+show_none line = made (λ (x : ℕ × ℕ). AShow x.0 x.1) (λ x. tt {0}) (addresses (words line))
+
+medium_none : (line : List ℕ) → MayTellNone (medium_line line)
+medium_none [] = tt {0}
+medium_none (byte ∷ text) =
+    choice (byte == 43) (Some (Ok (AMedium false text))) (cond (byte == 61) (Some (Ok (AMedium true text))) None) (tt {0})
+    (choice (byte == 61) (Some (Ok (AMedium true text))) None (tt {0}) (tt {0}))
+
+numbered_none : (kind : Kind) (label d : List ℕ) → MayTellNone (numbered kind label d)
+numbered_none kind label d = made (λ (n : ℕ). ADevice n kind label) (λ n. tt {0}) (Some (or_bad (number_in 0 15 d)))
+
+named_none : (d : List ℕ) (kind : Option Kind) → MayTellNone (device_named d kind)
+named_none d None = tt {0}
+named_none d (Some kind) = numbered_none kind [] d
+
+described_none : (ws : List (List ℕ)) → MayTellNone (described ws)
+described_none [] = tt {0}
+described_none (d ∷ []) = tt {0}
+described_none (d ∷ kind ∷ []) = named_none d (kind_named kind)
+described_none (d ∷ kind ∷ label ∷ []) =
+    choice (is_text (codes "MT") kind) (numbered Mt label d) None (numbered_none Mt label d) (tt {0})
+described_none (d ∷ kind ∷ label ∷ more ∷ ws) = tt {0}
+
+device_none : (ws : List (List ℕ)) → MayTellNone (device_words ws)
+device_none [] = tt {0}
+device_none (name ∷ rest) = choice (is_text (codes "DEVICE") name) (described rest) None (described_none rest) (tt {0})
+
+event_none : (r : Result Event EventFault) → MayTellNone (of_event r)
+event_none (Ok what) = tt {0}
+event_none (Err event_fault.Form) = tt {0}
+event_none (Err event_fault.Number) = tt {0}
+
+schedule_none : (line : List ℕ) → MayTellNone (alone (codes "SCHEDULE") ASchedule line)
+schedule_none line = choice (is_text (codes "SCHEDULE") line) (Some (Ok ASchedule)) None (tt {0}) (tt {0})
+
+ends_none : (line : List ℕ) → AllTellNone (slot_ends line)
+ends_none line = (show_none line, (slot_none line, (schedule_none line, tt {0})))
+
+tells_none : (place : Place) (line : List ℕ) → (IsBehindSlot place → ⊥) → TellsNone (told_at place line)
+tells_none First line away = either (is_text (codes "KDF9 JOB 1") line) (Ok AHeader) (Err Header) (tt {0}) (tt {0})
+tells_none BehindHeader line away = first_none (slot_line line ∷ []) (slot_none line, tt {0})
+tells_none (BehindSlot p) line away = absurd (away (tt {0}))
+tells_none BehindStore line away =
+    first_none (alone (codes "DECK") ADeck line ∷ []) (choice (is_text (codes "DECK") line) (Some (Ok ADeck)) None (tt {0}) (tt {0}), tt {0})
+tells_none InDeck line away = either (is_text (codes "ENDDECK") line) (Ok AnEndDeck) (Ok (ADeckLine line)) (tt {0}) (tt {0})
+tells_none BehindDeck line away = first_none (device_or_end line) (device_none (words line), ends_none line)
+tells_none BehindDevice line away = first_none (medium_line line ∷ device_or_end line) (medium_none line, (device_none (words line), ends_none line))
+tells_none BehindShow line away = first_none (slot_ends line) (ends_none line)
+tells_none InSchedule line away =
+    first_none (event_line line ∷ alone (codes "ENDJOB") AnEndJob line ∷ [])
+    (event_none (event line), (choice (is_text (codes "ENDJOB") line) (Some (Ok AnEndJob)) None (tt {0}) (tt {0}), tt {0}))
+tells_none BehindEnd line away = tt {0}
+
+pub stores_only : (place : Place) (line : List ℕ) (n : ℕ) → told_at place line ≡ Ok (AStore n) → IsBehindSlot place
+stores_only (BehindSlot p) line n e = tt {0}
+stores_only First line n e = subst TellsNone e (tells_none First line (λ no. no))
+stores_only BehindHeader line n e = subst TellsNone e (tells_none BehindHeader line (λ no. no))
+stores_only BehindStore line n e = subst TellsNone e (tells_none BehindStore line (λ no. no))
+stores_only InDeck line n e = subst TellsNone e (tells_none InDeck line (λ no. no))
+stores_only BehindDeck line n e = subst TellsNone e (tells_none BehindDeck line (λ no. no))
+stores_only BehindDevice line n e = subst TellsNone e (tells_none BehindDevice line (λ no. no))
+stores_only BehindShow line n e = subst TellsNone e (tells_none BehindShow line (λ no. no))
+stores_only InSchedule line n e = subst TellsNone e (tells_none InSchedule line (λ no. no))
+stores_only BehindEnd line n e = subst TellsNone e (tells_none BehindEnd line (λ no. no))

@@ -1,0 +1,18 @@
+-- The slots of a job, as they are loaded.
+use Rattle.std.specs.Prelude.{ℕ, ◌==◌, List, find, map, Option}
+use Rattle.kdf_place.specs.Assembled.{image_words}
+use Rattle.kdf_processor.specs.State.{Slot}
+use Rattle.kdf_job.specs.Job.{Job, SlotJob}
+use Rattle.kdf_director.specs.Loading as loading
+
+-- the words of the images of these slots' decks
+abbrev pub images_of : List SlotJob → List (List ℕ)
+images_of slots = map (λ (s : SlotJob). image_words s.size s.deck) slots
+
+-- each slot with the image of its deck
+abbrev pub slots_of : Job → List Slot
+slots_of job = loading.slots_of job.slots (images_of job.slots)
+
+-- the slot of this number
+abbrev pub slot_numbered : List SlotJob → ℕ → Option SlotJob
+slot_numbered slots p = find (λ (s : SlotJob). s.p == p) slots

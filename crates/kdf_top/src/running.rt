@@ -1,0 +1,30 @@
+//! A job under Director.
+ghost use Rattle.std.specs.Prelude.{◌≡◌, IfOk};
+ghost use Rattle.kdf_job.specs.Shows.{shown_job};
+ghost use Rattle.kdf_job.specs.WellFormed.{IsJob};
+ghost use Rattle.kdf_director.specs.Follows.{IsJournal};
+ghost use Rattle.kdf_director.specs.Shown.{ShowsSeen};
+ghost use Rattle.kdf_top.specs.Loaded.{HasImages, slots_of};
+
+use kdf_director::{Machine, follow};
+use kdf_job::Job;
+use kdf_place::Image;
+use std::alloc::{AllocError, Global};
+
+/// Loads a job and makes the calls of its schedule.
+pub fn run_job(alloc: Global, job: &Job, images: &[Image]) -> Result<Machine, AllocError>
+    requires job { IsJob (shown_job job.now) }
+    requires images { HasImages (shown_job job.now).slots images.now }
+    ensures slots { IfOk result (λ m. m.slots ≡ slots_of (shown_job job.now)) }
+    ensures journal { IfOk result (λ m. IsJournal m.slots (shown_job job.now).events m.journal) }
+    ensures seen { IfOk result ShowsSeen }
+{
+    let mut machine = Machine::load(alloc, job, images)?;
+    match follow(&mut machine, &job.events) {
+        Ok(()) => Ok(machine),
+        Err(error) => {
+            machine.close();
+            Err(error)
+        }
+    }
+}
