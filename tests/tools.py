@@ -1,0 +1,365 @@
+"""Tries the tools: each fault of decks and of jobs, failed programs, hints, every example, bad input, and texts of the largest sizes."""
+import collections
+import pathlib
+import re
+import resource
+import subprocess
+import sys
+import xml.etree.ElementTree
+
+ROOT = pathlib.Path(__file__).resolve().parent.parent
+Run = collections.namedtuple("Run", "status out err")
+
+# A deck's name of a fault, its lines, the line and the column in the deck, and how the sentence on it begins. The store has 32 words.
+DECK_FAULTS = [
+    ("BadByte", "PROGRAM;\n  ZERO;\t OUT;\nFINISH;", 2, 8, "The byte is none of a deck"),
+    ("CommentOpen", "PROGRAM;\n ZERO; (adds\nFINISH;", 2, 8, "A `(` without a later `)`."),
+    ("NoSemicolon", "PROGRAM;\n  ZERO;\nFINISH", 3, 1, "Text behind the last `;`: its first byte."),
+    ("UnknownOrder", "PROGRAM; SET 5;\n(add) ADD; FINISH;", 2, 7, "The statement has no form of this document."),
+    ("Floating", "PROGRAM;\n ZERO;\n +F; FINISH;", 3, 2, "The statement is a floating-point order of the KDF9"),
+    ("BadNumber", "PROGRAM;\nSET 5; SET 40000;\nFINISH;", 2, 8, "A number outside its range, other than in the next two."),
+    ("QRange", "PROGRAM;\n\n   Q16; FINISH;", 3, 4, "The number of a Q-store is above 15."),
+    ("ConstantRange", "PROGRAM V1; V0 = 1;\nV1 = 140737488355328; FINISH;", 2, 1, "A constant outside its range, or with more than 8 characters."),
+    ("BadHeading", "PROGRAM V0;\nZERO;\n V0=1; FINISH;", 3, 2, "The statement isn't in its place in the sequence."),
+    ("NoFinish", "PROGRAM;\nZERO;", 3, 1, "There is no `FINISH`: the length of the deck."),
+    ("AfterFinish", "PROGRAM; ZERO;\nFINISH; ZERO;", 2, 9, "Text behind `FINISH`: its first byte."),
+    ("ReferenceTwice", "PROGRAM; 1; J1;\n  1; FINISH;", 2, 3, "The reference stood before in this part."),
+    ("ReferenceMissing", "PROGRAM; 1;\n    J2; FINISH;", 2, 5, "The target's part is there and hasn't that reference."),
+    ("PartTwice", "PROGRAM;\nP1; ZERO;\nP1; ZERO; FINISH;", 3, 1, "The part's number stood before."),
+    ("PartMissing", "PROGRAM;\n ZERO; JSP3; FINISH;", 2, 8, "A jump or a store names a part that isn't there."),
+    ("VRange", "PROGRAM V1;\n  V2; FINISH;", 2, 3, "N is above the part's last V-store"),
+    ("YRange", "Y1; PROGRAM;\nY0; YB0; FINISH;", 2, 5, "N is above the group's last store"),
+    ("ShortLoopFar", "PROGRAM; 1;\nDC1; J1C1NZS; FINISH;", 2, 6, "Reference r of `JrCqNZS` isn't at the beginning of the word before."),
+    ("TooLarge", "Y99;\nPROGRAM; FINISH;", 3, 1, "The image has more words than the store: the length of the deck."),
+]
+
+PLAIN = "PROGRAM; 1; J1; FINISH;"
+HEAD = f"KDF9 JOB 1\nSLOT 0\nSTORE 64\nDECK\n{PLAIN}\nENDDECK\n"
+TAIL = "SCHEDULE\nORDERS 10\nENDJOB\n"
+
+# A job's name of a fault, its text, the line and the column, and how the sentence on it begins.
+JOB_FAULTS = [
+    ("Header", HEAD.replace("JOB 1", "JOB 2") + TAIL, 1, 10, "line 1 isn't there, or isn't `KDF9 JOB 1`"),
+    ("BadLine", HEAD + "PRINT 3\n" + TAIL, 7, 1, "no line of this form may stand here"),
+    ("BadNumber", HEAD + "SCHEDULE\nMOVE 3 4097\nENDJOB\n", 8, 8, "a word that has to be a number isn't one, or is out of its range"),
+    ("SlotOrder", HEAD + HEAD[11:] + TAIL, 7, 6, "the slot isn't above the slot before"),
+    ("SizeNotGroups", HEAD.replace("64", "65") + TAIL, 3, 7, "the store isn't a multiple of 32"),
+    (
+        "StoreFull", "KDF9 JOB 1\n" + "".join(HEAD[11:].replace("SLOT 0", f"SLOT {slot}").replace("64", "8192") for slot in range(4)) + TAIL,
+        18, 7, "the stores so far have more than 31744 words together",
+    ),
+    ("DeviceTwice", HEAD + "DEVICE 3 TR\nDEVICE 3 TP\n" + TAIL, 8, 8, "an earlier device of the job has this number"),
+    ("BadLabel", HEAD + "DEVICE 3 MT a\n" + TAIL, 7, 13, "the label isn't 1 to 8 characters of A to Z and 0 to 9"),
+    ("LabelTwice", HEAD + "DEVICE 3 MT A\nDEVICE 4 MT A\n" + TAIL, 8, 13, "the slot has a tape of this label already"),
+    ("BadMedium", HEAD + "DEVICE 3 TR\n+AB&D\n" + TAIL, 8, 4, "a byte is no character, the line is too long for its kind"),
+    ("ShowRange", HEAD + "SHOW 3 2\n" + TAIL, 7, 6, "the first address is above the last"),
+    ("ClockFalls", HEAD + "SCHEDULE\nCLOCK 10\nCLOCK 9\nENDJOB\n", 9, 7, "the time is below the one before"),
+    ("TooManyOrders", HEAD + "SCHEDULE\nORDERS 20000000\nORDERS 1\nENDJOB\n", 9, 8, "the `ORDERS` lines so far have more than 20000000 together"),
+    ("TooManyEvents", HEAD + "SCHEDULE\n" + "END 1\n" * 500001 + "ENDJOB\n", 500008, 1, "this is line 500,001 of the schedule"),
+]
+
+# Where in a medium a job is wrong: its devices, and the line and the column.
+MEDIA = [
+    ("DEVICE 3 CR\n+" + "A" * 81 + "\n", 8, 82), ("DEVICE 3 MT A\n+\n", 8, 1), ("DEVICE 3 TR\n=A\n", 8, 1), ("DEVICE 3 LP\n+A\n", 8, 1),
+    ("DEVICE 3 MT A\n=A\n+b\n", 9, 2),
+]
+
+# What stands in a deck of one line, and a part of the hint.
+HINTS = [
+    ("PROGRAM; zero; OUT; FINISH;", "write ZERO"),
+    ("PROGRAM V0; V0=Pabc; FINISH;", "write V0=PABC"),
+    ("PROGRAM; SET 5; SET 7\n+; ZERO; OUT; FINISH;", "a ; is missing at 5:22, behind SET 7"),
+    ("PROGRAM; ZERO (nothing) OUT; FINISH;", "a ; is missing at 5:14, behind ZERO"),
+    ("PROGRAM; ZERO;\r\nFINISH;", "byte 13"),
+    ("PROGRAM;\tZERO; FINISH;", "tabulator"),
+    ("PROGRAM; SET 1; SET 1; DIV; FINISH;", "DIVI divides"),
+    ("PROGRAM; DIVF; FINISH;", "leaves out floating point"),
+    ("PROGRAM; ZERO; FINISH", "a ; is missing at 5:22"),
+]
+
+# What is wrong in the text of a job, and a part of the hint.
+JOB_HINTS = [
+    ((HEAD + TAIL).replace("ORDERS 10\n", "ORDERS 10\r\n"), "byte 13"),
+    ((HEAD + TAIL).replace("SLOT", "slot"), "write SLOT 0"),
+    ((HEAD + TAIL).replace("ORDERS 10", "ORDERS  10"), "exactly one space"),
+    ((HEAD + TAIL).replace("ORDERS 10", "ORDERS 010"), "no zeros in front"),
+    ((HEAD + TAIL).replace("ENDDECK\n", ""), "ENDDECK hasn't come"),
+    ((HEAD + TAIL).replace("ENDJOB\n", ""), "ENDJOB hasn't come"),
+    (HEAD + "DEVICE 3 TR\n+ab\n" + TAIL, "small letters are no characters"),
+]
+
+# How a program fails, its deck, the line and the column in the deck at which it stands, and a part of what is said of it.
+FAILURES = [
+    ("LIV", "PROGRAM;\n ZERO; (to nowhere)\n =E9999; FINISH;", 3, 2, "a syllable is outside the program's store"),
+    ("NOUV", "PROGRAM; SET 5;\n   +; FINISH;", 2, 4, "fewer words than the order needs"),
+    ("OUT", "PROGRAM;\nSET 7; OUT;\nFINISH;", 2, 8, "an OUT with a number that isn't one"),
+    ("RESET", "PROGRAM; SET -1;\n=LINK; EXIT; FINISH;", 2, 8, "a link with syllable 6 or 7"),
+    ("CLAIM", "PROGRAM;\nZERO; =Q1;\n    PRQ1; FINISH;", 3, 5, "a device that the program may not use"),
+    ("LIVE", "PROGRAM; 1;\n  J1; FINISH;", 2, 3, "was live when the schedule ended, after 10 orders"),
+]
+
+# The words of a tool, what it reads, and how its line begins.
+BAD_INPUT = [
+    (["steps"], "", "usage: ./kdf9 steps JOB"),
+    (["steps", "-", "4"], HEAD + TAIL, "usage: ./kdf9 steps JOB"),
+    (["steps", "-", "0", "0"], HEAD + TAIL, "usage: ./kdf9 steps JOB"),
+    (["steps", "-", "0", "5", "4"], HEAD + TAIL, "usage: ./kdf9 steps JOB"),
+    (["steps", "-", "1"], HEAD + TAIL, "-: the job has no slot 1"),
+    (["steps", "-", "0", "9"], HEAD.replace(PLAIN, "PROGRAM; ZERO; OUT; FINISH;") + TAIL, "-: the program obeys 3 orders"),
+    (["steps", "-"], "no job\n", "-:1:1: Header: no job"),
+    (["steps", "-"], HEAD.replace("J1", "ADD") + TAIL, "-:5:13: UnknownOrder: ADD"),
+    (["listing", "-"], "", "-:1:1: Header: the job ends here"),
+    (["listing", "-"], HEAD, "-:7:1: BadLine: the job ends here"),
+    (["listing", "-", "x"], HEAD + TAIL, "usage: ./kdf9 listing JOB"),
+    (["listing", "-", "3"], HEAD + TAIL, "-: the job has no slot 3"),
+    (["listing", "no/such/file"], "", "no/such/file: No such file"),
+    (["listing", "examples"], "", "examples: Is a directory"),
+    (["explain"], "", "usage: ./kdf9 explain JOB"),
+    (["explain", "no/such/file"], "", "no/such/file: No such file"),
+    (["listing", "-"], "KDF9 JOB 1\n" + " " * 4194304, "-: the job has more than 4194304 bytes"),
+    (["picture", "--svg"], "", "usage: ./kdf9 picture"),
+    (["picture"], "", "-:1: this is no report"),
+    (["picture", "--text"], HEAD + TAIL, "-:1: this is no report"),
+    (["picture"], "KDF9 REPORT 1\nRAN 0 1\nSLEPT 0\nENDREPORT\n", "-:3: this is no entry of a journal: SLEPT 0"),
+    (["picture"], "KDF9 REPORT 1\nRAN 0 one\nENDREPORT\n", "-:2: this is no entry of a journal: RAN 0 one"),
+    (["picture"], "KDF9 REPORT 1\nRAN 0 -1\nENDREPORT\n", "-:2: this is no entry of a journal: RAN 0 -1"),
+    (["picture"], "KDF9 REPORT 1\nRAN 1 1\nSLOT 0\nSTATE LIVE\nENDREPORT\n", "-:2: the report has no slot or device 1"),
+    (["picture"], "KDF9 REPORT 1\nRAN 0 1\nSLOT 0\nSTATE LIVE\n", "-:4: the report ends without ENDREPORT"),
+    (["picture"], "KDF9 REPORT 1\nSLOT 0\nSTATE LIVE\nCOLOUR blue\nENDREPORT\n", "-:4: this is no line of a report: COLOUR blue"),
+    (["picture"], "KDF9 REPORT 1\nSLOT 4\nSTATE LIVE\nENDREPORT\n", "-:2: this is no line of a report: SLOT 4"),
+    (["picture"], "KDF9 REPORT 1\nSTART 1 3 1\nSLOT 0\nSTATE LIVE\nDEVICE 3 TR FREE PLACE 0 FLAG 0\nENDREPORT\n", "-:2: the report has no slot"),
+    (["picture"], "KDF9 REPORT 1\nBUSY 0 9\nSLOT 0\nSTATE LIVE\nENDREPORT\n", "-:2: the report has no slot or device 9"),
+    (["picture"], "KDF9 REPORT 1\nSLOT 0\nENDREPORT\n", "-:3: slot 0 has no line STATE"),
+]
+
+# What a picture counts: the entries of a report for it, and the titles of what is drawn.
+COUNTS = [
+    ("orders", r"^RAN (?P<key>\d) (?P<number>\d+)$", r"^slot (?P<key>\d),.*obeyed (?P<number>\d+) order"),
+    ("transfers", r"^START \d (?P<key>\d+) \d+$", r"^device (?P<key>\d+) .*?(?P<number>\d+) transfers? begun"),
+    ("idle calls", r"^IDLE (?P<number>\d+)$", r": (?P<number>\d+) calls? idle"),
+    ("failures", r"^FAIL (?P<key>\d) \w+$", r"^slot (?P<key>\d) failed with call \d+: \w+$"),
+    ("ends", r"^ENDED (?P<key>\d)$", r"^slot (?P<key>\d) ended with call \d+$"),
+]
+
+
+def kdf9(words, text):
+    """A run of ./kdf9 by these words over this text."""
+    done = subprocess.run([ROOT / "kdf9", *words], input=text.encode("latin-1"), capture_output=True, cwd=ROOT, check=False)
+    return Run(done.returncode, done.stdout.decode("latin-1"), done.stderr.decode("latin-1"))
+
+
+def job_of_deck(deck):
+    """A job of this deck alone: its first line is line 5 of the job."""
+    return f"KDF9 JOB 1\nSLOT 0\nSTORE 32\nDECK\n{deck}\nENDDECK\n{TAIL}"
+
+
+def explained(text, head, parts):
+    """What is wrong with what explain says of a job: its first line has to be that, and all parts have to be in it; or None."""
+    own, run = kdf9(["run"], text), kdf9(["explain", "-"], text)
+    if (run.status, run.out) != (own.status, own.out):
+        return f"status {run.status} and {run.out[:60]!r} in place of the job's own"
+    if head and not re.match(re.escape(head) + r"(: |$)", run.err.split("\n")[0]):
+        return f"{run.err!r} in place of {head}"
+    missing = [part for part in parts if part not in run.err]
+    return f"{missing} is missing in {run.err!r}" if missing else None
+
+
+def pointed(text, line, column):
+    """The line of a text with the caret below the column, as explain writes them."""
+    lines = text.split("\n")
+    shown = re.sub(r"[^ -~]", "?", lines[line - 1] if line <= len(lines) else "")
+    first = max(0, column - 61)
+    return f"    {shown[first:column + 39]}\n    {' ' * (column - 1 - first)}^\n"
+
+
+def faults_are_found():
+    for name, deck, line, column, sentence in DECK_FAULTS:
+        text = job_of_deck(deck)
+        parts = [pointed(text, line + 4, column), f"\n  {sentence}", "(docs/USERCODE.md, fault "]
+        yield f"fault {name} of a deck", explained(text, f"-:{line + 4}:{column}: {name}", parts)
+    for name, text, line, column, sentence in JOB_FAULTS:
+        parts = [pointed(text, line, column), f"\n  {sentence}", "(docs/JOB.md)"]
+        yield f"fault {name} of a job", explained(text, f"-:{line}:{column}: {name}", parts)
+    for devices, line, column in MEDIA:
+        yield f"the medium {devices[:24]!r}", explained(HEAD + devices + TAIL, f"-:{line}:{column}: BadMedium", [])
+
+
+def hints_are_given():
+    for deck, part in HINTS:
+        yield f"a hint on {deck!r}", explained(job_of_deck(deck), "", ["  hint: ", part])
+    for text, part in JOB_HINTS:
+        yield f"a hint on a job: {part}", explained(text, "", ["  hint: ", part])
+    yield "no hint where there is none", None if "hint" not in kdf9(["explain", "-"], job_of_deck("PROGRAM; ADD; FINISH;")).err else "a hint"
+
+
+def failures_are_found():
+    for kind, deck, line, column, part in FAILURES:
+        text = job_of_deck(deck)
+        yield f"failure {kind}", explained(text, f"-:{line + 4}:{column}: {kind}", [pointed(text, line + 4, column), part])
+    for area, statement, column, hold in (("0/0/0", "J1", 66, "group 0"), ("0/32/32", "PRQ1", 62, "device 3")):
+        deck = f"PROGRAM V0; V0=Q{area}; SET 2; SET 5; OUT; V0; =Q1; =C1; 1; PRQ1; J1; FINISH;"
+        text = HEAD.replace(PLAIN, deck) + "DEVICE 3 TR\n+ABCDEFGHIJKLMNOPQ\nSCHEDULE\nORDERS 20\nENDJOB\n"
+        yield f"a program that is held up by {hold}", explained(text, f"-:5:{column}: LIVE: {statement}", [f"held up by {hold}"])
+    nowhere = explained(job_of_deck("PROGRAM; J1P1; P1; 1; FINISH;"), "", ["-: LIV: the next order of slot 0 is syllable 0 of word 2"])
+    yield "a program that stands at no statement", nowhere
+
+
+def examples():
+    """The examples: the name of each and its job."""
+    for path in sorted((ROOT / "examples").glob("*.job")):
+        yield path.stem, path.read_text(encoding="latin-1")
+    for path in sorted((ROOT / "examples").glob("*.make")):
+        yield path.stem, subprocess.run([path], capture_output=True, check=True).stdout.decode("latin-1")
+
+
+def refused(run):
+    """Whether a tool refused its input as it should: with one line, status 1 and no output."""
+    return run.status == 1 and not run.out and run.err.count("\n") == 1
+
+
+def examples_are_shown():
+    for name, text in examples():
+        own = kdf9(["run"], text)
+        yield f"explain of {name}", explained(text, "", [])
+        runs = [kdf9(["listing", "-"], text), kdf9(["steps", "-"], text)]
+        if own.status:
+            yield f"listing and steps of {name}", None if all(map(refused, runs)) else f"aren't refused: {runs}"
+            continue
+        for section in re.split(r"^SLOT ", own.out, flags=re.MULTILINE)[1:]:
+            yield f"listing of {name}", listing_is_wrong(text, section[0])
+            yield f"steps of {name}", steps_are_wrong(text, section[0])
+        yield f"picture of {name}", picture_is_wrong(own.out)
+
+
+def listing_is_wrong(text, slot):
+    """What is wrong with a listing, beside that of the program: syllables are put together to words again; or None."""
+    run, own = kdf9(["listing", "-", slot], text), kdf9(["asm", slot], text)
+    if run.status or run.err:
+        return run.err
+    words = [int(word, 8).to_bytes(6, "big") for word in re.findall(r"^WORD \d+ (\d+)$", own.out, re.MULTILINE)]
+    image, seen = b"".join(words), bytearray(6 * len(words))
+    for word, syllable, digits in re.findall(r"^.{6} +(\d+)/(\d) +((?:[0-9A-F]{2} )*[0-9A-F]{2}) ", run.out, re.MULTILINE):
+        at = 6 * int(word) + int(syllable)
+        seen[at:at + len(digits.split())] = bytes.fromhex(digits)
+    for word, digits in re.findall(r"^.{6} +(\d+)  ([0-7]{16}) ", run.out, re.MULTILINE):
+        seen[6 * int(word):6 * int(word) + 6] = int(digits, 8).to_bytes(6, "big")
+    references = re.findall(r"^.{6} +(\d+)/(\d) {21}(\d+);$", run.out, re.MULTILINE)
+    due = [(word, syllable, name) for name, word, syllable in re.findall(r"^REF \d+ (\d+) (\d+) (\d)$", own.out, re.MULTILINE)]
+    if [(word, syllable, str(int(name))) for word, syllable, name in references] != due:
+        return f"references {references} in place of {due}"
+    return None if bytes(seen) == image else f"another image: {run.out}"
+
+
+def steps_are_wrong(text, slot):
+    """What is wrong with the steps of a program, beside the text of its lone run; or None."""
+    schedule = text.rindex("SCHEDULE\n")
+    alone = kdf9(["alone", slot], text[:schedule] + "SCHEDULE\nORDERS 30\nENDJOB\n").out
+    run = kdf9(["steps", "-", slot, "1", "30"], text)
+    lines = run.out.split("\n")[1:-1]
+    if run.status or run.err:
+        return run.err
+    orders, state, nest = (re.search(rf"^{word} (.*)$", alone, re.MULTILINE)[1] for word in ("ORDERS", "STATE", "NEST"))
+    if [line.split()[0] for line in lines] != [str(order) for order in range(1, int(orders) + 1)]:
+        return f"the orders aren't 1 to {orders}: {run.out}"
+    if state != "LIVE" and not lines[-1].endswith(state):
+        return f"the last line doesn't end with {state}: {lines[-1]}"
+    shown = lines[-1][40:].split("  ")[0].split()
+    due = [number_or_octal(word) for word in nest.split()[1:]] or ["empty"]
+    return None if shown == due else f"the nest is {shown} in place of {due}"
+
+
+def number_or_octal(digits):
+    """A word of a report as steps shows it."""
+    word = int(digits, 8)
+    number = word - 2**48 if word >> 47 else word
+    return str(number) if abs(number) < 10**9 else digits
+
+
+def picture_is_wrong(report):
+    """What is wrong with the pictures of a report: what they count is counted in the report; or None."""
+    run, text = kdf9(["picture"], report), kdf9(["picture", "--text"], report)
+    if run.status or run.err or text.status or text.err:
+        return run.err + text.err
+    titles = [title.text for title in xml.etree.ElementTree.fromstring(run.out).iter("{http://www.w3.org/2000/svg}title")]
+    for what, entry, title in COUNTS:
+        due, seen = tally(entry, report), tally(title, "\n".join(titles))
+        if due != seen:
+            return f"{what}: {seen} in place of {due}"
+    for slot, state, orders in re.findall(r"^SLOT (\d)\nSTATE (.*)\nORDERS (\d+)$", report, re.MULTILINE):
+        if not re.search(rf"^slot {slot} .*\| {state}, {orders} orders?, held \d+$", text.out, re.MULTILINE):
+            return f"the text doesn't show slot {slot}: {text.out}"
+    return None
+
+
+def tally(pattern, text):
+    """The numbers that a pattern finds, added by their keys; where there is no number, each counts as one."""
+    found = collections.Counter()
+    for match in re.finditer(pattern, text, re.MULTILINE):
+        parts = match.groupdict()
+        found[parts.get("key")] += int(parts.get("number", 1))
+    return found
+
+
+def bad_input_is_refused():
+    for words, text, line in BAD_INPUT:
+        run = kdf9(words, text)
+        good = refused(run) and run.err.startswith(line)
+        yield f"bad input of {' '.join(words)}", None if good else f"{run.status} {run.out[:60]!r} {run.err[:200]!r} in place of {line!r}"
+
+
+def large_texts_take_seconds():
+    """Jobs of 4 MB and a journal of a million entries, timed by what the processor spends."""
+    head, tail = "KDF9 JOB 1\nSLOT 0\nSTORE 64\nDECK\nPROGRAM;\n", "\nZERO; OUT; FINISH;\nENDDECK\n" + TAIL
+    room = 4194304 - len(head) - len(tail)
+    for what, filling in (("comments", "()" * (room // 2)), ("stars", "*" * room), ("lines", "\n" * room), ("one statement", "SET 5 " * (room // 6))):
+        for tool in ("explain", "listing", "steps"):
+            yield f"{tool} of 4 MB of {what}", takes_long([tool, "-"], head + filling + tail)
+    rounds = (f"RAN {i % 4} 7\nSTART {i % 4} {i % 4} {i}\nBUSY {i % 4} {i % 4}\nIDLE 3\nEND {i % 4}\n" for i in range(200000))
+    sections = (f"SLOT {slot}\nSTATE LIVE\nDEVICE {slot} TR HELD PLACE 0 FLAG 0\n" for slot in range(4))
+    report = "KDF9 REPORT 1\n" + "".join(rounds) + "".join(sections) + "ENDREPORT\n"
+    for words in (["picture"], ["picture", "--text"]):
+        yield f"{' '.join(words)} of a million entries", takes_long(words, report)
+
+
+def takes_long(words, text):
+    """What is wrong with the time of a run, or with its size; or None."""
+    before = resource.getrusage(resource.RUSAGE_CHILDREN)
+    run = kdf9(words, text)
+    after = resource.getrusage(resource.RUSAGE_CHILDREN)
+    seconds = after.ru_utime + after.ru_stime - before.ru_utime - before.ru_stime
+    if seconds > 60 or len(run.out) > 2000000 or "Traceback" in run.err:
+        return f"{seconds:.0f} seconds, {len(run.out)} characters, {run.err[:200]}"
+    return None
+
+
+def documents_are_true():
+    """Each run that docs/TOOLS.md shows is made again, and so is its picture."""
+    page = (ROOT / "docs" / "TOOLS.md").read_text(encoding="utf-8")
+    for command, due in re.findall(r"^```\n\$ (.*)\n((?:.*\n)*?)```$", page, re.MULTILINE):
+        done = subprocess.run(["bash", "-c", command], cwd=ROOT, stdout=subprocess.PIPE, stderr=subprocess.STDOUT, text=True, check=False)
+        yield f"docs/TOOLS.md: {command}", None if done.stdout == due else f"gives {done.stdout}"
+    report = (ROOT / "examples" / "adds-cards-while-a-tape-is-copied.report").read_text(encoding="latin-1")
+    is_same = kdf9(["picture"], report).out == (ROOT / "docs" / "picture.svg").read_text(encoding="utf-8")
+    yield "docs/picture.svg", None if is_same else "isn't the picture of its report"
+
+
+SUITES = (
+    faults_are_found, hints_are_given, failures_are_found, bad_input_is_refused, examples_are_shown, large_texts_take_seconds, documents_are_true,
+)
+
+
+def main():
+    failed = passed = 0
+    for cases in SUITES:
+        for what, why in cases():
+            if why:
+                print(f"tools: {what}: {why}")
+                failed += 1
+            else:
+                passed += 1
+    print(f"tools: {passed} passed, {failed} failed")
+    return 1 if failed else 0
+
+
+if __name__ == "__main__":
+    sys.exit(main())

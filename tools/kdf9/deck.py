@@ -1,0 +1,193 @@
+"""A deck beside its image: its statements, what each of them became, and the names of words.
+
+How many syllables a statement became is read off the image, which the program lists; of orders only that is known here.
+"""
+import bisect
+import re
+from typing import NamedTuple, Optional
+
+from kdf9.program import BadInput
+
+WORD = 6
+COMMENT = re.compile(r"\([^)]*\)?")
+STATEMENT = re.compile(r"\*|[^*; \n][^;]*")
+DECLARATION = re.compile(r"Y([A-Z]?)(\d+)\Z")
+OPENING = re.compile(r"(?:PROGRAM|P(\d+))(?:V(\d+))?\Z")
+CONSTANT = re.compile(r"V(\d+)=")
+
+
+class Statement(NamedTuple):
+    """A statement: the offset in its deck of its first byte that means something, that behind its last, what stands there with single
+    spaces, and its text without what means nothing.
+    """
+
+    start: int
+    end: int
+    written: str
+    text: str
+
+
+class Row(NamedTuple):
+    """What a statement became: its kind, and its syllables by their place, counted from the first of the store, and their number. What
+    no statement became has none: the jump in word 0, and the orders that fill a word.
+    """
+
+    kind: str
+    place: int
+    size: int
+    statement: Optional[Statement]
+
+
+class Names(NamedTuple):
+    """The names of neighbouring stores: what stands before the number, what behind it, the address of number 0, and how many they are."""
+
+    before: str
+    behind: str
+    address: int
+    count: int
+
+    def name(self, number):
+        """The name of the store of this number."""
+        return f"{self.before}{number}{self.behind}"
+
+
+def without_comments(deck):
+    """The deck with spaces in place of its comments, so that offsets stay."""
+    return COMMENT.sub(lambda comment: " " * len(comment[0]), deck)
+
+
+def statements(deck):
+    """The statements of a deck, in order; what stands behind the last `;` is one too. One that begins with `*` and goes on is two."""
+    for found in STATEMENT.finditer(without_comments(deck)):
+        words = found[0].split()
+        if len(words) == 1:
+            yield Statement(found.start(), found.start() + len(words[0]), words[0], words[0])
+        else:
+            yield Statement(found.start(), found.start() + len(found[0].rstrip()), " ".join(words), "".join(words))
+
+
+def statement_at(deck, offset):
+    """The statement in which this byte of the deck stands, or None."""
+    for statement in statements(deck):
+        if statement.end > offset:
+            return statement if statement.start <= offset else None
+    return None
+
+
+class Listing(NamedTuple):
+    """A listing: the syllables of the image, and the lines of the references."""
+
+    image: bytes
+    references: list
+
+
+def read_listing(text):
+    """The listing that the program wrote for a slot that the job has."""
+    lines = text.split("\n")
+    words = [int(line.rsplit(" ", 1)[1], 8).to_bytes(WORD, "big") for line in lines if line.startswith("WORD ")]
+    return Listing(b"".join(words), [line for line in lines if line.startswith("REF ")])
+
+
+def size_of_order(syllable):
+    """How many syllables an order has, by its first."""
+    return 1 if syllable < 0x40 else 2 if syllable < 0x80 else 3
+
+
+def places_of_orders(row):
+    """The places at which the orders of a row begin: those that fill a word have one syllable each."""
+    if row.kind == "filling":
+        return range(row.place, row.place + row.size)
+    return [row.place] if row.kind in ("order", "jump") else []
+
+
+class Layout:
+    """A deck beside its listing, in which each statement has its row and each store its name."""
+
+    def __init__(self, deck, listing):
+        self.image = listing.image
+        self.rows = [Row("jump", 0, size_of_order(self.image[0]), None)]
+        self.names = []
+        self._place = self.rows[0].size
+        self._part = None
+        self._groups = {}
+        self._references = []
+        for statement in statements(deck):
+            self._add(statement)
+            if statement.text == "FINISH":
+                break
+        self._name_groups()
+        self._compare(listing)
+        self._orders = {place: row for row in self.rows for place in places_of_orders(row)}
+        self._addresses = [names.address for names in self.names]
+
+    def row_at(self, place):
+        """The row of the order that begins at this place, or None."""
+        return self._orders.get(place)
+
+    def name_of(self, address):
+        """The name of the word at this address: that of the deck, or else by the address alone."""
+        at = bisect.bisect_right(self._addresses, address) - 1
+        if at >= 0 and address < self.names[at].address + self.names[at].count:
+            return self.names[at].name(address - self.names[at].address)
+        return f"E{address}"
+
+    def _add(self, statement):
+        text = statement.text
+        if text.isdigit():
+            word, syllable = divmod(self._place, WORD)
+            self._references.append(f"REF {self._part} {int(text)} {word} {syllable}")
+            self._put("reference", 0, statement)
+        elif text == "*":
+            self._add_star(statement)
+        elif text == "FINISH":
+            self._fill()
+            self._put("heading", 0, statement)
+        elif OPENING.match(text):
+            self._open(OPENING.match(text), statement)
+        elif CONSTANT.match(text):
+            address = self.names[-1].address + int(CONSTANT.match(text)[1])
+            self.rows.append(Row("constant", WORD * address, WORD, statement))
+        elif self._part is None:
+            self._declare(DECLARATION.match(text), statement)
+        else:
+            first = self.image[self._place] if self._place < len(self.image) else 0
+            self._put("order", size_of_order(first), statement)
+
+    def _add_star(self, statement):
+        """A `*` behind a `*` is left out: it fills nothing, and a deck may have millions."""
+        last = self.rows[-1].statement
+        if last is None or last.text != "*":
+            self._put("heading", 0, statement)
+            self._fill()
+
+    def _declare(self, declaration, statement):
+        self._groups[declaration[1]] = int(declaration[2]) + 1
+        self._put("heading", 0, statement)
+
+    def _put(self, kind, size, statement):
+        self.rows.append(Row(kind, self._place, size, statement))
+        self._place += size
+
+    def _fill(self):
+        rest = -self._place % WORD
+        if rest:
+            self._put("filling", rest, None)
+
+    def _open(self, opening, statement):
+        self._fill()
+        self._put("heading", 0, statement)
+        self._part = int(opening[1] or 0)
+        if opening[2]:
+            count = int(opening[2]) + 1
+            self.names.append(Names("V", f"P{self._part}" if self._part else "", self._place // WORD, count))
+            self._place += WORD * count
+
+    def _name_groups(self):
+        for letter in sorted(self._groups):
+            self.names.append(Names(f"Y{letter}", "", self._place // WORD, self._groups[letter]))
+            self._place += WORD * self._groups[letter]
+
+    def _compare(self, listing):
+        """The listing tells more than the sizes of orders need: what it tells of references and of the end has to agree."""
+        if (self._references, self._place) != (listing.references, len(self.image)):
+            raise BadInput("the listing isn't that of the deck")

@@ -1,0 +1,167 @@
+"""What the program finds wrong with a job or a deck: where it stands in the text, and what the documents say of it."""
+import re
+from typing import NamedTuple
+
+from kdf9 import deck as decks
+from kdf9 import job as jobs
+from kdf9.program import ROOT, BadInput, ask
+
+HEADER = "KDF9 JOB 1"
+
+# Which word of a line is the one at fault, counted from 0.
+WORD_AT_FAULT = {
+    "SlotOrder": 1, "SizeNotGroups": 1, "StoreFull": 1, "DeviceTwice": 1, "BadLabel": 3, "LabelTwice": 3,
+    "ShowRange": 1, "ClockFalls": 1, "TooManyOrders": 1,
+}
+
+# The least and the greatest number that may stand in a line, for each of its words that is one.
+RANGES = {
+    "SLOT": [(0, 3)], "STORE": [(32, 8192)], "DEVICE": [(0, 15)], "SHOW": [(0, 8191), (0, 8191)],
+    "ORDERS": [(1, 20000000)], "MOVE": [(0, 15), (1, 4096)], "END": [(0, 15)], "CLOCK": [(0, 2**47 - 1)],
+}
+NUMBER = re.compile(r"(?:0|[1-9][0-9]*)\Z")
+
+# The bytes of a medium that are no characters, and the most characters of a line by the kind of its device.
+NO_CHARACTER = re.compile(r"[^ -`|]|[#&\\]")
+LONGEST = {"CR": 80, "MT": 32768}
+
+LONGEST_SUBJECT = 60
+
+
+class Fault(NamedTuple):
+    """A fault that the program found: its name, the line and the column, both from 1, and what stands there, which may be nothing. Of a
+    deck's fault there are the slot and the offset in its deck too.
+    """
+
+    name: str
+    line: int
+    column: int
+    subject: str
+    slot: object = None
+    offset: int = 0
+
+    def head(self, source):
+        """The line that says where what is wrong, which begins as those of a compiler do."""
+        subject = self.subject if len(self.subject) <= LONGEST_SUBJECT else self.subject[:LONGEST_SUBJECT - 3] + "..."
+        return f"{source}:{self.line}:{self.column}: {self.name}" + (f": {subject}" if subject else "")
+
+
+def fault_of(answer, lines):
+    """The fault that the program's answer to a job of these lines is."""
+    kind, *words = answer.text.split()
+    if kind == "JOB":
+        return fault_of_job(words[0], int(words[1]), lines)
+    slot = jobs.read_slots(lines)[int(words[0])]
+    return fault_of_deck(slot, words[1], int(words[2]))
+
+
+def fault_of_deck(slot, name, offset):
+    """The fault of this name at an offset in the deck of a slot."""
+    line, column = slot.place(offset)
+    if name == "BadByte":
+        subject = f"byte {ord(slot.deck[offset])}"
+    else:
+        statement = decks.statement_at(slot.deck, offset)
+        subject = statement.written if statement else ""
+    return Fault(name, line, column, subject, slot, offset)
+
+
+def fault_of_job(name, line, lines):
+    """The fault of this name in a line of a job; the line behind the last stands for the end of the text."""
+    if line > len(lines):
+        return Fault(name, line, 1, "the job ends here")
+    text = lines[line - 1]
+    if name == "Header":
+        column = 1 + first_difference(text, HEADER)
+    elif name == "BadNumber":
+        column = column_of_word(text, word_of_bad_number(text))
+    elif name == "BadMedium":
+        column = column_in_medium(text, device_above(lines, line))
+    else:
+        column = column_of_word(text, WORD_AT_FAULT.get(name, 0))
+    return Fault(name, line, column, shown(text))
+
+
+def first_difference(text, due):
+    """The index of the first character in which two texts differ."""
+    return next((at for at, (one, other) in enumerate(zip(text, due)) if one != other), min(len(text), len(due)))
+
+
+def column_of_word(text, index):
+    """The column, from 1, at which the word of this index stands in a line."""
+    return 1 + sum(len(word) + 1 for word in text.split(" ")[:index])
+
+
+def word_of_bad_number(text):
+    """Which word of a line isn't a number in its range: the first of them."""
+    keyword, *words = text.split(" ")
+    for index, (word, (least, most)) in enumerate(zip(words, RANGES[keyword]), 1):
+        if not NUMBER.match(word) or not least <= int(word) <= most:
+            return index
+    return 0
+
+
+def device_above(lines, line):
+    """The kind of the device whose medium a line belongs to."""
+    return next(lines[at].split(" ")[2] for at in range(line - 1, -1, -1) if lines[at].startswith("DEVICE "))
+
+
+def column_in_medium(text, kind):
+    """The column at which a line of a medium is wrong: its mark, the first byte that is no character, or the first that is too many."""
+    if kind in ("TP", "LP") or (text[0] == "=" and kind != "MT"):
+        return 1
+    stranger = NO_CHARACTER.search(text, 1)
+    if stranger:
+        return stranger.start() + 1
+    return min(len(text), LONGEST.get(kind, len(text)) + 1) + 1 if len(text) > 1 else 1
+
+
+def shown(text):
+    """The text as a terminal can show it in as many columns: with a `?` in place of whatever it can't."""
+    return "".join(character if " " <= character <= "~" else "?" for character in text)
+
+
+def page(name):
+    """The text of a page of the documents."""
+    return (ROOT / "docs" / name).read_text(encoding="utf-8")
+
+
+def sentence(fault):
+    """What the documents say of a fault, and where."""
+    if fault.slot is None:
+        found = re.search(rf"^\| `{fault.name}` \| (.*?) \|$", page("JOB.md"), re.MULTILINE)
+        return found[1], "docs/JOB.md"
+    found = re.search(rf"^### (\d+) {fault.name}\n\n(.*?)\n\n", page("USERCODE.md"), re.MULTILINE | re.DOTALL)
+    return " ".join(found[2].split()), f"docs/USERCODE.md, fault {found[1]}"
+
+
+def sentences_of_failure(kind):
+    """What the documents say of failures of this kind."""
+    items = re.findall(r"^\d+\. (.*?)(?=\n\d+\. |\n\n)", page("MACHINE.md"), re.MULTILINE | re.DOTALL)
+    heads = [item for item in items if f"**{kind}**" in item]
+    return [" ".join(item.replace("*", "").split()) for item in heads]
+
+
+def sound_slot(source, text, words):
+    """The slot of a job which the command's words name, or its first, with the program's listing of it. A job with a fault, or without
+    that slot, is bad input.
+    """
+    lines = jobs.read_lines(text)
+    answer = ask(["asm", "0"], text)
+    refuse(source, lines, answer)
+    slots = jobs.read_slots(lines)
+    slot = slots.get(words[0]) if words else slots[min(slots)]
+    if slot is None:
+        raise BadInput(f"{source}: the job has no slot {words[0]}")
+    listing = decks.read_listing((answer if slot.number == 0 else ask(["asm", str(slot.number)], text)).text)
+    return slot, listing
+
+
+def refuse(source, lines, answer):
+    """Ends the tool where the program's answer isn't the text that was asked for."""
+    if answer.status in (2, 3):
+        raise BadInput(fault_of(answer, lines).head(source))
+    if answer.status == 4:
+        raise BadInput(f"{source}: the job has more than {answer.text.split()[1]} bytes")
+    if answer.status:
+        raise BadInput(f"{source}: the program ended with status {answer.status}")

@@ -1,0 +1,178 @@
+"""A journal over time: what each program and each device did in each stretch of calls.
+
+Time is counted in calls of the machine. A chart has so many stretches of the same length, so that a run of ten million calls takes no more
+room than one of ten: in each stretch it keeps how many calls went to what.
+"""
+from collections import Counter
+from typing import NamedTuple
+
+from kdf9.program import BadInput
+
+RAN, READY = "ran", "ready"
+
+
+class Held(NamedTuple):
+    """That a program is held up, and by what: a device or a group, and its number."""
+
+    what: str
+    number: int
+
+
+class Lane:
+    """What went on in one row of a chart: for each stretch, how many of its calls went to what, and what happened in it."""
+
+    def __init__(self, stretches, length):
+        self.length = length
+        self.calls = [Counter() for _ in range(stretches)]
+        self.events = [[] for _ in range(stretches)]
+
+    def span(self, first, end, what):
+        """The calls from `first` on, up to and without `end`, went to this."""
+        while first < end:
+            stretch = first // self.length
+            until = min(end, (stretch + 1) * self.length)
+            self.calls[stretch][what] += until - first
+            first = until
+
+    def event(self, at, what):
+        """This happened when so many calls had been made."""
+        self.events[min(at // self.length, len(self.events) - 1)].append(what)
+
+    def happened(self):
+        """What happened, each with its stretch."""
+        return [(stretch, event) for stretch, events in enumerate(self.events) for event in events]
+
+    def total(self):
+        """How many calls went to what."""
+        return sum(self.calls, Counter())
+
+
+class Program:
+    """What is known of a program at some moment: what it does since when, and which transfers its hold may wait for."""
+
+    def __init__(self):
+        self.does = READY
+        self.since = 0
+        self.waits_for = set()
+
+
+class Chart:
+    """A run drawn to scale: lanes of its programs by slot and of its devices by number, of idle calls and of the clock.
+
+    A report doesn't tell which transfer locks out a group. So a program that is held up by one counts as held up until it goes on or the
+    last transfer that it had under way has ended.
+    """
+
+    def __init__(self, report, name, stretches):
+        self.total = sum(map(calls_of, report.entries))
+        self.length = max(1, -(-self.total // stretches))
+        self.stretches = max(1, -(-self.total // self.length))
+        self.sections = report.sections
+        self.devices = {device.number: device.kind for section in report.sections.values() for device in section.devices}
+        self.slot_lanes = {number: self._lane() for number in report.sections}
+        self.device_lanes = {number: self._lane() for number in sorted(self.devices)}
+        self.idle, self.clock = self._lane(), self._lane()
+        self.transfers = Counter()
+        self._now = 0
+        self._programs = {number: Program() for number in report.sections}
+        self._flying = {}
+        self._read(report.entries, name)
+
+    def _lane(self):
+        return Lane(self.stretches, self.length)
+
+    def _read(self, entries, name):
+        takers = {
+            "RAN": self._ran, "START": self._start, "FAIL": self._stop, "ENDED": self._stop, "BUSY": self._busy,
+            "LOV": self._lov, "IDLE": self._idle, "END": self._end, "CLOCK": self._clock,
+        }
+        try:
+            for line, (kind, *numbers) in enumerate(entries, 2):
+                if kind in takers:
+                    takers[kind](*numbers)
+        except KeyError as why:
+            raise BadInput(f"{name}:{line}: the report has no slot or device {why}") from why
+        for number in self._programs:
+            self._turn(number, None)
+        for device in list(self._flying):
+            self._land(device)
+        self.times = len(self.clock.happened())
+
+    def _turn(self, number, does):
+        """The program of this slot does something else from now on; None where it is over."""
+        program = self._programs[number]
+        if program.does:
+            self.slot_lanes[number].span(program.since, self._now, program.does)
+        program.does, program.since = does, self._now
+
+    def _ran(self, number, orders):
+        self._turn(number, READY)
+        self.slot_lanes[number].span(self._now, self._now + orders, RAN)
+        self._now += orders
+        self._programs[number].since = self._now
+
+    def _hold(self, number, reason, transfers):
+        self._turn(number, reason)
+        self._programs[number].waits_for = transfers
+        self._now += 1
+
+    def _busy(self, number, device):
+        if device not in self.devices:
+            raise KeyError(device)
+        self._hold(number, Held("device", device), {device})
+
+    def _lov(self, number, group):
+        self._hold(number, Held("group", group), {device for device, (_, owner) in self._flying.items() if owner == number})
+
+    def _stop(self, number, failure=None):
+        self._turn(number, None)
+        self.slot_lanes[number].event(max(0, self._now - 1), (self._now, failure))
+
+    def _idle(self, calls):
+        self.idle.span(self._now, self._now + calls, "idle")
+        self._now += calls
+
+    def _clock(self, time):
+        self.clock.event(self._now, time)
+
+    def _start(self, number, device, _order):
+        if number not in self._programs:
+            raise KeyError(number)
+        self.device_lanes[device].event(self._now, number)
+        self._flying[device] = (self._now, number)
+        self.transfers[device] += 1
+
+    def _end(self, device):
+        if device not in self._flying:
+            return
+        owner = self._flying[device][1]
+        self._land(device)
+        program = self._programs[owner]
+        program.waits_for.discard(device)
+        if isinstance(program.does, Held) and not program.waits_for:
+            self._turn(owner, READY)
+
+    def _land(self, device):
+        since, owner = self._flying.pop(device)
+        self.device_lanes[device].span(since, self._now, owner)
+
+
+def calls_of(entry):
+    """How many calls of the machine an entry stands for."""
+    if entry[0] in ("RAN", "IDLE"):
+        return entry[-1]
+    return 1 if entry[0] in ("BUSY", "LOV") else 0
+
+
+def groups(lane):
+    """The stretches of a lane in which something went on, neighbours put together that are the same: the first of them, the one behind the
+    last, their calls, and what happened in the first; in the others nothing did.
+    """
+    first = 0
+    for stretch in range(1, len(lane.calls) + 1):
+        if stretch == len(lane.calls) or lane.events[stretch] or lane.calls[stretch] != lane.calls[first]:
+            calls = sum(lane.calls[first:stretch], Counter())
+            if calls or lane.events[first]:
+                yield first, stretch, calls, lane.events[first]
+            first = stretch
+

@@ -1,0 +1,150 @@
+"""The texts that tell what programs came to: the report of a run, and the text of a program that ran alone."""
+from typing import NamedTuple
+
+from kdf9.job import read_lines
+from kdf9.program import BadInput
+
+# The entries of a journal, and how many words stand behind each.
+ENTRIES = {
+    "RAN": 2, "START": 3, "ANSWER": 2, "FAIL": 2, "ENDED": 1, "LOV": 2, "BUSY": 2, "IDLE": 1,
+    "MOVE": 2, "END": 1, "CLOCK": 1,
+}
+
+
+SLOTS = ["0", "1", "2", "3"]
+
+
+class Device(NamedTuple):
+    """A device of a section: its number and kind, the words of its state, and its blocks."""
+
+    number: int
+    kind: str
+    state: str
+    blocks: list
+
+
+class Section:
+    """What a report tells of one program. The words of its store are numbers by their addresses, the Q-stores triples by theirs."""
+
+    def __init__(self, number):
+        self.number = number
+        self.state = []
+        self.orders = 0
+        self.at = (0, 0)
+        self.flags = (0, 0)
+        self.nest = []
+        self.links = []
+        self.q_stores = {}
+        self.words = {}
+        self.spools = []
+        self.devices = []
+
+    @property
+    def failure(self):
+        """The kind of the program's failure, or None."""
+        return self.state[1] if self.state[0] == "FAILED" else None
+
+    def add(self, word, rest):
+        """Takes one line, of this first word and with this rest."""
+        READERS[word](self, rest)
+
+
+def numbers(text):
+    """The numbers of which a text is made."""
+    return tuple(map(int, text.split(" ")))
+
+
+def add_word(section, rest):
+    address, word = rest.split(" ")
+    section.words[int(address)] = int(word, 8)
+
+
+def add_q_store(section, rest):
+    q, *parts = numbers(rest)
+    section.q_stores[q] = tuple(parts)
+
+
+def add_device(section, rest):
+    number, kind, state = rest.split(" ", 2)
+    section.devices.append(Device(int(number), kind, state, []))
+
+
+READERS = {
+    "STATE": lambda section, rest: setattr(section, "state", rest.split(" ")),
+    "ORDERS": lambda section, rest: setattr(section, "orders", int(rest)),
+    "AT": lambda section, rest: setattr(section, "at", numbers(rest)),
+    "FLAGS": lambda section, rest: setattr(section, "flags", numbers(rest)),
+    "NEST": lambda section, rest: setattr(section, "nest", [int(word, 8) for word in rest.split(" ")[1:]]),
+    "LINKS": lambda section, rest: setattr(section, "links", rest.split(" ")[1:]),
+    "Q": add_q_store,
+    "WORD": add_word,
+    "SPOOL": lambda section, rest: section.spools.append(rest),
+    "DEVICE": add_device,
+    "BLOCK": lambda section, rest: section.devices[-1].blocks.append(rest),
+    "LAST": lambda section, rest: section.devices[-1].blocks.append(rest),
+}
+
+
+class Report(NamedTuple):
+    """A report: the entries of its journal, each with its words and with numbers for those that are, and its sections by slot."""
+
+    entries: list
+    sections: dict
+
+
+def read_report(text, name):
+    """The report that this text is; `name` says whose text it is where it is none."""
+    return read(text, name, "KDF9 REPORT 1")
+
+
+def read_alone(text, number):
+    """The section of the text of a program of this slot that ran alone."""
+    return read(text, "the program's text", f"KDF9 ALONE {number}").sections[number]
+
+
+def read(text, name, header):
+    """The report, or a text of its form, which begins with the line `header`."""
+    lines = read_lines(text)
+    if lines[:1] != [header]:
+        raise BadInput(f"{name}:1: this is no report: its first line isn't {header}")
+    sections_from = next((at for at, line in enumerate(lines) if line.startswith(("SLOT ", "ENDREPORT"))), len(lines))
+    entries = [read_entry(line, at, name) for at, line in enumerate(lines[1:sections_from], 2)]
+    return Report(entries, read_sections(lines, sections_from, name))
+
+
+def read_entry(line, at, name):
+    """An entry of a journal: its first word and what stands behind it."""
+    word, *rest = line.split(" ")
+    if ENTRIES.get(word) == len(rest):
+        if "".join(rest).isdecimal() and "" not in rest:
+            return (word, *map(int, rest))
+        if word == "FAIL" and rest[0].isdecimal():
+            return word, int(rest[0]), rest[1]
+    raise BadInput(f"{name}:{at}: this is no entry of a journal: {line[:60]}")
+
+
+def read_sections(lines, start, name):
+    """The sections that stand from this line on, up to the last line of the report."""
+    sections = {}
+    section = None
+    for at in range(start, len(lines)):
+        line = lines[at]
+        word, _, rest = line.partition(" ")
+        try:
+            if line == "ENDREPORT" and at == len(lines) - 1:
+                return checked(sections, at + 1, name)
+            if word == "SLOT":
+                section = sections[SLOTS.index(rest)] = Section(SLOTS.index(rest))
+            else:
+                section.add(word, rest)
+        except (AttributeError, IndexError, KeyError, ValueError) as why:
+            raise BadInput(f"{name}:{at + 1}: this is no line of a report: {line[:60]}") from why
+    raise BadInput(f"{name}:{len(lines)}: the report ends without ENDREPORT")
+
+
+def checked(sections, line, name):
+    """The sections, each of which has to tell the life of its program."""
+    for section in sections.values():
+        if not section.state:
+            raise BadInput(f"{name}:{line}: slot {section.number} has no line STATE")
+    return sections
