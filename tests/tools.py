@@ -1,5 +1,6 @@
 """Tries the tools: each fault of decks and of jobs, failed programs, hints, every example, bad input, and texts of the largest sizes."""
 import collections
+import os
 import pathlib
 import re
 import resource
@@ -9,6 +10,9 @@ import xml.etree.ElementTree
 
 ROOT = pathlib.Path(__file__).resolve().parent.parent
 Run = collections.namedtuple("Run", "status out err")
+
+# The tools are tried with the python3 that runs this.
+ENVIRONMENT = {**os.environ, "PATH": os.path.dirname(sys.executable) + os.pathsep + os.environ["PATH"]}
 
 # A deck's name of a fault, its lines, the line and the column in the deck, and how the sentence on it begins. The store has 32 words.
 DECK_FAULTS = [
@@ -144,7 +148,8 @@ COUNTS = [
 
 def kdf9(words, text):
     """A run of ./kdf9 by these words over this text."""
-    done = subprocess.run([ROOT / "kdf9", *words], input=text.encode("latin-1"), capture_output=True, cwd=ROOT, check=False)
+    whole = [ROOT / "kdf9", *words]
+    done = subprocess.run(whole, input=text.encode("latin-1"), capture_output=True, cwd=ROOT, env=ENVIRONMENT, check=False)
     return Run(done.returncode, done.stdout.decode("latin-1"), done.stderr.decode("latin-1"))
 
 
@@ -253,8 +258,8 @@ def listing_is_wrong(text, slot):
 def steps_are_wrong(text, slot):
     """What is wrong with the steps of a program, beside the text of its lone run; or None."""
     schedule = text.rindex("SCHEDULE\n")
-    alone = kdf9(["alone", slot], text[:schedule] + "SCHEDULE\nORDERS 30\nENDJOB\n").out
-    run = kdf9(["steps", "-", slot, "1", "30"], text)
+    alone = kdf9(["alone", slot], text[:schedule] + "SCHEDULE\nORDERS 16\nENDJOB\n").out
+    run = kdf9(["steps", "-", slot, "1", "16"], text)
     lines = run.out.split("\n")[1:-1]
     if run.status or run.err:
         return run.err
@@ -336,7 +341,8 @@ def documents_are_true():
     """Each run that docs/TOOLS.md shows is made again, and so is its picture."""
     page = (ROOT / "docs" / "TOOLS.md").read_text(encoding="utf-8")
     for command, due in re.findall(r"^```\n\$ (.*)\n((?:.*\n)*?)```$", page, re.MULTILINE):
-        done = subprocess.run(["bash", "-c", command], cwd=ROOT, stdout=subprocess.PIPE, stderr=subprocess.STDOUT, text=True, check=False)
+        whole = ["bash", "-c", f"exec 2>&1; {command}"]
+        done = subprocess.run(whole, cwd=ROOT, stdout=subprocess.PIPE, text=True, env=ENVIRONMENT, check=False)
         yield f"docs/TOOLS.md: {command}", None if done.stdout == due else f"gives {done.stdout}"
     report = (ROOT / "examples" / "adds-cards-while-a-tape-is-copied.report").read_text(encoding="latin-1")
     is_same = kdf9(["picture"], report).out == (ROOT / "docs" / "picture.svg").read_text(encoding="utf-8")

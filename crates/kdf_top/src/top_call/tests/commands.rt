@@ -1,7 +1,6 @@
 //! The commands beside `run`.
 use super::{JOB, SECOND_DECK, expect, whole};
 use crate::Status;
-use kdf_job::JobFault;
 use kdf_usercode::DeckFault;
 use std::test::Fail;
 
@@ -188,24 +187,5 @@ fn a_made_job_is_run_and_summed(rt: HostRuntime) -> Result<(), Fail> {
     expect(&rt, alloc, &call, Status::Done, SUMMARY)?;
     call.room = 11;
     expect(&rt, alloc, &call, Status::WriteFault, b"KDF9 MAKE 0")?;
-    Ok(())
-}
-
-#[test]
-fn a_command_that_reads_has_a_limit(rt: HostRuntime) -> Result<(), Fail> {
-    let alloc = rt.alloc();
-    let bytes = vec![in alloc; 0u8; 4_194_305]?;
-    let header = Status::Job {
-        fault: JobFault::Header,
-        line: 1,
-    };
-    for words in [["alone", "1"], ["asm", "1"]] {
-        let mut large = whole(&words, &bytes);
-        large.most = 5000;
-        expect(&rt, alloc, &large, Status::Large, b"LARGE 4194304\n")?;
-        let mut fits = whole(&words, &bytes[1..]);
-        fits.most = 5000;
-        expect(&rt, alloc, &fits, header, b"JOB Header 1\n")?;
-    }
     Ok(())
 }
