@@ -1,4 +1,6 @@
-"""Tries the tools: each fault of decks and of jobs, failed programs, hints, every example, bad input, and texts of the largest sizes."""
+"""Tries the launcher and the tools: each fault of decks and of jobs, failed programs, hints, every example, bad input, and texts of the largest
+sizes.
+"""
 import collections
 import os
 import pathlib
@@ -7,6 +9,8 @@ import resource
 import subprocess
 import sys
 import xml.etree.ElementTree
+
+from launcher import launcher_starts
 
 ROOT = pathlib.Path(__file__).resolve().parent.parent
 Run = collections.namedtuple("Run", "status out err")
@@ -350,7 +354,8 @@ def documents_are_true():
 
 
 SUITES = (
-    faults_are_found, hints_are_given, failures_are_found, bad_input_is_refused, examples_are_shown, large_texts_take_seconds, documents_are_true,
+    launcher_starts, faults_are_found, hints_are_given, failures_are_found, bad_input_is_refused, examples_are_shown, large_texts_take_seconds,
+    documents_are_true,
 )
 
 
