@@ -140,6 +140,40 @@ BAD_INPUT = [
     (["picture"], "KDF9 REPORT 1\nSLOT 0\nENDREPORT\n", "-:3: slot 0 has no line STATE"),
 ]
 
+# A report of 60 calls: MOVEs of a transfer and of none, and the clock, twice at once.
+MOVES = """KDF9 REPORT 1
+RAN 0 8
+START 0 3 8
+BUSY 0 3
+IDLE 19
+MOVE 3 2
+IDLE 9
+MOVE 3 7
+MOVE 3 4096
+CLOCK 5
+CLOCK 6
+IDLE 9
+END 3
+MOVE 3 1
+MOVE 4 1
+RAN 0 14
+SLOT 0
+STATE LIVE
+ORDERS 22
+DEVICE 3 TR HELD PLACE 0 FLAG 0
+ENDREPORT
+"""
+
+# The titles and the rows that its pictures have to have.
+MOVES_TITLES = [
+    "device 3 TR, call 29: up to 2 words moved by 1 MOVE", "device 3 TR, call 38: up to 4103 words moved by 2 MOVEs",
+    "call 38: the clock was set to 5 and so on up to 6", "slot 0, calls 9 to 46: held up for 38 calls by device 3 TR, which has a transfer",
+]
+MOVES_ROWS = [
+    ("device 3 TR", "        " + "0" * 20 + "m" + "0" * 8 + "m" + "0" * 8 + " " * 14, "1 transfer, 3 MOVEs"),
+    ("clock", " " * 37 + "c" + " " * 22, "set 2 times"),
+]
+
 # What a picture counts: the entries of a report for it, and the titles of what is drawn.
 COUNTS = [
     ("orders", r"^RAN (?P<key>\d) (?P<number>\d+)$", r"^slot (?P<key>\d),.*obeyed (?P<number>\d+) order"),
@@ -289,15 +323,33 @@ def picture_is_wrong(report):
     run, text = kdf9(["picture"], report), kdf9(["picture", "--text"], report)
     if run.status or run.err or text.status or text.err:
         return run.err + text.err
-    titles = [title.text for title in xml.etree.ElementTree.fromstring(run.out).iter("{http://www.w3.org/2000/svg}title")]
+    titles = "\n".join(titles_of(run.out))
     for what, entry, title in COUNTS:
-        due, seen = tally(entry, report), tally(title, "\n".join(titles))
+        due, seen = tally(entry, report), tally(title, titles)
         if due != seen:
             return f"{what}: {seen} in place of {due}"
     for slot, state, orders in re.findall(r"^SLOT (\d)\nSTATE (.*)\nORDERS (\d+)$", report, re.MULTILINE):
         if not re.search(rf"^slot {slot} .*\| {state}, {orders} orders?, held \d+$", text.out, re.MULTILINE):
             return f"the text doesn't show slot {slot}: {text.out}"
     return None
+
+
+def titles_of(picture):
+    """The titles of a picture, in order."""
+    return [title.text for title in xml.etree.ElementTree.fromstring(picture).iter("{http://www.w3.org/2000/svg}title")]
+
+
+def moves_and_clock_are_drawn():
+    titles, text = titles_of(kdf9(["picture"], MOVES).out), kdf9(["picture", "--text"], MOVES).out
+    for title in MOVES_TITLES:
+        yield f"a picture with the title {title}", None if titles.count(title) == 1 else f"has {titles}"
+    yield "a MOVE of no transfer isn't drawn", None if sum("moved by" in title for title in titles) == 2 else f"is in {titles}"
+    for before, row, behind in MOVES_ROWS:
+        yield f"a picture's row of {before}", None if f"\n{before:<12}|{row}| {behind}\n" in text else f"isn't in {text}"
+    often = MOVES.replace("MOVE 3 2\n", "MOVE 3 1\n" * 200)
+    run, row = kdf9(["picture"], often), "        " + "0" * 38 + " " * 14
+    yield "many MOVEs in a title", None if "call 29: up to 200 words moved by 200 MOVEs" in run.out else "are missing"
+    yield "many MOVEs in a row", None if f"|{row}| 1 transfer, 202 MOVEs" in kdf9(["picture", "--text"], often).out else "are drawn"
 
 
 def tally(pattern, text):
@@ -354,8 +406,8 @@ def documents_are_true():
 
 
 SUITES = (
-    launcher_starts, faults_are_found, hints_are_given, failures_are_found, bad_input_is_refused, examples_are_shown, large_texts_take_seconds,
-    documents_are_true,
+    launcher_starts, faults_are_found, hints_are_given, failures_are_found, bad_input_is_refused, moves_and_clock_are_drawn, examples_are_shown,
+    large_texts_take_seconds, documents_are_true,
 )
 
 
