@@ -47,7 +47,6 @@ TAIL = "SCHEDULE\nORDERS 10\nENDJOB\n"
 
 # A job's name of a fault, its text, the line and the column, and how the sentence on it begins.
 JOB_FAULTS = [
-    ("Header", HEAD.replace("JOB 1", "JOB 2") + TAIL, 1, 10, "line 1 isn't there, or isn't `KDF9 JOB 1`"),
     ("BadLine", HEAD + "PRINT 3\n" + TAIL, 7, 1, "no line of this form may stand here"),
     ("BadNumber", HEAD + "SCHEDULE\nMOVE 3 4097\nENDJOB\n", 8, 8, "a word that has to be a number isn't one, or is out of its range"),
     ("SlotOrder", HEAD + HEAD[11:] + TAIL, 7, 6, "the slot isn't above the slot before"),
@@ -64,6 +63,13 @@ JOB_FAULTS = [
     ("ClockFalls", HEAD + "SCHEDULE\nCLOCK 10\nCLOCK 9\nENDJOB\n", 9, 7, "the time is below the one before"),
     ("TooManyOrders", HEAD + "SCHEDULE\nORDERS 20000000\nORDERS 1\nENDJOB\n", 9, 8, "the `ORDERS` lines so far have more than 20000000 together"),
     ("TooManyEvents", HEAD + "SCHEDULE\n" + "END 1\n" * 500001 + "ENDJOB\n", 500008, 1, "this is line 500,001 of the schedule"),
+]
+
+# Texts that are no jobs, where, what stands there, and what follows the sentence on that.
+NO_JOBS = [
+    (HEAD.replace("JOB 1", "JOB 2") + TAIL, "1:10", "KDF9 JOB 2", ""), ("", "1:1", "the job ends here", ""), ("no job\n", "1:1", "no job", ""),
+    (" " + HEAD + TAIL, "1:1", " KDF9 JOB 1", ""), ("\x00" * 5000000, "1:1", "?" * 57 + "...", ""),
+    ((HEAD + TAIL).replace("\n", "\r\n"), "1:11", "KDF9 JOB 1?", "; the line has a byte 13"),
 ]
 
 # Where in a medium a job is wrong: its devices, and the line and the column.
@@ -114,9 +120,7 @@ BAD_INPUT = [
     (["steps", "-", "0", "5", "4"], HEAD + TAIL, "usage: ./kdf9 steps JOB"),
     (["steps", "-", "1"], HEAD + TAIL, "-: the job has no slot 1"),
     (["steps", "-", "0", "9"], HEAD.replace(PLAIN, "PROGRAM; ZERO; OUT; FINISH;") + TAIL, "-: the program obeys 3 orders"),
-    (["steps", "-"], "no job\n", "-:1:1: Header: no job"),
     (["steps", "-"], HEAD.replace("J1", "ADD") + TAIL, "-:5:13: UnknownOrder: ADD"),
-    (["listing", "-"], "", "-:1:1: Header: the job ends here"),
     (["listing", "-"], HEAD, "-:7:1: BadLine: the job ends here"),
     (["listing", "-", "x"], HEAD + TAIL, "usage: ./kdf9 listing JOB"),
     (["listing", "-", "3"], HEAD + TAIL, "-: the job has no slot 3"),
@@ -223,8 +227,26 @@ def faults_are_found():
     for name, text, line, column, sentence in JOB_FAULTS:
         parts = [pointed(text, line, column), f"\n  {sentence}", "(docs/JOB.md)"]
         yield f"fault {name} of a job", explained(text, f"-:{line}:{column}: {name}", parts)
+    for text, place, subject, rest in NO_JOBS:
+        due = f"-:{place}: Header: {subject}: line 1 isn't there, or isn't `KDF9 JOB 1` (docs/JOB.md){rest}"
+        for tool in ("explain", "listing", "steps"):
+            run = kdf9([tool, "-"], text)
+            yield f"{tool} of {text[:24]!r}", None if refused(run) and run.err.startswith(due) else f"{run} in place of {due}"
     for devices, line, column in MEDIA:
         yield f"the medium {devices[:24]!r}", explained(HEAD + devices + TAIL, f"-:{line}:{column}: BadMedium", [])
+
+
+def documents_have_no_other_faults():
+    """Each fault of the documents is one of those that are looked for."""
+    headings = re.findall(r"^### \d+ (\w+)$", document("USERCODE.md"), re.MULTILINE)
+    rows = re.findall(r"^\| `([A-Z][a-z]\w+)` \| ", document("JOB.md"), re.MULTILINE)
+    yield "the nineteen faults of decks", None if headings == [fault[0] for fault in DECK_FAULTS] else f"are {headings}"
+    yield "the fourteen faults of jobs", None if rows == ["Header"] + [fault[0] for fault in JOB_FAULTS] else f"are {rows}"
+
+
+def document(name):
+    """The text of a page of the documents."""
+    return (ROOT / "docs" / name).read_text(encoding="utf-8")
 
 
 def hints_are_given():
@@ -395,19 +417,18 @@ def takes_long(words, text):
 
 def documents_are_true():
     """Each run that docs/TOOLS.md shows is made again, and so is its picture."""
-    page = (ROOT / "docs" / "TOOLS.md").read_text(encoding="utf-8")
-    for command, due in re.findall(r"^```\n\$ (.*)\n((?:.*\n)*?)```$", page, re.MULTILINE):
+    for command, due in re.findall(r"^```\n\$ (.*)\n((?:.*\n)*?)```$", document("TOOLS.md"), re.MULTILINE):
         whole = ["bash", "-c", f"exec 2>&1; {command}"]
         done = subprocess.run(whole, cwd=ROOT, stdout=subprocess.PIPE, text=True, env=ENVIRONMENT, check=False)
         yield f"docs/TOOLS.md: {command}", None if done.stdout == due else f"gives {done.stdout}"
     report = (ROOT / "examples" / "adds-cards-while-a-tape-is-copied.report").read_text(encoding="latin-1")
-    is_same = kdf9(["picture"], report).out == (ROOT / "docs" / "picture.svg").read_text(encoding="utf-8")
+    is_same = kdf9(["picture"], report).out == document("picture.svg")
     yield "docs/picture.svg", None if is_same else "isn't the picture of its report"
 
 
 SUITES = (
-    launcher_starts, faults_are_found, hints_are_given, failures_are_found, bad_input_is_refused, moves_and_clock_are_drawn, examples_are_shown,
-    large_texts_take_seconds, documents_are_true,
+    launcher_starts, faults_are_found, documents_have_no_other_faults, hints_are_given, failures_are_found, bad_input_is_refused,
+    moves_and_clock_are_drawn, examples_are_shown, large_texts_take_seconds, documents_are_true,
 )
 
 

@@ -27,6 +27,8 @@ LONGEST = {"CR": 80, "MT": 32768}
 
 LONGEST_SUBJECT = 60
 
+BYTE_13 = "the line has a byte 13, as files of some other systems have before each line end; take them out: tr -d '\\r'"
+
 
 class Fault(NamedTuple):
     """A fault that the program found: its name, the line and the column, both from 1, and what stands there, which may be nothing. Of a
@@ -130,9 +132,9 @@ def sentence(fault):
     """What the documents say of a fault, and where."""
     if fault.slot is None:
         found = re.search(rf"^\| `{fault.name}` \| (.*?) \|$", page("JOB.md"), re.MULTILINE)
-        return found[1], "docs/JOB.md"
+        return found[1], "(docs/JOB.md)"
     found = re.search(rf"^### (\d+) {fault.name}\n\n(.*?)\n\n", page("USERCODE.md"), re.MULTILINE | re.DOTALL)
-    return " ".join(found[2].split()), f"docs/USERCODE.md, fault {found[1]}"
+    return " ".join(found[2].split()), f"(docs/USERCODE.md, fault {found[1]})"
 
 
 def sentences_of_failure(kind):
@@ -142,11 +144,21 @@ def sentences_of_failure(kind):
     return [" ".join(item.replace("*", "").split()) for item in heads]
 
 
+def lines_of_job(source, text):
+    """The lines of a job. A text with another first line is no job, and bad input."""
+    lines = jobs.read_lines(text)
+    if lines[:1] == [HEADER]:
+        return lines
+    fault = fault_of_job("Header", 1, lines)
+    hint = f"; {BYTE_13}" if lines and "\r" in lines[0] else ""
+    raise BadInput(f"{fault.head(source)}: {' '.join(sentence(fault))}{hint}")
+
+
 def sound_slot(source, text, words):
     """The slot of a job which the command's words name, or its first, with the program's listing of it. A job with a fault, or without
     that slot, is bad input.
     """
-    lines = jobs.read_lines(text)
+    lines = lines_of_job(source, text)
     answer = ask(["asm", "0"], text)
     refuse(source, lines, answer)
     slots = jobs.read_slots(lines)
