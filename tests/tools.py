@@ -87,7 +87,10 @@ HINTS = [
     ("PROGRAM; ZERO;\r\nFINISH;", "byte 13"),
     ("PROGRAM;\tZERO; FINISH;", "tabulator"),
     ("PROGRAM; SET 1; SET 1; DIV; FINISH;", "DIVI divides"),
-    ("PROGRAM; DIVF; FINISH;", "leaves out floating point"),
+    ("PROGRAM V1; V0 = PDIVIDEND V1 = 17; FINISH;", "a ; is missing at 5:27, behind V0 = PDIVIDEND"),
+    ("PROGRAM V0 SET 5; FINISH;", "a ; is missing at 5:11, behind PROGRAM V0"),
+    ("PROGRAM; SET 5; =K1; FINISH;", "it is Director's"),
+    ("PROGRAM; W0; FINISH;", "there are V-stores and Y-stores"),
     ("PROGRAM; ZERO; FINISH", "a ; is missing at 5:22"),
 ]
 
@@ -254,7 +257,10 @@ def hints_are_given():
         yield f"a hint on {deck!r}", explained(job_of_deck(deck), "", ["  hint: ", part])
     for text, part in JOB_HINTS:
         yield f"a hint on a job: {part}", explained(text, "", ["  hint: ", part])
-    yield "no hint where there is none", None if "hint" not in kdf9(["explain", "-"], job_of_deck("PROGRAM; ADD; FINISH;")).err else "a hint"
+    for order in re.search(r"^for name in (.*); do$", document("DIFFERENCES.md"), re.MULTILINE)[1].split():
+        yield f"a hint on {order}", explained(job_of_deck(f"PROGRAM; {order}; FINISH;"), "", ["hint: the KDF9 has this order, and this machine leaves"])
+    for deck in ("PROGRAM; ADD; FINISH;", "PROGRAM V0; V0 = PABCDEFGHIJ; FINISH;", "PROGRAM V1; V1 = 140737488355328; FINISH;"):
+        yield f"no hint on {deck!r}", None if "hint" not in kdf9(["explain", "-"], job_of_deck(deck)).err else "a hint"
 
 
 def failures_are_found():
