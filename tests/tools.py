@@ -97,7 +97,9 @@ HINTS = [
 # What is wrong in the text of a job, and a part of the hint.
 JOB_HINTS = [
     ((HEAD + TAIL).replace("ORDERS 10\n", "ORDERS 10\r\n"), "byte 13"),
-    ((HEAD + TAIL).replace("SLOT", "slot"), "write SLOT 0"),
+    ((HEAD + TAIL).replace("SLOT", "slot"), "write SLOT 0\n"),
+    (HEAD + "DEVICE 3 tr\n" + TAIL, "write DEVICE 3 TR\n"),
+    (HEAD + "Device 3 " + "tr" * 9999 + TAIL, "write DEVICE 3 " + "TR" * 24 + "...\n"),
     ((HEAD + TAIL).replace("ORDERS 10", "ORDERS  10"), "exactly one space"),
     ((HEAD + TAIL).replace("ORDERS 10", "ORDERS 010"), "no zeros in front"),
     ((HEAD + TAIL).replace("ENDDECK\n", ""), "ENDDECK hasn't come"),
@@ -257,6 +259,7 @@ def hints_are_given():
         yield f"a hint on {deck!r}", explained(job_of_deck(deck), "", ["  hint: ", part])
     for text, part in JOB_HINTS:
         yield f"a hint on a job: {part}", explained(text, "", ["  hint: ", part])
+    yield "no hint on a line of no kind", None if "hint" not in kdf9(["explain", "-"], HEAD + "print 3\n" + TAIL).err else "a hint"
     for order in re.search(r"^for name in (.*); do$", document("DIFFERENCES.md"), re.MULTILINE)[1].split():
         yield f"a hint on {order}", explained(job_of_deck(f"PROGRAM; {order}; FINISH;"), "", ["hint: the KDF9 has this order, and this machine leaves"])
     for deck in ("PROGRAM; ADD; FINISH;", "PROGRAM V0; V0 = PABCDEFGHIJ; FINISH;", "PROGRAM V1; V1 = 140737488355328; FINISH;"):

@@ -19,6 +19,7 @@ RANGES = {
     "SLOT": [(0, 3)], "STORE": [(32, 8192)], "DEVICE": [(0, 15)], "SHOW": [(0, 8191), (0, 8191)],
     "ORDERS": [(1, 20000000)], "MOVE": [(0, 15), (1, 4096)], "END": [(0, 15)], "CLOCK": [(0, 2**47 - 1)],
 }
+KEYWORDS = {*RANGES, "DECK", "ENDDECK", "SCHEDULE", "ENDJOB"}
 NUMBER = re.compile(r"(?:0|[1-9][0-9]*)\Z")
 
 # The bytes of a medium that are no characters, and the most characters of a line by the kind of its device.
@@ -44,8 +45,7 @@ class Fault(NamedTuple):
 
     def head(self, source):
         """The line that says where what is wrong, which begins as those of a compiler do."""
-        subject = self.subject if len(self.subject) <= LONGEST_SUBJECT else self.subject[:LONGEST_SUBJECT - 3] + "..."
-        return f"{source}:{self.line}:{self.column}: {self.name}" + (f": {subject}" if subject else "")
+        return f"{source}:{self.line}:{self.column}: {self.name}" + (f": {brief(self.subject)}" if self.subject else "")
 
 
 def fault_of(answer, lines):
@@ -121,6 +121,11 @@ def column_in_medium(text, kind):
 def shown(text):
     """The text as a terminal can show it in as many columns: with a `?` in place of whatever it can't."""
     return "".join(character if " " <= character <= "~" else "?" for character in text)
+
+
+def brief(text):
+    """The text, or its beginning if it is long."""
+    return text if len(text) <= LONGEST_SUBJECT else text[:LONGEST_SUBJECT - 3] + "..."
 
 
 def page(name):
