@@ -431,8 +431,9 @@ def documents_are_true():
         done = subprocess.run(whole, cwd=ROOT, stdout=subprocess.PIPE, text=True, env=ENVIRONMENT, check=False)
         yield f"docs/TOOLS.md: {command}", None if done.stdout == due else f"gives {done.stdout}"
     report = (ROOT / "examples" / "adds-cards-while-a-tape-is-copied.report").read_text(encoding="latin-1")
-    is_same = kdf9(["picture"], report).out == document("picture.svg")
-    yield "docs/picture.svg", None if is_same else "isn't the picture of its report"
+    job = re.search(r"^```job share.job\n(.*?)```$", document("TOUR.md"), re.MULTILINE | re.DOTALL)[1]
+    for picture, of in (("picture.svg", report), ("share.svg", kdf9(["run"], job).out)):
+        yield f"docs/{picture}", None if kdf9(["picture"], of).out == document(picture) else "isn't the picture of its report"
 
 
 SUITES = (
