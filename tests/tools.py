@@ -139,6 +139,7 @@ BAD_INPUT = [
     (["picture", "--text"], HEAD + TAIL, "-:1: this is no report"),
     (["picture"], "KDF9 REPORT 1\nRAN 0 1\nSLEPT 0\nENDREPORT\n", "-:3: this is no entry of a journal: SLEPT 0"),
     (["picture"], "KDF9 REPORT 1\nRAN 0 one\nENDREPORT\n", "-:2: this is no entry of a journal: RAN 0 one"),
+    (["picture"], f"KDF9 REPORT 1\nRAN 0 {'9' * 5000}\nENDREPORT\n", "-:2: this is no entry of a journal: RAN 0 999"),
     (["picture"], "KDF9 REPORT 1\nRAN 0 -1\nENDREPORT\n", "-:2: this is no entry of a journal: RAN 0 -1"),
     (["picture"], "KDF9 REPORT 1\nRAN 1 1\nSLOT 0\nSTATE LIVE\nENDREPORT\n", "-:2: the report has no slot or device 1"),
     (["picture"], "KDF9 REPORT 1\nRAN 0 1\nSLOT 0\nSTATE LIVE\n", "-:4: the report ends without ENDREPORT"),
