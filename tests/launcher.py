@@ -1,4 +1,5 @@
 """Tries ./kdf9 in a folder of its own, where an rt stands that builds at once a program which tells its source, its words and its input."""
+import fcntl
 import os
 import pathlib
 import pty
@@ -151,11 +152,13 @@ def goes_by_dates_where_another_built(checkout):
         program.write("# built by hand\n")
     checkout.date(PROGRAM, 20)
     yield differs(checkout.start("make", "0"), 42, "<first><make><0>")
-    (checkout.folder / f"{PROGRAM}.sums").unlink()
-    yield differs(checkout.start("make", "0"), 42, "<first><make><0>")
     checkout.without_rt()
     checkout.date(WORD, 10)
     yield differs(checkout.start("make", "0"), 1, "", f"older than {WORD}, and there is no rt")
+    (checkout.folder / f"{PROGRAM}.sums").unlink()
+    yield differs(checkout.start("make", "0"), 1, "", f"older than {WORD}, and there is no rt")
+    checkout.date(WORD, -10)
+    yield differs(checkout.start("make", "0"), 42, "<first><make><0>")
 
 
 def waits_for_another_start(checkout):
@@ -164,6 +167,16 @@ def waits_for_another_start(checkout):
     yield differs(runs[0], 42, "<first><make><0>", "another start is building the program; this one waits")
     yield differs(runs[1], 42, "<first><make><0>", BUILDING)
     yield None if checkout.builds() == 1 else f"{checkout.builds()} builds"
+
+
+def starts_no_program_that_is_being_built(checkout):
+    checkout.start("make", "0")
+    folder = os.open(checkout.folder / "crates/kdf9", os.O_RDONLY)
+    fcntl.flock(folder, fcntl.LOCK_EX)
+    start = checkout.begin("make", "0")
+    waits = start.stderr.readline()
+    os.close(folder)
+    yield differs((*ended(start)[:2], waits), 42, "<first><make><0>", "this one waits")
 
 
 def says_how_a_job_is_handed_in(checkout):
@@ -195,7 +208,7 @@ def at_terminal(checkout, *words):
 CASES = (
     builds_once, tells_that_there_is_no_rt, tells_that_a_build_failed, builds_what_has_changed, builds_nothing_for_a_date,
     sees_what_changed_while_it_built, tells_than_which_file_a_program_is_older, starts_in_a_copy, goes_by_dates_where_another_built,
-    waits_for_another_start, says_how_a_job_is_handed_in, says_that_a_terminal_is_read,
+    waits_for_another_start, starts_no_program_that_is_being_built, says_how_a_job_is_handed_in, says_that_a_terminal_is_read,
 )
 
 
