@@ -9,6 +9,7 @@ import resource
 import subprocess
 import sys
 import xml.etree.ElementTree
+from concurrent.futures import ThreadPoolExecutor
 
 from launcher import launcher_starts
 
@@ -293,17 +294,24 @@ def refused(run):
 
 
 def examples_are_shown():
-    for name, text in examples():
-        own = kdf9(["run"], text)
+    with ThreadPoolExecutor() as pool:
+        for cases in pool.map(lambda example: list(example_is_shown(*example)), examples()):
+            yield from cases
+
+
+def example_is_shown(name, text):
+    """Each tool over one example."""
+    own, is_job = kdf9(["run"], text), text.startswith("KDF9 JOB 1\n")
+    if is_job:
         yield f"explain of {name}", explained(text, "", [])
-        runs = [kdf9(["listing", "-"], text), kdf9(["steps", "-"], text)]
-        if own.status:
-            yield f"listing and steps of {name}", None if all(map(refused, runs)) else f"aren't refused: {runs}"
-            continue
-        for section in re.split(r"^SLOT ", own.out, flags=re.MULTILINE)[1:]:
-            yield f"listing of {name}", listing_is_wrong(text, section[0])
-            yield f"steps of {name}", steps_are_wrong(text, section[0])
-        yield f"picture of {name}", picture_is_wrong(own.out)
+    if own.status:
+        runs = [kdf9([tool, "-"], text) for tool in ("listing", "steps", "explain")[:2 if is_job else 3]]
+        yield f"tools that refuse {name}", None if all(map(refused, runs)) else f"aren't refused: {runs}"
+        return
+    for section in re.split(r"^SLOT ", own.out, flags=re.MULTILINE)[1:]:
+        yield f"listing of {name}", listing_is_wrong(text, section[0])
+        yield f"steps of {name}", steps_are_wrong(text, section[0])
+    yield f"picture of {name}", picture_is_wrong(own.out)
 
 
 def listing_is_wrong(text, slot):
