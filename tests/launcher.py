@@ -183,7 +183,7 @@ def says_how_a_job_is_handed_in(checkout):
     checkout.start("make", "0")
     for words, said in (([], "./kdf9 run < FILE"), (["-h"], "./kdf9 run < FILE"), (["--help"], "./kdf9 run < FILE"), (["run", "my.job"], "./kdf9 run < my.job")):
         yield differs(checkout.start(*words), 42, "<first>" + "".join(f"<{word}>" for word in words), said)
-    yield differs(checkout.start("alone", "0", "my.job"), 42, "<first><alone><0><my.job>", "./kdf9 alone 0 < my.job")
+    yield differs(checkout.start("alone", "0", "my job"), 42, "<first><alone><0><my job>", "./kdf9 alone 0 < my\\ job")
     for words in (["run"], ["alone", "0"], ["asm", "3"], ["make", "0"], ["sum"]):
         yield differs(checkout.start(*words), 42, "<first>" + "".join(f"<{word}>" for word in words))
 
