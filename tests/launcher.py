@@ -12,8 +12,8 @@ MAIN, WORD, PROGRAM = "crates/kdf9/src/main.rt", "crates/kdf_word/src/lib.rt", "
 
 # All commands that ./kdf9 may use, but for rt.
 COMMANDS = (
-    "bash", "cat", "chmod", "diff", "dirname", "find", "flock", "grep", "head", "mkdir", "readlink", "sed", "sha256sum", "sleep", "sort", "touch",
-    "true", "xargs",
+    "bash", "cat", "chmod", "diff", "dirname", "find", "flock", "grep", "head", "mkdir", "mv", "readlink", "sed", "sha256sum", "sleep", "sort",
+    "touch", "true", "xargs",
 )
 
 RT = """#!/usr/bin/env bash
@@ -58,6 +58,12 @@ class Checkout:
         if program.exists():
             at = program.stat().st_mtime + seconds
             os.utime(self.folder / name, (at, at))
+
+    def build_by_hand(self):
+        """Another program, which is newer than all sources."""
+        with open(self.folder / PROGRAM, "a", encoding="ascii") as program:
+            program.write("# built by hand\n")
+        self.date(PROGRAM, 20)
 
     def without_rt(self):
         (self.folder / "commands/rt").unlink()
@@ -148,16 +154,24 @@ def starts_in_a_copy(checkout):
 def goes_by_dates_where_another_built(checkout):
     checkout.start("make", "0")
     checkout.write(MAIN, "second\n")
-    with open(checkout.folder / PROGRAM, "a", encoding="ascii") as program:
-        program.write("# built by hand\n")
-    checkout.date(PROGRAM, 20)
+    checkout.build_by_hand()
     yield differs(checkout.start("make", "0"), 42, "<first><make><0>")
+    checkout.build_by_hand()
     checkout.without_rt()
     checkout.date(WORD, 10)
     yield differs(checkout.start("make", "0"), 1, "", f"older than {WORD}, and there is no rt")
     (checkout.folder / f"{PROGRAM}.sums").unlink()
     yield differs(checkout.start("make", "0"), 1, "", f"older than {WORD}, and there is no rt")
     checkout.date(WORD, -10)
+    yield differs(checkout.start("make", "0"), 42, "<first><make><0>")
+
+
+def starts_in_a_copy_of_what_another_built(checkout):
+    checkout.start("make", "0")
+    checkout.build_by_hand()
+    checkout.start("make", "0")
+    checkout.without_rt()
+    checkout.date(WORD, 10)
     yield differs(checkout.start("make", "0"), 42, "<first><make><0>")
 
 
@@ -208,7 +222,8 @@ def at_terminal(checkout, *words):
 CASES = (
     builds_once, tells_that_there_is_no_rt, tells_that_a_build_failed, builds_what_has_changed, builds_nothing_for_a_date,
     sees_what_changed_while_it_built, tells_than_which_file_a_program_is_older, starts_in_a_copy, goes_by_dates_where_another_built,
-    waits_for_another_start, starts_no_program_that_is_being_built, says_how_a_job_is_handed_in, says_that_a_terminal_is_read,
+    starts_in_a_copy_of_what_another_built, waits_for_another_start, starts_no_program_that_is_being_built, says_how_a_job_is_handed_in,
+    says_that_a_terminal_is_read,
 )
 
 
