@@ -11,7 +11,7 @@ from kdf9.program import BadInput
 WORD = 6
 OTHER_DECK = "the listing isn't that of the deck"
 COMMENT = re.compile(r"\([^)]*\)?")
-STATEMENT = re.compile(r"\*|[^*; \n][^;]*")
+STATEMENT = re.compile(r"\*(?:[* \n]*\*)?|[^*; \n][^;]*")
 DECLARATION = re.compile(r"Y([A-Z]?)(\d+)\Z")
 OPENING = re.compile(r"(?:PROGRAM|P(\d+))(?:V(\d+))?\Z")
 CONSTANT = re.compile(r"V(\d+)=")
@@ -58,10 +58,14 @@ def without_comments(deck):
 
 
 def statements(deck):
-    """The statements of a deck, in order; what stands behind the last `;` is one too. One that begins with `*` and goes on is two."""
+    """The statements of a deck, in order; what stands behind the last `;` is one too. One that begins with `*` and goes on is two, and a row
+    of `*` is taken as one.
+    """
     for found in STATEMENT.finditer(without_comments(deck)):
         words, start = found[0].split(), found.start()
-        if len(words) == 1:
+        if words[0][0] == "*":
+            yield Statement(start, found.end(), "*", "*")
+        elif len(words) == 1:
             yield Statement(start, start + len(words[0]), words[0], words[0])
         else:
             yield Statement(start, start + len(found[0].rstrip()), " ".join(words), "".join(words))
