@@ -415,6 +415,9 @@ def large_texts_take_seconds():
     for what, filling in (("comments", "()" * (room // 2)), ("stars", "*" * room), ("lines", "\n" * room), ("one statement", "SET 5 " * (room // 6))):
         for tool in ("explain", "listing", "steps"):
             yield f"{tool} of 4 MB of {what}", takes_long([tool, "-"], head + filling + tail)
+    references = "".join(f"{number};" for number in range(1, 10000))
+    parts = "".join(f"P{part};{references}" for part in range(1, room // len(references)))
+    yield "listing of 4 MB of references", takes_long(["listing", "-"], head + parts + tail, range(6 * room, 10 * room))
     rounds = (f"RAN {i % 4} 7\nSTART {i % 4} {i % 4} {i}\nBUSY {i % 4} {i % 4}\nIDLE 3\nEND {i % 4}\n" for i in range(200000))
     sections = (f"SLOT {slot}\nSTATE LIVE\nDEVICE {slot} TR HELD PLACE 0 FLAG 0\n" for slot in range(4))
     report = "KDF9 REPORT 1\n" + "".join(rounds) + "".join(sections) + "ENDREPORT\n"
@@ -422,13 +425,13 @@ def large_texts_take_seconds():
         yield f"{' '.join(words)} of a million entries", takes_long(words, report)
 
 
-def takes_long(words, text):
-    """What is wrong with the time of a run, or with its size; or None."""
+def takes_long(words, text, sizes=range(2000000)):
+    """What is wrong with the time of a run, or with the size of what it writes; or None."""
     before = resource.getrusage(resource.RUSAGE_CHILDREN)
     run = kdf9(words, text)
     after = resource.getrusage(resource.RUSAGE_CHILDREN)
     seconds = after.ru_utime + after.ru_stime - before.ru_utime - before.ru_stime
-    if seconds > 60 or len(run.out) > 2000000 or "Traceback" in run.err:
+    if seconds > 60 or len(run.out) not in sizes or "Traceback" in run.err:
         return f"{seconds:.0f} seconds, {len(run.out)} characters, {run.err[:200]}"
     return None
 
