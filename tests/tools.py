@@ -1,4 +1,6 @@
-"""Tries the tools: each fault of decks and of jobs, failed programs, hints, every example, bad input, and texts of the largest sizes."""
+"""Tries the launcher and the tools: each fault of decks and of jobs, failed programs, hints, every example, bad input, and texts of the largest
+sizes.
+"""
 import collections
 import os
 import pathlib
@@ -7,6 +9,9 @@ import resource
 import subprocess
 import sys
 import xml.etree.ElementTree
+from concurrent.futures import ThreadPoolExecutor
+
+from launcher import launcher_starts
 
 ROOT = pathlib.Path(__file__).resolve().parent.parent
 Run = collections.namedtuple("Run", "status out err")
@@ -43,7 +48,6 @@ TAIL = "SCHEDULE\nORDERS 10\nENDJOB\n"
 
 # A job's name of a fault, its text, the line and the column, and how the sentence on it begins.
 JOB_FAULTS = [
-    ("Header", HEAD.replace("JOB 1", "JOB 2") + TAIL, 1, 10, "line 1 isn't there, or isn't `KDF9 JOB 1`"),
     ("BadLine", HEAD + "PRINT 3\n" + TAIL, 7, 1, "no line of this form may stand here"),
     ("BadNumber", HEAD + "SCHEDULE\nMOVE 3 4097\nENDJOB\n", 8, 8, "a word that has to be a number isn't one, or is out of its range"),
     ("SlotOrder", HEAD + HEAD[11:] + TAIL, 7, 6, "the slot isn't above the slot before"),
@@ -62,6 +66,13 @@ JOB_FAULTS = [
     ("TooManyEvents", HEAD + "SCHEDULE\n" + "END 1\n" * 500001 + "ENDJOB\n", 500008, 1, "this is line 500,001 of the schedule"),
 ]
 
+# Texts that are no jobs, where, what stands there, and what follows the sentence on that.
+NO_JOBS = [
+    (HEAD.replace("JOB 1", "JOB 2") + TAIL, "1:10", "KDF9 JOB 2", ""), ("", "1:1", "the job ends here", ""), ("no job\n", "1:1", "no job", ""),
+    (" " + HEAD + TAIL, "1:1", " KDF9 JOB 1", ""), ("\x00" * 5000000, "1:1", "?" * 57 + "...", ""),
+    ((HEAD + TAIL).replace("\n", "\r\n"), "1:11", "KDF9 JOB 1?", "; the line has a byte 13"),
+]
+
 # Where in a medium a job is wrong: its devices, and the line and the column.
 MEDIA = [
     ("DEVICE 3 CR\n+" + "A" * 81 + "\n", 8, 82), ("DEVICE 3 MT A\n+\n", 8, 1), ("DEVICE 3 TR\n=A\n", 8, 1), ("DEVICE 3 LP\n+A\n", 8, 1),
@@ -77,14 +88,19 @@ HINTS = [
     ("PROGRAM; ZERO;\r\nFINISH;", "byte 13"),
     ("PROGRAM;\tZERO; FINISH;", "tabulator"),
     ("PROGRAM; SET 1; SET 1; DIV; FINISH;", "DIVI divides"),
-    ("PROGRAM; DIVF; FINISH;", "leaves out floating point"),
+    ("PROGRAM V1; V0 = PDIVIDEND V1 = 17; FINISH;", "a ; is missing at 5:27, behind V0 = PDIVIDEND"),
+    ("PROGRAM V0 SET 5; FINISH;", "a ; is missing at 5:11, behind PROGRAM V0"),
+    ("PROGRAM; SET 5; =K1; FINISH;", "it is Director's"),
+    ("PROGRAM; W0; FINISH;", "there are V-stores and Y-stores"),
     ("PROGRAM; ZERO; FINISH", "a ; is missing at 5:22"),
 ]
 
 # What is wrong in the text of a job, and a part of the hint.
 JOB_HINTS = [
     ((HEAD + TAIL).replace("ORDERS 10\n", "ORDERS 10\r\n"), "byte 13"),
-    ((HEAD + TAIL).replace("SLOT", "slot"), "write SLOT 0"),
+    ((HEAD + TAIL).replace("SLOT", "slot"), "write SLOT 0\n"),
+    (HEAD + "DEVICE 3 tr\n" + TAIL, "write DEVICE 3 TR\n"),
+    (HEAD + "Device 3 " + "tr" * 9999 + TAIL, "write DEVICE 3 " + "TR" * 24 + "...\n"),
     ((HEAD + TAIL).replace("ORDERS 10", "ORDERS  10"), "exactly one space"),
     ((HEAD + TAIL).replace("ORDERS 10", "ORDERS 010"), "no zeros in front"),
     ((HEAD + TAIL).replace("ENDDECK\n", ""), "ENDDECK hasn't come"),
@@ -110,9 +126,7 @@ BAD_INPUT = [
     (["steps", "-", "0", "5", "4"], HEAD + TAIL, "usage: ./kdf9 steps JOB"),
     (["steps", "-", "1"], HEAD + TAIL, "-: the job has no slot 1"),
     (["steps", "-", "0", "9"], HEAD.replace(PLAIN, "PROGRAM; ZERO; OUT; FINISH;") + TAIL, "-: the program obeys 3 orders"),
-    (["steps", "-"], "no job\n", "-:1:1: Header: no job"),
     (["steps", "-"], HEAD.replace("J1", "ADD") + TAIL, "-:5:13: UnknownOrder: ADD"),
-    (["listing", "-"], "", "-:1:1: Header: the job ends here"),
     (["listing", "-"], HEAD, "-:7:1: BadLine: the job ends here"),
     (["listing", "-", "x"], HEAD + TAIL, "usage: ./kdf9 listing JOB"),
     (["listing", "-", "3"], HEAD + TAIL, "-: the job has no slot 3"),
@@ -126,6 +140,7 @@ BAD_INPUT = [
     (["picture", "--text"], HEAD + TAIL, "-:1: this is no report"),
     (["picture"], "KDF9 REPORT 1\nRAN 0 1\nSLEPT 0\nENDREPORT\n", "-:3: this is no entry of a journal: SLEPT 0"),
     (["picture"], "KDF9 REPORT 1\nRAN 0 one\nENDREPORT\n", "-:2: this is no entry of a journal: RAN 0 one"),
+    (["picture"], f"KDF9 REPORT 1\nRAN 0 {'9' * 5000}\nENDREPORT\n", "-:2: this is no entry of a journal: RAN 0 999"),
     (["picture"], "KDF9 REPORT 1\nRAN 0 -1\nENDREPORT\n", "-:2: this is no entry of a journal: RAN 0 -1"),
     (["picture"], "KDF9 REPORT 1\nRAN 1 1\nSLOT 0\nSTATE LIVE\nENDREPORT\n", "-:2: the report has no slot or device 1"),
     (["picture"], "KDF9 REPORT 1\nRAN 0 1\nSLOT 0\nSTATE LIVE\n", "-:4: the report ends without ENDREPORT"),
@@ -134,6 +149,40 @@ BAD_INPUT = [
     (["picture"], "KDF9 REPORT 1\nSTART 1 3 1\nSLOT 0\nSTATE LIVE\nDEVICE 3 TR FREE PLACE 0 FLAG 0\nENDREPORT\n", "-:2: the report has no slot"),
     (["picture"], "KDF9 REPORT 1\nBUSY 0 9\nSLOT 0\nSTATE LIVE\nENDREPORT\n", "-:2: the report has no slot or device 9"),
     (["picture"], "KDF9 REPORT 1\nSLOT 0\nENDREPORT\n", "-:3: slot 0 has no line STATE"),
+]
+
+# A report of 60 calls: MOVEs of a transfer and of none, and the clock, twice at once.
+MOVES = """KDF9 REPORT 1
+RAN 0 8
+START 0 3 8
+BUSY 0 3
+IDLE 19
+MOVE 3 2
+IDLE 9
+MOVE 3 7
+MOVE 3 4096
+CLOCK 5
+CLOCK 6
+IDLE 9
+END 3
+MOVE 3 1
+MOVE 4 1
+RAN 0 14
+SLOT 0
+STATE LIVE
+ORDERS 22
+DEVICE 3 TR HELD PLACE 0 FLAG 0
+ENDREPORT
+"""
+
+# The titles and the rows that its pictures have to have.
+MOVES_TITLES = [
+    "device 3 TR, call 29: up to 2 words moved by 1 MOVE", "device 3 TR, call 38: up to 4103 words moved by 2 MOVEs",
+    "call 38: the clock was set to 5 and so on up to 6", "slot 0, calls 9 to 46: held up for 38 calls by device 3 TR, which has a transfer",
+]
+MOVES_ROWS = [
+    ("device 3 TR", "        " + "0" * 20 + "m" + "0" * 8 + "m" + "0" * 8 + " " * 14, "1 transfer, 3 MOVEs"),
+    ("clock", " " * 37 + "c" + " " * 22, "set 2 times"),
 ]
 
 # What a picture counts: the entries of a report for it, and the titles of what is drawn.
@@ -185,8 +234,26 @@ def faults_are_found():
     for name, text, line, column, sentence in JOB_FAULTS:
         parts = [pointed(text, line, column), f"\n  {sentence}", "(docs/JOB.md)"]
         yield f"fault {name} of a job", explained(text, f"-:{line}:{column}: {name}", parts)
+    for text, place, subject, rest in NO_JOBS:
+        due = f"-:{place}: Header: {subject}: line 1 isn't there, or isn't `KDF9 JOB 1` (docs/JOB.md){rest}"
+        for tool in ("explain", "listing", "steps"):
+            run = kdf9([tool, "-"], text)
+            yield f"{tool} of {text[:24]!r}", None if refused(run) and run.err.startswith(due) else f"{run} in place of {due}"
     for devices, line, column in MEDIA:
         yield f"the medium {devices[:24]!r}", explained(HEAD + devices + TAIL, f"-:{line}:{column}: BadMedium", [])
+
+
+def documents_have_no_other_faults():
+    """Each fault of the documents is one of those that are looked for."""
+    headings = re.findall(r"^### \d+ (\w+)$", document("USERCODE.md"), re.MULTILINE)
+    rows = re.findall(r"^\| `([A-Z][a-z]\w+)` \| ", document("JOB.md"), re.MULTILINE)
+    yield "the nineteen faults of decks", None if headings == [fault[0] for fault in DECK_FAULTS] else f"are {headings}"
+    yield "the fourteen faults of jobs", None if rows == ["Header"] + [fault[0] for fault in JOB_FAULTS] else f"are {rows}"
+
+
+def document(name):
+    """The text of a page of the documents."""
+    return (ROOT / "docs" / name).read_text(encoding="utf-8")
 
 
 def hints_are_given():
@@ -194,7 +261,11 @@ def hints_are_given():
         yield f"a hint on {deck!r}", explained(job_of_deck(deck), "", ["  hint: ", part])
     for text, part in JOB_HINTS:
         yield f"a hint on a job: {part}", explained(text, "", ["  hint: ", part])
-    yield "no hint where there is none", None if "hint" not in kdf9(["explain", "-"], job_of_deck("PROGRAM; ADD; FINISH;")).err else "a hint"
+    yield "no hint on a line of no kind", None if "hint" not in kdf9(["explain", "-"], HEAD + "print 3\n" + TAIL).err else "a hint"
+    for order in re.search(r"^for name in (.*); do$", document("DIFFERENCES.md"), re.MULTILINE)[1].split():
+        yield f"a hint on {order}", explained(job_of_deck(f"PROGRAM; {order}; FINISH;"), "", ["hint: the KDF9 has this order, and this machine leaves"])
+    for deck in ("PROGRAM; ADD; FINISH;", "PROGRAM V0; V0 = PABCDEFGHIJ; FINISH;", "PROGRAM V1; V1 = 140737488355328; FINISH;"):
+        yield f"no hint on {deck!r}", None if "hint" not in kdf9(["explain", "-"], job_of_deck(deck)).err else "a hint"
 
 
 def failures_are_found():
@@ -223,17 +294,24 @@ def refused(run):
 
 
 def examples_are_shown():
-    for name, text in examples():
-        own = kdf9(["run"], text)
+    with ThreadPoolExecutor() as pool:
+        for cases in pool.map(lambda example: list(example_is_shown(*example)), examples()):
+            yield from cases
+
+
+def example_is_shown(name, text):
+    """Each tool over one example."""
+    own, is_job = kdf9(["run"], text), text.startswith("KDF9 JOB 1\n")
+    if is_job:
         yield f"explain of {name}", explained(text, "", [])
-        runs = [kdf9(["listing", "-"], text), kdf9(["steps", "-"], text)]
-        if own.status:
-            yield f"listing and steps of {name}", None if all(map(refused, runs)) else f"aren't refused: {runs}"
-            continue
-        for section in re.split(r"^SLOT ", own.out, flags=re.MULTILINE)[1:]:
-            yield f"listing of {name}", listing_is_wrong(text, section[0])
-            yield f"steps of {name}", steps_are_wrong(text, section[0])
-        yield f"picture of {name}", picture_is_wrong(own.out)
+    if own.status:
+        runs = [kdf9([tool, "-"], text) for tool in ("listing", "steps", "explain")[:2 if is_job else 3]]
+        yield f"tools that refuse {name}", None if all(map(refused, runs)) else f"aren't refused: {runs}"
+        return
+    for section in re.split(r"^SLOT ", own.out, flags=re.MULTILINE)[1:]:
+        yield f"listing of {name}", listing_is_wrong(text, section[0])
+        yield f"steps of {name}", steps_are_wrong(text, section[0])
+    yield f"picture of {name}", picture_is_wrong(own.out)
 
 
 def listing_is_wrong(text, slot):
@@ -285,15 +363,33 @@ def picture_is_wrong(report):
     run, text = kdf9(["picture"], report), kdf9(["picture", "--text"], report)
     if run.status or run.err or text.status or text.err:
         return run.err + text.err
-    titles = [title.text for title in xml.etree.ElementTree.fromstring(run.out).iter("{http://www.w3.org/2000/svg}title")]
+    titles = "\n".join(titles_of(run.out))
     for what, entry, title in COUNTS:
-        due, seen = tally(entry, report), tally(title, "\n".join(titles))
+        due, seen = tally(entry, report), tally(title, titles)
         if due != seen:
             return f"{what}: {seen} in place of {due}"
     for slot, state, orders in re.findall(r"^SLOT (\d)\nSTATE (.*)\nORDERS (\d+)$", report, re.MULTILINE):
         if not re.search(rf"^slot {slot} .*\| {state}, {orders} orders?, held \d+$", text.out, re.MULTILINE):
             return f"the text doesn't show slot {slot}: {text.out}"
     return None
+
+
+def titles_of(picture):
+    """The titles of a picture, in order."""
+    return [title.text for title in xml.etree.ElementTree.fromstring(picture).iter("{http://www.w3.org/2000/svg}title")]
+
+
+def moves_and_clock_are_drawn():
+    titles, text = titles_of(kdf9(["picture"], MOVES).out), kdf9(["picture", "--text"], MOVES).out
+    for title in MOVES_TITLES:
+        yield f"a picture with the title {title}", None if titles.count(title) == 1 else f"has {titles}"
+    yield "a MOVE of no transfer isn't drawn", None if sum("moved by" in title for title in titles) == 2 else f"is in {titles}"
+    for before, row, behind in MOVES_ROWS:
+        yield f"a picture's row of {before}", None if f"\n{before:<12}|{row}| {behind}\n" in text else f"isn't in {text}"
+    often = MOVES.replace("MOVE 3 2\n", "MOVE 3 1\n" * 200)
+    run, row = kdf9(["picture"], often), "        " + "0" * 38 + " " * 14
+    yield "many MOVEs in a title", None if "call 29: up to 200 words moved by 200 MOVEs" in run.out else "are missing"
+    yield "many MOVEs in a row", None if f"|{row}| 1 transfer, 202 MOVEs" in kdf9(["picture", "--text"], often).out else "are drawn"
 
 
 def tally(pattern, text):
@@ -319,6 +415,9 @@ def large_texts_take_seconds():
     for what, filling in (("comments", "()" * (room // 2)), ("stars", "*" * room), ("lines", "\n" * room), ("one statement", "SET 5 " * (room // 6))):
         for tool in ("explain", "listing", "steps"):
             yield f"{tool} of 4 MB of {what}", takes_long([tool, "-"], head + filling + tail)
+    references = "".join(f"{number};" for number in range(1, 10000))
+    parts = "".join(f"P{part};{references}" for part in range(1, room // len(references)))
+    yield "listing of 4 MB of references", takes_long(["listing", "-"], head + parts + tail, range(6 * room, 10 * room))
     rounds = (f"RAN {i % 4} 7\nSTART {i % 4} {i % 4} {i}\nBUSY {i % 4} {i % 4}\nIDLE 3\nEND {i % 4}\n" for i in range(200000))
     sections = (f"SLOT {slot}\nSTATE LIVE\nDEVICE {slot} TR HELD PLACE 0 FLAG 0\n" for slot in range(4))
     report = "KDF9 REPORT 1\n" + "".join(rounds) + "".join(sections) + "ENDREPORT\n"
@@ -326,31 +425,32 @@ def large_texts_take_seconds():
         yield f"{' '.join(words)} of a million entries", takes_long(words, report)
 
 
-def takes_long(words, text):
-    """What is wrong with the time of a run, or with its size; or None."""
+def takes_long(words, text, sizes=range(2000000)):
+    """What is wrong with the time of a run, or with the size of what it writes; or None."""
     before = resource.getrusage(resource.RUSAGE_CHILDREN)
     run = kdf9(words, text)
     after = resource.getrusage(resource.RUSAGE_CHILDREN)
     seconds = after.ru_utime + after.ru_stime - before.ru_utime - before.ru_stime
-    if seconds > 60 or len(run.out) > 2000000 or "Traceback" in run.err:
+    if seconds > 60 or len(run.out) not in sizes or "Traceback" in run.err:
         return f"{seconds:.0f} seconds, {len(run.out)} characters, {run.err[:200]}"
     return None
 
 
 def documents_are_true():
     """Each run that docs/TOOLS.md shows is made again, and so is its picture."""
-    page = (ROOT / "docs" / "TOOLS.md").read_text(encoding="utf-8")
-    for command, due in re.findall(r"^```\n\$ (.*)\n((?:.*\n)*?)```$", page, re.MULTILINE):
+    for command, due in re.findall(r"^```\n\$ (.*)\n((?:.*\n)*?)```$", document("TOOLS.md"), re.MULTILINE):
         whole = ["bash", "-c", f"exec 2>&1; {command}"]
         done = subprocess.run(whole, cwd=ROOT, stdout=subprocess.PIPE, text=True, env=ENVIRONMENT, check=False)
         yield f"docs/TOOLS.md: {command}", None if done.stdout == due else f"gives {done.stdout}"
     report = (ROOT / "examples" / "adds-cards-while-a-tape-is-copied.report").read_text(encoding="latin-1")
-    is_same = kdf9(["picture"], report).out == (ROOT / "docs" / "picture.svg").read_text(encoding="utf-8")
-    yield "docs/picture.svg", None if is_same else "isn't the picture of its report"
+    job = re.search(r"^```job share.job\n(.*?)```$", document("TOUR.md"), re.MULTILINE | re.DOTALL)[1]
+    for picture, of in (("picture.svg", report), ("share.svg", kdf9(["run"], job).out)):
+        yield f"docs/{picture}", None if kdf9(["picture"], of).out == document(picture) else "isn't the picture of its report"
 
 
 SUITES = (
-    faults_are_found, hints_are_given, failures_are_found, bad_input_is_refused, examples_are_shown, large_texts_take_seconds, documents_are_true,
+    launcher_starts, faults_are_found, documents_have_no_other_faults, hints_are_given, failures_are_found, bad_input_is_refused,
+    moves_and_clock_are_drawn, examples_are_shown, large_texts_take_seconds, documents_are_true,
 )
 
 

@@ -9,8 +9,9 @@ from typing import NamedTuple, Optional
 from kdf9.program import BadInput
 
 WORD = 6
+OTHER_DECK = "the listing isn't that of the deck"
 COMMENT = re.compile(r"\([^)]*\)?")
-STATEMENT = re.compile(r"\*|[^*; \n][^;]*")
+STATEMENT = re.compile(r"\*(?:[* \n]*\*)?|[^*; \n][^;]*")
 DECLARATION = re.compile(r"Y([A-Z]?)(\d+)\Z")
 OPENING = re.compile(r"(?:PROGRAM|P(\d+))(?:V(\d+))?\Z")
 CONSTANT = re.compile(r"V(\d+)=")
@@ -57,13 +58,17 @@ def without_comments(deck):
 
 
 def statements(deck):
-    """The statements of a deck, in order; what stands behind the last `;` is one too. One that begins with `*` and goes on is two."""
+    """The statements of a deck, in order; what stands behind the last `;` is one too. One that begins with `*` and goes on is two, and a row
+    of `*` is taken as one.
+    """
     for found in STATEMENT.finditer(without_comments(deck)):
-        words = found[0].split()
-        if len(words) == 1:
-            yield Statement(found.start(), found.start() + len(words[0]), words[0], words[0])
+        words, start = found[0].split(), found.start()
+        if words[0][0] == "*":
+            yield Statement(start, found.end(), "*", "*")
+        elif len(words) == 1:
+            yield Statement(start, start + len(words[0]), words[0], words[0])
         else:
-            yield Statement(found.start(), found.start() + len(found[0].rstrip()), " ".join(words), "".join(words))
+            yield Statement(start, start + len(found[0].rstrip()), " ".join(words), "".join(words))
 
 
 def statement_at(deck, offset):
@@ -110,14 +115,15 @@ class Layout:
         self._place = self.rows[0].size
         self._part = None
         self._groups = {}
-        self._references = []
+        self._references = iter(listing.references)
         for statement in statements(deck):
             self._add(statement)
             if statement.text == "FINISH":
                 break
         self._name_groups()
-        self._compare(listing)
-        self._orders = {place: row for row in self.rows for place in places_of_orders(row)}
+        if next(self._references, None) or self._place != len(self.image):
+            raise BadInput(OTHER_DECK)
+        self._orders = {place: row for row in self.rows if row.size for place in places_of_orders(row)}
         self._addresses = [names.address for names in self.names]
 
     def row_at(self, place):
@@ -134,8 +140,7 @@ class Layout:
     def _add(self, statement):
         text = statement.text
         if text.isdigit():
-            word, syllable = divmod(self._place, WORD)
-            self._references.append(f"REF {self._part} {int(text)} {word} {syllable}")
+            self._refer(int(text))
             self._put("reference", 0, statement)
         elif text == "*":
             self._add_star(statement)
@@ -152,6 +157,11 @@ class Layout:
         else:
             first = self.image[self._place] if self._place < len(self.image) else 0
             self._put("order", size_of_order(first), statement)
+
+    def _refer(self, number):
+        """The listing tells where each reference stands, and has to agree."""
+        if next(self._references, None) != f"REF {self._part} {number} {self._place // WORD} {self._place % WORD}":
+            raise BadInput(OTHER_DECK)
 
     def _add_star(self, statement):
         """A `*` behind a `*` is left out: it fills nothing, and a deck may have millions."""
@@ -186,8 +196,3 @@ class Layout:
         for letter in sorted(self._groups):
             self.names.append(Names(f"Y{letter}", "", self._place // WORD, self._groups[letter]))
             self._place += WORD * self._groups[letter]
-
-    def _compare(self, listing):
-        """The listing tells more than the sizes of orders need: what it tells of references and of the end has to agree."""
-        if (self._references, self._place) != (listing.references, len(self.image)):
-            raise BadInput("the listing isn't that of the deck")

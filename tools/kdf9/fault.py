@@ -19,6 +19,7 @@ RANGES = {
     "SLOT": [(0, 3)], "STORE": [(32, 8192)], "DEVICE": [(0, 15)], "SHOW": [(0, 8191), (0, 8191)],
     "ORDERS": [(1, 20000000)], "MOVE": [(0, 15), (1, 4096)], "END": [(0, 15)], "CLOCK": [(0, 2**47 - 1)],
 }
+KEYWORDS = {*RANGES, "DECK", "ENDDECK", "SCHEDULE", "ENDJOB"}
 NUMBER = re.compile(r"(?:0|[1-9][0-9]*)\Z")
 
 # The bytes of a medium that are no characters, and the most characters of a line by the kind of its device.
@@ -26,6 +27,8 @@ NO_CHARACTER = re.compile(r"[^ -`|]|[#&\\]")
 LONGEST = {"CR": 80, "MT": 32768}
 
 LONGEST_SUBJECT = 60
+
+BYTE_13 = "the line has a byte 13, as files of some other systems have before each line end; take them out: tr -d '\\r'"
 
 
 class Fault(NamedTuple):
@@ -42,8 +45,7 @@ class Fault(NamedTuple):
 
     def head(self, source):
         """The line that says where what is wrong, which begins as those of a compiler do."""
-        subject = self.subject if len(self.subject) <= LONGEST_SUBJECT else self.subject[:LONGEST_SUBJECT - 3] + "..."
-        return f"{source}:{self.line}:{self.column}: {self.name}" + (f": {subject}" if subject else "")
+        return f"{source}:{self.line}:{self.column}: {self.name}" + (f": {brief(self.subject)}" if self.subject else "")
 
 
 def fault_of(answer, lines):
@@ -121,6 +123,11 @@ def shown(text):
     return "".join(character if " " <= character <= "~" else "?" for character in text)
 
 
+def brief(text):
+    """The text, or its beginning if it is long."""
+    return text if len(text) <= LONGEST_SUBJECT else text[:LONGEST_SUBJECT - 3] + "..."
+
+
 def page(name):
     """The text of a page of the documents."""
     return (ROOT / "docs" / name).read_text(encoding="utf-8")
@@ -130,9 +137,9 @@ def sentence(fault):
     """What the documents say of a fault, and where."""
     if fault.slot is None:
         found = re.search(rf"^\| `{fault.name}` \| (.*?) \|$", page("JOB.md"), re.MULTILINE)
-        return found[1], "docs/JOB.md"
+        return found[1], "(docs/JOB.md)"
     found = re.search(rf"^### (\d+) {fault.name}\n\n(.*?)\n\n", page("USERCODE.md"), re.MULTILINE | re.DOTALL)
-    return " ".join(found[2].split()), f"docs/USERCODE.md, fault {found[1]}"
+    return " ".join(found[2].split()), f"(docs/USERCODE.md, fault {found[1]})"
 
 
 def sentences_of_failure(kind):
@@ -142,11 +149,21 @@ def sentences_of_failure(kind):
     return [" ".join(item.replace("*", "").split()) for item in heads]
 
 
+def lines_of_job(source, text):
+    """The lines of a job. A text with another first line is no job, and bad input."""
+    lines = jobs.read_lines(text)
+    if lines[:1] == [HEADER]:
+        return lines
+    fault = fault_of_job("Header", 1, lines)
+    hint = f"; {BYTE_13}" if lines and "\r" in lines[0] else ""
+    raise BadInput(f"{fault.head(source)}: {' '.join(sentence(fault))}{hint}")
+
+
 def sound_slot(source, text, words):
     """The slot of a job which the command's words name, or its first, with the program's listing of it. A job with a fault, or without
     that slot, is bad input.
     """
-    lines = jobs.read_lines(text)
+    lines = lines_of_job(source, text)
     answer = ask(["asm", "0"], text)
     refuse(source, lines, answer)
     slots = jobs.read_slots(lines)

@@ -42,6 +42,10 @@ class Lane:
         """What happened, each with its stretch."""
         return [(stretch, event) for stretch, events in enumerate(self.events) for event in events]
 
+    def number_of_events(self):
+        """How often something happened."""
+        return sum(map(len, self.events))
+
     def total(self):
         """How many calls went to what."""
         return sum(self.calls, Counter())
@@ -71,6 +75,7 @@ class Chart:
         self.devices = {device.number: device.kind for section in report.sections.values() for device in section.devices}
         self.slot_lanes = {number: self._lane() for number in report.sections}
         self.device_lanes = {number: self._lane() for number in sorted(self.devices)}
+        self.move_lanes = {number: self._lane() for number in sorted(self.devices)}
         self.idle, self.clock = self._lane(), self._lane()
         self.transfers = Counter()
         self._now = 0
@@ -84,7 +89,7 @@ class Chart:
     def _read(self, entries, name):
         takers = {
             "RAN": self._ran, "START": self._start, "FAIL": self._stop, "ENDED": self._stop, "BUSY": self._busy,
-            "LOV": self._lov, "IDLE": self._idle, "END": self._end, "CLOCK": self._clock,
+            "LOV": self._lov, "IDLE": self._idle, "MOVE": self._move, "END": self._end, "CLOCK": self._clock,
         }
         try:
             for line, (kind, *numbers) in enumerate(entries, 2):
@@ -96,7 +101,7 @@ class Chart:
             self._turn(number, None)
         for device in list(self._flying):
             self._land(device)
-        self.times = len(self.clock.happened())
+        self.times = self.clock.number_of_events()
 
     def _turn(self, number, does):
         """The program of this slot does something else from now on; None where it is over."""
@@ -141,6 +146,11 @@ class Chart:
         self.device_lanes[device].event(self._now, number)
         self._flying[device] = (self._now, number)
         self.transfers[device] += 1
+
+    def _move(self, device, words):
+        """A MOVE changes nothing where there is no transfer, and so does an END."""
+        if device in self._flying:
+            self.move_lanes[device].event(self._now, words)
 
     def _end(self, device):
         if device not in self._flying:

@@ -10,6 +10,8 @@ ENTRIES = {
     "MOVE": 2, "END": 1, "CLOCK": 1,
 }
 
+# No entry is longer; a longer number would take Python long, or be refused by it.
+LONGEST_ENTRY = 40
 
 SLOTS = ["0", "1", "2", "3"]
 
@@ -115,7 +117,7 @@ def read(text, name, header):
 def read_entry(line, at, name):
     """An entry of a journal: its first word and what stands behind it."""
     word, *rest = line.split(" ")
-    if ENTRIES.get(word) == len(rest):
+    if ENTRIES.get(word) == len(rest) and len(line) <= LONGEST_ENTRY:
         if "".join(rest).isdecimal() and "" not in rest:
             return (word, *map(int, rest))
         if word == "FAIL" and rest[0].isdecimal():
