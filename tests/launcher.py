@@ -16,7 +16,9 @@ COMMANDS = (
     "touch", "true", "xargs",
 )
 
+# As rt does, it wants the folder of the crate for itself.
 RT = """#!/usr/bin/env bash
+flock -n . true || exit 1
 echo built >> ../../log
 source=$(cat src/main.rt)
 [ "$source" != faulty ] || exit 1
@@ -185,7 +187,7 @@ def waits_for_another_start(checkout):
 
 def starts_no_program_that_is_being_built(checkout):
     checkout.start("make", "0")
-    folder = os.open(checkout.folder / "crates/kdf9", os.O_RDONLY)
+    folder = os.open(checkout.folder / "crates", os.O_RDONLY)
     fcntl.flock(folder, fcntl.LOCK_EX)
     start = checkout.begin("make", "0")
     waits = start.stderr.readline()
