@@ -1,5 +1,5 @@
 //! The text of an area.
-ghost use Rattle.std.specs.Prelude.{◌≡◌, ◌+◌, ◌-◌, ◌*◌, ◌<◌, ◌≤◌, ◌++◌, [], length, true, vec_len};
+ghost use Rattle.std.specs.Prelude.{◌≡◌, ◌+◌, ◌-◌, ◌*◌, ◌<◌, ◌≤◌, ◌++◌, [], if◌then◌else◌, length, vec_len};
 ghost use Rattle.std.specs.Vec.{vec_capacity};
 ghost use Rattle.kdf_media.specs.Media.{through_end};
 ghost use Rattle.kdf_transfer.specs.AtOnce.{is_output};
@@ -11,14 +11,14 @@ use kdf_word::Word;
 
 /// How many characters an area has, from its first to its last address.
 pub fn characters_in(first: u16, last: u16) -> usize
-    ensures { 8 * (last + 1 - first) ≤ result }
+    ensures { result ≡ 8 * (last - first + 1) }
 {
     8 * (usize::from(last.saturating_sub(first)) + 1)
 }
 
 /// How many characters an order moves at most to its device.
 pub fn characters_out(order: TransferOrder, first: u16, last: u16) -> usize
-    ensures { is_output order ≡ true → 8 * (last + 1 - first) ≤ result }
+    ensures { result ≡ (if is_output order then 8 * (last - first + 1) else 0) }
 {
     if order.is_output() {
         characters_in(first, last)

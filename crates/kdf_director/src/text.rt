@@ -13,7 +13,7 @@ use kdf_word::Word;
 
 /// How many characters an area has, from its first to its last address.
 pub(crate) fn characters_in(first: u16, last: u16) -> usize
-    ensures { 8 * (last + 1 - first) ≤ result }
+    ensures { result ≡ 8 * (last - first + 1) }
 {
     8 * (usize::from(last.saturating_sub(first)) + 1)
 }
