@@ -1,5 +1,5 @@
 -- The devices by number.
-use Rattle.std.proofs.Common.{◌≡◌, ℕ, Bool, true, false, cond, ltb, List, map, get_or, set, Option, Some, None, refl, sym, ap, ◌∙◌, subst}
+use Rattle.std.proofs.Common.{◌≡◌, ℕ, Bool, true, false, cond, ltb, List, [], map, get_or, set, Option, Some, None, refl, sym, ap, ◌∙◌, subst}
 use Rattle.std.specs.Prelude.{◌&&◌}
 use Rattle.std.proofs.Math.ListN.{get_or-map}
 use Rattle.std.proofs.Math.Seq.{map-set_same}
@@ -19,11 +19,11 @@ use Rattle.kdf_alone.specs.Places.{fixture_in, kind_in, progress_in, IsMoved}
 
 -- what a program with these devices is checked against
 abbrev pub claims : ℕ → List Bool → List (Option Device) → Claims
-claims size claimed ds = record { size = size; claimed = claimed; fixtures = map fixture_in ds }
+claims size claimed ds = record { size = size; claimed = claimed; fixtures = map fixture_in ds; pool = [] }
 
 abbrev pub stock : ℕ → List Bool → List (Option Device) → List Spooled → ℕ → List ℕ → Stock
 stock size claimed ds texts asked words =
-    record { claims = claims size claimed ds; spooled = texts; asked = asked; store = words; devices = map progress_in ds }
+    record { claims = claims size claimed ds; spooled = texts; asked = asked; stints = []; store = words; devices = map progress_in ds }
 
 -- what stands at a place
 pub fixture_is : (size : ℕ) (claimed : List Bool) (ds : List (Option Device)) (d : ℕ) → fixture_at (claims size claimed ds) d ≡ fixture_in (get_or ds d None)
@@ -45,7 +45,7 @@ progresses_stay ds d place e = map-set_same progress_in ds d place None e
 -- and so what the program has
 pub same_stock : (size : ℕ) (claimed : List Bool) (ds : List (Option Device)) (texts : List Spooled) (asked : ℕ) (words : List ℕ) (d : ℕ) (place : Option Device) → fixture_in place ≡ fixture_in (get_or ds d None) → progress_in place ≡ progress_in (get_or ds d None) → stock size claimed (set ds d place) texts asked words ≡ stock size claimed ds texts asked words
 same_stock size claimed ds texts asked words d place fixture progress =
-    λ i. record { claims = record { size = size; claimed = claimed; fixtures = fixtures_stay ds d place fixture i }; spooled = texts; asked = asked; store = words; devices = progresses_stay ds d place progress i }
+    λ i. record { claims = record { size = size; claimed = claimed; fixtures = fixtures_stay ds d place fixture i; pool = [] }; spooled = texts; asked = asked; stints = []; store = words; devices = progresses_stay ds d place progress i }
 
 -- a transfer is done at once
 pub stock_moved : (size : ℕ) (claimed : List Bool) (ds : List (Option Device)) (texts : List Spooled) (asked : ℕ) (words : List ℕ) (d : ℕ) (order : TransferOrder) (first last : ℕ) (device : Device) (place : Option Device) (after : List ℕ) → get_or ds d None ≡ Some device → IsMoved order first last device words place after → stock size claimed (set ds d place) texts asked after ≡ at_once (Starts d order first last) (stock size claimed ds texts asked words)
@@ -59,7 +59,7 @@ stock_moved size claimed ds texts asked words d order first last device place af
     ∙ ap (set (map progress_in ds) d) (moved.progress ∙ ap (device_after order first last (order_words order first last words) (fixture_of device)) (sym progress)) in
     let wrote : after ≡ stored order first last words (fixture_of device) (device_in k d) = moved.words_are ∙ ap (stored order first last words (fixture_of device)) (sym progress) in
     let done : stock size claimed (set ds d place) texts asked after ≡ moved_by d order first last (fixture_of device) k =
-    λ i. record { claims = record { size = size; claimed = claimed; fixtures = kept i }; spooled = texts; asked = asked; store = wrote i; devices = gone i } in
+    λ i. record { claims = record { size = size; claimed = claimed; fixtures = kept i; pool = [] }; spooled = texts; asked = asked; stints = []; store = wrote i; devices = gone i } in
     done ∙ ap (λ f. transferred d order first last f k) (sym fixture)
 
 -- a device of a kind

@@ -1,5 +1,5 @@
 -- What a bench shows, and what an acting call does to it.
-use Rattle.std.specs.Prelude.{◌≡◌, ℕ, ◌+◌, ◌-◌, ◌*◌, ◌^◌, ◌<◌, ◌≤◌, ◌&&◌, not, true, map, find, Option, None, slice_index_or, vec_len}
+use Rattle.std.specs.Prelude.{◌≡◌, ℕ, ◌+◌, ◌-◌, ◌*◌, ◌^◌, ◌<◌, ◌≤◌, ◌&&◌, not, true, [], map, find, Option, None, slice_index_or, vec_len}
 use Rattle.std.specs.List.{range_with_len}
 use Rattle.std.specs.Vec.{vec_capacity}
 use Rattle.kdf_transfer.specs.AtOnce.{is_output}
@@ -9,7 +9,7 @@ use Rattle.kdf_processor.specs.declared.look.Ahead.TheVariants as ahead
 use Rattle.kdf_processor.specs.Effect.{Act, Starts, Asks, Spools}
 use Rattle.kdf_processor.specs.Row.{at_once}
 use Rattle.kdf_processor.specs.Claims.{is_claimed}
-use Rattle.kdf_processor.specs.State.{Claims, State, Stock, device_limit, fixture_at}
+use Rattle.kdf_processor.specs.State.{Claims, State, Stock, device_limit, own_fixture_at}
 use Rattle.kdf_processor.specs.declared.registers.Registers.{Registers}
 use Rattle.kdf_processor.specs.View.{View, by_itself}
 use Rattle.kdf_alone.specs.declared.bench.Bench.{Bench}
@@ -19,7 +19,7 @@ use Rattle.kdf_alone.specs.Places.{fixture_in, is_wanted, progress_in, IsReady}
 -- what its program is checked against: the size of its store, and its devices by number
 abbrev pub claims_of : Bench → Claims
 claims_of b =
-    record { size = b.size; claimed = b.claimed; fixtures = map fixture_in b.devices.items }
+    record { size = b.size; claimed = b.claimed; fixtures = map fixture_in b.devices.items; pool = [] }
 
 -- what its program has beside its registers
 abbrev pub stock_of : Bench → Stock
@@ -28,6 +28,7 @@ stock_of b =
       claims = claims_of b;
       spooled = b.spooled.items;
       asked = b.asked;
+      stints = [];
       store = b.words.items;
       devices = map progress_in b.devices.items;
     }
@@ -35,7 +36,7 @@ stock_of b =
 -- the least device that a claim wants and that isn't claimed
 unfoldable pub first_free : Wanted → Claims → Option ℕ
 first_free wanted c =
-    find (λ d. is_wanted wanted (fixture_at c d) && not (is_claimed c d)) (range_with_len 0 device_limit)
+    find (λ d. is_wanted wanted (own_fixture_at c d) && not (is_claimed c d)) (range_with_len 0 device_limit)
 
 -- nothing is locked out or busy, and whatever is asked has the one answer
 abbrev pub shown : Bench → View
@@ -55,7 +56,7 @@ pub record CanStart (b : Bench) (d : ℕ) (order : TransferOrder) (first last : 
   pub device : IsReady order (slice_index_or b.devices.items d None)
   pub block : is_output order ≡ true → 8 * (last + 1 - first) ≤ vec_capacity b.block
 
--- and for one text more
+-- there is memory for one text more
 pub record CanSpool (b : Bench) (first last : ℕ) : Type 0 where
   pub text : vec_len b.spooled < vec_capacity b.spooled
   pub block : 8 * (last + 1 - first) ≤ vec_capacity b.block
@@ -67,10 +68,11 @@ HasRoom b (Starts d order first last) = CanStart b d order first last
 HasRoom b (Spools stream first last) = CanSpool b first last
 HasRoom b act = Unit {0}
 
--- and for what is ahead
+-- there is memory for what is ahead
 abbrev pub HasRoomAhead : Bench → Ahead → Type 0
 HasRoomAhead b (ahead.Starts d order first last) = CanStart b d order first last
 HasRoomAhead b (ahead.Spools stream first last) = CanSpool b first last
+HasRoomAhead b ahead.Takes = Unit {0}
 HasRoomAhead b ahead.Else = Unit {0}
 
 -- a program with these registers

@@ -1,5 +1,5 @@
 -- The slot that a job's slot and the words of an image are loaded into.
-use Rattle.std.specs.Prelude.{ℕ, List, map, Option}
+use Rattle.std.specs.Prelude.{ℕ, List, [], map, Option}
 use Rattle.std.specs.List.{range_with_len}
 use Rattle.kdf_job.specs.Numbered.{device_numbered}
 use Rattle.kdf_job.specs.declared.job.SlotJob.{SlotJob}
@@ -12,7 +12,7 @@ use Rattle.kdf_alone.specs.Places.{fixture_in, progress_in}
 abbrev pub fixture_numbered : List (ℕ × Device) → ℕ → Option Fixture
 fixture_numbered devices d = fixture_in (device_numbered devices d)
 
--- and how far it has come
+-- how far the device of this number has come
 abbrev pub progress_numbered : List (ℕ × Device) → ℕ → Progress
 progress_numbered devices d = progress_in (device_numbered devices d)
 
@@ -25,4 +25,5 @@ slot_of slot words =
       words = words;
       fixtures = map (fixture_numbered slot.devices.items) (range_with_len 0 device_limit);
       devices = map (progress_numbered slot.devices.items) (range_with_len 0 device_limit);
+      pool = [];
     }

@@ -32,6 +32,7 @@ with_device size d fixture progress image =
       words = image;
       fixtures = slice_set (replicate device_limit None) d (Some fixture);
       devices = slice_set (replicate device_limit new_progress) d progress;
+      pool = [];
     }
 
 -- paper tape with the letters A to P

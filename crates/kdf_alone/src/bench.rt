@@ -35,7 +35,7 @@ impl Bench {
     ghost use Rattle.std.specs.Option.{option_copied};
     ghost use Rattle.kdf_processor.specs.Claims.{claim, is_claimed};
     ghost use Rattle.kdf_processor.specs.Effect.{Acquires};
-    ghost use Rattle.kdf_processor.specs.State.{fixture_at, unclaimed};
+    ghost use Rattle.kdf_processor.specs.State.{own_fixture_at, unclaimed};
     ghost use Rattle.kdf_alone.specs.Bench.{claims_of, first_free, stock_of, Acts, CanSpool, CanStart};
     ghost use Rattle.kdf_alone.specs.Bench.{HasRoomAhead, Stays};
     ghost use Rattle.kdf_alone.specs.Places.{fixture_in, is_wanted, progress_in};
@@ -46,9 +46,10 @@ impl Bench {
         requires whole { length words.items ≡ size }
         requires sixteen { length devices.items ≡ 16 }
         ensures { stock_of result ≡ record {
-          claims = record { size = size; claimed = unclaimed; fixtures = map fixture_in devices.items };
+          claims = record { size = size; claimed = unclaimed; fixtures = map fixture_in devices.items; pool = [] };
           spooled = [];
           asked = 0;
+          stints = [];
           store = words.items;
           devices = map progress_in devices.items;
         } }
@@ -119,7 +120,7 @@ impl Bench {
                 last,
             } => self.take_for_transfer(device, order, first, last),
             Ahead::Spools { first, last, .. } => self.take_for_text(first, last),
-            Ahead::Else => Ok(()),
+            Ahead::Takes | Ahead::Else => Ok(()),
         }
     }
 
@@ -179,7 +180,7 @@ impl Bench {
     fn is_free(&self, d: u8, wanted: &Wanted) -> bool
         requires { d < 16 }
         ensures { result ≡
-            (is_wanted wanted.now (fixture_at (claims_of self.now) d) && not (is_claimed (claims_of self.now) d)) }
+            (is_wanted wanted.now (own_fixture_at (claims_of self.now) d) && not (is_claimed (claims_of self.now) d)) }
     {
         let place = usize::from(d);
         is_wanted(&self.devices[place], wanted) && !self.claimed[place]
@@ -275,6 +276,18 @@ impl Port for Bench {
     #[tactic(auto, using(crate::proofs::Claiming::kind_free))]
     fn claim_kind(&mut self, kind: Kind) -> Option<u8> {
         self.claim(&Wanted::Kinded(kind))
+    }
+
+    fn may_take(&self, _kind: Kind) -> bool {
+        false
+    }
+
+    fn pool_free(&self, _kind: Kind) -> bool {
+        true
+    }
+
+    fn take_pool(&mut self, _kind: Kind) -> u8 {
+        unreachable!()
     }
 
     fn give_back(&mut self, device: u8) {

@@ -1,5 +1,5 @@
 -- What an order that acts makes of what is shown of a program.
-use Rattle.std.proofs.Common.{◌≡◌, ◌≢◌, ℕ, ◌+◌, ◌-◌, ◌*◌, ◌/◌, ◌%◌, ◌<◌, ◌≤◌, ◌⊎◌, inl, inr, true, false, List, length, set, Option, Some, None, is_some, is_none, cond, refl, sym, ap, ap₂, ◌∙◌, ⊎_elim, arith}
+use Rattle.std.proofs.Common.{◌≡◌, ◌≢◌, ℕ, ◌+◌, ◌-◌, ◌*◌, ◌/◌, ◌%◌, ◌<◌, ◌≤◌, ◌⊎◌, inl, inr, true, false, List, [], length, set, Option, Some, None, is_some, is_none, cond, refl, sym, ap, ap₂, ◌∙◌, ⊎_elim, arith}
 use Rattle.std.proofs.Math.Path.{fun_ext}
 use Rattle.std.proofs.lemmas.Bool.{cases_Bool, cases_eq, eq-eqb, ne_eqb, false_from_ne_true}
 use Rattle.std.proofs.lemmas.List.{get_or-set_same, get_or-set_other}
@@ -24,10 +24,10 @@ use Rattle.kdf_director.specs.Sound.{IsSound}
 
 -- a stock by its parts
 abbrev pub stock : Claims → List Spooled → ℕ → List ℕ → List Progress → Stock
-stock c texts n ws ds = record { claims = c; spooled = texts; asked = n; store = ws; devices = ds }
+stock c texts n ws ds = record { claims = c; spooled = texts; asked = n; stints = []; store = ws; devices = ds }
 
 abbrev pub claims : Part → List (Option Fixture) → Claims
-claims q fs = record { size = q.size; claimed = q.claimed; fixtures = fs }
+claims q fs = record { size = q.size; claimed = q.claimed; fixtures = fs; pool = [] }
 
 some_of : (o : Option (List ℕ)) → is_none o ≡ false → o ≡ Some (words_in o)
 some_of None h = cc

@@ -1,7 +1,7 @@
 -- A machine whose program obeyed an order, or was held, stays as a machine is, and shows just that.
 use Rattle.std.specs.Prelude.{find, unwrap_or}
 use Rattle.std.specs.List.{AllPairs}
-use Rattle.std.proofs.Common.{◌≡◌, ◌≢◌, ℕ, suc, ◌<◌, true, List, [], ◌∷◌, length, get_or, map, Some, None, is_some, cond, refl, sym, ap, ap₂, ◌∙◌, ⊎_elim, arith}
+use Rattle.std.proofs.Common.{◌≡◌, ◌≢◌, ℕ, suc, ◌<◌, true, false, List, [], ◌∷◌, length, get_or, map, Some, None, is_some, cond, refl, sym, ap, ap₂, ◌∙◌, ⊎_elim, arith}
 use Rattle.std.proofs.lemmas.Bool.{cases_eq, eq-eqb, ne_eqb}
 use Rattle.kdf_journal.specs.declared.entry.Entry.{Entry}
 use Rattle.kdf_journal.specs.declared.journal.TheConstants.{CALL_LIMIT}
@@ -10,7 +10,7 @@ use Rattle.kdf_journal.specs.Steps.{Note, Obeys, added}
 use Rattle.kdf_journal.proofs.Added.{calls-added, moves-added}
 use Rattle.kdf_processor.specs.declared.step.Step.{Step as Ending}
 use Rattle.kdf_processor.specs.declared.step.Step.TheVariants as ending
-use Rattle.kdf_processor.specs.Effect.{Question, Act, Nothing, Writes, Starts, Asks, Acquires, Releases, Spools}
+use Rattle.kdf_processor.specs.Effect.{Question, Act, Nothing, Writes, Starts, Asks, Acquires, Releases, Spools, FreeOf}
 use Rattle.kdf_processor.specs.Needs.{needs}
 use Rattle.kdf_processor.specs.Outcome.{Outcome}
 use Rattle.kdf_processor.specs.State.{Slot, State}
@@ -29,12 +29,14 @@ use Rattle.kdf_director.specs.Slots.{slot_of, start_of}
 use Rattle.kdf_director.specs.Told.{is_pending_after, lone_world, mine_after, own, seen_of, seen_world}
 use Rattle.kdf_director.specs.True.{truth}
 use Rattle.kdf_director.specs.Turned.{HasTurned}
+use Rattle.std.specs.Option.{option_map}
+use Rattle.kdf_director.specs.World as world
 use Rattle.kdf_director.specs.World.{first_need}
 use Rattle.kdf_director.specs.declared.note.Note.{Note as Noted}
 use Rattle.kdf_director.proofs.Entering.{shows}
 use Rattle.kdf_director.proofs.Followed.{outcome_is, turn_follows}
 use Rattle.kdf_director.proofs.Judging.{hold_same}
-use Rattle.kdf_director.proofs.LegalFacts.{legal-added}
+use Rattle.kdf_director.proofs.Judged.{legal_added, true_added}
 use Rattle.kdf_director.proofs.Obeying.{obeys-others, obeys-seen}
 use Rattle.kdf_director.proofs.OnCourse.{legal-course}
 use Rattle.kdf_director.proofs.SeenJournals.{same-need, same-note}
@@ -93,18 +95,26 @@ told_act k (Starts d o first last) (ending.Fails kind) = refl
 told_act k (Starts d o first last) ending.Ends = refl
 told_act k (Starts d o first last) ending.Done = refl
 told_act k (Starts d o first last) (ending.Held need) = refl
+told_act k (Asks (FreeOf kind) answer) (ending.Fails why) = refl
 told_act k (Asks question answer) (ending.Fails kind) = refl
+told_act k (Asks (FreeOf kind) answer) ending.Ends = refl
 told_act k (Asks question answer) ending.Ends = refl
+told_act k (Asks (FreeOf kind) answer) ending.Done = refl
 told_act k (Asks question answer) ending.Done = refl
+told_act k (Asks (FreeOf kind) answer) (ending.Held need) = refl
 told_act k (Asks question answer) (ending.Held need) = refl
 told_act k (Acquires d) (ending.Fails kind) = refl
 told_act k (Acquires d) ending.Ends = refl
 told_act k (Acquires d) ending.Done = refl
 told_act k (Acquires d) (ending.Held need) = refl
-told_act k (Releases d) (ending.Fails kind) = refl
-told_act k (Releases d) ending.Ends = refl
-told_act k (Releases d) ending.Done = refl
-told_act k (Releases d) (ending.Held need) = refl
+told_act k (Releases true d) (ending.Fails kind) = refl
+told_act k (Releases false d) (ending.Fails kind) = refl
+told_act k (Releases true d) ending.Ends = refl
+told_act k (Releases false d) ending.Ends = refl
+told_act k (Releases true d) ending.Done = refl
+told_act k (Releases false d) ending.Done = refl
+told_act k (Releases true d) (ending.Held need) = refl
+told_act k (Releases false d) (ending.Held need) = refl
 told_act k (Spools stream first last) (ending.Fails kind) = refl
 told_act k (Spools stream first last) ending.Ends = refl
 told_act k (Spools stream first last) ending.Done = refl
@@ -155,7 +165,7 @@ module _ (slots : List Slot) (reaches : List Reach) (seats : List Seat) (s : Sha
     noted = note_of (own slots J p) answer
 
     meets : Meets (lone_world slots J) slots J (Obeys p noted)
-    meets = (turn_lone, free_lone, refl)
+    meets = (turn_lone, ap (option_map world.hold_of) free_lone, refl)
 
     noted_own : note_of (state_at m p) (truth (world_of m) J p) ≡ noted
     noted_own = ap (λ (x : State). note_of x answer) (state_is there) ∙ same-note slots J p answer free_lone
@@ -186,7 +196,8 @@ module _ (slots : List Slot) (reaches : List Reach) (seats : List Seat) (s : Sha
             numbers = numbers ∙ a.numbers;
             running = run;
             following = turn_follows slots J reaches seats s a.are a.legal a.running a.following i lt noted meets seats' s' ended beside turned;
-            legal = legal-added slots J (Obeys p noted) a.legal meets;
+            legal = legal_added slots J (Obeys p noted) a.legal meets;
+            truly = true_added slots J (Obeys p noted) a.legal a.truly meets;
             few_calls = omega (arith, calls-added J (Obeys p noted));
             few_moves = (let k = a.few_moves in omega (arith, moves-added J (Obeys p noted)));
           }

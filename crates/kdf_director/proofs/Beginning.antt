@@ -21,7 +21,7 @@ use Rattle.kdf_processor.proofs.RowFacts.{transferred_asked}
 use Rattle.kdf_director.specs.ByNumber.{device_count}
 use Rattle.kdf_director.specs.Flights.{Flight, arrivals, beginning, flights_after, with_flight}
 use Rattle.kdf_director.specs.Seen.{covers, word_before, seen_word, seen_device, seen, touched_below, pending, begun_by, begun_row}
-use Rattle.kdf_director.proofs.Completed.{transferred_claims, transferred_spooled, completed_other, completed_store, arrivals_outside}
+use Rattle.kdf_director.proofs.Completed.{transferred_claims, transferred_spooled, transferred_stints, completed_other, completed_store, arrivals_outside}
 use Rattle.kdf_director.proofs.SeenStates.{same_states, seen_word_at, seen_device_at, seen_size, seen_number, covers_touches, seen_apart, seen_agrees, perform_seen}
 use Rattle.kdf_director.proofs.Checked.{IsChecked, claim_small, next_checked}
 
@@ -88,6 +88,7 @@ module _ (flights : ℕ → Option Flight) (mine : List ℕ) (answer : Question 
         claims = sym (transferred_claims d o first last (fixture_at s.stock.claims d) s.stock);
         spooled = sym (transferred_spooled d o first last (fixture_at s.stock.claims d) s.stock);
         asked = sym (transferred_asked d o first last (fixture_at s.stock.claims d) s.stock);
+        stints = sym (transferred_stints d o first last (fixture_at s.stock.claims d) s.stock);
       })
       (seen_size flights s ∙ leaves.size ∙ sym (seen_size new later))
       (seen_number flights s ∙ leaves.number ∙ sym (seen_number new later))
@@ -181,7 +182,7 @@ twice_device fewer (Some f) d p part = refl
 
 seen_twice : (fewer more : ℕ → Option Flight) (s : State) → ((d : ℕ) → (fewer d ≡ None) ⊎ (fewer d ≡ more d)) → seen more (seen fewer s) ≡ seen more s
 seen_twice fewer more s part =
-    same_states _ _ (record { registers = refl; claims = refl; spooled = refl; asked = refl })
+    same_states _ _ (record { registers = refl; claims = refl; spooled = refl; asked = refl; stints = refl })
     (seen_size more (seen fewer s) ∙ seen_size fewer s ∙ sym (seen_size more s))
     (seen_number more (seen fewer s) ∙ seen_number fewer s ∙ sym (seen_number more s))
     (λ a lt.

@@ -23,7 +23,7 @@ use Rattle.kdf_director.specs.Slots as slots
 use Rattle.kdf_director.specs.Spots.{Held}
 use Rattle.kdf_director.specs.Told.{seen_of}
 use Rattle.kdf_director.proofs.Entering.{map_twice}
-use Rattle.kdf_director.proofs.LegalFacts.{legal-nil}
+use Rattle.kdf_director.proofs.Judged.{legal_nil, true_nil}
 use Rattle.kdf_director.proofs.Loadable.{no_load}
 use Rattle.kdf_director.proofs.OnCourse.{none-first}
 use Rattle.kdf_director.proofs.Owns.{own-nil}
@@ -111,7 +111,8 @@ module _ (m : Parts) (is : IsLoaded (map loaded m.slots.items) m) where
         numbers = numbers;
         running = is.running;
         following = following;
-        legal = legal-nil ys;
+        legal = legal_nil ys;
+        truly = true_nil ys;
         few_calls = omega arith;
         few_moves = omega arith;
       }
@@ -126,6 +127,7 @@ module _ (m : Parts) (is : IsLoaded (map loaded m.slots.items) m) where
         dry = is.dry;
         fits = fits;
         few_events = few;
+        few_words = omega arith;
       }
 
   -- each program's own state is its start

@@ -6,7 +6,7 @@ use Rattle.std.proofs.Common.{◌≡◌, ℕ, ◌<◌, ◌≤◌, Bool, true, fa
 use Rattle.std.proofs.lemmas.List.{length-map}
 use Rattle.kdf_journal.specs.declared.entry.Entry.{Entry}
 use Rattle.kdf_journal.specs.declared.journal.TheConstants.{CALL_LIMIT}
-use Rattle.kdf_journal.specs.Counts.{calls, last_hold}
+use Rattle.kdf_journal.specs.Counts.{calls, last_hold, moves, priorities}
 use Rattle.kdf_journal.specs.Steps.{Waits, added}
 use Rattle.kdf_lockout.specs.Groups.{Cells}
 use Rattle.kdf_relocate.specs.declared.window.Window.{Window}
@@ -31,6 +31,7 @@ use Rattle.kdf_director.specs.Viewed.{slot_loaded, states_in, viewed}
 use Rattle.kdf_director.specs.Spots.{AreDry}
 use Rattle.kdf_director.specs.Taken.{HasTaken}
 use Rattle.kdf_director.specs.World.{need_of}
+use Rattle.kdf_director.proofs.Calls.{moves-took}
 use Rattle.kdf_director.proofs.Entering.{map_twice}
 use Rattle.kdf_director.proofs.NextPrograms.{any_same, few_ran, is_next, near_holds, none_next}
 use Rattle.kdf_director.proofs.Taking.{HasAdvanced, all_ended, holds_in, taken, waited}
@@ -76,11 +77,12 @@ module _ (slots : List Loaded) (windows : List Window) (store : Cells) (programs
   near = near_holds xs rs ps s J ready.agrees (holds_of programs) have
 
   -- what is found over the same programs and places
-  pub found : (r o : Option ℕ) (others : List Program) (left : List Place) → others ≡ programs → left ≡ places → r ≡ first_going rs (seats_in others) (holds_of others) (shared_in store left) → r ≡ o → first_going rs ps (holds_of programs) s ≡ o
-  found r o others left same same' is at =
+  pub found : (r o : Option ℕ) (others : List Program) (left : List Place) → others ≡ programs → left ≡ places → (order : List ℕ) → order ≡ priorities J → r ≡ first_going rs (seats_in others) (holds_of others) (shared_in store left) order → r ≡ o → first_going rs ps (holds_of programs) s (priorities J) ≡ o
+  found r o others left same same' order ordered is at =
       sym (is
-      ∙ ap (λ (x : List Program). first_going rs (seats_in x) (holds_of x) (shared_in store left)) same
-      ∙ ap (λ (y : List Place). first_going rs ps (holds_of programs) (shared_in store y)) same')
+      ∙ ap (λ (x : List Program). first_going rs (seats_in x) (holds_of x) (shared_in store left) order) same
+      ∙ ap (λ (y : List Place). first_going rs ps (holds_of programs) (shared_in store y) order) same'
+      ∙ ap (first_going rs ps (holds_of programs) s) ordered)
       ∙ at
 
   -- a machine that a call leaves
@@ -101,6 +103,7 @@ module _ (slots : List Loaded) (windows : List Window) (store : Cells) (programs
           dry = dry;
           fits = fits;
           few_events = ready.few_events;
+          few_words = omega (arith, ready.few_words, moves-took old (viewed slots windows store' programs' places' J' room) answer did.advance);
         }
 
     -- all that is asked of it stays
@@ -124,10 +127,11 @@ module _ (slots : List Loaded) (windows : List Window) (store : Cells) (programs
             dry = dry;
             fits = fits;
             few_events = ready.few_events;
+            few_words = omega (arith, ready.few_words, ap moves journal);
           }
 
     -- no program goes on
-    module _ (few : calls J < CALL_LIMIT) (none : first_going rs ps (holds_of programs) s ≡ None) (seats : ps' ≡ ps) (shared : s' ≡ s) (holds : holds_of programs' ≡ holds_of programs) (answer : Progress) (told : answer ≡ cond (any_on programs) progress.Idle progress.AllEnded) (journal : J' ≡ cond (any_on programs) (added J Waits) J) where
+    module _ (few : calls J < CALL_LIMIT) (none : first_going rs ps (holds_of programs) s (priorities J) ≡ None) (seats : ps' ≡ ps) (shared : s' ≡ s) (holds : holds_of programs' ≡ holds_of programs) (answer : Progress) (told : answer ≡ cond (any_on programs) progress.Idle progress.AllEnded) (journal : J' ≡ cond (any_on programs) (added J Waits) J) where
       none_is : next (world_of old) xs J ≡ None
       none_is = none_next xs rs ps s J ready.agrees (holds_of programs) have (state_at old) none
 
@@ -151,7 +155,7 @@ module _ (slots : List Loaded) (windows : List Window) (store : Cells) (programs
       advance_waited = did_wait.advance
 
   -- a program goes on
-  module _ (i : ℕ) (going : first_going rs ps (holds_of programs) s ≡ Some i) where
+  module _ (i : ℕ) (going : first_going rs ps (holds_of programs) s (priorities J) ≡ Some i) where
     is : (i < length ps) × (is_live (seat_at ps i).registers.state ≡ true) × (next (world_of old) xs J ≡ Some (seat_at ps i).p)
     is = is_next xs rs ps s J ready.agrees (holds_of programs) have (state_at old) i going
 

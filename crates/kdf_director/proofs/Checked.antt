@@ -12,7 +12,7 @@ use Rattle.kdf_journal.specs.declared.failure.Failure.TheVariants.{Nouv}
 use Rattle.kdf_processor.specs.declared.registers.Registers.{Registers}
 use Rattle.kdf_processor.specs.declared.test.Test.TheVariants.{Flag, Start, Mark}
 use Rattle.kdf_processor.specs.Claims.{claim, is_claimed, is_kind, kind_at}
-use Rattle.kdf_processor.specs.Effect.{Change, Refused, Going, of_change, Effect, Failing, Ending, Changing, Fetching, Keeping, Testing, Starting, Asking, Claiming, Returning, Spooling, IsBusy, IsOut, Time}
+use Rattle.kdf_processor.specs.Effect.{Change, Refused, Going, of_change, Effect, Failing, Ending, Changing, Fetching, Keeping, Testing, Starting, Asking, Claiming, Returning, Spooling, IsBusy, IsOut, Time, FreeOf}
 use Rattle.kdf_processor.specs.Needs.{effect_or_liv, order_at, next_effect}
 use Rattle.kdf_processor.specs.State.{Claims, State, device_limit, word_at}
 use Rattle.kdf_processor.specs.Table.{change_of, device_effect, direct_effect, effect, guarded, indirect_effect, is_area, on_top, out_effect, plain_row, query_effect}
@@ -48,8 +48,9 @@ guarded_checked c (Starting d o first last after) =
 guarded_checked c (Asking (IsBusy d) after) = cond_both (is_claimed c d) _ _ (IsChecked c) (λ is. tt) (λ not. tt)
 guarded_checked c (Asking (IsOut first last) after) = cond_both (is_area c.size first last) _ _ (IsChecked c) (λ is. tt) (λ not. tt)
 guarded_checked c (Asking Time after) = tt
+guarded_checked c (Asking (FreeOf kind) after) = tt
 guarded_checked c (Claiming d after) = tt
-guarded_checked c (Returning d after) = cond_both (is_claimed c d) _ _ (IsChecked c) (λ is. tt) (λ not. tt)
+guarded_checked c (Returning pooled d after) = cond_both (is_claimed c d) _ _ (IsChecked c) (λ is. tt) (λ not. tt)
 guarded_checked c (Spooling stream first last after) = cond_both (is_area c.size first last) _ _ (IsChecked c) (λ is. tt) (λ not. tt)
 
 change_checked : (c : Claims) (x : Change) → IsChecked c (of_change x)

@@ -6,8 +6,8 @@ use Rattle.std.proofs.lemmas.List.{get_or-set_other}
 use Rattle.kdf_journal.specs.declared.kind.Kind.{Kind}
 use Rattle.kdf_processor.specs.declared.step.Need.{Need}
 use Rattle.kdf_processor.specs.declared.step.Need.TheVariants.{Device}
-use Rattle.kdf_processor.specs.Claims.{claim, is_kind, kind_at}
-use Rattle.kdf_processor.specs.Effect.{Question, Effect, Starting, Claiming, Returning}
+use Rattle.kdf_processor.specs.Claims.{claim, is_kind, kind_at, taken}
+use Rattle.kdf_processor.specs.Effect.{Question, FreeOf, Effect, Starting, Asking, Claiming, Returning}
 use Rattle.kdf_processor.specs.Frame.{HidesNone}
 use Rattle.kdf_processor.specs.Needs.{effect_needs}
 use Rattle.kdf_processor.specs.Row.{perform}
@@ -28,24 +28,39 @@ marked c claimed d k mark is =
     ap (λ b. is_kind k (cond (ltb d device_limit && b) (kind_at c d) None)) (mark ∙ sym (claim_parts c d k is).1) ∙ is
 
 module _ (hidden : Need → Bool) (mine : List ℕ) (answer : Question → ℕ) (s : State) (d : ℕ) (k : Kind) (is : is_kind k (claim s.stock.claims d) ≡ true) (out : hidden (Device d) ≡ true) where
+  -- another device is given back
+  returned : (x : ℕ) → hidden (Device x) ≡ false → is_kind k (claim (record s.stock.claims { claimed = set s.stock.claims.claimed x false }) d) ≡ true
+  returned x free =
+      let ne : d ≢ x = λ e. false≢true (sym free ∙ (ap (λ y. hidden (Device y)) (sym e) ∙ out)) in
+      marked s.stock.claims (set s.stock.claims.claimed x false) d k (get_or-set_other s.stock.claims.claimed x d false false ne ∙ (claim_parts s.stock.claims d k is).1) is
+
   pub claimed_through : (e : Effect) → HidesNone hidden (effect_needs mine e) → is_kind k (claim (perform answer e s).stock.claims d) ≡ true
   claimed_through (Starting x o first last after) none =
       ap (λ (c : Claims). is_kind k (claim c d)) (transferred_claims x o first last (fixture_at s.stock.claims x) s.stock) ∙ is
   claimed_through (Claiming x after) none =
       marked s.stock.claims (set s.stock.claims.claimed x true) d k (set_true s.stock.claims.claimed x d (claim_parts s.stock.claims d k is).1) is
-  claimed_through (Returning x after) none =
-      let ne : d ≢ x = λ e. false≢true (sym (or_parts _ _ none).0 ∙ (ap (λ y. hidden (Device y)) (sym e) ∙ out)) in
-      marked s.stock.claims (set s.stock.claims.claimed x false) d k (get_or-set_other s.stock.claims.claimed x d false false ne ∙ (claim_parts s.stock.claims d k is).1) is
+  claimed_through (Asking (FreeOf kind) after) none =
+      marked s.stock.claims (set s.stock.claims.claimed (taken s.stock.claims kind (answer (FreeOf kind))) true) d k
+      (set_true s.stock.claims.claimed (taken s.stock.claims kind (answer (FreeOf kind))) d (claim_parts s.stock.claims d k is).1)
+      is
+  claimed_through (Returning true x after) none = returned x (or_parts _ _ none).0
+  claimed_through (Returning false x after) none = returned x (or_parts _ _ none).0
   claimed_through e none = is
 
 -- no order changes what a device is
 pub same_fixture : (answer : Question → ℕ) (e : Effect) (s : State) (d : ℕ) → fixture_at (perform answer e s).stock.claims d ≡ fixture_at s.stock.claims d
 same_fixture answer (Starting x o first last after) s d =
     ap (λ (c : Claims). fixture_at c d) (transferred_claims x o first last (fixture_at s.stock.claims x) s.stock)
+same_fixture answer (Asking (FreeOf kind) after) s d = refl
+same_fixture answer (Returning true x after) s d = refl
+same_fixture answer (Returning false x after) s d = refl
 same_fixture answer e s d = refl
 
 -- nor the size of the store
 pub same_size : (answer : Question → ℕ) (e : Effect) (s : State) → (perform answer e s).stock.claims.size ≡ s.stock.claims.size
 same_size answer (Starting x o first last after) s =
     ap (λ (c : Claims). c.size) (transferred_claims x o first last (fixture_at s.stock.claims x) s.stock)
+same_size answer (Asking (FreeOf kind) after) s = refl
+same_size answer (Returning true x after) s = refl
+same_size answer (Returning false x after) s = refl
 same_size answer e s = refl

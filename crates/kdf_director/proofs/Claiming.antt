@@ -4,7 +4,7 @@ use Rattle.std.specs.Prelude.{◌&&◌, not, find}
 use Rattle.std.specs.List.{range_with_len}
 use Rattle.kdf_journal.specs.declared.kind.Kind.{Kind}
 use Rattle.kdf_processor.specs.Claims.{is_claimed, free_kind, free_label}
-use Rattle.kdf_processor.specs.State.{Claims, fixture_at}
+use Rattle.kdf_processor.specs.State.{Claims, own_fixture_at}
 use Rattle.kdf_director.specs.declared.place.Wanted.{Wanted}
 use Rattle.kdf_director.specs.declared.place.Wanted.TheVariants.{Kinded, Labelled}
 use Rattle.kdf_director.specs.Claiming.{first_free}
@@ -12,7 +12,7 @@ use Rattle.kdf_director.specs.Spots.{is_wanted}
 
 -- it is wanted, and isn't claimed
 abbrev pub is_free : Wanted → Claims → ℕ → Bool
-is_free wanted c d = is_wanted wanted (fixture_at c d) && not (is_claimed c d)
+is_free wanted c d = is_wanted wanted (own_fixture_at c d) && not (is_claimed c d)
 
 pub first_is : (wanted : Wanted) (c : Claims) → first_free wanted c ≡ find (is_free wanted c) (range_with_len 0 16)
 unfolding first_free

@@ -24,6 +24,10 @@ pub transferred_spooled : (d : ℕ) (o : TransferOrder) (first last : ℕ) (f : 
 transferred_spooled d o first last None k = refl
 transferred_spooled d o first last (Some f) k = refl
 
+pub transferred_stints : (d : ℕ) (o : TransferOrder) (first last : ℕ) (f : Option Fixture) (k : Stock) → (transferred d o first last f k).stints ≡ k.stints
+transferred_stints d o first last None k = refl
+transferred_stints d o first last (Some f) k = refl
+
 transferred_other : (d x : ℕ) (o : TransferOrder) (first last : ℕ) (f : Option Fixture) (k : Stock) → x ≢ d → device_in (transferred d o first last f k) x ≡ device_in k x
 transferred_other d x o first last None k ne = refl
 transferred_other d x o first last (Some f) k ne = get_or-set_other k.devices d x _ new_progress ne

@@ -25,7 +25,7 @@ module _ (flights : ℕ → Option Flight) (s : State) (d : ℕ) (f : Flight) (t
 
   end_seen : seen (with_flight d None flights) s ≡ with_devices (seen (with_moved d (move_count d f) f flights) s) (set (seen (with_moved d (move_count d f) f flights) s).stock.devices d (device_in (completed d f) d))
   end_seen =
-      same_states _ _ (record { registers = refl; claims = refl; spooled = refl; asked = refl })
+      same_states _ _ (record { registers = refl; claims = refl; spooled = refl; asked = refl; stints = refl })
       (seen_size (with_flight d None flights) s ∙ sym (seen_size moved s))
       (seen_number (with_flight d None flights) s ∙ sym (seen_number moved s) ∙ sym (length-set (seen moved s).stock.devices d (device_in (completed d f) d)))
       (λ a lt.

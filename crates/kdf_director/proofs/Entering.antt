@@ -7,7 +7,7 @@ use Rattle.std.proofs.lemmas.List.FromFn.{length-map-range_with_len, get_or-map-
 use Rattle.kdf_journal.specs.declared.entry.Entry.{Entry}
 use Rattle.kdf_journal.specs.declared.journal.TheConstants.{MOVE_LIMIT}
 use Rattle.kdf_journal.specs.Counts.{clock, last_hold, moves}
-use Rattle.kdf_journal.specs.Steps.{Step, Moves, Ends, Sets, added}
+use Rattle.kdf_journal.specs.Steps.{Step, Moves, Ends, Sets, Swaps, added}
 use Rattle.kdf_journal.proofs.Added.{calls_by, calls-added, hold_by, last_hold-added, moves_by, moves-added}
 use Rattle.kdf_lockout.specs.Groups.{Cells}
 use Rattle.kdf_relocate.specs.declared.window.Window.{Window}
@@ -29,8 +29,8 @@ use Rattle.kdf_director.specs.Spots.{AreDry}
 use Rattle.kdf_director.specs.Told.{lone_world, seen_of}
 use Rattle.kdf_director.specs.World.{need_of}
 use Rattle.kdf_director.proofs.Flown.{ended_running, flown_running}
-use Rattle.kdf_director.proofs.Lasting.{ended_follows, flown_follows, set_follows}
-use Rattle.kdf_director.proofs.LegalFacts.{legal-added}
+use Rattle.kdf_director.proofs.Lasting.{ended_follows, flown_follows, exchanged_follows, set_follows}
+use Rattle.kdf_director.proofs.Judged.{legal_added, true_added}
 use Rattle.kdf_director.proofs.Tables.{limit_is}
 
 pub map_twice : {X Y Z : Type 0} (f : Y → Z) (g : X → Y) (xs : List X) → map f (map g xs) ≡ map (λ x. f (g x)) xs
@@ -69,7 +69,8 @@ module _ (slots : List Slot) (reaches : List Reach) (seats : List Seat) (s : Sha
         numbers = a.numbers;
         running = running;
         following = following;
-        legal = legal-added slots J st a.legal meets;
+        legal = legal_added slots J st a.legal meets;
+        truly = true_added slots J st a.legal a.truly meets;
         few_calls = (let c = a.few_calls in omega (arith, calls-added J st, none));
         few_moves = omega (arith, moves-added J st);
       }
@@ -87,6 +88,10 @@ module _ (slots : List Slot) (reaches : List Reach) (seats : List Seat) (s : Sha
   pub timed : (t : ℕ) → clock J ≤ t → Agrees slots reaches seats s (added J (Sets t))
   timed t rises =
       more (Sets t) s rises refl (let few = a.few_moves in omega arith) a.running (set_follows slots J reaches seats s a.are a.legal a.running a.following t)
+
+  pub exchanged : (p q : ℕ) → (p < 4) × (q < 4) → Agrees slots reaches seats s (added J (Swaps p q))
+  exchanged p q slots_are =
+      more (Swaps p q) s slots_are refl (let few = a.few_moves in omega arith) a.running (exchanged_follows slots J reaches seats s a.are a.legal a.running a.following p q)
 
 -- the holds stay where a step names no program
 holds_more : (programs : List Program) (J : List Entry) (st : Step) → ((p : ℕ) → hold_by p (last_hold p J) st ≡ last_hold p J) → HaveHolds programs J → HaveHolds programs (added J st)
@@ -111,7 +116,7 @@ module _ (slots : List Loaded) (windows : List Window) (store : Cells) (programs
   shown_seen = shows xs rs ps s J ready.agrees
 
   -- an event is entered
-  module _ (st : Step) (store' : Cells) (places' : List Place) (J' : List Entry) (spare' room' : ℕ) (s' : Shared) (quiet : (p : ℕ) → hold_by p (last_hold p J) st ≡ last_hold p J) (is : shared_in store' places' ≡ s') (dry : AreDry places') (journal : J' ≡ added J st) (taken : spare ≤ spare' + 1) (left : room' + 1 ≡ room) (agrees : Agrees xs rs ps s' (added J st)) where
+  module _ (st : Step) (store' : Cells) (places' : List Place) (J' : List Entry) (spare' room' : ℕ) (s' : Shared) (quiet : (p : ℕ) → hold_by p (last_hold p J) st ≡ last_hold p J) (is : shared_in store' places' ≡ s') (dry : AreDry places') (journal : J' ≡ added J st) (words : moves_by st ≤ 4096) (taken : spare ≤ spare' + 1) (left : room' + 1 ≡ room) (agrees : Agrees xs rs ps s' (added J st)) where
     pub ready_more : IsReady slots windows store' programs places' J' spare' room'
     ready_more =
         record {
@@ -122,6 +127,7 @@ module _ (slots : List Loaded) (windows : List Window) (store : Cells) (programs
           dry = dry;
           fits = (let f = ready.fits in omega arith);
           few_events = (let f = ready.few_events in omega arith);
+          few_words = omega (arith, ready.few_words, ap moves journal, moves-added J st);
         }
 
     pub entered_more : viewed slots windows store' programs places' J' room' ≡ entered (viewed slots windows store programs places J room) st

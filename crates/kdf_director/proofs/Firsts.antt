@@ -1,10 +1,10 @@
--- The first that passes a test, of numbers in their order, and of the four priorities.
+-- The first that passes a test, of numbers in their order, and whether one of the four slots does.
 use Rattle.std.specs.Prelude.{find}
 use Rattle.std.specs.List.{list_any, range_with_len}
 use Rattle.std.proofs.Common.{◌≡◌, ◌≢◌, ℕ, zero, suc, ◌+◌, ◌<◌, ◌≤◌, Bool, true, false, ◌||◌, List, [], ◌∷◌, length, get_or, Some, None, cond, refl, sym, ap, ◌∙◌, ⊎_elim, arith}
-use Rattle.std.proofs.lemmas.Bool.{cases_Bool, cases_eq, cases_lt, false≢true, or_parts}
+use Rattle.std.proofs.lemmas.Bool.{cases_Bool, cases_eq, false≢true, or_parts}
 use Rattle.std.proofs.lemmas.List.Folds.{list_any_at}
-use Rattle.kdf_director.specs.Next.{priorities}
+use Rattle.kdf_journal.specs.Counts.{slot_numbers}
 
 -- ---- numbers in their order
 
@@ -76,45 +76,17 @@ any_none f [] d is i lt = absurd (omega arith)
 any_none f (x ∷ xs) d is zero lt = (or_parts _ _ is).0
 any_none f (x ∷ xs) d is (suc i) lt = any_none f xs d (or_parts _ _ is).1 i (omega arith)
 
--- ---- the four priorities
+-- ---- the four slots
 
-find_four : (f : ℕ → Bool) (p : ℕ) → p < 4 → f p ≡ true → ((k : ℕ) → k < p → f k ≡ false) → find f priorities ≡ Some p
-find_four f zero lt is least = rw is refl
-find_four f (suc zero) lt is least = rw (least 0 (omega arith), is) refl
-find_four f (suc (suc zero)) lt is least = rw (least 0 (omega arith), least 1 (omega arith), is) refl
-find_four f (suc (suc (suc zero))) lt is least = rw (least 0 (omega arith), least 1 (omega arith), least 2 (omega arith), is) refl
-find_four f (suc (suc (suc (suc p)))) lt is least = absurd (omega arith)
-
-any_four : (f : ℕ → Bool) (p : ℕ) → p < 4 → f p ≡ true → list_any f priorities ≡ true
-any_four f zero lt is = list_any_at f priorities 0 0 (omega arith) is
-any_four f (suc zero) lt is = list_any_at f priorities 1 0 (omega arith) is
-any_four f (suc (suc zero)) lt is = list_any_at f priorities 2 0 (omega arith) is
-any_four f (suc (suc (suc zero))) lt is = list_any_at f priorities 3 0 (omega arith) is
+any_four : (f : ℕ → Bool) (p : ℕ) → p < 4 → f p ≡ true → list_any f slot_numbers ≡ true
+any_four f zero lt is = list_any_at f slot_numbers 0 0 (omega arith) is
+any_four f (suc zero) lt is = list_any_at f slot_numbers 1 0 (omega arith) is
+any_four f (suc (suc zero)) lt is = list_any_at f slot_numbers 2 0 (omega arith) is
+any_four f (suc (suc (suc zero))) lt is = list_any_at f slot_numbers 3 0 (omega arith) is
 any_four f (suc (suc (suc (suc p)))) lt is = absurd (omega arith)
 
 -- those that pass stand in a list that rises
 module _ (f : ℕ → Bool) (ps : List ℕ) (up : (i j : ℕ) → i < j → j < length ps → get_or ps i 0 < get_or ps j 0) (four : (i : ℕ) → i < length ps → get_or ps i 0 < 4) (only : (k : ℕ) → f k ≡ true → (i : ℕ) × (i < length ps) × (get_or ps i 0 ≡ k)) where
-  pub first_is : (i : ℕ) → i < length ps → f (get_or ps i 0) ≡ true → ((j : ℕ) → j < i → f (get_or ps j 0) ≡ false) → find f priorities ≡ Some (get_or ps i 0)
-  first_is i lt is before = find_four f (get_or ps i 0) (four i lt) is least
-    where
-      least : (k : ℕ) → k < get_or ps i 0 → f k ≡ false
-      least k low =
-          ⊎_elim
-          (λ (passes : f k ≡ true).
-          let x = only k passes in
-          let at = x.2 in
-          let inside = x.1 in
-          ⊎_elim
-          (λ (earlier : x.0 < i). absurd (false≢true (sym (before x.0 earlier) ∙ ap f at ∙ passes)))
-          (λ (not : i ≤ x.0).
-          ⊎_elim
-          (λ (same : x.0 ≡ i). let e = ap (λ j. get_or ps j 0) same in absurd (omega arith))
-          (λ (ne : x.0 ≢ i). let more = up i x.0 (omega arith) inside in absurd (omega arith))
-          (cases_eq x.0 i))
-          (cases_lt x.0 i))
-          (λ (fails : f k ≡ false). fails)
-          (cases_Bool (f k))
-
   fails_all : ((i : ℕ) → i < length ps → f (get_or ps i 0) ≡ false) → (k : ℕ) → f k ≡ false
   fails_all none k =
       ⊎_elim
@@ -122,15 +94,10 @@ module _ (f : ℕ → Bool) (ps : List ℕ) (up : (i j : ℕ) → i < j → j < 
       (λ (fails : f k ≡ false). fails)
       (cases_Bool (f k))
 
-  pub first_none : ((i : ℕ) → i < length ps → f (get_or ps i 0) ≡ false) → find f priorities ≡ None
-  first_none none =
-      let fails = fails_all none in
-      rw (fails 0, fails 1, fails 2, fails 3) refl
-
-  pub any_is : (i : ℕ) → i < length ps → f (get_or ps i 0) ≡ true → list_any f priorities ≡ true
+  pub any_is : (i : ℕ) → i < length ps → f (get_or ps i 0) ≡ true → list_any f slot_numbers ≡ true
   any_is i lt is = any_four f (get_or ps i 0) (four i lt) is
 
-  pub any_fails : ((i : ℕ) → i < length ps → f (get_or ps i 0) ≡ false) → list_any f priorities ≡ false
+  pub any_fails : ((i : ℕ) → i < length ps → f (get_or ps i 0) ≡ false) → list_any f slot_numbers ≡ false
   any_fails none =
       let fails = fails_all none in
       rw (fails 0, fails 1, fails 2, fails 3) refl

@@ -7,7 +7,7 @@ use Rattle.std.proofs.Math.Path.{fun_ext}
 use Rattle.std.proofs.lemmas.Bool.{cases_Bool, cases_eq, eq-eqb, ne_eqb}
 use Rattle.kdf_transfer.specs.declared.order.TransferOrder.{TransferOrder}
 use Rattle.kdf_processor.specs.declared.registers.Registers.{Registers}
-use Rattle.kdf_processor.specs.Effect.{Question, Effect, Failing, Starting, Asking}
+use Rattle.kdf_processor.specs.Effect.{Question, Effect, Failing, Starting, Asking, FreeOf, Returning}
 use Rattle.kdf_processor.specs.Lone.{lone}
 use Rattle.kdf_processor.specs.Needs.{next_effect}
 use Rattle.kdf_processor.specs.Row.{done_by}
@@ -173,6 +173,9 @@ pending_behind p k x o e = o
 
 pub pending-obeys : (p x : ℕ) (o : Option (ℕ × ℕ)) (answer : Question → ℕ) (e : Effect) (s : State) → pending_by x o (Obeys p (note_of_outcome (done_by answer e s))) ≡ pending_behind p (s.registers.ran + 1) x o e
 pending-obeys p x o answer (Failing kind) s = refl
+pending-obeys p x o answer (Asking (FreeOf kind) after) s = refl
+pending-obeys p x o answer (Returning true d after) s = refl
+pending-obeys p x o answer (Returning false d after) s = refl
 pending-obeys p x o answer e s = refl
 
 -- and the words that were called for
@@ -182,6 +185,9 @@ moved_behind x m e = m
 
 moved-obeys : (p x : ℕ) (m : Option ℕ) (answer : Question → ℕ) (e : Effect) (s : State) → moved_by x m (Obeys p (note_of_outcome (done_by answer e s))) ≡ moved_behind x m e
 moved-obeys p x m answer (Failing kind) s = refl
+moved-obeys p x m answer (Asking (FreeOf kind) after) s = refl
+moved-obeys p x m answer (Returning true d after) s = refl
+moved-obeys p x m answer (Returning false d after) s = refl
 moved-obeys p x m answer e s = refl
 
 module _ (slots : List Slot) (J : List Entry) (p : ℕ) (answer : Question → ℕ) (asked : (own slots J p).stock.asked ≡ length (answers p J)) (past : (d : ℕ) → IsPast p (ran p J) (pending d J)) (count : (own slots J p).registers.ran ≡ ran p J) where
@@ -223,6 +229,9 @@ module _ (slots : List Slot) (J : List Entry) (p : ℕ) (answer : Question → �
       ∙ sym (with_flight_other d x (Some (beginning o first last (own slots J p))) (flights_of slots J p) ne))
       (cases_eq x d)
   went (Failing kind) is x = flight-stays slots J p asked past (Obeys p (noted (Failing kind))) x refl refl
+  went (Asking (FreeOf kind) after) is x = flight-stays slots J p asked past (Obeys p (noted (Asking (FreeOf kind) after))) x refl refl
+  went (Returning true d after) is x = flight-stays slots J p asked past (Obeys p (noted (Returning true d after))) x refl refl
+  went (Returning false d after) is x = flight-stays slots J p asked past (Obeys p (noted (Returning false d after))) x refl refl
   went (Asking question after) is x = flight-stays slots J p asked past (Obeys p (noted (Asking question after))) x refl refl
   went e is x = flight-stays slots J p asked past (Obeys p (noted e)) x refl refl
 

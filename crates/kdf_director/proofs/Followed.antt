@@ -14,7 +14,7 @@ use Rattle.kdf_transfer.specs.AtOnce.{has_area, order_words}
 use Rattle.kdf_transfer.specs.Devices.{Fixture}
 use Rattle.kdf_transfer.specs.InFlight.{area_words, lent_at}
 use Rattle.kdf_processor.specs.declared.registers.Registers.{Registers}
-use Rattle.kdf_processor.specs.Effect.{Question, Effect, Failing, Ending, Changing, Fetching, Keeping, Testing, Starting, Asking, Claiming, Returning, Spooling}
+use Rattle.kdf_processor.specs.Effect.{Question, Effect, Failing, Ending, Changing, Fetching, Keeping, Testing, Starting, Asking, Claiming, Returning, Spooling, FreeOf}
 use Rattle.kdf_processor.specs.Needs.{effect_needs, next_effect}
 use Rattle.kdf_processor.specs.Outcome.{Outcome, held_or}
 use Rattle.kdf_processor.specs.Row.{done_by, next_of}
@@ -41,11 +41,12 @@ use Rattle.kdf_director.proofs.Acting.{free_here}
 use Rattle.kdf_director.proofs.Beginning.{same_next, with_flight_is, with_flight_other}
 use Rattle.kdf_director.proofs.FlightsAdded.{begun_at, pending_behind, pending-obeys}
 use Rattle.kdf_director.proofs.Inside.{IsInside, next_inside}
-use Rattle.kdf_director.proofs.Judging.{busy_same, done_alike, group_same, hold_same, out_same}
+use Rattle.kdf_director.proofs.Judging.{busy_same, free_same, done_alike, group_same, hold_same, out_same}
 use Rattle.kdf_director.proofs.Lasting.{answers_same}
 use Rattle.kdf_director.proofs.Lawful.{IsLawful}
 use Rattle.kdf_director.proofs.Linking.{follow_part, linked_none, linked_set}
 use Rattle.kdf_director.proofs.Obeying.{obeys-flights, obeys-others, obeys-seen}
+use Rattle.kdf_director.proofs.Judged.{free_need}
 use Rattle.kdf_director.proofs.OnCourse.{IsOnCourse, apart-mine, free, legal-course}
 use Rattle.kdf_director.proofs.SeenJournals.{same-need, same-note}
 use Rattle.kdf_director.proofs.SeenStates.{seen_apart, seen_device_at, seen_number, seen_word_at}
@@ -78,9 +79,11 @@ asked_told n answer (Fetching a after) s = omega arith
 asked_told n answer (Keeping a w after) s = omega arith
 asked_told n answer (Testing d what after) s = omega arith
 asked_told n answer (Starting d o first last after) s = omega arith
+asked_told n answer (Asking (FreeOf kind) after) s = omega arith
 asked_told n answer (Asking question after) s = omega arith
 asked_told n answer (Claiming d after) s = omega arith
-asked_told n answer (Returning d after) s = omega arith
+asked_told n answer (Returning true d after) s = omega arith
+asked_told n answer (Returning false d after) s = omega arith
 asked_told n answer (Spooling stream first last after) s = omega arith
 
 module _ (slots : List Slot) (J : List Entry) (reaches : List Reach) (seats : List Seat) (s : Shared) (are : AreSlots slots) (legal : IsLegal slots J) (run : IsRunning reaches seats s) (old : AreFollowing slots J reaches seats s) (i : ℕ) (lt : i < length seats) (note : Note) (meets : Meets (lone_world slots J) slots J (Obeys (seat_at seats i).p note)) where
@@ -117,16 +120,19 @@ module _ (slots : List Slot) (J : List Entry) (reaches : List Reach) (seats : Li
   part : IsPart q s
   part = turn.is_part reaches seats s i run lt
 
+  none_holds : first_need (lone_world slots J) p ≡ None
+  none_holds = free_need (first_need (lone_world slots J) p) meets.1
+
   -- nothing holds it up, in the machine either
   none : hold_of reaches seats s i ≡ None
-  none = hold_same slots J reaches seats s run old i lt course ∙ same_needs ∙ meets.1
+  none = hold_same slots J reaches seats s run old i lt course ∙ same_needs ∙ none_holds
     where
       same_needs : first_need (seen_world slots J) p ≡ first_need (lone_world slots J) p
       same_needs = same-need slots J p
 
   -- its next order is that of the lone state
   next_is : next_effect mine ≡ next_effect l
-  next_is = ap next_effect fol.is_seen ∙ sym (same_next fs (mine_after J p) l (apart-mine slots J p (free slots J p meets.1)))
+  next_is = ap next_effect fol.is_seen ∙ sym (same_next fs (mine_after J p) l (apart-mine slots J p (free slots J p none_holds)))
 
   size_is : mine.stock.claims.size ≡ q.size
   unfolding own_state
@@ -141,6 +147,7 @@ module _ (slots : List Slot) (J : List Entry) (reaches : List Reach) (seats : Li
       (subst (λ k. IsInside k (next_effect mine)) size_is (next_inside mine))
       (out_same slots J reaches seats s run old i lt course)
       (busy_same slots J reaches seats s run old i lt course)
+      (free_same slots J reaches seats s run old i lt course)
       refl
 
   -- its state behind the order
@@ -163,7 +170,7 @@ module _ (slots : List Slot) (J : List Entry) (reaches : List Reach) (seats : Li
       note_is : note ≡ note_of_outcome (done_by answer (next_effect mine) mine)
       note_is =
           meets.2
-          ∙ sym (same-note slots J p answer meets.1)
+          ∙ sym (same-note slots J p answer none_holds)
           ∙ sym (ap (λ (x : State). note_of x answer) fol.is_seen)
 
   claims_same : mine.stock.claims ≡ l.stock.claims

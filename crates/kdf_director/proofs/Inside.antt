@@ -11,11 +11,11 @@ use Rattle.kdf_journal.specs.declared.failure.Failure.TheVariants.{Claim, Nouv}
 use Rattle.kdf_journal.specs.declared.kind.Kind.TheVariants.{Mt}
 use Rattle.kdf_processor.specs.declared.registers.Registers.{Registers}
 use Rattle.kdf_processor.specs.declared.step.Need.{Need}
-use Rattle.kdf_processor.specs.declared.step.Need.TheVariants.{Group, Device}
+use Rattle.kdf_processor.specs.declared.step.Need.TheVariants.{Group, Device, Pool}
 use Rattle.kdf_processor.specs.declared.test.Test.TheVariants.{Flag, Start, Mark}
 use Rattle.kdf_processor.specs.Claims.{is_kind, claim, is_claimed}
 use Rattle.kdf_processor.specs.State.{Claims, State, word_at}
-use Rattle.kdf_processor.specs.Effect.{Change, Refused, Going, of_change, Effect, Failing, Ending, Changing, Fetching, Keeping, Testing, Starting, Asking, IsBusy, IsOut, Time, Claiming, Returning, Spooling}
+use Rattle.kdf_processor.specs.Effect.{Change, Refused, Going, of_change, Effect, Failing, Ending, Changing, Fetching, Keeping, Testing, Starting, Asking, IsBusy, IsOut, Time, FreeOf, Claiming, Returning, Spooling}
 use Rattle.kdf_processor.specs.Needs.{count_at, effect_needs, effect_or_liv, fetch_needs, needs, next_effect, order_at, syllable_needs}
 use Rattle.kdf_processor.specs.Table.{is_area, guarded, effect, on, plain_row, change_of, on_top, out_effect, indirect_effect, direct_effect, device_effect, query_effect}
 use Rattle.kdf_processor.specs.View.{groups_of}
@@ -58,8 +58,9 @@ guarded_inside c (Starting d o first last after) =
 guarded_inside c (Asking (IsBusy d) after) = by_test c.size (is_claimed c d) (Asking (IsBusy d) after) _ (λ is. tt) (λ not. tt)
 guarded_inside c (Asking (IsOut first last) after) = by_test c.size (is_area c.size first last) (Asking (IsOut first last) after) _ (λ is. area_parts c.size first last is) (λ not. tt)
 guarded_inside c (Asking Time after) = tt
+guarded_inside c (Asking (FreeOf kind) after) = tt
 guarded_inside c (Claiming d after) = tt
-guarded_inside c (Returning d after) = by_test c.size (is_claimed c d) (Returning d after) _ (λ is. tt) (λ not. tt)
+guarded_inside c (Returning pooled d after) = by_test c.size (is_claimed c d) (Returning pooled d after) _ (λ is. tt) (λ not. tt)
 guarded_inside c (Spooling stream first last after) = by_test c.size (is_area c.size first last) (Spooling stream first last after) _ (λ is. area_parts c.size first last is) (λ not. tt)
 
 change_inside : (size : ℕ) (x : Change) → IsInside size (of_change x)
@@ -95,6 +96,7 @@ next_inside s = or_liv_inside s.stock.claims s.registers (order_at s.stock.claim
 abbrev pub IsNear : ℕ → Need → Type 0
 IsNear size (Group g) = 32 * g < size
 IsNear size (Device d) = Unit {0}
+IsNear size (Pool kind) = Unit {0}
 
 abbrev pub AreNear : ℕ → List Need → Type 0
 AreNear size [] = Unit {0}
@@ -142,9 +144,10 @@ near_effect size mine (Fetching a after) is = (near_place a size is, tt)
 near_effect size mine (Keeping a w after) is = (near_place a size is, tt)
 near_effect size mine (Testing d what after) is = (tt, tt)
 near_effect size mine (Starting d o first last after) is = (tt, near_order size (has_area o) first last is)
+near_effect size mine (Asking (FreeOf kind) after) is = (tt, tt)
 near_effect size mine (Asking question after) is = tt
 near_effect size mine (Claiming d after) is = tt
-near_effect size mine (Returning d after) is = (tt, tt)
+near_effect size mine (Returning pooled d after) is = (tt, tt)
 near_effect size mine (Spooling stream first last after) is = near_area size first last is
 
 -- the needs of the next order

@@ -1,18 +1,18 @@
 -- A program that follows the journal is judged by the machine as by the journal: what of it is pending, on which devices it
 -- has transfers, what holds it up, and what it is answered.
-use Rattle.std.specs.Prelude.{find, map}
+use Rattle.std.specs.Prelude.{find, map, unwrap_or}
 use Rattle.std.specs.List.{filter, range_with_len}
-use Rattle.std.proofs.Common.{◌≡◌, ◌≢◌, ℕ, zero, suc, ◌+◌, ◌*◌, ◌/◌, ◌<◌, ◌≤◌, Bool, true, false, ◌||◌, List, [], ◌∷◌, length, Option, Some, None, is_some, is_none, cond, refl, sym, ap, ◌∙◌, subst, ⊎_elim, arith}
+use Rattle.std.proofs.Common.{◌≡◌, ◌≢◌, ℕ, zero, suc, ◌+◌, ◌*◌, ◌/◌, ◌<◌, ◌≤◌, Bool, true, false, ◌||◌, List, [], ◌∷◌, length, Option, Some, None, is_some, is_none, cond, refl, sym, ap, ◌∙◌, subst, ⊎_elim, arith, not}
 use Rattle.std.proofs.lemmas.Bool.{cases_Bool, cases_eq, cases_lt, or_right, and_parts, and_from, eq-eqb, ne_eqb, le-leb, lt-ltb, leb-true, ltb-true}
 use Rattle.std.proofs.lemmas.List.{get_or_past}
 use Rattle.kdf_journal.specs.declared.entry.Entry.{Entry}
-use Rattle.kdf_journal.specs.Counts.{clock, pending}
+use Rattle.kdf_journal.specs.Counts.{clock, pending, answers, ran, holder}
 use Rattle.kdf_lockout.specs.Groups.{Lent, group_at, is_out}
 use Rattle.kdf_transfer.specs.AtOnce.{has_area}
 use Rattle.kdf_transfer.specs.InFlight.{Covers}
 use Rattle.kdf_processor.specs.declared.step.Need.{Need}
-use Rattle.kdf_processor.specs.declared.step.Need.TheVariants.{Group, Device}
-use Rattle.kdf_processor.specs.Effect.{Question, IsBusy, IsOut, Time, Effect, Asking}
+use Rattle.kdf_processor.specs.declared.step.Need.TheVariants.{Group, Device, Pool}
+use Rattle.kdf_processor.specs.Effect.{Question, IsBusy, IsOut, Time, Effect, Asking, FreeOf}
 use Rattle.kdf_processor.specs.Needs.{needs}
 use Rattle.kdf_processor.specs.Row.{done_by}
 use Rattle.kdf_processor.specs.State.{Slot, State}
@@ -20,14 +20,14 @@ use Rattle.kdf_processor.specs.View.{groups_of, is_pending}
 use Rattle.kdf_director.specs.ByNumber.{device_count}
 use Rattle.kdf_director.specs.Flights.{Flight, touches}
 use Rattle.kdf_director.specs.Seen.{touched_below}
-use Rattle.kdf_director.specs.Told.{flights_of, is_pending_after, mine_after, own, seen_of, seen_world}
+use Rattle.kdf_director.specs.Told.{flights_of, is_pending_after, mine_after, own, seen_of, seen_world, free_after}
 use Rattle.kdf_director.specs.Told as told
 use Rattle.kdf_director.specs.True.{known}
 use Rattle.kdf_director.specs.World.{first_need}
 use Rattle.kdf_director.specs.Physical.{has_group}
 use Rattle.kdf_director.specs.Spots.{Held, Spot, no_spot, spot_at, is_of, lease_held, leases_of, own_from}
 use Rattle.kdf_director.specs.Parts.{Part, Seat, Reach, Shared}
-use Rattle.kdf_director.specs.Shared.{view}
+use Rattle.kdf_director.specs.Shared.{view, is_pool_taken}
 use Rattle.kdf_director.specs.Sound.{IsFlightOf}
 use Rattle.kdf_director.specs.Running.{seat_at, part_at, own_state, hold_of, answers_at, IsHeld, IsRunning}
 use Rattle.kdf_director.specs.Following.{IsLink, Linked, IsFollowing, AreFollowing, asked_at}
@@ -35,6 +35,10 @@ use Rattle.kdf_director.proofs.Inside.{IsInside, IsNear, AreNear, needs_near, ne
 use Rattle.kdf_director.proofs.Linking.{linked_own}
 use Rattle.kdf_director.proofs.OnCourse.{IsOnCourse}
 use Rattle.kdf_director.proofs.Turning.{numbers_apart}
+use Rattle.kdf_journal.specs.declared.kind.Kind.{Kind}
+use Rattle.kdf_processor.proofs.Frees.{none_of_pool}
+use Rattle.kdf_processor.proofs.RowFacts.{pool_lone}
+use Rattle.kdf_director.specs.Slots.{start}
 
 -- two truths that follow from each other are one
 both_ways : (a b : Bool) → (a ≡ true → b ≡ true) → (b ≡ true → a ≡ true) → a ≡ b
@@ -89,11 +93,12 @@ own_from_is p test d (x ∷ spots) same =
     (own_from_is p test (d + 1) spots (λ k lt. same (suc k) (omega arith) ∙ ap test (let e : d + suc k ≡ d + 1 + k = omega arith in e)))
 
 -- what an order that asks is told decides what it does, and nothing else is asked
-pub done_alike : (a b : Question → ℕ) (size : ℕ) (e : Effect) (s : State) → IsInside size e → ((first last : ℕ) → AreNear size (map Group (groups_of first last)) → a (IsOut first last) ≡ b (IsOut first last)) → ((d : ℕ) → a (IsBusy d) ≡ b (IsBusy d)) → a Time ≡ b Time → done_by a e s ≡ done_by b e s
-done_alike a b size (Asking (IsBusy d) after) s is out busy time = ap (λ n. done_by (λ _. n) (Asking (IsBusy d) after) s) (busy d)
-done_alike a b size (Asking (IsOut first last) after) s is out busy time = ap (λ n. done_by (λ _. n) (Asking (IsOut first last) after) s) (out first last (near_area size first last is))
-done_alike a b size (Asking Time after) s is out busy time = ap (λ n. done_by (λ _. n) (Asking Time after) s) time
-done_alike a b size e s is out busy time = refl
+pub done_alike : (a b : Question → ℕ) (size : ℕ) (e : Effect) (s : State) → IsInside size e → ((first last : ℕ) → AreNear size (map Group (groups_of first last)) → a (IsOut first last) ≡ b (IsOut first last)) → ((d : ℕ) → a (IsBusy d) ≡ b (IsBusy d)) → ((kind : Kind) → a (FreeOf kind) ≡ b (FreeOf kind)) → a Time ≡ b Time → done_by a e s ≡ done_by b e s
+done_alike a b size (Asking (IsBusy d) after) s is out busy free time = ap (λ n. done_by (λ _. n) (Asking (IsBusy d) after) s) (busy d)
+done_alike a b size (Asking (IsOut first last) after) s is out busy free time = ap (λ n. done_by (λ _. n) (Asking (IsOut first last) after) s) (out first last (near_area size first last is))
+done_alike a b size (Asking Time after) s is out busy free time = ap (λ n. done_by (λ _. n) (Asking Time after) s) time
+done_alike a b size (Asking (FreeOf kind) after) s is out busy free time = ap (λ n. done_by (λ _. n) (Asking (FreeOf kind) after) s) (free kind)
+done_alike a b size e s is out busy free time = refl
 
 module _ (slots : List Slot) (J : List Entry) (reaches : List Reach) (seats : List Seat) (s : Shared) (run : IsRunning reaches seats s) (old : AreFollowing slots J reaches seats s) (i : ℕ) (lt : i < length seats) (course : IsOnCourse slots J (seat_at seats i).p) where
   abbrev q : Part
@@ -223,10 +228,24 @@ module _ (slots : List Slot) (J : List Entry) (reaches : List Reach) (seats : Li
       both_ways _ _ (out_touched g near)
       (λ is. let d = touched_some device_count fs g is in touched_out d.0 g d.1)
 
+  -- there is no pool yet
+  no_pool : (start slots q.p).stock.claims.pool ≡ []
+  unfolding own own_state
+  no_pool = sym (pool_lone (start slots q.p) (answers q.p J) (ran q.p J)) ∙ sym (ap (λ (x : State). x.stock.claims.pool) fol.is_seen)
+
+  none_free : (kind : Kind) → free_after slots J q.p kind ≡ None
+  unfolding free_after
+  none_free kind = none_of_pool kind (start slots q.p).stock.claims.pool (λ d. not (is_some (holder d J))) no_pool (range_with_len 0 device_count)
+
+  none_left : (kind : Kind) → is_pool_taken kind ≡ true
+  unfolding is_pool_taken
+  none_left kind = refl
+
   -- so a need is pending in the machine exactly where it is by the journal
   pub pending_same : (t : ℕ) (n : Need) → IsNear q.size n → is_pending (view q t s) n ≡ is_pending_after slots J q.p n
   pending_same t (Group g) near = group_same g near
   pending_same t (Device d) near = old.busy d
+  pending_same t (Pool kind) near = none_left kind ∙ sym (ap (λ o. not (is_some o)) (none_free kind))
 
   -- its transfers are on the same devices
   pub mine_same : own_from q.p 0 s.spots ≡ mine_after J q.p
@@ -257,10 +276,13 @@ module _ (slots : List Slot) (J : List Entry) (reaches : List Reach) (seats : Li
       ∙ ap (find (is_pending_after slots J q.p)) (needs_are 0 (own_from q.p 0 s.spots) ∙ ap (needs (seen_of slots J q.p)) mine_same)
 
   -- and what it is answered
-  pub busy_same : (d : ℕ) → answers_at reaches seats (clock J) s i (IsBusy d) ≡ known (is_pending_after slots J q.p) (clock J) (IsBusy d)
+  pub busy_same : (d : ℕ) → answers_at reaches seats (clock J) s i (IsBusy d) ≡ known (is_pending_after slots J q.p) (clock J) (free_after slots J q.p) (IsBusy d)
   busy_same d = ap (λ b. cond b 1 0) (old.busy d)
 
-  pub out_same : (first last : ℕ) → AreNear q.size (map Group (groups_of first last)) → answers_at reaches seats (clock J) s i (IsOut first last) ≡ known (is_pending_after slots J q.p) (clock J) (IsOut first last)
+  pub free_same : (kind : Kind) → answers_at reaches seats (clock J) s i (FreeOf kind) ≡ known (is_pending_after slots J q.p) (clock J) (free_after slots J q.p) (FreeOf kind)
+  free_same kind = ap (λ (o : Option ℕ). unwrap_or o 0) (sym (none_free kind))
+
+  pub out_same : (first last : ℕ) → AreNear q.size (map Group (groups_of first last)) → answers_at reaches seats (clock J) s i (IsOut first last) ≡ known (is_pending_after slots J q.p) (clock J) (free_after slots J q.p) (IsOut first last)
   out_same first last near =
       ap (λ b. cond b 1 0)
       (any_near q.size (λ g. is_out s.cells (q.base / 32 + g)) (touched_below device_count fs) group_same (groups_of first last) near)

@@ -5,7 +5,7 @@ use Rattle.std.proofs.lemmas.Bool.{cases_eq, eq-eqb, ne_eqb}
 use Rattle.std.proofs.lemmas.List.{append-nil, get_or-set_same, get_or-set_other}
 use Rattle.kdf_journal.specs.declared.entry.Entry.{Entry}
 use Rattle.kdf_journal.specs.Counts.{Hold, answers, pending}
-use Rattle.kdf_journal.specs.Steps.{Step, Holds, Waits, Moves, Ends, Sets, added}
+use Rattle.kdf_journal.specs.Steps.{Step, Holds, Waits, Moves, Ends, Sets, Swaps, added}
 use Rattle.kdf_journal.proofs.Added.{answers_by, answers-added, pending_by, pending-added, ran_by, moved_by}
 use Rattle.kdf_journal.specs.Counts.{moved_if}
 use Rattle.kdf_processor.specs.State.{Slot}
@@ -129,3 +129,6 @@ module _ (slots : List Slot) (J : List Entry) (reaches : List Reach) (seats : Li
 
   pub set_follows : (t : ℕ) → AreFollowing slots (added J (Sets t)) reaches seats s
   set_follows t = quiet_follows (Sets t) (λ _. refl) (λ _. refl) (λ d. refl) (λ d. refl)
+
+  pub exchanged_follows : (p q : ℕ) → AreFollowing slots (added J (Swaps p q)) reaches seats s
+  exchanged_follows p q = quiet_follows (Swaps p q) (λ _. refl) (λ _. refl) (λ d. refl) (λ d. refl)

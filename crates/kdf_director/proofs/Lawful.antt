@@ -11,18 +11,22 @@ use Rattle.kdf_journal.specs.declared.kind.Kind.TheVariants.{Mt}
 use Rattle.kdf_processor.specs.declared.registers.Registers.{Registers}
 use Rattle.kdf_processor.specs.declared.step.Need.{Need}
 use Rattle.kdf_processor.specs.declared.test.Test.TheVariants.{Flag, Start, Mark}
-use Rattle.kdf_processor.specs.Claims.{is_kind, claim, is_claimed}
-use Rattle.kdf_processor.specs.State.{Claims}
-use Rattle.kdf_processor.specs.Effect.{Change, Refused, Going, of_change, Effect, Failing, Ending, Changing, Fetching, Keeping, Testing, Starting, Asking, IsBusy, IsOut, Time, Claiming, Returning, Spooling}
+use Rattle.kdf_processor.specs.Claims.{is_kind, claim, is_claimed, may_take}
+use Rattle.kdf_processor.specs.State.{Claims, is_pooled}
+use Rattle.kdf_processor.specs.Effect.{Change, Refused, Going, of_change, Effect, Failing, Ending, Changing, Fetching, Keeping, Testing, Starting, Asking, IsBusy, IsOut, Time, Claiming, Returning, Spooling, FreeOf}
 use Rattle.kdf_processor.specs.Needs.{order_at, effect_or_liv, effect_at}
-use Rattle.kdf_processor.specs.Table.{is_area, guarded, effect, plain_row, change_of, on_top, out_effect, indirect_effect, direct_effect, device_effect, query_effect}
+use Rattle.kdf_processor.specs.Table.{is_area, guarded, effect, plain_row, change_of, on_top, out_effect, indirect_effect, direct_effect, device_effect, query_effect, transfer_of}
 use Rattle.kdf_processor.specs.View.{View, first_pending, is_pending}
+use Rattle.kdf_processor.proofs.Fit.{IsFit, top_fit, out_fit, indirect_fit, direct_fit, starts_fit, query_fit}
 
--- its address is in the store; its device is claimed and of the order's kind, and its area is in the store
+-- its address is in the store; its device is claimed and of the order's kind, and its area is in the store; a device of the kind may be
+-- taken; it is given back to the pool where it is of the pool
 abbrev pub IsLawful : Claims → Effect → Type 0
 IsLawful c (Keeping a w after) = a < c.size
 IsLawful c (Starting d o first last after) =
     (is_kind (kind_of o) (claim c d) ≡ true) × (has_area o ≡ true → IsArea first last c.size)
+IsLawful c (Asking (FreeOf kind) after) = may_take c kind ≡ true
+IsLawful c (Returning pooled d after) = pooled ≡ is_pooled c d
 IsLawful c e = Unit {0}
 
 by_test : (c : Claims) (b : Bool) (x y : Effect) → (b ≡ true → IsLawful c x) → (b ≡ false → IsLawful c y) → IsLawful c (cond b x y)
@@ -35,28 +39,29 @@ area_parts size first last is =
     let b = and_parts _ _ a.1 in
     record { rising = leb-true first last a.0; few = leb-true last (first + 4095) b.1; inside = ltb-true last size b.0 }
 
-pub guarded_lawful : (c : Claims) (e : Effect) → IsLawful c (guarded c e)
+pub guarded_lawful : (c : Claims) (e : Effect) → IsFit c e → IsLawful c (guarded c e)
 unfolding guarded
-guarded_lawful c (Failing kind) = tt
-guarded_lawful c (Ending after) = tt
-guarded_lawful c (Changing after) = tt
-guarded_lawful c (Fetching a after) = by_test c (ltb a c.size) (Fetching a after) _ (λ is. tt) (λ not. tt)
-guarded_lawful c (Keeping a w after) = by_test c (ltb a c.size) (Keeping a w after) _ (λ is. ltb-true a c.size is) (λ not. tt)
-guarded_lawful c (Testing d Flag after) = by_test c (is_claimed c d) (Testing d Flag after) _ (λ is. tt) (λ not. tt)
-guarded_lawful c (Testing d Start after) = by_test c (is_kind Mt (claim c d)) (Testing d Start after) (Failing Claim) (λ is. tt) (λ not. tt)
-guarded_lawful c (Testing d Mark after) = by_test c (is_kind Mt (claim c d)) (Testing d Mark after) (Failing Claim) (λ is. tt) (λ not. tt)
-guarded_lawful c (Starting d o first last after) =
+guarded_lawful c (Failing kind) fit = tt
+guarded_lawful c (Ending after) fit = tt
+guarded_lawful c (Changing after) fit = tt
+guarded_lawful c (Fetching a after) fit = by_test c (ltb a c.size) (Fetching a after) _ (λ is. tt) (λ not. tt)
+guarded_lawful c (Keeping a w after) fit = by_test c (ltb a c.size) (Keeping a w after) _ (λ is. ltb-true a c.size is) (λ not. tt)
+guarded_lawful c (Testing d Flag after) fit = by_test c (is_claimed c d) (Testing d Flag after) _ (λ is. tt) (λ not. tt)
+guarded_lawful c (Testing d Start after) fit = by_test c (is_kind Mt (claim c d)) (Testing d Start after) (Failing Claim) (λ is. tt) (λ not. tt)
+guarded_lawful c (Testing d Mark after) fit = by_test c (is_kind Mt (claim c d)) (Testing d Mark after) (Failing Claim) (λ is. tt) (λ not. tt)
+guarded_lawful c (Starting d o first last after) fit =
     by_test c (is_kind (kind_of o) (claim c d)) _ _
     (λ kind. by_test c (has_area o) _ _
     (λ has. by_test c (is_area c.size first last) (Starting d o first last after) _ (λ area. (kind, λ _. area_parts c.size first last area)) (λ none. tt))
     (λ not. (kind, λ has. cc (sym has ∙ not))))
     (λ none. tt)
-guarded_lawful c (Asking (IsBusy d) after) = by_test c (is_claimed c d) (Asking (IsBusy d) after) _ (λ is. tt) (λ not. tt)
-guarded_lawful c (Asking (IsOut first last) after) = by_test c (is_area c.size first last) (Asking (IsOut first last) after) _ (λ is. tt) (λ not. tt)
-guarded_lawful c (Asking Time after) = tt
-guarded_lawful c (Claiming d after) = tt
-guarded_lawful c (Returning d after) = by_test c (is_claimed c d) (Returning d after) _ (λ is. tt) (λ not. tt)
-guarded_lawful c (Spooling stream first last after) = by_test c (is_area c.size first last) (Spooling stream first last after) _ (λ is. tt) (λ not. tt)
+guarded_lawful c (Asking (IsBusy d) after) fit = by_test c (is_claimed c d) (Asking (IsBusy d) after) _ (λ is. tt) (λ not. tt)
+guarded_lawful c (Asking (IsOut first last) after) fit = by_test c (is_area c.size first last) (Asking (IsOut first last) after) _ (λ is. tt) (λ not. tt)
+guarded_lawful c (Asking Time after) fit = tt
+guarded_lawful c (Asking (FreeOf kind) after) fit = fit
+guarded_lawful c (Claiming d after) fit = tt
+guarded_lawful c (Returning pooled d after) fit = by_test c (is_claimed c d) (Returning pooled d after) (Failing Claim) (λ is. fit) (λ not. tt)
+guarded_lawful c (Spooling stream first last after) fit = by_test c (is_area c.size first last) (Spooling stream first last after) _ (λ is. tt) (λ not. tt)
 
 change_lawful : (c : Claims) (x : Change) → IsLawful c (of_change x)
 change_lawful c (Refused kind) = tt
@@ -65,16 +70,16 @@ change_lawful c (Going after) = tt
 effect_lawful : (c : Claims) (r : Registers) (o : Order) → IsLawful c (effect c r o)
 effect_lawful c r (order.Plain code) =
     by_test c (eqb code 0x21) (guarded c (on_top (Failing Nouv) r.nest (out_effect c r))) (of_change (plain_row r code))
-    (λ is. guarded_lawful c (on_top (Failing Nouv) r.nest (out_effect c r))) (λ not. change_lawful c (plain_row r code))
-effect_lawful c r (order.Indirect code k q) = guarded_lawful c (indirect_effect r code k q)
+    (λ is. guarded_lawful c (on_top (Failing Nouv) r.nest (out_effect c r)) (top_fit c r.nest (out_effect c r) (λ n below. out_fit c r n below))) (λ not. change_lawful c (plain_row r code))
+effect_lawful c r (order.Indirect code k q) = guarded_lawful c (indirect_effect r code k q) (indirect_fit c r code k q)
 effect_lawful c r (order.Single code q) = change_lawful c (change_of r (order.Single code q))
 effect_lawful c r (order.Copies code q k) = change_lawful c (change_of r (order.Copies code q k))
 effect_lawful c r (order.Shift code by) = change_lawful c (change_of r (order.Shift code by))
-effect_lawful c r (order.Device code q) = guarded_lawful c (device_effect r code (triple_at r.q q))
-effect_lawful c r (order.Query b q) = guarded_lawful c (query_effect r b (triple_at r.q q))
+effect_lawful c r (order.Device code q) = guarded_lawful c (device_effect r code (triple_at r.q q)) (starts_fit c r (triple_at r.q q) (transfer_of code (triple_at r.q q).m))
+effect_lawful c r (order.Query b q) = guarded_lawful c (query_effect r b (triple_at r.q q)) (query_fit c r b (triple_at r.q q))
 effect_lawful c r (order.Jump x target) = change_lawful c (change_of r (order.Jump x target))
 effect_lawful c r (order.Exit n) = change_lawful c (change_of r (order.Exit n))
-effect_lawful c r (order.Direct t u q a) = guarded_lawful c (direct_effect r t u q a)
+effect_lawful c r (order.Direct t u q a) = guarded_lawful c (direct_effect r t u q a) (direct_fit c r t u q a)
 effect_lawful c r (order.Set constant) = change_lawful c (change_of r (order.Set constant))
 
 or_liv_lawful : (c : Claims) (r : Registers) (o : Option Order) → IsLawful c (effect_or_liv c r o)

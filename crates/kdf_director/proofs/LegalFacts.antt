@@ -1,17 +1,17 @@
 -- What a legal journal says of each program.
-use Rattle.std.proofs.Common.{◌≡◌, ℕ, List, [], ◌∷◌, Bool, true, false, ◌||◌, not, eqb, length, inl, inr, refl, sym, ◌∙◌, append-nil, ap, subst}
+use Rattle.std.proofs.Common.{◌≡◌, ℕ, List, [], ◌∷◌, Bool, true, false, ◌||◌, not, eqb, length, inl, inr, refl, sym, ◌∙◌, append-nil}
 use Rattle.std.proofs.lemmas.Bool.{cases_eq, eq-eqb, ne_eqb}
 use Rattle.kdf_processor.specs.Effect.{Question}
 use Rattle.kdf_processor.specs.Lone.{is_live}
 use Rattle.kdf_processor.specs.State.{Slot}
 use Rattle.kdf_journal.specs.declared.entry.Entry.{Entry}
 use Rattle.kdf_journal.specs.Counts.{answers, over}
-use Rattle.kdf_journal.specs.Steps.{Note, Quiet, Began, Answered, Failed, Finished, Step, Obeys, Holds, Waits, Moves, Ends, Sets, added, journal_of, steps}
+use Rattle.kdf_journal.specs.Steps.{Note, Quiet, Began, Answered, Took, Gave, Failed, Finished, Step, Obeys, Holds, Waits, Moves, Ends, Sets, Swaps, added, journal_of, steps}
 use Rattle.kdf_journal.proofs.Added.{ran_by, answers_by, answers-added, ends_by, over-added}
-use Rattle.kdf_journal.proofs.Steps.{steps-added, steps-journal_of}
 use Rattle.kdf_director.specs.Told.{own, lone_world}
-use Rattle.kdf_director.specs.True.{truth}
-use Rattle.kdf_director.specs.Legal.{note_of, Meets, EachMeets, IsLegal}
+use Rattle.kdf_course.specs.Legal as course
+use Rattle.kdf_director.specs.Legal.{any_answer, note_of, EachMeets, IsLegal}
+use Rattle.kdf_director.specs.Next.{lone_dispatched}
 use Rattle.kdf_director.proofs.LoneRuns.{goes_on, live_row}
 use Rattle.kdf_director.proofs.Owns.{own-nil, live-start, asked-start, own-same, own-obeys, asked-obeys}
 use Rattle.kdf_director.proofs.Worlds.{next_on}
@@ -25,13 +25,17 @@ ends : (p : ℕ) (note : Note) (was_over : Bool) → not was_over ≡ true → g
 ends p Quiet was_over on = sym on
 ends p (Began d k) was_over on = sym on
 ends p (Answered v) was_over on = sym on
+ends p (Took d) was_over on = sym on
+ends p (Gave d) was_over on = sym on
 ends p (Failed kind) was_over on = rw (eq-eqb p p refl) refl
 ends p Finished was_over on = rw (eq-eqb p p refl) refl
 
-ends_not : (p q : ℕ) (note : Note) → eqb p q ≡ false → ends_by q (Obeys p note) ≡ false
+pub ends_not : (p q : ℕ) (note : Note) → eqb p q ≡ false → ends_by q (Obeys p note) ≡ false
 ends_not p q Quiet apart = refl
 ends_not p q (Began d k) apart = refl
 ends_not p q (Answered v) apart = refl
+ends_not p q (Took d) apart = refl
+ends_not p q (Gave d) apart = refl
 ends_not p q (Failed kind) apart = apart
 ends_not p q Finished apart = apart
 
@@ -60,13 +64,14 @@ kept-turn slots J p answer on kept q =
           kept-stays slots J (Obeys p note) q (rw other refl) (rw other refl) (ends_not p q note other) (kept q)
     ]
 
-kept-added : (slots : List Slot) (J : List Entry) (s : Step) → Meets (lone_world slots J) slots J s → ((q : ℕ) → IsKept slots J q) → (q : ℕ) → IsKept slots (added J s) q
-kept-added slots J (Obeys p note) m kept q = rw m.2 (kept-turn slots J p (truth (lone_world slots J) J p) (next_on (lone_world slots J) slots J p m.0) kept q)
+kept-added : (slots : List Slot) (J : List Entry) (s : Step) → course.Meets (lone_dispatched slots J) (any_answer slots J) J s → ((q : ℕ) → IsKept slots J q) → (q : ℕ) → IsKept slots (added J s) q
+kept-added slots J (Obeys p note) m kept q = rw m.2.1 (kept-turn slots J p (λ _. m.2.0) (next_on (lone_world slots J) slots J p m.0) kept q)
 kept-added slots J (Holds p by) m kept q = kept-stays slots J (Holds p by) q refl refl refl (kept q)
 kept-added slots J Waits m kept q = kept-stays slots J Waits q refl refl refl (kept q)
 kept-added slots J (Moves d n) m kept q = kept-stays slots J (Moves d n) q refl refl refl (kept q)
 kept-added slots J (Ends d) m kept q = kept-stays slots J (Ends d) q refl refl refl (kept q)
 kept-added slots J (Sets t) m kept q = kept-stays slots J (Sets t) q refl refl refl (kept q)
+kept-added slots J (Swaps p r) m kept q = kept-stays slots J (Swaps p r) q refl refl refl (kept q)
 
 pub kept_of : (slots : List Slot) (P : List Step) → EachMeets slots P → (q : ℕ) → IsKept slots (journal_of P) q
 kept_of slots [] m q = record { alive = rw (own-nil slots q) (live-start slots q); asked = rw (own-nil slots q) (asked-start slots q) }
@@ -80,21 +85,3 @@ legal_alive slots J l q = (legal_kept slots J l q).alive
 
 pub legal_asked : (slots : List Slot) (J : List Entry) → IsLegal slots J → (q : ℕ) → (own slots J q).stock.asked ≡ length (answers q J)
 legal_asked slots J l q = (legal_kept slots J l q).asked
-
--- a journal without entries is legal
-pub legal-nil : (slots : List Slot) → IsLegal slots []
-unfolding steps
-legal-nil slots = record { in_form = refl; each = tt }
-
--- a legal journal stays legal with a step that meets the rules
-pub legal-added : (slots : List Slot) (J : List Entry) (s : Step) → IsLegal slots J → Meets (lone_world slots J) slots J s → IsLegal slots (added J s)
-legal-added slots J s l m = record {
-  in_form = rw (steps-added J s, l.in_form) refl;
-  each = rw (steps-added J s) (l.each, rw l.in_form m);
-}
-
--- and so is one that a legal journal went through
-pub legal-before : (slots : List Slot) (s : Step) (P : List Step) → IsLegal slots (journal_of (s ∷ P)) → IsLegal slots (journal_of P)
-legal-before slots s P l =
-    let each : EachMeets slots (s ∷ P) = subst (EachMeets slots) (steps-journal_of (s ∷ P)) l.each in
-    record { in_form = ap journal_of (steps-journal_of P); each = subst (EachMeets slots) (sym (steps-journal_of P)) each.0 }

@@ -73,7 +73,7 @@ begun_by n d x (Keeping address word after) f is = cc
 begun_by n d x (Testing device what after) f is = cc
 begun_by n d x (Asking question after) f is = cc
 begun_by n d x (Claiming device after) f is = cc
-begun_by n d x (Returning device after) f is = cc
+begun_by n d x (Returning pooled device after) f is = cc
 begun_by n d x (Spooling stream first last after) f is = cc
 
 owner_of : (slots : List Slot) (J : List Entry) (p d : ℕ) (begun : ℕ × ℕ) (f : Flight) → flight_of slots J p d (Some begun) ≡ Some f → (begun.0 ≡ p) × (f.before ≡ own_after slots J p (begun.1 - 1))

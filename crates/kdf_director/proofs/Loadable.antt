@@ -180,6 +180,8 @@ is_slot l is =
       fits = is.fits;
       fixtures = length-numbers (λ d. fixture_on (numbered l.devices d));
       devices = length-numbers (λ d. progress_on (numbered l.devices d));
+      few = λ d pooled. cc;
+      apart = λ d. inr refl;
     }
 
 abbrev pub no_load : SlotLoad

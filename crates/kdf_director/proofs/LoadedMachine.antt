@@ -356,9 +356,10 @@ module _ (xs : List SlotLoad) (are : AreLoads xs) (windows : List Window) (windo
 
     stock_is : own_stock q 0 s ≡ (begin (slot_of l)).stock
     stock_is = λ k. record {
-      claims = record { size = size_same k; claimed = unclaimed; fixtures = fixtures_are k };
+      claims = record { size = size_same k; claimed = unclaimed; fixtures = fixtures_are k; pool = [] };
       spooled = [];
       asked = 0;
+      stints = [];
       store = words_are k;
       devices = progresses_are k;
     }

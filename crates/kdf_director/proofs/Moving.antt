@@ -85,7 +85,7 @@ module _ (flights : ℕ → Option Flight) (s : State) (d : ℕ) (f : Flight) (t
 
   move_seen : seen (with_moved d (f.moved + 1) f flights) s ≡ with_store (seen flights s) (set (seen flights s).stock.store (next_word d f).0 (next_word d f).1)
   move_seen =
-      same_states _ _ (record { registers = refl; claims = refl; spooled = refl; asked = refl })
+      same_states _ _ (record { registers = refl; claims = refl; spooled = refl; asked = refl; stints = refl })
       (seen_size (with_moved d (f.moved + 1) f flights) s ∙ sym (seen_size flights s) ∙ sym (length-set (seen flights s).stock.store (next_word d f).0 (next_word d f).1))
       (seen_number (with_moved d (f.moved + 1) f flights) s ∙ sym (seen_number flights s))
       (λ a lt.
@@ -206,7 +206,7 @@ arrivals_seen (suc n) flights s d f this flying le =
 -- transfers that show the same
 pub seen_alike : (fs gs : ℕ → Option Flight) (s : State) → ((a d x : ℕ) → look d (fs d) a x ≡ look d (gs d) a x) → ((d : ℕ) (p : Progress) → seen_device (fs d) d p ≡ seen_device (gs d) d p) → seen fs s ≡ seen gs s
 seen_alike fs gs s words devices =
-    same_states _ _ (record { registers = refl; claims = refl; spooled = refl; asked = refl })
+    same_states _ _ (record { registers = refl; claims = refl; spooled = refl; asked = refl; stints = refl })
     (seen_size fs s ∙ sym (seen_size gs s))
     (seen_number fs s ∙ sym (seen_number gs s))
     (λ a lt.

@@ -4,8 +4,8 @@ use Rattle.std.specs.Option.{option_map}
 use Rattle.std.proofs.Common.{◌≡◌, ◌≢◌, ℕ, Bool, true, false, eqb, List, [], ◌∷◌, Option, Some, None, cond, sym, ap, ◌∙◌, subst, ⊎_elim}
 use Rattle.std.proofs.lemmas.Bool.{cases_Bool, cases_eq, eq-eqb, ne_eqb}
 use Rattle.kdf_journal.specs.declared.entry.Entry.{Entry}
-use Rattle.kdf_journal.specs.Counts.{Hold, ByGroup, ByDevice, answers, last_hold, ran}
-use Rattle.kdf_journal.specs.Steps.{Step, Obeys, Holds, Waits, Moves, Ends, Sets, journal_of, steps}
+use Rattle.kdf_journal.specs.Counts.{Hold, ByGroup, ByDevice, answers, last_hold, ran, ByPool}
+use Rattle.kdf_journal.specs.Steps.{Step, Obeys, Holds, Waits, Moves, Ends, Sets, Swaps, journal_of, steps}
 use Rattle.kdf_journal.proofs.Added.{last_hold-added}
 use Rattle.kdf_processor.specs.declared.step.Need.{Need}
 use Rattle.kdf_processor.specs.Needs.{needs}
@@ -16,6 +16,7 @@ use Rattle.kdf_director.specs.Legal.{EachMeets, IsLegal}
 use Rattle.kdf_director.specs.Slots.{start}
 use Rattle.kdf_director.specs.Told.{is_pending_after, lone_world, mine_after, own}
 use Rattle.kdf_director.specs.World.{first_need, need_of}
+use Rattle.kdf_director.proofs.Judged.{held_need}
 use Rattle.kdf_director.proofs.Inside.{AreNear, IsNear, needs_near}
 
 -- the size of a program's store
@@ -43,6 +44,7 @@ found_near size f (x ∷ ns) n near is =
 near_need : (size : ℕ) (by : Hold) → IsNear size (need_of by) → IsNearHold size (Some (need_of by))
 near_need size (ByGroup g) near = near
 near_need size (ByDevice d) near = tt
+near_need size (ByPool kind) near = tt
 
 -- the need that holds a program up
 need_near : (slots : List Slot) (J : List Entry) (p : ℕ) (by : Hold) → first_need (lone_world slots J) p ≡ Some (need_of by) → IsNearHold (size_of slots p) (Some (need_of by))
@@ -72,12 +74,13 @@ near_more slots (Obeys p note ∷ P) m q =
 near_more slots (Holds p by ∷ P) m q =
     rw (last_hold-added q (journal_of P) (Holds p by))
     (near_left (size_of slots q) p q (Some by) (last_hold q (journal_of P))
-    (λ same. subst (λ k. IsNearHold (size_of slots k) (Some (need_of by))) same (need_near slots (journal_of P) p by m.1.1))
+    (λ same. subst (λ k. IsNearHold (size_of slots k) (Some (need_of by))) same (need_near slots (journal_of P) p by (held_need (first_need (lone_world slots (journal_of P)) p) by m.1.1)))
     (near_more slots P m.0 q))
 near_more slots (Waits ∷ P) m q = rw (last_hold-added q (journal_of P) Waits) (near_more slots P m.0 q)
 near_more slots (Moves d n ∷ P) m q = rw (last_hold-added q (journal_of P) (Moves d n)) (near_more slots P m.0 q)
 near_more slots (Ends d ∷ P) m q = rw (last_hold-added q (journal_of P) (Ends d)) (near_more slots P m.0 q)
 near_more slots (Sets t ∷ P) m q = rw (last_hold-added q (journal_of P) (Sets t)) (near_more slots P m.0 q)
+near_more slots (Swaps p r ∷ P) m q = rw (last_hold-added q (journal_of P) (Swaps p r)) (near_more slots P m.0 q)
 
 -- so it is by a legal journal
 pub legal-near : (slots : List Slot) (J : List Entry) → IsLegal slots J → (q : ℕ) → IsNearHold (size_of slots q) (option_map need_of (last_hold q J))

@@ -1,12 +1,13 @@
 -- The program that goes on by the fields of a machine is the one that is next by the journal.
+use Rattle.std.specs.Prelude.{find}
 use Rattle.std.specs.List.{list_any}
 use Rattle.std.specs.Option.{option_map}
-use Rattle.std.proofs.Common.{◌≡◌, ◌≢◌, ℕ, zero, suc, ◌<◌, ◌≤◌, true, false, ◌&&◌, not, List, [], ◌∷◌, length, get_or, map, Option, Some, None, is_some, cond, refl, sym, ap, ap₂, ◌∙◌, subst, ⊎_elim, arith}
-use Rattle.std.proofs.lemmas.Bool.{and_parts, cases_Bool, cases_eq, eq-eqb, ne_eqb}
+use Rattle.std.proofs.Common.{◌≡◌, ◌≢◌, ℕ, zero, suc, ◌<◌, ◌≤◌, Bool, true, false, eqb, ◌&&◌, not, List, [], ◌∷◌, length, get_or, map, Option, Some, None, is_some, cond, refl, sym, ap, ap₂, ◌∙◌, subst, ⊎_elim, arith}
+use Rattle.std.proofs.lemmas.Bool.{and_parts, cases_Bool, cases_eq, eq-eqb, eqb-true, false≢true, ne_eqb}
 use Rattle.std.proofs.lemmas.List.{get_or-map, length-map}
 use Rattle.kdf_journal.specs.declared.entry.Entry.{Entry}
 use Rattle.kdf_journal.specs.declared.journal.TheConstants.{CALL_LIMIT}
-use Rattle.kdf_journal.specs.Counts.{Hold, ByGroup, ByDevice, last_hold, over}
+use Rattle.kdf_journal.specs.Counts.{Hold, ByGroup, ByDevice, last_hold, over, priorities, ByPool}
 use Rattle.kdf_journal.proofs.Bounds.{ran-le-calls}
 use Rattle.kdf_processor.specs.Lone.{is_live}
 use Rattle.kdf_processor.specs.declared.registers.Registers.{Registers}
@@ -14,19 +15,23 @@ use Rattle.kdf_processor.specs.declared.step.Need.{Need}
 use Rattle.kdf_processor.specs.State.{Slot, State}
 use Rattle.kdf_director.specs.Agrees.{Agrees}
 use Rattle.kdf_director.specs.Following.{asked_at}
-use Rattle.kdf_director.specs.Going.{first_going, goes_at, hold_at, is_stopped, AreNearHolds, IsNearHold}
-use Rattle.kdf_director.specs.Next.{any_live, can_go, lives, next, stands}
+use Rattle.kdf_director.specs.Going.{first_going, goes_at, hold_at, if_goes, is_stopped, or_else, place_of, AreNearHolds, IsNearHold}
+use Rattle.kdf_course.specs.World as course
+use Rattle.kdf_course.specs.World.{can_go, stands}
+use Rattle.kdf_director.specs.Next.{any_live, dispatched, lives, next}
 use Rattle.kdf_director.specs.Parts.{Reach, Seat, Shared}
 use Rattle.kdf_director.specs.Running.{no_seat, own_state, reach_at, seat_at}
 use Rattle.kdf_director.specs.Slots.{no_slot, slot_of}
 use Rattle.kdf_director.specs.Told.{own, world_after}
 use Rattle.kdf_director.specs.World.{World, need_of}
-use Rattle.kdf_director.proofs.Firsts.{IsFirst, any_fails, any_is, any_none, any_there, first_is, first_none, found_first, none_found}
-use Rattle.kdf_director.proofs.Judging.{group_same}
+use Rattle.kdf_director.proofs.Firsts.{any_fails, any_is, any_none, any_there, found_first, none_found}
+use Rattle.kdf_processor.specs.declared.step.Need.TheVariants.{Pool}
+use Rattle.kdf_director.proofs.Judging.{group_same, pending_same}
 use Rattle.kdf_director.proofs.LegalFacts.{legal_alive}
 use Rattle.kdf_director.proofs.NearHolds.{legal-near, own_size, size_of}
 use Rattle.kdf_director.proofs.OnCourse.{legal-course}
 use Rattle.kdf_director.proofs.Owns.{own-ran}
+use Rattle.kdf_director.proofs.Worlds.{find_true}
 
 -- ---- slots by number
 
@@ -128,7 +133,7 @@ module _ (slots : List Slot) (reaches : List Reach) (seats : List Seat) (s : Sha
 
   -- it is live where it lives by the journal
   pub live_same : (i : ℕ) → i < length seats → is_live (seat_at seats i).registers.state ≡ lives slots J (p i)
-  unfolding lives
+  unfolding course.lives
   live_same i lt =
       ap (λ (r : Registers). is_live r.state) (registers_are i lt)
       ∙ legal_alive slots J a.legal (p i)
@@ -159,57 +164,105 @@ module _ (slots : List Slot) (reaches : List Reach) (seats : List Seat) (s : Sha
       w = world_after slots J states
 
       -- what held it is pending by its fields where it is by the journal
-      stopped_by : (i : ℕ) → i < length seats → (o : Option Hold) → IsNearHold (reach_at reaches i).size (option_map need_of o) → is_stopped (reach_at reaches i).base s (option_map need_of o) ≡ stands w (p i) o
+      stopped_by : (i : ℕ) → i < length seats → (o : Option Hold) → IsNearHold (reach_at reaches i).size (option_map need_of o) → is_stopped (reach_at reaches i).base s (option_map need_of o) ≡ stands (dispatched slots w) (p i) o
       stopped_by i lt None near = refl
       stopped_by i lt (Some (ByGroup g)) near = group_same slots J reaches seats s a.running a.following i lt (legal-course slots J a.are a.legal (p i)) g near
       stopped_by i lt (Some (ByDevice d)) near = a.following.busy d
+      stopped_by i lt (Some (ByPool kind)) near = pending_same slots J reaches seats s a.running a.following i lt (legal-course slots J a.are a.legal (p i)) 0 (Pool kind) tt
 
-      goes_same : (i : ℕ) → i < length seats → goes_at reaches seats holds s i ≡ can_go w slots J (p i)
+      goes_same : (i : ℕ) → i < length seats → goes_at reaches seats holds s i ≡ can_go (dispatched slots w) J (p i)
       unfolding can_go
       goes_same i lt =
           ap₂ (λ b c. b && not c) (live_same i lt)
           (ap (is_stopped (reach_at reaches i).base s) (hold_is i lt) ∙ stopped_by i lt (last_hold (p i) J) (near_at i lt))
 
-      goes_by : (i : ℕ) → i < length ps → can_go w slots J (get_or ps i 0) ≡ goes_at reaches seats holds s i
-      goes_by i lt =
-          let e = many in
-          let within : i < length seats = omega arith in
-          ap (can_go w slots J) (p_at i within) ∙ sym (goes_same i within)
-
-      only_programs : (k : ℕ) → can_go w slots J k ≡ true → (i : ℕ) × (i < length ps) × (get_or ps i 0 ≡ k)
-      unfolding can_go lives
+      -- a slot whose program goes on by the journal is some program's
+      only_programs : (k : ℕ) → can_go (dispatched slots w) J k ≡ true → is_some (slot_of slots k) ≡ true
+      unfolding can_go course.lives
       only_programs k is =
-          has_program k (and_parts (is_some (slot_of slots k)) (not (over k J)) (and_parts (is_some (slot_of slots k) && not (over k J)) (not (stands w k (last_hold k J))) is).0).0
+          (and_parts (is_some (slot_of slots k)) (not (over k J)) (and_parts (is_some (slot_of slots k) && not (over k J)) (not (stands (dispatched slots w) k (last_hold k J))) is).0).0
 
-      first_found : (i : ℕ) → first_going reaches seats holds s ≡ Some i → IsFirst (goes_at reaches seats holds s) 0 (length seats) i
-      unfolding first_going
-      first_found i is = found_first (goes_at reaches seats holds s) 0 (length seats) i is
+      -- the program in a slot
+      is_at : (k i : ℕ) → place_of seats k ≡ Some i → (i < length seats) × (p i ≡ k)
+      unfolding place_of
+      is_at k i is =
+          let first = found_first (λ j. eqb (p j) k) 0 (length seats) i is in
+          let high = first.high in
+          (omega arith, eqb-true (p i) k first.passes)
+
+      none_at : (k : ℕ) → place_of seats k ≡ None → can_go (dispatched slots w) J k ≡ false
+      unfolding place_of
+      none_at k is =
+          ⊎_elim
+          (λ (goes : can_go (dispatched slots w) J k ≡ true).
+          let x = has_program k (only_programs k goes) in
+          let e = many in
+          let lt = x.1 in
+          let within : x.0 < length seats = omega arith in
+          absurd (false≢true (sym (none_found (λ j. eqb (p j) k) 0 (length seats) is x.0 (omega arith) (omega arith)) ∙ eq-eqb (p x.0) k (sym (p_at x.0 within) ∙ x.2))))
+          (λ (stays : can_go (dispatched slots w) J k ≡ false). stays)
+          (cases_Bool (can_go (dispatched slots w) J k))
+
+      goes_at_place : (i : ℕ) → i < length seats → (k : ℕ) → p i ≡ k → goes_at reaches seats holds s i ≡ can_go (dispatched slots w) J k
+      goes_at_place i lt k e = goes_same i lt ∙ ap (can_go (dispatched slots w) J) e
+
+      -- the program in a slot goes on where it does by the journal
+      at_place : (k : ℕ) (o : Option ℕ) → place_of seats k ≡ o → if_goes reaches seats holds s o ≡ cond (can_go (dispatched slots w) J k) o None
+      at_place k None is = sym (ap (λ b. cond b None None) (none_at k is))
+      at_place k (Some i) is =
+          let x = is_at k i is in
+          ap (λ b. cond b (Some i) None) (goes_at_place i x.0 k x.1)
+
+      -- the place of the first that goes on
+      abbrev placed : Option ℕ → Option ℕ
+      placed None = None
+      placed (Some k) = place_of seats k
+
+      has_place : (k : ℕ) (o : Option ℕ) → place_of seats k ≡ o → can_go (dispatched slots w) J k ≡ true → is_some o ≡ true
+      has_place k None is goes = absurd (false≢true (sym (none_at k is) ∙ goes))
+      has_place k (Some i) is goes = refl
+
+      or_some : (o : Option ℕ) (other : Option ℕ) → is_some o ≡ true → or_else o other ≡ o
+      or_some None other is = cc
+      or_some (Some i) other is = refl
+
+      first_by : (k : ℕ) (ks : List ℕ) (b : Bool) → can_go (dispatched slots w) J k ≡ b → first_going reaches seats holds s ks ≡ placed (find (can_go (dispatched slots w) J) ks) → first_going reaches seats holds s (k ∷ ks) ≡ placed (cond b (Some k) (find (can_go (dispatched slots w) J) ks))
+      first_by k ks true is rest =
+          ap (λ o. or_else o (first_going reaches seats holds s ks)) (at_place k (place_of seats k) refl ∙ ap (λ b. cond b (place_of seats k) None) is)
+          ∙ or_some (place_of seats k) (first_going reaches seats holds s ks) (has_place k (place_of seats k) refl is)
+      first_by k ks false is rest =
+          ap (λ o. or_else o (first_going reaches seats holds s ks)) (at_place k (place_of seats k) refl ∙ ap (λ b. cond b (place_of seats k) None) is)
+          ∙ rest
+
+      first_placed : (ks : List ℕ) → first_going reaches seats holds s ks ≡ placed (find (can_go (dispatched slots w) J) ks)
+      first_placed [] = refl
+      first_placed (k ∷ ks) =
+          first_by k ks (can_go (dispatched slots w) J k) refl (first_placed ks)
+
+      is_found : (ks : List ℕ) (i : ℕ) (o : Option ℕ) → find (can_go (dispatched slots w) J) ks ≡ o → placed o ≡ Some i → (i < length seats) × (o ≡ Some (p i)) × (can_go (dispatched slots w) J (p i) ≡ true)
+      is_found ks i None e is = cc
+      is_found ks i (Some k) e is =
+          let x = is_at k i is in
+          (x.0, ap Some (sym x.1), ap (can_go (dispatched slots w) J) x.1 ∙ find_true (can_go (dispatched slots w) J) ks k e)
 
       -- the first that goes on is next
-      pub is_next : (i : ℕ) → first_going reaches seats holds s ≡ Some i → (i < length seats) × (is_live (seat_at seats i).registers.state ≡ true) × (next w slots J ≡ Some (p i))
-      unfolding next
+      pub is_next : (i : ℕ) → first_going reaches seats holds s (priorities J) ≡ Some i → (i < length seats) × (is_live (seat_at seats i).registers.state ≡ true) × (next w slots J ≡ Some (p i))
+      unfolding course.next
       is_next i is =
-          let first = first_found i is in
-          let high = first.high in
-          let lt : i < length seats = omega arith in
-          let e = many in (
-            lt,
-            (and_parts (is_live (seat_at seats i).registers.state) (not (is_stopped (reach_at reaches i).base s (hold_at holds i))) first.passes).0,
-            first_is (can_go w slots J) ps up four only_programs i (omega arith) (goes_by i (omega arith) ∙ first.passes)
-                (λ j low. goes_by j (omega arith) ∙ first.before j (omega arith) low)
-                ∙ ap Some (p_at i lt),
+          let x = is_found (priorities J) i (find (can_go (dispatched slots w) J) (priorities J)) refl (sym (first_placed (priorities J)) ∙ is) in (
+            x.0,
+            (and_parts (is_live (seat_at seats i).registers.state) (not (is_stopped (reach_at reaches i).base s (hold_at holds i))) (goes_same i x.0 ∙ x.2)).0,
+            x.1,
           )
 
-      none_goes : first_going reaches seats holds s ≡ None → (i : ℕ) → i < length seats → goes_at reaches seats holds s i ≡ false
-      unfolding first_going
-      none_goes is i lt = none_found (goes_at reaches seats holds s) 0 (length seats) is i (omega arith) (omega arith)
+      none_placed : (ks : List ℕ) (o : Option ℕ) → find (can_go (dispatched slots w) J) ks ≡ o → placed o ≡ None → o ≡ None
+      none_placed ks None e is = refl
+      none_placed ks (Some k) e is = absurd (false≢true (ap is_some (sym is) ∙ has_place k (place_of seats k) refl (find_true (can_go (dispatched slots w) J) ks k e)))
 
       -- and where none does, none is
-      pub none_next : first_going reaches seats holds s ≡ None → next w slots J ≡ None
-      unfolding next
-      none_next is =
-          first_none (can_go w slots J) ps up four only_programs
-          (λ i lt. goes_by i lt ∙ none_goes is i (let e = many in omega arith))
+      pub none_next : first_going reaches seats holds s (priorities J) ≡ None → next w slots J ≡ None
+      unfolding course.next
+      none_next is = none_placed (priorities J) (find (can_go (dispatched slots w) J) (priorities J)) refl (sym (first_placed (priorities J)) ∙ is)
 
   -- ---- live programs
   lives_by : (i : ℕ) → i < length ps → lives slots J (get_or ps i 0) ≡ is_live (seat_at seats i).registers.state
@@ -219,12 +272,12 @@ module _ (slots : List Slot) (reaches : List Reach) (seats : List Seat) (s : Sha
       ap (lives slots J) (p_at i within) ∙ sym (live_same i within)
 
   only_live : (k : ℕ) → lives slots J k ≡ true → (i : ℕ) × (i < length ps) × (get_or ps i 0 ≡ k)
-  unfolding lives
+  unfolding course.lives
   only_live k is = has_program k (and_parts (is_some (slot_of slots k)) (not (over k J)) is).0
 
   -- a program is live exactly where one is by the journal
   pub any_same : list_any (λ (y : Seat). is_live y.registers.state) seats ≡ any_live slots J
-  unfolding any_live
+  unfolding course.any_live
   any_same =
       ⊎_elim
       (λ (is : list_any (λ (y : Seat). is_live y.registers.state) seats ≡ true).

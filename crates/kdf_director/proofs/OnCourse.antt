@@ -6,8 +6,8 @@ use Rattle.std.proofs.Math.Path.{fun_ext}
 use Rattle.std.proofs.lemmas.Bool.{or_parts, cases_eq, eq-eqb, ne_eqb, false_from_ne_true, false≢true}
 use Rattle.std.proofs.lemmas.List.Folds.{list_any-append}
 use Rattle.kdf_processor.specs.declared.step.Need.{Need}
-use Rattle.kdf_processor.specs.declared.step.Need.TheVariants.{Group, Device}
-use Rattle.kdf_processor.specs.Effect.{Question, Effect, Failing, Ending, Starting, Asking}
+use Rattle.kdf_processor.specs.declared.step.Need.TheVariants.{Group, Device, Pool}
+use Rattle.kdf_processor.specs.Effect.{Question, Effect, Failing, Ending, Starting, Asking, FreeOf, Returning}
 use Rattle.kdf_processor.specs.Frame.{HidesNone}
 use Rattle.kdf_processor.specs.Lone.{is_live}
 use Rattle.kdf_processor.specs.Needs.{effect_needs, fetch_needs, needs, next_effect}
@@ -15,20 +15,22 @@ use Rattle.kdf_processor.specs.Row.{done_by, perform, row}
 use Rattle.kdf_processor.specs.State.{Slot, State, word_at}
 use Rattle.kdf_journal.specs.declared.entry.Entry.{Entry}
 use Rattle.kdf_journal.specs.Counts.{ran, answers, pending as pending_in, moved_if}
-use Rattle.kdf_journal.specs.Steps.{Step, Obeys, Holds, Waits, Moves, Ends, Sets, added, journal_of, steps}
+use Rattle.kdf_journal.specs.Steps.{Step, Obeys, Holds, Waits, Moves, Ends, Sets, Swaps, added, journal_of, steps}
 use Rattle.kdf_journal.proofs.Added.{ran_by, ran-added, answer_in_note, answers_by, pending_by, pending-added, moved_by}
 use Rattle.kdf_director.specs.ByNumber.{device_count}
 use Rattle.kdf_director.specs.Flights.{Flight, beginning, flights_after, mine_of, move_count, with_flight}
 use Rattle.kdf_director.specs.Flying.{AreFlying}
-use Rattle.kdf_director.specs.Legal.{note_of, note_of_outcome, Meets, EachMeets, IsLegal}
+use Rattle.kdf_course.specs.Legal as rules
+use Rattle.kdf_director.specs.Legal.{any_answer, note_of, note_of_outcome, EachMeets, IsLegal}
+use Rattle.kdf_director.specs.Next.{lone_dispatched}
 use Rattle.kdf_director.specs.Seen.{begun_row, pending, seen}
 use Rattle.kdf_director.specs.Slots.{AreSlots}
 use Rattle.kdf_director.specs.Told.{own, flights_of, flight_from, flight_of, further, is_of, is_pending_after, lone_world, mine_after, seen_of}
-use Rattle.kdf_director.specs.True.{truth}
 use Rattle.kdf_director.specs.World.{first_need}
 use Rattle.kdf_director.proofs.Beginning.{begun_seen, with_flight_is, with_flight_other}
 use Rattle.kdf_director.proofs.Ending.{flying_ended}
 use Rattle.kdf_director.proofs.FlightsAdded.{IsPast, begun_at, flight-stays, flights-end, flights-move, flights-obey, none-there, pending_behind, pending-obeys}
+use Rattle.kdf_director.proofs.Judged.{free_need}
 use Rattle.kdf_director.proofs.LegalFacts.{IsKept, kept_of}
 use Rattle.kdf_director.proofs.Moving.{flying_moved}
 use Rattle.kdf_director.proofs.Over.{nothing_flying, over_row}
@@ -51,6 +53,7 @@ device-pending slots J p d is = flight-pending slots J p d (pending_in d J) is
 pub pending-more : (slots : List Slot) (J : List Entry) (p : ℕ) (n : Need) → pending (flights_of slots J p) n ≡ true → is_pending_after slots J p n ≡ true
 pending-more slots J p (Group g) is = is
 pending-more slots J p (Device d) is = device-pending slots J p d is
+pending-more slots J p (Pool kind) is = cc
 
 hides_less : (fewer more : Need → Bool) → ((n : Need) → fewer n ≡ true → more n ≡ true) → (ns : List Need) → HidesNone more ns → HidesNone fewer ns
 hides_less fewer more part [] none = refl
@@ -248,7 +251,10 @@ module _ (slots : List Slot) (J : List Entry) (p q : ℕ) (answer : Question →
       (ap (λ (b : Bool). cond b (Some 0) (moved_if d J)) (ne_eqb x d ne)))
       (cases_eq x d)
   flights-beside mine (Failing kind) none d = flight-stays slots J q asked course.past (noting (Failing kind)) d refl refl
+  flights-beside mine (Asking (FreeOf kind) after) none d = flight-stays slots J q asked course.past (noting (Asking (FreeOf kind) after)) d refl refl
   flights-beside mine (Asking question after) none d = flight-stays slots J q asked course.past (noting (Asking question after)) d refl refl
+  flights-beside mine (Returning true x after) none d = flight-stays slots J q asked course.past (noting (Returning true x after)) d refl refl
+  flights-beside mine (Returning false x after) none d = flight-stays slots J q asked course.past (noting (Returning false x after)) d refl refl
   flights-beside mine e none d = flight-stays slots J q asked course.past (noting e) d refl refl
 
   past-beside : (d : ℕ) (e : Effect) → IsPast q (ran q J) (behind d e)
@@ -365,15 +371,16 @@ course-turn slots J p answer live none kept course q =
     (effect-free (is_pending_after slots J p) (mine_after J p) (own slots J p) none))
     (cases_eq p q)
 
-course-added : (slots : List Slot) (J : List Entry) (s : Step) → Meets (lone_world slots J) slots J s → ((q : ℕ) → IsKept slots J q) → ((q : ℕ) → IsOnCourse slots J q) → (q : ℕ) → IsOnCourse slots (added J s) q
+course-added : (slots : List Slot) (J : List Entry) (s : Step) → rules.Meets (lone_dispatched slots J) (any_answer slots J) J s → ((q : ℕ) → IsKept slots J q) → ((q : ℕ) → IsOnCourse slots J q) → (q : ℕ) → IsOnCourse slots (added J s) q
 course-added slots J (Obeys p note) m kept course q =
     let live : is_live (own slots J p).registers.state ≡ true = (kept p).alive ∙ next_on (lone_world slots J) slots J p m.0 in
-    rw m.2 (course-turn slots J p (truth (lone_world slots J) J p) live (free slots J p m.1) kept course q)
+    rw m.2.1 (course-turn slots J p (λ _. m.2.0) live (free slots J p (free_need (first_need (lone_world slots J) p) m.1)) kept course q)
 course-added slots J (Holds p by) m kept course q = course-quiet slots J (Holds p by) q (kept q).asked refl refl (λ d. refl) (λ d. refl) (course q)
 course-added slots J Waits m kept course q = course-quiet slots J Waits q (kept q).asked refl refl (λ d. refl) (λ d. refl) (course q)
 course-added slots J (Moves d n) m kept course q = course-move slots J q (kept q).asked (course q) d n
 course-added slots J (Ends d) m kept course q = course-end slots J q (kept q).asked (course q) d
 course-added slots J (Sets t) m kept course q = course-quiet slots J (Sets t) q (kept q).asked refl refl (λ d. refl) (λ d. refl) (course q)
+course-added slots J (Swaps p r) m kept course q = course-quiet slots J (Swaps p r) q (kept q).asked refl refl (λ d. refl) (λ d. refl) (course q)
 
 -- before the first step
 pub none-first : (slots : List Slot) (p d : ℕ) → flights_of slots [] p d ≡ None

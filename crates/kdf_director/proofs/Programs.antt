@@ -1,7 +1,7 @@
 -- One program of all, and its slot.
 use Rattle.std.specs.Prelude.{find}
 use Rattle.std.specs.List.{range_with_len}
-use Rattle.std.proofs.Common.{◌≡◌, ℕ, ◌-◌, ◌<◌, List, [], length, map, get_or, set, Option, None, sym, ap, ap₂, ◌∙◌, subst, arith}
+use Rattle.std.proofs.Common.{◌≡◌, ℕ, ◌-◌, ◌<◌, eqb, Some, List, [], length, map, get_or, set, Option, None, sym, ap, ap₂, ◌∙◌, subst, arith}
 use Rattle.std.proofs.Math.Seq.{map-set_same}
 use Rattle.std.proofs.lemmas.List.{map-set, get_or-map, length-map}
 use Rattle.kdf_relocate.specs.declared.window.Window.{Window}
@@ -14,11 +14,12 @@ use Rattle.kdf_director.specs.declared.machine.Progress.{Progress}
 use Rattle.kdf_director.specs.declared.note.Note.{Note}
 use Rattle.kdf_director.specs.declared.program.Program.{Program}
 use Rattle.kdf_director.specs.declared.slot.Loaded.{Loaded}
-use Rattle.kdf_director.specs.Going.{first_going, goes, goes_at, hold_at, AreNearHolds, IsNearHold}
+use Rattle.kdf_director.specs.Going.{place_of, goes, goes_at, hold_at, AreNearHolds, IsNearHold}
 use Rattle.kdf_director.specs.Parts.{Reach, Seat, Shared, reach_of, seat_of, window_at}
 use Rattle.kdf_director.specs.Running.{no_seat, seat_at, reach_at, reaches_in, seats_in, IsRunning}
 use Rattle.kdf_director.specs.Taken.{HasTaken, hold_left, progress_of, step_told}
 use Rattle.kdf_director.specs.Turned.{HasRun, HasTurned}
+use Rattle.kdf_director.proofs.Firsts.{found_first}
 use Rattle.kdf_director.proofs.Turned.{turned, turned_running}
 
 abbrev no_reach : Reach
@@ -98,9 +99,20 @@ module _ (programs : List Program) (i : ℕ) (lt : i < length programs) (program
         answered = told ∙ ap (λ (x : Seat). progress_of x.p ended) (sym seat_then);
       }
 
--- the search for the first that goes on begins at the first of all
-pub first_of_all : (reaches : List Reach) (programs : List Program) (holds : List (Option Need)) (s : Shared) → first_going reaches (seats_in programs) holds s ≡ find (goes_at reaches (seats_in programs) holds s) (range_with_len 0 (length programs - 0))
-unfolding first_going
-first_of_all reaches programs holds s =
+-- the number of a program
+pub number_at : (programs : List Program) (i : ℕ) → i < length programs → (program : Program) → program ≡ get_or programs i program → (seat_at (seats_in programs) i).p ≡ program.p
+number_at programs i lt program is = ap (λ (x : Seat). x.p) (get_or-map seat_of programs i program no_seat lt ∙ ap seat_of (sym is))
+
+-- the search for the program in a slot begins at the first of all
+pub place_first : (programs : List Program) (p : ℕ) → place_of (seats_in programs) p ≡ find (λ i. eqb (seat_at (seats_in programs) i).p p) (range_with_len 0 (length programs - 0))
+unfolding place_of
+place_first programs p =
     let count : length (seats_in programs) ≡ length programs - 0 = omega (arith, length-map programs seat_of) in
-    ap (λ n. find (goes_at reaches (seats_in programs) holds s) (range_with_len 0 n)) count
+    ap (λ n. find (λ i. eqb (seat_at (seats_in programs) i).p p) (range_with_len 0 n)) count
+
+-- the program that is found is one of them
+pub place_within : (programs : List Program) (p i : ℕ) → place_of (seats_in programs) p ≡ Some i → i < length programs
+unfolding place_of
+place_within programs p i is =
+    let first = found_first (λ j. eqb (seat_at (seats_in programs) j).p p) 0 (length (seats_in programs)) i is in
+    omega (arith, first.high, length-map programs seat_of)

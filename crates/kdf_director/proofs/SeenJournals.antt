@@ -9,22 +9,25 @@ use Rattle.kdf_processor.specs.Row.{done_by}
 use Rattle.kdf_processor.specs.State.{Slot, State, device_in}
 use Rattle.kdf_processor.proofs.FrameLemmas.{agree_under, first_agree}
 use Rattle.kdf_processor.proofs.LoneLemmas.{same_end}
-use Rattle.kdf_schedule.specs.Calls.{Call, AnOrder, AMove, AnEnd, AClock}
-use Rattle.kdf_director.specs.Course.{turn, turn_of, step_at, lone_step_at}
+use Rattle.kdf_schedule.specs.Calls.{Call, AnOrder, AMove, AnEnd, AClock, ASwap}
+use Rattle.std.specs.Option.{option_map}
+use Rattle.kdf_course.specs.Course.{turn, turn_of}
+use Rattle.kdf_director.specs.Course.{step_at, lone_step_at}
 use Rattle.kdf_journal.specs.declared.entry.Entry.{Entry}
 use Rattle.kdf_journal.specs.Counts.{answers, ran}
-use Rattle.kdf_journal.specs.Steps.{Note, Step, Obeys, Holds, Waits, Moves, Ends, Sets, added}
+use Rattle.kdf_journal.specs.Steps.{Note, Step, Obeys, Holds, Waits, Moves, Ends, Sets, Swaps, added}
 use Rattle.kdf_director.specs.Flights.{Flight, completed, unmoved, with_flight}
-use Rattle.kdf_director.specs.Legal.{note_of, note_of_outcome, Meets}
-use Rattle.kdf_director.specs.Next.{next}
+use Rattle.kdf_director.specs.Legal.{lone_note, note_of, note_of_outcome, true_note, Meets}
+use Rattle.kdf_director.specs.Next.{dispatched, lone_dispatched, next}
 use Rattle.kdf_director.specs.Seen.{pending, seen, with_both, with_store}
 use Rattle.kdf_director.specs.Slots.{start}
 use Rattle.kdf_director.specs.Told.{own_after, own, flights_of, further, is_pending_after, lone_world, mine_after, seen_of, seen_world}
 use Rattle.kdf_director.specs.True.{truth}
-use Rattle.kdf_director.specs.World.{first_need}
+use Rattle.kdf_director.specs.World.{first_need, hold_of}
 use Rattle.kdf_director.proofs.Beginning.{same_next}
 use Rattle.kdf_director.proofs.Ending.{ends_seen}
 use Rattle.kdf_director.proofs.FlightsAdded.{flights-end, flights-move}
+use Rattle.kdf_director.proofs.Judged.{free_need}
 use Rattle.kdf_director.proofs.Moving.{moves_seen, with_flight_itself}
 use Rattle.kdf_director.proofs.OnCourse.{IsOnCourse, apart-mine, free, pending-more}
 use Rattle.kdf_director.proofs.Owns.{own-same}
@@ -53,29 +56,31 @@ same-note slots J p answer none =
 -- so a step that meets the rules by what is seen meets them by the lone states
 pub judged : (slots : List Slot) (J : List Entry) (s : Step) → Meets (seen_world slots J) slots J s → Meets (lone_world slots J) slots J s
 judged slots J (Obeys p note) m =
-    let none : first_need (lone_world slots J) p ≡ None = sym (same-need slots J p) ∙ m.1 in
-    (next-world (own slots J) (seen_of slots J) slots J ∙ m.0, none, m.2 ∙ same-note slots J p (truth (lone_world slots J) J p) none)
-judged slots J (Holds p by) m = (next-world (own slots J) (seen_of slots J) slots J ∙ m.0, sym (same-need slots J p) ∙ m.1)
+    let none : first_need (lone_world slots J) p ≡ None = sym (same-need slots J p) ∙ free_need (first_need (seen_world slots J) p) m.1 in
+    (next-world (own slots J) (seen_of slots J) slots J ∙ m.0, ap (option_map hold_of) none, m.2 ∙ same-note slots J p (truth (lone_world slots J) J p) none)
+judged slots J (Holds p by) m = (next-world (own slots J) (seen_of slots J) slots J ∙ m.0, ap (option_map hold_of) (sym (same-need slots J p)) ∙ m.1)
 judged slots J Waits m = (m.0, next-world (own slots J) (seen_of slots J) slots J ∙ m.1)
 judged slots J (Moves d n) m = tt
 judged slots J (Ends d) m = tt
 judged slots J (Sets t) m = m
+judged slots J (Swaps p q) m = m
 
 -- and each call makes the same step
-same-turn : (slots : List Slot) (J : List Entry) (p : ℕ) (o : Option Need) → first_need (lone_world slots J) p ≡ o → turn (seen_world slots J) J p o ≡ turn (lone_world slots J) J p o
+same-turn : (slots : List Slot) (J : List Entry) (p : ℕ) (o : Option Need) → first_need (lone_world slots J) p ≡ o → turn (true_note (seen_world slots J) J) p (option_map hold_of o) ≡ turn (lone_note slots J) p (option_map hold_of o)
 same-turn slots J p None none = ap (λ (n : Note). Obeys p n) (same-note slots J p (truth (lone_world slots J) J p) none)
 same-turn slots J p (Some need) held = refl
 
-same-turn_of : (slots : List Slot) (J : List Entry) (o : Option ℕ) → turn_of (seen_world slots J) J o ≡ turn_of (lone_world slots J) J o
+same-turn_of : (slots : List Slot) (J : List Entry) (o : Option ℕ) → turn_of (dispatched slots (seen_world slots J)) (true_note (seen_world slots J) J) o ≡ turn_of (lone_dispatched slots J) (lone_note slots J) o
 same-turn_of slots J None = refl
-same-turn_of slots J (Some p) = ap (turn (seen_world slots J) J p) (same-need slots J p) ∙ same-turn slots J p (first_need (lone_world slots J) p) refl
+same-turn_of slots J (Some p) = ap (λ (o : Option Need). turn (true_note (seen_world slots J) J) p (option_map hold_of o)) (same-need slots J p) ∙ same-turn slots J p (first_need (lone_world slots J) p) refl
 
 pub same-step : (slots : List Slot) (J : List Entry) (c : Call) → step_at (seen_world slots J) slots J c ≡ lone_step_at slots J c
 same-step slots J AnOrder =
-    ap (turn_of (seen_world slots J) J) (next-world (seen_of slots J) (own slots J) slots J) ∙ same-turn_of slots J (next (lone_world slots J) slots J)
+    ap (turn_of (dispatched slots (seen_world slots J)) (true_note (seen_world slots J) J)) (next-world (seen_of slots J) (own slots J) slots J) ∙ same-turn_of slots J (next (lone_world slots J) slots J)
 same-step slots J (AMove d n) = refl
 same-step slots J (AnEnd d) = refl
 same-step slots J (AClock t) = refl
+same-step slots J (ASwap p q) = refl
 
 -- ---- what is seen after a step
 module _ (slots : List Slot) (J : List Entry) (p : ℕ) (asked : (own slots J p).stock.asked ≡ length (answers p J)) (course : IsOnCourse slots J p) where

@@ -25,10 +25,11 @@ pub record SameRest (s t : State) : Type 0 where
   pub claims : s.stock.claims ≡ t.stock.claims
   pub spooled : s.stock.spooled ≡ t.stock.spooled
   pub asked : s.stock.asked ≡ t.stock.asked
+  pub stints : s.stock.stints ≡ t.stock.stints
 
 -- states are equal if their parts are
 state_path : (s t : State) → SameRest s t → s.stock.store ≡ t.stock.store → s.stock.devices ≡ t.stock.devices → s ≡ t
-state_path s t h w d = λ i. record { registers = h.registers i; stock = record { claims = h.claims i; spooled = h.spooled i; asked = h.asked i; store = w i; devices = d i } }
+state_path s t h w d = λ i. record { registers = h.registers i; stock = record { claims = h.claims i; spooled = h.spooled i; asked = h.asked i; stints = h.stints i; store = w i; devices = d i } }
 
 -- states of one size are equal whose words agree, as far as they have words, and whose devices do
 pub same_states : (s t : State) → SameRest s t → length s.stock.store ≡ length t.stock.store → length s.stock.devices ≡ length t.stock.devices → ((a : ℕ) → a < length s.stock.store → word_at s a ≡ word_at t a) → ((d : ℕ) → d < length s.stock.devices → device_at s d ≡ device_at t d) → s ≡ t
@@ -85,6 +86,7 @@ seen_agrees flights s =
       claims = refl;
       spooled = refl;
       asked = refl;
+      stints = refl;
       size = sym (seen_size flights s);
       number = sym (seen_number flights s);
       words = λ a free.
@@ -107,7 +109,7 @@ seen_word_nothing (suc n) flights a w none =
 
 pub seen_nothing : (flights : ℕ → Option Flight) (s : State) → ((d : ℕ) → flights d ≡ None) → seen flights s ≡ s
 seen_nothing flights s none =
-    same_states _ _ (record { registers = refl; claims = refl; spooled = refl; asked = refl })
+    same_states _ _ (record { registers = refl; claims = refl; spooled = refl; asked = refl; stints = refl })
     (seen_size flights s)
     (seen_number flights s)
     (λ a lt. let within : a < length s.stock.store = omega (arith, seen_size flights s) in seen_word_at flights s a within ∙ seen_word_nothing device_count flights a (word_at s a) none)
@@ -117,7 +119,7 @@ seen_nothing flights s none =
 module _ (flights : ℕ → Option Flight) (mine : List ℕ) (answer : Question → ℕ) (e : Effect) (s : State) (none : HidesNone (pending flights) (effect_needs mine e)) where
   pub perform_seen : perform answer e (seen flights s) ≡ seen flights (perform answer e s)
   perform_seen =
-      same_states _ _ (record { registers = sym agree.registers; claims = sym agree.claims; spooled = sym agree.spooled; asked = sym agree.asked })
+      same_states _ _ (record { registers = sym agree.registers; claims = sym agree.claims; spooled = sym agree.spooled; asked = sym agree.asked; stints = sym agree.stints })
       (sym agree.size ∙ sym (seen_size flights (perform answer e s)))
       (sym agree.number ∙ sym (seen_number flights (perform answer e s)))
       word

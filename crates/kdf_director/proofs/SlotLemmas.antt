@@ -12,7 +12,7 @@ filled_size size words fits =
     omega (arith, length-append words (replicate (size - length words) 0), length-replicate {A = ℕ} (size - length words) 0)
 
 -- what holds of each slot holds of the one that is found
-abbrev IfSlot : Option Slot → Type 0
+abbrev pub IfSlot : Option Slot → Type 0
 IfSlot None = Unit {0}
 IfSlot (Some s) = IsSlot s
 
@@ -31,3 +31,6 @@ sized_at (Some s) is = filled_size s.size s.words is.fits
 -- the store of each program has the words of its size
 pub start-sized : (slots : List Slot) (p : ℕ) → AreSlots slots → length (start slots p).stock.store ≡ (start slots p).stock.claims.size
 start-sized slots p are = sized_at (slot_of slots p) (found slots p are.each)
+
+pub found_slot : (slots : List Slot) (p : ℕ) → All IsSlot slots → IfSlot (slot_of slots p)
+found_slot slots p each = found slots p each

@@ -10,7 +10,6 @@ use Rattle.kdf_journal.specs.Counts.{answers, calls, clock, last_hold}
 use Rattle.kdf_journal.specs.Steps.{Note, Step, Obeys, Holds, Waits, added}
 use Rattle.kdf_journal.proofs.Added.{calls-added, hold_by, last_hold-added, moves-added}
 use Rattle.kdf_processor.specs.declared.step.Need.{Need}
-use Rattle.kdf_processor.specs.declared.step.Need.TheVariants.{Group, Device}
 use Rattle.kdf_processor.specs.declared.step.Step.{Step as Ending}
 use Rattle.kdf_processor.specs.declared.step.Step.TheVariants as ending
 use Rattle.kdf_processor.specs.Effect.{Question, Nothing, Effect, Failing, Ending as Finishing}
@@ -43,7 +42,7 @@ use Rattle.kdf_director.proofs.Advancing.{agrees_obeyed, need_is, shows_obeyed, 
 use Rattle.kdf_director.proofs.Entering.{shows}
 use Rattle.kdf_director.proofs.Judging.{hold_same}
 use Rattle.kdf_director.proofs.Lasting.{held_follows, held_seen, waited_follows, waited_seen}
-use Rattle.kdf_director.proofs.LegalFacts.{legal-added}
+use Rattle.kdf_director.proofs.Judged.{legal_added, need_again, true_added}
 use Rattle.kdf_director.proofs.Linking.{follow_part}
 use Rattle.kdf_director.proofs.OnCourse.{legal-course}
 use Rattle.kdf_director.proofs.SeenJournals.{same-need}
@@ -72,11 +71,6 @@ progress_free p ended free = refl
 hold_free : (ended : Ending) → IsNotHeld ended → hold_left ended ≡ None
 hold_free (ending.Held need) free = absurd free
 hold_free ended free = refl
-
--- a need, as a journal tells it
-need_back : (need : Need) → need_of (world.hold_of need) ≡ need
-need_back (Group g) = refl
-need_back (Device d) = refl
 
 -- ---- what a machine is behind a call
 
@@ -122,7 +116,8 @@ module _ (slots : List Slot) (reaches : List Reach) (seats : List Seat) (s : Sha
           numbers = a.numbers;
           running = a.running;
           following = waited_follows slots J reaches seats s a.are a.legal a.running a.following;
-          legal = legal-added slots J Waits a.legal meets_wait;
+          legal = legal_added slots J Waits a.legal meets_wait;
+          truly = true_added slots J Waits a.legal a.truly meets_wait;
           few_calls = omega (arith, calls-added J Waits);
           few_moves = (let k = a.few_moves in omega (arith, moves-added J Waits));
         }
@@ -261,10 +256,9 @@ module _ (slots : List Slot) (reaches : List Reach) (seats : List Seat) (s : Sha
         meets_hold : Meets (lone_world slots J) slots J st
         meets_hold = (
           next-world (own slots J) (state_at m) slots J ∙ turn,
-          sym (same-need slots J p)
+          ap (option_map world.hold_of) (sym (same-need slots J p)
               ∙ sym (hold_same slots J reaches seats s a.running a.following i lt (legal-course slots J a.are a.legal p))
-              ∙ held
-              ∙ ap Some (sym (need_back need)),
+              ∙ held),
         )
 
         still : AreFollowing slots (added J st) reaches seats s
@@ -290,7 +284,8 @@ module _ (slots : List Slot) (reaches : List Reach) (seats : List Seat) (s : Sha
               numbers = same_numbers ∙ a.numbers;
               running = run;
               following = follows;
-              legal = legal-added slots J st a.legal meets_hold;
+              legal = legal_added slots J st a.legal meets_hold;
+              truly = true_added slots J st a.legal a.truly meets_hold;
               few_calls = omega (arith, calls-added J st);
               few_moves = (let k = a.few_moves in omega (arith, moves-added J st));
             }
@@ -307,7 +302,7 @@ module _ (slots : List Slot) (reaches : List Reach) (seats : List Seat) (s : Sha
             (record {
               agrees = agrees_held;
               holds_are = holds_more st (Some need)
-                  (ap (λ b. option_map need_of (cond b (Some (world.hold_of need)) (last_hold p J))) (eq-eqb p p refl) ∙ ap Some (need_back need))
+                  (ap (λ b. option_map need_of (cond b (Some (world.hold_of need)) (last_hold p J))) (eq-eqb p p refl) ∙ ap Some (need_again need))
                   (λ k ne. ap (λ b. cond b (Some (world.hold_of need)) (last_hold k J)) (ne_eqb p k ne));
               advance = record {
                 was_next = turn;

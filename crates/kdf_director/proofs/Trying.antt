@@ -1,6 +1,6 @@
 -- The next order of a program is tried.
 use Rattle.std.proofs.Common.{◌≡◌, ℕ, ◌+◌, ◌*◌, ◌/◌, ◌%◌, ◌<◌, ◌≤◌, ◌⊎◌, true, false, List, [], ◌∷◌, length, Option, Some, None, is_some, cond, refl, sym, ap, ◌∙◌, ⊎_elim, arith}
-use Rattle.std.proofs.lemmas.Bool.{cases_Bool}
+use Rattle.std.proofs.lemmas.Bool.{cases_Bool, false≢true}
 use Rattle.kdf_lockout.specs.Groups.{is_out}
 use Rattle.kdf_transfer.specs.declared.order.TransferOrder.{TransferOrder}
 use Rattle.kdf_transfer.specs.AtOnce.{kind_of, has_area}
@@ -8,7 +8,7 @@ use Rattle.kdf_director.specs.Seen.{begun}
 use Rattle.kdf_director.specs.ByNumber.{device_count}
 use Rattle.kdf_processor.specs.declared.step.Need.TheVariants.{Group}
 use Rattle.kdf_processor.specs.declared.registers.Registers.{Registers}
-use Rattle.kdf_processor.specs.Effect.{Effect, Keeping, Starting}
+use Rattle.kdf_processor.specs.Effect.{Effect, Keeping, Starting, FreeOf, Asking, Returning}
 use Rattle.kdf_processor.specs.Needs.{effect_needs}
 use Rattle.kdf_processor.specs.Outcome.{done}
 use Rattle.kdf_processor.specs.View.{first_pending}
@@ -21,6 +21,7 @@ use Rattle.kdf_director.proofs.Acting.{writes_own, writes_other, starts_own}
 use Rattle.kdf_director.proofs.Kept.{sound-writes, sound-starts}
 use Rattle.kdf_director.proofs.Showing.{claim_has, claim_small}
 use Rattle.kdf_director.proofs.TurnBeginning.{free_start, free_area, free_groups}
+use Rattle.kdf_processor.proofs.Frees.{none_taken}
 
 -- what is known of a part: its window lies in the store, and its devices are there
 pub record IsPart (q : Part) (s : Shared) : Type 0 where
@@ -68,6 +69,9 @@ module _ (q : Part) (t : ℕ) (s : Shared) (r : Registers) (own : List ℕ) (sou
       (start_small q t s d o first last after own part lawful free)
       (start_idle q t s d o first last after own part lawful free)
       (start_free q t s d o first last after own part lawful free) q n (part.there d)
+  acts_own n (Asking (FreeOf kind) after) lawful free = absurd (false≢true (sym (none_taken (own_claims q s) kind refl) ∙ lawful))
+  acts_own n (Returning true d after) lawful free = absurd (false≢true (sym lawful))
+  acts_own n (Returning false d after) lawful free = refl
   acts_own n e lawful free = refl
 
   pub acts_other : (n : ℕ) (x : Part) → IsPart x s → (q.base + q.size ≤ x.base) ⊎ (x.base + x.size ≤ q.base) → (e : Effect) → IsLawful (own_claims q s) e → first_pending (view q t s) (effect_needs own e) ≡ None → own_stock x n (after_act q s (done (view q t s) r e).act) ≡ own_stock x n s
@@ -77,6 +81,8 @@ module _ (q : Part) (t : ℕ) (s : Shared) (r : Registers) (own : List ℕ) (sou
       (start_small q t s d o first last after own part lawful free)
       (start_idle q t s d o first last after own part lawful free)
       (start_free q t s d o first last after own part lawful free) x n (other.there d)
+  acts_other n x other apart (Asking (FreeOf kind) after) lawful free = refl
+  acts_other n x other apart (Returning pooled d after) lawful free = refl
   acts_other n x other apart e lawful free = refl
 
   pub acts_sound : (e : Effect) → IsLawful (own_claims q s) e → first_pending (view q t s) (effect_needs own e) ≡ None → IsSound (after_act q s (done (view q t s) r e).act)
@@ -86,4 +92,6 @@ module _ (q : Part) (t : ℕ) (s : Shared) (r : Registers) (own : List ℕ) (sou
       (start_small q t s d o first last after own part lawful free)
       (start_idle q t s d o first last after own part lawful free)
       (start_free q t s d o first last after own part lawful free)
+  acts_sound (Asking (FreeOf kind) after) lawful free = sound
+  acts_sound (Returning pooled d after) lawful free = sound
   acts_sound e lawful free = sound

@@ -133,7 +133,7 @@ module _ (reaches : List Reach) (seats : List Seat) (t : ℕ) (s : Shared) (p : 
       at_act (Starts d o first last) = refl
       at_act (Asks question answer) = refl
       at_act (Acquires d) = refl
-      at_act (Releases d) = refl
+      at_act (Releases pooled d) = refl
       at_act (Spools stream first last) = refl
 
   -- its own state

@@ -9,8 +9,8 @@ use Rattle.kdf_processor.specs.Fetch.{IsFetchedAt}
 use Rattle.kdf_processor.proofs.Small.{small_fetched}
 use Rattle.kdf_director.specs.declared.note.Note.{Note}
 use Rattle.kdf_director.specs.declared.note.Note.TheVariants.{Quiet}
-use Rattle.kdf_processor.specs.Ahead.{IsAhead, IsSmall}
-use Rattle.kdf_processor.specs.Effect.{Act, Nothing, Writes, Starts, Asks, Acquires, Releases, Spools}
+use Rattle.kdf_processor.specs.Ahead.{IsAhead, IsSmall, IsTaking}
+use Rattle.kdf_processor.specs.Effect.{FreeOf, Act, Nothing, Writes, Starts, Asks, Acquires, Releases, Spools}
 use Rattle.kdf_processor.specs.Outcome.{Outcome, outcome}
 use Rattle.kdf_processor.specs.declared.spooled.Spooled.{Spooled}
 use Rattle.kdf_lockout.specs.Groups.{Cells}
@@ -40,15 +40,27 @@ pub small_room : (t : Turn) (act : Act) → IsSmall act → HasRoom t act
 small_room t Nothing small = tt
 small_room t (Writes a w) small = tt
 small_room t (Starts d o first last) small = absurd small
+small_room t (Asks (FreeOf kind) answer) small = absurd small
 small_room t (Asks question answer) small = tt
 small_room t (Acquires d) small = tt
-small_room t (Releases d) small = tt
+small_room t (Releases pooled d) small = tt
 small_room t (Spools stream first last) small = absurd small
+
+-- nor does one that may take from the pool
+taking_room : (t : Turn) (act : Act) → IsTaking act → HasRoom t act
+taking_room t Nothing small = tt
+taking_room t (Writes a w) small = tt
+taking_room t (Starts d o first last) small = absurd small
+taking_room t (Asks question answer) small = tt
+taking_room t (Acquires d) small = tt
+taking_room t (Releases pooled d) small = tt
+taking_room t (Spools stream first last) small = absurd small
 
 -- an act has the memory that was taken for it
 room_ahead : (t : Turn) (act : Act) (a : Ahead) → IsAhead act a → HasRoomAhead t a → HasRoom t act
 room_ahead t act (ahead.Starts d o first last) is room = subst (HasRoom t) (sym is) room
 room_ahead t act (ahead.Spools stream first last) is room = subst (HasRoom t) (sym is) room
+room_ahead t act ahead.Takes is room = taking_room t act is
 room_ahead t act ahead.Else is room = small_room t act is
 
 pub room_taken : (old new : Turn) (r : Registers) (a : Ahead) → IsAhead (outcome (shown old) r).act a → Stays old new → HasRoomAhead new a → HasRoom new (outcome (shown new) r).act

@@ -19,8 +19,8 @@ use Rattle.kdf_processor.specs.Claims.{free_kind, free_label}
 use Rattle.kdf_processor.specs.State.{unclaimed}
 use Rattle.kdf_processor.specs.Table.{brought, changed, copied, decision, direct_effect, exit_row, from_top, guarded, indirect_effect, out_effect, plain_row, query_effect, single_row, transfer_of}
 use Rattle.kdf_director.specs.ByNumber.{device_count}
-use Rattle.kdf_director.specs.Cut.{cut}
-use Rattle.kdf_director.specs.Next.{any_live, can_go, lives, next}
+use Rattle.kdf_course.specs.Cut.{cut}
+use Rattle.kdf_course.specs.World.{any_live, can_go, lives, next}
 use Rattle.kdf_director.specs.Told.{flights_of, mine_after, own}
 use Rattle.kdf_director.specs.Worked.{asks, device_seen, journal_under, keeps, looks, loops, overruns, prints, punches, reads, reads_journal, words_seen}
 use Rattle.kdf_director.specs.World.{first_need}

@@ -1,5 +1,5 @@
 -- The slots that are worked out are such as can be loaded.
-use Rattle.std.proofs.Common.{◌≡◌, ◌≢◌, ◌<◌, ◌≤◌, ℕ, zero, suc, [], ◌∷◌, get_or, Option, Some, None, inr, ◌∙◌, ⊎_elim, arith}
+use Rattle.std.proofs.Common.{◌≡◌, ◌≢◌, ◌<◌, ◌≤◌, ℕ, zero, suc, [], ◌∷◌, get_or, Option, Some, None, inr, refl, ◌∙◌, ⊎_elim, arith}
 use Rattle.std.specs.Prelude.{replicate}
 use Rattle.std.specs.List.{AllPairs}
 use Rattle.std.proofs.lemmas.Bool.{cases_lt}
@@ -32,6 +32,8 @@ reads_slot = record {
   fits = omega arith;
   fixtures = length-set no_devices 3 (Some tape) ∙ length-replicate {A = Option Fixture} device_count None;
   devices = length-replicate device_count new_progress;
+  few = λ d pooled. cc;
+  apart = λ d. inr refl;
 }
 
 loops_slot : IsSlot loops
@@ -39,6 +41,8 @@ loops_slot = record {
   fits = omega arith;
   fixtures = length-replicate {A = Option Fixture} device_count None;
   devices = length-replicate device_count new_progress;
+  few = λ d pooled. cc;
+  apart = λ d. inr refl;
 }
 
 pub worked_slots : AreSlots (reads ∷ loops ∷ [])

@@ -1,6 +1,7 @@
 -- What one call of a machine does.
 use Rattle.std.specs.Prelude.{◌≡◌, ℕ, ◌==◌, List, ◌∷◌, Some, None, true, false, if◌then◌else◌}
-use Rattle.kdf_journal.specs.Steps.{Note, Quiet, Began, Answered, Failed, Finished, Step, Obeys, Holds, Waits, added}
+use Rattle.kdf_journal.specs.Counts.{pending}
+use Rattle.kdf_journal.specs.Steps.{Note, Quiet, Began, Answered, Took, Gave, Failed, Finished, Step, Obeys, Holds, Waits, added}
 use Rattle.kdf_processor.specs.Effect.{Question}
 use Rattle.kdf_processor.specs.State.{Slot, State}
 use Rattle.kdf_processor.specs.declared.step.Need.{Need}
@@ -13,7 +14,8 @@ use Rattle.kdf_director.specs.declared.note.Note.TheVariants as noted
 use Rattle.kdf_director.specs.Legal.{note_of}
 use Rattle.kdf_director.specs.Next.{any_live, next}
 use Rattle.kdf_director.specs.Seen.{begun_row}
-use Rattle.kdf_director.specs.Shown.{Shown, entered, state_at, world_of}
+use Rattle.kdf_director.specs.Shown.{Shown, entered, state_at, state_of, world_of}
+use Rattle.kdf_director.specs.Told.{is_of}
 use Rattle.kdf_director.specs.True.{truth}
 use Rattle.kdf_director.specs.World.{first_need, hold_of}
 
@@ -59,11 +61,17 @@ Advance old new progress.AllEnded = (any_live old.slots old.journal ≡ false) �
 abbrev pub Enters : Shown → Shown → Step → Type 0
 Enters old new s = new ≡ entered old s
 
+-- each program that has no transfer on the device is as it was
+abbrev pub OthersStay : Shown → Shown → ℕ → Type 0
+OthersStay old new d = (p : ℕ) → is_of p (pending d old.journal) ≡ false → state_of new p ≡ state_of old p
+
 -- the note of own order k, which ended so, and of which this was noted beside
 abbrev pub note_beside : ℕ → Noted → Note
 note_beside k noted.Quiet = Quiet
 note_beside k (noted.Began d) = Began d k
 note_beside k (noted.Told answer) = Answered answer
+note_beside k (noted.Took d) = Took d
+note_beside k (noted.Gave d) = Gave d
 
 abbrev pub note_told : ℕ → Ending → Noted → Note
 note_told k (ending.Fails kind) beside = Failed kind

@@ -1,5 +1,5 @@
 -- How the fields of a machine agree with its slots and its journal.
-use Rattle.std.specs.Prelude.{◌≡◌, ℕ, ◌<◌, ◌≤◌, List, length, map}
+use Rattle.std.specs.Prelude.{◌≡◌, ℕ, ◌+◌, ◌*◌, ◌<◌, ◌≤◌, List, length, map}
 use Rattle.std.specs.List.{All}
 use Rattle.std.specs.Option.{option_map}
 use Rattle.kdf_journal.specs.declared.entry.Entry.{Entry}
@@ -14,7 +14,7 @@ use Rattle.kdf_director.specs.declared.place.Place.{Place}
 use Rattle.kdf_director.specs.declared.program.Program.{Program}
 use Rattle.kdf_director.specs.declared.slot.Loaded.{Loaded}
 use Rattle.kdf_director.specs.Following.{AreFollowing}
-use Rattle.kdf_director.specs.Legal.{IsLegal}
+use Rattle.kdf_director.specs.Legal.{IsLegal, IsTrue}
 use Rattle.kdf_director.specs.Fields.{loaded, sizes_of}
 use Rattle.kdf_director.specs.Parts.{Reach, Seat, Shared, shared_in}
 use Rattle.kdf_director.specs.Running.{reaches_in, seats_in, IsRunning}
@@ -24,7 +24,7 @@ use Rattle.kdf_director.specs.Spots.{AreDry}
 use Rattle.kdf_director.specs.World.{need_of}
 
 -- the slots are of four numbers, the programs are theirs and follow the journal over what they share, and the journal is
--- legal
+-- legal and true
 pub record Agrees (slots : List Slot) (reaches : List Reach) (seats : List Seat) (s : Shared)
     (J : List Entry) : Type 0 where
   pub are : AreSlots slots
@@ -33,6 +33,7 @@ pub record Agrees (slots : List Slot) (reaches : List Reach) (seats : List Seat)
   pub running : IsRunning reaches seats s
   pub following : AreFollowing slots J reaches seats s
   pub legal : IsLegal slots J
+  pub truly : IsTrue slots J
   pub few_calls : calls J ≤ CALL_LIMIT
   pub few_moves : moves J ≤ MOVE_LIMIT
 
@@ -42,7 +43,7 @@ HaveHolds programs J =
     map (λ (x : Program). x.hold) programs
     ≡ map (λ (x : Program). option_map need_of (last_hold x.p J)) programs
 
--- and the journal has room for so many events more
+-- the fields agree, and the journal has room for so many events more, each of which may be a move of 4,096 words
 pub record IsReady (slots : List Loaded) (windows : List Window) (store : Cells) (programs : List Program)
     (places : List Place) (J : List Entry) (spare room : ℕ) : Type 0 where
   pub placed : windows ≡ windows_from 1024 (sizes_of (map loaded slots))
@@ -53,3 +54,4 @@ pub record IsReady (slots : List Loaded) (windows : List Window) (store : Cells)
   pub dry : AreDry places
   pub fits : room ≤ spare
   pub few_events : room ≤ EVENT_LIMIT
+  pub few_words : moves J + 4096 * room ≤ MOVE_LIMIT

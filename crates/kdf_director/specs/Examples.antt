@@ -18,9 +18,11 @@ holding one two at_one at_two =
           size = 34;
           claimed = false ∷ true ∷ true ∷ [];
           fixtures = None ∷ Some one ∷ Some two ∷ [];
+          pool = [];
         };
         spooled = [];
         asked = 0;
+        stints = [];
         store = replicate 34 7;
         devices = new_progress ∷ at_one ∷ at_two ∷ [];
       };

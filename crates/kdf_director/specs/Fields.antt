@@ -75,7 +75,7 @@ abbrev pub with_words : Cells → ℕ → List ℕ → Cells
 with_words cells place [] = cells
 with_words cells place (w ∷ words) = with_words (kept_word cells place w) (place + 1) words
 
--- and with the words of each slot from the begin of its window on
+-- the store with the words of each slot from the begin of its window on
 abbrev pub with_images : List Window → Cells → List SlotLoad → Cells
 with_images windows cells [] = cells
 with_images windows cells (l ∷ slots) =

@@ -1,20 +1,21 @@
 -- Which program goes on, by the fields of a machine.
-use Rattle.std.specs.Prelude.{ℕ, ◌+◌, ◌*◌, ◌/◌, ◌<◌, not, ◌&&◌, Bool, false, List, length, Option, Some, None, find, slice_index_or}
+use Rattle.std.specs.Prelude.{ℕ, ◌+◌, ◌*◌, ◌/◌, ◌<◌, ◌==◌, not, ◌&&◌, Bool, true, false, List, [], ◌∷◌, length, Option, Some, None, find, if◌then◌else◌, slice_index_or}
 use Rattle.std.specs.List.{list_any, range_with_len}
 use Rattle.kdf_lockout.specs.Groups.{is_out}
 use Rattle.kdf_processor.specs.Lone.{is_live}
 use Rattle.kdf_processor.specs.declared.step.Need.{Need}
-use Rattle.kdf_processor.specs.declared.step.Need.TheVariants.{Group, Device}
+use Rattle.kdf_processor.specs.declared.step.Need.TheVariants.{Group, Device, Pool}
 use Rattle.kdf_director.specs.declared.program.Program.{Program}
 use Rattle.kdf_director.specs.Parts.{Reach, Seat, Shared}
 use Rattle.kdf_director.specs.Running.{reach_at, seat_at}
-use Rattle.kdf_director.specs.Shared.{is_busy_in}
+use Rattle.kdf_director.specs.Shared.{is_busy_in, is_pool_taken}
 
 -- what held a program, whose window begins at base, is pending still
 abbrev pub is_stopped : ℕ → Shared → Option Need → Bool
 is_stopped base s None = false
 is_stopped base s (Some (Group g)) = is_out s.cells (base / 32 + g)
 is_stopped base s (Some (Device d)) = is_busy_in s d
+is_stopped base s (Some (Pool kind)) = is_pool_taken kind
 
 -- a live program that nothing holds up still
 abbrev pub goes : Seat → Reach → Shared → Option Need → Bool
@@ -29,10 +30,25 @@ abbrev pub goes_at : List Reach → List Seat → List (Option Need) → Shared 
 goes_at reaches seats holds s i =
     goes (seat_at seats i) (reach_at reaches i) s (hold_at holds i)
 
--- the first of them that does
-unfoldable pub first_going : List Reach → List Seat → List (Option Need) → Shared → Option ℕ
-first_going reaches seats holds s =
-    find (goes_at reaches seats holds s) (range_with_len 0 (length seats))
+-- which of the programs is in this slot
+unfoldable pub place_of : List Seat → ℕ → Option ℕ
+place_of seats p = find (λ i. (seat_at seats i).p == p) (range_with_len 0 (length seats))
+
+-- where it goes on
+abbrev pub if_goes : List Reach → List Seat → List (Option Need) → Shared → Option ℕ → Option ℕ
+if_goes reaches seats holds s None = None
+if_goes reaches seats holds s (Some i) = if goes_at reaches seats holds s i then Some i else None
+
+-- this one, or else that one
+abbrev pub or_else : Option ℕ → Option ℕ → Option ℕ
+or_else (Some i) o = Some i
+or_else None o = o
+
+-- the first of these slots whose program goes on
+abbrev pub first_going : List Reach → List Seat → List (Option Need) → Shared → List ℕ → Option ℕ
+first_going reaches seats holds s [] = None
+first_going reaches seats holds s (p ∷ ps) =
+    or_else (if_goes reaches seats holds s (place_of seats p)) (first_going reaches seats holds s ps)
 
 -- one of the programs is live
 abbrev pub any_on : List Program → Bool
@@ -43,8 +59,9 @@ abbrev pub IsNearHold : ℕ → Option Need → Type 0
 IsNearHold size None = Unit {0}
 IsNearHold size (Some (Group g)) = 32 * g < size
 IsNearHold size (Some (Device d)) = Unit {0}
+IsNearHold size (Some (Pool kind)) = Unit {0}
 
--- and so it is with each
+-- each group that held a program is one of its store
 abbrev pub AreNearHolds : List Reach → List (Option Need) → Type 0
 AreNearHolds reaches holds =
     (i : ℕ) → i < length holds → IsNearHold (reach_at reaches i).size (hold_at holds i)

@@ -1,23 +1,28 @@
--- What makes a journal legal.
-use Rattle.std.specs.Prelude.{◌≡◌, ℕ, ◌≤◌, List, [], ◌∷◌, true, Some, None}
+-- What makes a journal legal, and what makes it true.
+use Rattle.std.specs.Prelude.{◌≡◌, ℕ, List, true}
 use Rattle.kdf_processor.specs.declared.step.Step.{Step as Ending}
 use Rattle.kdf_processor.specs.declared.step.Step.TheVariants as ending
-use Rattle.kdf_processor.specs.Effect.{Act, Starts, Asks, Question}
+use Rattle.kdf_processor.specs.Effect.{Act, Starts, Asks, Releases, Effect, Asking, Question, FreeOf}
+use Rattle.kdf_processor.specs.Needs.{next_effect}
 use Rattle.kdf_processor.specs.Outcome.{Outcome}
 use Rattle.kdf_processor.specs.State.{Slot, State}
 use Rattle.kdf_processor.specs.Row.{next_of}
 use Rattle.kdf_journal.specs.declared.entry.Entry.{Entry}
-use Rattle.kdf_journal.specs.Counts.{clock}
-use Rattle.kdf_journal.specs.Steps.{Note, Quiet, Began, Answered, Failed, Finished, Step, Obeys, Holds, Waits, Moves, Ends, Sets, journal_of, steps}
-use Rattle.kdf_director.specs.World.{World, first_need, need_of}
-use Rattle.kdf_director.specs.Told.{lone_world}
-use Rattle.kdf_director.specs.Next.{next, any_live}
+use Rattle.kdf_journal.specs.Steps.{Note, Quiet, Began, Answered, Took, Gave, Failed, Finished, Step, steps}
+use Rattle.kdf_course.specs.Legal as course
+use Rattle.kdf_director.specs.Next.{dispatched, lone_dispatched}
+use Rattle.kdf_director.specs.Told.{lone_world, own}
 use Rattle.kdf_director.specs.True.{truth}
+use Rattle.kdf_director.specs.World.{World}
+
+-- ---- the note of an order
 
 -- the note of what own order k of a program did
 abbrev pub note_of_act : ℕ → Act → Note
 note_of_act k (Starts d o first last) = Began d k
+note_of_act k (Asks (FreeOf kind) answer) = Took answer
 note_of_act k (Asks question answer) = Answered answer
+note_of_act k (Releases true d) = Gave d
 note_of_act k _ = Quiet
 
 -- the note of own order k, which ended so
@@ -34,26 +39,56 @@ note_of_outcome o = note_for o.registers.ran o.step o.act
 abbrev pub note_of : State → (Question → ℕ) → Note
 note_of s answer = note_of_outcome (next_of s answer)
 
--- The step is as the rules have it in this world, after the journal J. A program that is next obeys, with the note with
--- which its order comes out where it is truly answered, or is held by the first of its needs that is pending; a call
--- finds all held where none is next; and no time is set back.
-abbrev pub Meets : World → List Slot → List Entry → Step → Type 0
-Meets w slots J (Obeys p note) =
-    (next w slots J ≡ Some p) × (first_need w p ≡ None) × (note ≡ note_of (w.state p) (truth w J p))
-Meets w slots J (Holds p by) = (next w slots J ≡ Some p) × (first_need w p ≡ Some (need_of by))
-Meets w slots J Waits = (any_live slots J ≡ true) × (next w slots J ≡ None)
-Meets w slots J (Moves d n) = Unit {0}
-Meets w slots J (Ends d) = Unit {0}
-Meets w slots J (Sets t) = clock J ≤ t
+-- ---- legal
 
--- each step is so in the world of lone runs
+-- the notes with which the next order of program p, run alone, may come out: one for each answer
+abbrev pub notes : List Slot → List Entry → ℕ → ℕ → Note
+notes slots J p v = note_of (own slots J p) (λ _. v)
+
+-- each of them is admitted: an order that asks may have any answer
+abbrev pub any_answer : List Slot → List Entry → ℕ → Note → Type 0
+any_answer slots = course.one_of (notes slots)
+
+-- each step is as the rules have it in the world of lone runs, whatever the orders that asked were answered
 abbrev pub EachMeets : List Slot → List Step → Type 0
-EachMeets slots [] = Unit {0}
-EachMeets slots (s ∷ P) = EachMeets slots P × Meets (lone_world slots (journal_of P)) slots (journal_of P) s
+EachMeets slots P = course.EachMeets (lone_dispatched slots) (any_answer slots) P
 
--- The journal is that of its steps, and each step meets the rules. The first alone guards the form: that entries which
--- could be one are joined, that each number of orders and of idle calls is at least 1, and that a note stands directly
--- behind an order, with the order's program, and nowhere else.
-pub record IsLegal (slots : List Slot) (J : List Entry) : Type 0 where
-  pub in_form : journal_of (steps J) ≡ J
-  pub each : EachMeets slots (steps J)
+abbrev pub IsLegal : List Slot → List Entry → Type 0
+IsLegal slots J = course.IsLegal (lone_dispatched slots) (any_answer slots) J
+
+-- ---- true
+
+-- v is an answer to what the order of this effect asks, if it asks, where `fits` says which answers a question may have
+abbrev pub IsAnswer : Effect → (fits : Question → ℕ → Type 0) → ℕ → Type 0
+IsAnswer (Asking question after) fits v = fits question v
+IsAnswer e fits v = Unit {0}
+
+-- where the note is an answer, it is such a one; and so is the device that an order took from the pool
+abbrev pub answers_by : List Slot → (List Entry → ℕ → Question → ℕ → Type 0) → List Entry → ℕ → Note → Type 0
+answers_by slots fits J p (Answered v) = IsAnswer (next_effect (own slots J p)) (fits J p) v
+answers_by slots fits J p (Took d) = IsAnswer (next_effect (own slots J p)) (fits J p) d
+answers_by slots fits J p note = Unit {0}
+
+-- the true answer
+abbrev pub is_truth : List Slot → List Entry → ℕ → Question → ℕ → Type 0
+is_truth slots J p question v = v ≡ truth (lone_world slots J) J p question
+
+abbrev pub is_true : List Slot → List Entry → ℕ → Note → Type 0
+is_true slots = answers_by slots (is_truth slots)
+
+-- each answer that the journal has is the true one
+abbrev pub IsTrue : List Slot → List Entry → Type 0
+IsTrue slots J = course.EachNoted (is_true slots) (steps J)
+
+-- ---- legal and true
+
+-- the note with which the next order of program p comes out where it is truly answered
+abbrev pub true_note : World → List Entry → ℕ → Note
+true_note w J p = note_of (w.state p) (truth w J p)
+
+abbrev pub lone_note : List Slot → List Entry → ℕ → Note
+lone_note slots J p = true_note (lone_world slots J) J p
+
+-- the step is as the rules have it in this world, and its note tells the truth
+abbrev pub Meets : World → List Slot → List Entry → Step → Type 0
+Meets w slots J s = course.Meets (dispatched slots w) (λ p note. note ≡ true_note w J p) J s

@@ -10,7 +10,6 @@ pub mod True
 pub mod Legal
 pub mod Course
 pub mod Follows
-pub mod Cut
 pub mod Worked
 pub mod Physical
 pub mod Spots
@@ -35,3 +34,4 @@ pub mod Taken
 pub mod Viewed
 pub mod Fields
 pub mod ByNumber
+pub mod Holders

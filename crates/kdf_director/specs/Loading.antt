@@ -6,7 +6,7 @@ use Rattle.kdf_job.specs.Job.{JobDevice, SlotJob}
 use Rattle.kdf_processor.specs.State.{Slot, new_progress}
 use Rattle.kdf_director.specs.ByNumber.{by_number}
 
--- the device of a number
+-- the device of a number, of those that a slot of a job has
 abbrev pub numbered : List JobDevice → ℕ → Option JobDevice
 numbered devices d = find (λ (x : JobDevice). x.d == d) devices
 
@@ -34,6 +34,7 @@ slot_of l =
       words = l.words;
       fixtures = by_number (λ d. fixture_on (numbered l.devices d));
       devices = by_number (λ d. progress_on (numbered l.devices d));
+      pool = [];
     }
 
 -- what is loaded of a job: each slot with the words of its image
@@ -45,7 +46,7 @@ loads [] images = []
 loads (s ∷ slots) [] = []
 loads (s ∷ slots) (words ∷ images) = load_of s words ∷ loads slots images
 
--- the slots of a job
+-- the slots of a job with their images
 abbrev pub slots_of : List SlotJob → List (List ℕ) → List Slot
 slots_of slots images = map slot_of (loads slots images)
 

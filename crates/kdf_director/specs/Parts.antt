@@ -84,7 +84,7 @@ part_in seat reach =
 abbrev pub owns : List ℕ → ℕ → Bool
 owns devices d = list_any (λ n. n == d) devices
 
--- and what it is
+-- what the device of this number is, where it is one of these
 abbrev pub fixture_owned : List ℕ → List Spot → ℕ → Option Fixture
 fixture_owned devices spots d = if owns devices d then (spot_at spots d).fixture else None
 
@@ -101,7 +101,7 @@ own_progress q spots d = if has_device q d then (spot_at spots d).progress else 
 -- what a program's orders are checked against
 abbrev pub own_claims : Part → Shared → Claims
 own_claims q s =
-    record { size = q.size; claimed = q.claimed; fixtures = by_number (own_fixture q s.spots) }
+    record { size = q.size; claimed = q.claimed; fixtures = by_number (own_fixture q s.spots); pool = [] }
 
 -- what a program has beside its registers, after so many answers
 abbrev pub own_stock : Part → ℕ → Shared → Stock
@@ -110,6 +110,7 @@ own_stock q asked s =
       claims = own_claims q s;
       spooled = q.spooled;
       asked = asked;
+      stints = [];
       store = own_words q.base q.size s.cells (leases_of s.spots);
       devices = by_number (own_progress q s.spots);
     }
@@ -125,7 +126,7 @@ part_after q s (Writes a w) = q
 part_after q s (Starts d o first last) = q
 part_after q s (Asks question answer) = q
 part_after q s (Acquires d) = record q { claimed = slice_set q.claimed d true }
-part_after q s (Releases d) = record q { claimed = slice_set q.claimed d false }
+part_after q s (Releases pooled d) = record q { claimed = slice_set q.claimed d false }
 part_after q s (Spools stream first last) =
     record q { spooled = q.spooled ++ record { stream = stream; text = own_text q s first last } ∷ [] }
 
@@ -136,5 +137,5 @@ asked_after asked (Writes a w) = asked
 asked_after asked (Starts d o first last) = asked
 asked_after asked (Asks question answer) = asked + 1
 asked_after asked (Acquires d) = asked
-asked_after asked (Releases d) = asked
+asked_after asked (Releases pooled d) = asked
 asked_after asked (Spools stream first last) = asked

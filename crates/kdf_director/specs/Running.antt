@@ -93,7 +93,7 @@ moved_own q n (Some h) s =
     }
     else s
 
--- and after the end of the transfer on device d
+-- a program's state after the end of the transfer on device d
 abbrev pub ended_own : Part → ℕ → Option Held → State → State
 ended_own q d None s = s
 ended_own q d (Some h) s =

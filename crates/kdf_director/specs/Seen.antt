@@ -4,7 +4,7 @@ use Rattle.std.specs.List.{list_any, range_with_len}
 use Rattle.std.proofs.Common.{zero, suc}
 use Rattle.kdf_transfer.specs.Devices.{Progress}
 use Rattle.kdf_processor.specs.declared.step.Need.{Need}
-use Rattle.kdf_processor.specs.declared.step.Need.TheVariants.{Group, Device}
+use Rattle.kdf_processor.specs.declared.step.Need.TheVariants.{Group, Device, Pool}
 use Rattle.kdf_processor.specs.Effect.{Question, Act, Starts, Effect}
 use Rattle.kdf_processor.specs.Needs.{next_effect}
 use Rattle.kdf_processor.specs.Outcome.{Outcome}
@@ -52,10 +52,11 @@ abbrev pub touched_below : ℕ → (ℕ → Option Flight) → ℕ → Bool
 touched_below zero flights g = false
 touched_below (suc d) flights g = touches (flights d) g || touched_below d flights g
 
--- a need of the program is pending
+-- a need of the program is pending, as far as its transfers tell
 abbrev pub pending : (ℕ → Option Flight) → Need → Bool
 pending flights (Group g) = touched_below device_count flights g
 pending flights (Device d) = is_some (flights d)
+pending flights (Pool kind) = false
 
 -- ---- an order by which a transfer only begins
 

@@ -1,11 +1,12 @@
 -- What is shown of the machine to one program, and what an acting call, moved words and an end leave of what all share.
-use Rattle.std.specs.Prelude.{◌≡◌, ◌<◌, ◌≤◌, length, take, drop, find, ℕ, ◌+◌, ◌-◌, ◌/◌, List, [], Bool, if◌then◌else◌, Option, Some, None, slice_set, is_some}
+use Rattle.std.specs.Prelude.{◌≡◌, ◌<◌, ◌≤◌, length, take, drop, find, ℕ, ◌+◌, ◌-◌, ◌/◌, List, [], Bool, true, if◌then◌else◌, Option, Some, None, slice_set, is_some}
+use Rattle.kdf_journal.specs.declared.kind.Kind.{Kind}
 use Rattle.kdf_lockout.specs.Groups.{Cells, Lent, is_out, with_word, without_groups, lent_groups, first_out_of, touched, with_groups}
 use Rattle.kdf_lockout.specs.Groups as groups
 use Rattle.kdf_transfer.specs.declared.order.TransferOrder.{TransferOrder}
 use Rattle.kdf_transfer.specs.AtOnce.{is_input, has_area, addressed}
 use Rattle.kdf_transfer.specs.InFlight.{Motion, moved_by, words_of, total_of, ended_progress}
-use Rattle.kdf_processor.specs.Effect.{Question, IsBusy, IsOut, Time, Act, Nothing, Writes, Starts, Asks, Acquires, Releases, Spools}
+use Rattle.kdf_processor.specs.Effect.{Question, IsBusy, IsOut, Time, FreeOf, Act, Nothing, Writes, Starts, Asks, Acquires, Releases, Spools}
 use Rattle.kdf_processor.specs.View.{View, by_itself, groups_of}
 use Rattle.kdf_director.specs.True.{one_if}
 use Rattle.kdf_director.specs.Spots.{Held, Spot, spot_at, own_from, fixture_or}
@@ -24,6 +25,11 @@ abbrev pub answer_in : Part → ℕ → Shared → Question → ℕ
 answer_in q time s (IsBusy d) = one_if (is_busy_in s d)
 answer_in q time s (IsOut first last) = one_if (is_some (find (is_out_of q s) (groups_of first last)))
 answer_in q time s Time = time
+answer_in q time s (FreeOf kind) = 0
+
+-- every device of a kind in the pool has a holder: there is no pool yet
+unfoldable pub is_pool_taken : Kind → Bool
+is_pool_taken kind = true
 
 -- what is shown of a program at a time
 abbrev pub view : Part → ℕ → Shared → View
@@ -31,6 +37,7 @@ view q time s =
     record (by_itself (answer_in q time s) (own_stock q 0 s)) {
       is_out = is_out_of q s;
       is_busy = is_busy_in s;
+      is_taken = is_pool_taken;
       mine = own_from q.p 0 s.spots;
     }
 
@@ -74,7 +81,7 @@ after_act q s (Starts d o first last) =
     }
 after_act q s (Asks question answer) = s
 after_act q s (Acquires d) = s
-after_act q s (Releases d) = s
+after_act q s (Releases pooled d) = s
 after_act q s (Spools stream first last) = s
 
 -- the places are in the store, no more than 4,096, and none of their groups is out

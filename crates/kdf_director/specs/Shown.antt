@@ -29,7 +29,7 @@ state_in _ _ p = None
 abbrev pub state_of : Shown → ℕ → Option State
 state_of m p = state_in m.slots m.states p
 
--- and where there is no such slot, one of an empty store
+-- the state of program p, and where there is no such slot, one of an empty store
 abbrev pub state_at : Shown → ℕ → State
 state_at m p = unwrap_or (state_of m p) (start_of None)
 

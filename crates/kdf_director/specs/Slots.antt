@@ -1,13 +1,13 @@
 -- The slots that are loaded, and each program's state at its start.
-use Rattle.std.specs.Prelude.{◌≡◌, ◌≢◌, ℕ, ◌≤◌, ◌==◌, ◌⊎◌, List, [], Option, Some, None, find, length, slice_index_or}
+use Rattle.std.specs.Prelude.{◌≡◌, ◌≢◌, ℕ, ◌<◌, ◌≤◌, ◌==◌, ◌⊎◌, true, List, [], Option, Some, None, is_some, find, length, slice_index_or}
 use Rattle.std.specs.List.{All, AllPairs}
 use Rattle.kdf_transfer.specs.Devices.{Fixture}
-use Rattle.kdf_processor.specs.State.{Slot, State, begin}
+use Rattle.kdf_processor.specs.State.{Slot, State, begin, device_limit}
 use Rattle.kdf_director.specs.ByNumber.{device_count}
 
 -- a slot without words and devices
 abbrev pub no_slot : Slot
-no_slot = record { p = 0; size = 0; words = []; fixtures = []; devices = [] }
+no_slot = record { p = 0; size = 0; words = []; fixtures = []; devices = []; pool = [] }
 
 -- the slot with this number
 abbrev pub slot_of : List Slot → ℕ → Option Slot
@@ -26,11 +26,13 @@ start slots p = start_of (slot_of slots p)
 abbrev pub device_of : Slot → ℕ → Option Fixture
 device_of s d = slice_index_or s.fixtures d None
 
--- a slot: its image fits its store, and it has a place for a device of each number
+-- a slot: its image fits its store, it has a place for a device of each number, and the numbers of the pool are such and none of its own
 pub record IsSlot (s : Slot) : Type 0 where
   pub fits : length s.words ≤ s.size
   pub fixtures : length s.fixtures ≡ device_count
   pub devices : length s.devices ≡ device_count
+  pub few : (d : ℕ) → is_some (slice_index_or s.pool d None) ≡ true → d < device_limit
+  pub apart : (d : ℕ) → (device_of s d ≡ None) ⊎ (slice_index_or s.pool d None ≡ None)
 
 -- no device number is in both
 abbrev pub HaveOwnDevices : Slot → Slot → Type 0

@@ -85,7 +85,7 @@ pub record HasSpare (order : TransferOrder) (device : Device) : Type 0 where
   pub spare : blocks_out order ≤ room_of device
   pub few : (progress_of device).place + blocks_out order < 2 ^ 32
 
--- and so has the device of a place, where it has no transfer
+-- the device of a place that has no transfer has memory for the blocks that an order adds, and fewer than 2^32 - 1 blocks yet
 abbrev pub IsReady : TransferOrder → Place → Type 0
 IsReady order Absent = Unit {0}
 IsReady order (Idle device ring) = HasSpare order device

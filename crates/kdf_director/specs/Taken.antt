@@ -25,7 +25,7 @@ abbrev pub step_told : ℕ → ℕ → Ending → Noted → Step
 step_told p k (ending.Held need) beside = Holds p (hold_of need)
 step_told p k ended beside = Obeys p (note_told k ended beside)
 
--- and what the call answers
+-- what a call answers in which program p had its turn
 abbrev pub progress_of : ℕ → Ending → Progress
 progress_of p (ending.Held need) = progress.Held p need
 progress_of p ended = progress.Ran p

@@ -1,15 +1,17 @@
 -- What a journal tells of each program: its state by itself, its transfers in flight, and what is seen of it.
 -- J is the journal so far, oldest entry first.
-use Rattle.std.specs.Prelude.{ℕ, ◌+◌, ◌-◌, ◌==◌, min, List, Bool, false, Option, Some, None, is_some, if◌then◌else◌}
+use Rattle.std.specs.Prelude.{ℕ, ◌+◌, ◌-◌, ◌==◌, ◌&&◌, not, min, find, List, Bool, false, Option, Some, None, is_some, if◌then◌else◌}
 use Rattle.std.specs.List.{filter, range_with_len}
 use Rattle.kdf_journal.specs.declared.entry.Entry.{Entry}
-use Rattle.kdf_journal.specs.Counts.{ran, answers, pending, moved}
+use Rattle.kdf_journal.specs.Counts.{ran, answers, pending, moved, holder}
 use Rattle.kdf_processor.specs.declared.step.Need.{Need}
-use Rattle.kdf_processor.specs.declared.step.Need.TheVariants.{Group, Device}
+use Rattle.kdf_processor.specs.declared.step.Need.TheVariants.{Group, Device, Pool}
+use Rattle.kdf_journal.specs.declared.kind.Kind.{Kind}
+use Rattle.kdf_processor.specs.Claims.{is_kind}
 use Rattle.kdf_processor.specs.Effect.{Effect, Starting}
 use Rattle.kdf_processor.specs.Lone.{lone}
 use Rattle.kdf_processor.specs.Needs.{next_effect}
-use Rattle.kdf_processor.specs.State.{Slot, State}
+use Rattle.kdf_processor.specs.State.{Slot, State, pool_kind_at}
 use Rattle.kdf_director.specs.ByNumber.{device_count}
 use Rattle.kdf_director.specs.Flights.{Flight, beginning, move_count, moved_to}
 use Rattle.kdf_director.specs.Seen.{seen, touched_below}
@@ -22,7 +24,7 @@ use Rattle.kdf_director.specs.World.{World}
 abbrev pub own_after : List Slot → List Entry → ℕ → ℕ → State
 own_after slots J p n = lone (start slots p) (answers p J) n
 
--- and after as many orders as the journal counts
+-- the state of program p run alone for as many orders as the journal counts, with the answers that it was given
 unfoldable pub own : List Slot → List Entry → ℕ → State
 own slots J p = own_after slots J p (ran p J)
 
@@ -62,10 +64,21 @@ seen_of slots J p = seen (flights_of slots J p) (own slots J p)
 
 -- ---- what is pending
 
--- what of program p is pending: a group that its transfers touch, or a device that has a transfer, whosever it is
+-- a device of program p's pool is of a kind, and no program has it
+abbrev pub is_free_after : List Slot → List Entry → ℕ → Kind → ℕ → Bool
+is_free_after slots J p kind d =
+    is_kind kind (pool_kind_at (start slots p).stock.claims d) && not (is_some (holder d J))
+
+-- the least such device
+unfoldable pub free_after : List Slot → List Entry → ℕ → Kind → Option ℕ
+free_after slots J p kind = find (is_free_after slots J p kind) (range_with_len 0 device_count)
+
+-- what of program p is pending: a group that its transfers touch, a device that has a transfer, whosever it is, or a kind of which
+-- each device in the pool has a holder
 abbrev pub is_pending_after : List Slot → List Entry → ℕ → Need → Bool
 is_pending_after slots J p (Group g) = touched_below device_count (flights_of slots J p) g
 is_pending_after slots J p (Device d) = is_some (pending d J)
+is_pending_after slots J p (Pool kind) = not (is_some (free_after slots J p kind))
 
 -- a transfer of program p
 abbrev pub is_of : ℕ → Option (ℕ × ℕ) → Bool
@@ -79,12 +92,12 @@ mine_after J p = filter (λ d. is_of p (pending d J)) (range_with_len 0 device_c
 -- the world of these states, and of what the journal J tells
 abbrev pub world_after : List Slot → List Entry → (ℕ → State) → World
 world_after slots J states =
-    record { state = states; pending = is_pending_after slots J; mine = mine_after J }
+    record { state = states; pending = is_pending_after slots J; mine = mine_after J; free = free_after slots J }
 
 -- that of the programs run alone
 abbrev pub lone_world : List Slot → List Entry → World
 lone_world slots J = world_after slots J (own slots J)
 
--- and that of what is seen of them
+-- the world of what is seen of the programs
 abbrev pub seen_world : List Slot → List Entry → World
 seen_world slots J = world_after slots J (seen_of slots J)

@@ -1,11 +1,12 @@
 -- What an order that asks is truly answered.
-use Rattle.std.specs.Prelude.{ℕ, List, Bool, if◌then◌else◌}
+use Rattle.std.specs.Prelude.{ℕ, List, Bool, Option, if◌then◌else◌, unwrap_or}
 use Rattle.std.specs.List.{list_any}
 use Rattle.kdf_journal.specs.declared.entry.Entry.{Entry}
+use Rattle.kdf_journal.specs.declared.kind.Kind.{Kind}
 use Rattle.kdf_journal.specs.Counts.{clock}
 use Rattle.kdf_processor.specs.declared.step.Need.{Need}
 use Rattle.kdf_processor.specs.declared.step.Need.TheVariants.{Group, Device}
-use Rattle.kdf_processor.specs.Effect.{Question, IsBusy, IsOut, Time}
+use Rattle.kdf_processor.specs.Effect.{Question, IsBusy, IsOut, Time, FreeOf}
 use Rattle.kdf_processor.specs.View.{groups_of}
 use Rattle.kdf_director.specs.World.{World}
 
@@ -13,13 +14,15 @@ use Rattle.kdf_director.specs.World.{World}
 abbrev pub one_if : Bool → ℕ
 one_if is = if is then 1 else 0
 
--- whether the device has a transfer, whether a group of the area is locked out, and the time
-abbrev pub known : (pending : Need → Bool) (time : ℕ) → Question → ℕ
-known pending time (IsBusy d) = one_if (pending (Device d))
-known pending time (IsOut first last) = one_if (list_any (λ g. pending (Group g)) (groups_of first last))
-known pending time Time = time
+-- whether the device has a transfer, whether a group of the area is locked out, the time, and the least device of the kind in
+-- the pool that is free
+abbrev pub known : (pending : Need → Bool) (time : ℕ) (free : Kind → Option ℕ) → Question → ℕ
+known pending time free (IsBusy d) = one_if (pending (Device d))
+known pending time free (IsOut first last) = one_if (list_any (λ g. pending (Group g)) (groups_of first last))
+known pending time free Time = time
+known pending time free (FreeOf kind) = unwrap_or (free kind) 0
 
 -- what program p is truly answered in this world, after the journal J: what of it is pending,
--- and the time that was set last
+-- the time that was set last, and what is free of the pool
 abbrev pub truth : World → List Entry → ℕ → Question → ℕ
-truth w J p = known (w.pending p) (clock J)
+truth w J p = known (w.pending p) (clock J) (w.free p)

@@ -73,7 +73,7 @@ pub record CanStart (t : Turn) (d : ℕ) (order : TransferOrder) (first last : �
   pub block : is_output order ≡ true → 8 * (last + 1 - first) ≤ vec_capacity t.block.now
   pub device : IsReady order (slice_index_or t.places.now.items d Absent)
 
--- and for one text more
+-- there is memory for one text more
 pub record CanSpool (t : Turn) (first last : ℕ) : Type 0 where
   pub empty : t.block.now.items ≡ []
   pub block : 8 * (last + 1 - first) ≤ vec_capacity t.block.now
@@ -86,11 +86,12 @@ HasRoom t (Writes a w) = Unit {0}
 HasRoom t (Starts d o first last) = CanStart t d o first last
 HasRoom t (Asks question answer) = Unit {0}
 HasRoom t (Acquires d) = Unit {0}
-HasRoom t (Releases d) = Unit {0}
+HasRoom t (Releases pooled d) = Unit {0}
 HasRoom t (Spools stream first last) = CanSpool t first last
 
--- and for what is ahead
+-- there is memory for what is ahead
 abbrev pub HasRoomAhead : Turn → Ahead → Type 0
 HasRoomAhead t (ahead.Starts d o first last) = CanStart t d o first last
 HasRoomAhead t (ahead.Spools stream first last) = CanSpool t first last
+HasRoomAhead t ahead.Takes = Unit {0}
 HasRoomAhead t ahead.Else = Unit {0}

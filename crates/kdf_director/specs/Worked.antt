@@ -1,5 +1,5 @@
 -- Programs with devices that are worked out under schedules.
-use Rattle.std.specs.Prelude.{ℕ, List, [], ◌∷◌, Option, Some, None, map, replicate, slice_set}
+use Rattle.std.specs.Prelude.{ℕ, List, [], ◌∷◌, Option, Some, None, false, map, replicate, slice_set}
 use Rattle.std.specs.List.{range_with_len}
 use Rattle.kdf_journal.specs.declared.entry.Entry.{Entry}
 use Rattle.kdf_journal.specs.declared.kind.Kind.TheVariants.{Lp, Tp}
@@ -8,8 +8,8 @@ use Rattle.kdf_schedule.specs.declared.event.Event.{Event}
 use Rattle.kdf_schedule.specs.declared.event.Event.TheVariants.{Orders, End}
 use Rattle.kdf_schedule.specs.Calls.{calls_made}
 use Rattle.kdf_transfer.specs.Devices.{Fixture, Progress}
-use Rattle.kdf_transfer.specs.Examples.{paper, writer}
-use Rattle.kdf_processor.specs.State.{Slot, device_at, new_progress, word_at}
+use Rattle.kdf_transfer.specs.Examples.{having, paper, writer}
+use Rattle.kdf_processor.specs.State.{Lending, Slot, device_at, lendings, new_progress, word_at}
 use Rattle.kdf_director.specs.ByNumber.{device_count}
 use Rattle.kdf_director.specs.Course.{course}
 use Rattle.kdf_director.specs.Told.{seen_of}
@@ -27,6 +27,7 @@ slot_with p size words fixtures =
       words = words;
       fixtures = fixtures;
       devices = replicate device_count new_progress;
+      pool = [];
     }
 
 -- no device, and one device
@@ -105,3 +106,29 @@ words_seen slots J = map (word_at (seen_of slots J 0)) (32 ∷ 33 ∷ [])
 
 abbrev pub device_seen : List Slot → List Entry → ℕ → Progress
 device_seen slots J d = device_at (seen_of slots J 0) d
+
+-- two programs with the orders of `punches`, no devices of their own, and a pool of one punch, device 9
+abbrev pub borrows : ℕ → Slot
+borrows p =
+    record (slot_with p 64
+    (0xa00002010101 ∷ 0x200020 ∷ 0xe00001e00005 ∷ 0x21c000015410 ∷ 0x551072100921 ∷ [])
+    no_devices) { pool = slice_set (replicate device_count None) 9 (Some Tp) }
+
+abbrev pub borrowers : List Slot
+borrowers = borrows 0 ∷ borrows 1 ∷ []
+
+-- the schedule under which each has the punch in turn
+abbrev pub borrowing : List Event
+borrowing = Orders 20 ∷ End 9 ∷ Orders 20 ∷ End 9 ∷ Orders 5 ∷ []
+
+-- the stints of a program that are seen after a journal
+abbrev pub stints_seen : List Slot → List Entry → ℕ → List Lending
+stints_seen slots J p = lendings (seen_of slots J p).stock
+
+-- that device 9 was taken and has one block of eight spaces
+abbrev pub one_stint : List Lending
+one_stint = record { device = 9; kind = Tp; progress = having (replicate 8 0 ∷ []); given = false } ∷ []
+
+-- two programs of 1; J1;
+abbrev pub loops_two : List Slot
+loops_two = record loops { p = 0 } ∷ loops ∷ []

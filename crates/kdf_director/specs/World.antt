@@ -1,16 +1,19 @@
 -- What a journal is judged by.
 use Rattle.std.specs.Prelude.{ℕ, List, Bool, Option, find}
-use Rattle.kdf_journal.specs.Counts.{Hold, ByGroup, ByDevice}
+use Rattle.kdf_journal.specs.declared.kind.Kind.{Kind}
+use Rattle.kdf_journal.specs.Counts.{Hold, ByGroup, ByDevice, ByPool}
 use Rattle.kdf_processor.specs.declared.step.Need.{Need}
-use Rattle.kdf_processor.specs.declared.step.Need.TheVariants.{Group, Device}
+use Rattle.kdf_processor.specs.declared.step.Need.TheVariants.{Group, Device, Pool}
 use Rattle.kdf_processor.specs.Needs.{needs}
 use Rattle.kdf_processor.specs.State.{State}
 
--- the state of each program, what of it is pending, and the devices on which it has a transfer, rising
+-- the state of each program, what of it is pending, the devices on which it has a transfer, rising, and the least device of a kind in
+-- the pool that no program has
 pub record World : Type 0 where
   pub state : ℕ → State
   pub pending : ℕ → Need → Bool
   pub mine : ℕ → List ℕ
+  pub free : ℕ → Kind → Option ℕ
 
 -- what holds program p up: the first need of its next order that is pending
 unfoldable pub first_need : World → ℕ → Option Need
@@ -20,8 +23,10 @@ first_need w p = find (w.pending p) (needs (w.state p) (w.mine p))
 abbrev pub hold_of : Need → Hold
 hold_of (Group g) = ByGroup g
 hold_of (Device d) = ByDevice d
+hold_of (Pool kind) = ByPool kind
 
 -- the need that a journal tells so
 abbrev pub need_of : Hold → Need
 need_of (ByGroup g) = Group g
 need_of (ByDevice d) = Device d
+need_of (ByPool kind) = Pool kind

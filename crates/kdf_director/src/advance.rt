@@ -120,7 +120,8 @@ pub(crate) fn advance(
         journal.old.entries room) }
 {
     journal.reserve(room + 2)?;
-    match next_of(windows, slots, programs, store, places) {
+    let priorities = journal.priorities();
+    match next_of(windows, slots, programs, store, places, &priorities) {
         Some(i) => take_turn(alloc, windows, slots, programs, store, places, journal, i),
         None => Ok(wait(programs, journal)),
     }

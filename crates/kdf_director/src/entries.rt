@@ -73,6 +73,8 @@ fn write_note(journal: &mut Journal, p: u8, k: u32, note: Note)
         Note::Quiet => {}
         Note::Began(d) => journal.push(Entry::Start { p, d, k }),
         Note::Told(v) => journal.push(Entry::Answer { p, v }),
+        Note::Took(d) => journal.push(Entry::Take { p, d }),
+        Note::Gave(d) => journal.push(Entry::Give { p, d }),
     }
 }
 
@@ -87,5 +89,6 @@ fn write_hold(journal: &mut Journal, p: u8, need: Need)
     match need {
         Need::Group(group) => journal.push(Entry::Lov { p, group }),
         Need::Device(d) => journal.push(Entry::Busy { p, d }),
+        Need::Pool(kind) => journal.push(Entry::Wait { p, kind }),
     }
 }

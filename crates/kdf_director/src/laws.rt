@@ -1,5 +1,6 @@
-//! Laws of what is seen, each the contract of a function that does nothing. In each of them `flights` are a program's
-//! transfers by the number of their device, `mine` are devices on which it has one, and `s` is its lone state.
+//! Laws of what is seen, each the contract of a function that does nothing; those of journals stand in `journals`. In each
+//! of them `flights` are a program's transfers by the number of their device, `mine` are devices on which it has one, and
+//! `s` is its lone state.
 ghost use Rattle.std.specs.Prelude.{◌≡◌, ℕ, ◌+◌, List, Option, Some, None, true, false, find, length, min, slice_set, take};
 ghost use Rattle.kdf_transfer.specs.AtOnce.{written};
 ghost use Rattle.kdf_transfer.specs.declared.order.TransferOrder.{TransferOrder};
@@ -14,6 +15,8 @@ ghost use Rattle.kdf_director.specs.Flights.{Flight, beginning, completed, fligh
 ghost use Rattle.kdf_director.specs.Flights.{mine_of, with_flight, with_moved};
 ghost use Rattle.kdf_director.specs.Flying.{AreFlying};
 ghost use Rattle.kdf_director.specs.Seen.{begun_row, pending, seen, with_both, with_store};
+
+pub mod journals;
 
 /// An order of a program none of whose needs is pending does to what is seen what it does to the lone state. The transfers
 /// stay in flight; one that it begins is in flight then, and shows nothing yet.

@@ -2,15 +2,15 @@
 ghost use Rattle.std.specs.Prelude.{◌≡◌, ℕ, ◌+◌, ◌<◌, ◌≤◌, length, map, true, false, is_some, None, IfOk, IfSome, IsSomeAnd, OnErr, []};
 ghost use Rattle.std.specs.List.{All};
 ghost use Rattle.std.specs.Option.{option_copied, option_map};
-ghost use Rattle.kdf_journal.specs.Counts.{calls, clock, moves, pending};
-ghost use Rattle.kdf_journal.specs.Steps.{Ends, Moves, Sets};
+ghost use Rattle.kdf_journal.specs.Counts.{calls, clock, pending};
+ghost use Rattle.kdf_journal.specs.Steps.{Ends, Moves, Sets, Swaps};
 ghost use Rattle.kdf_job.specs.Shows.{shown_slot};
 ghost use Rattle.kdf_job.specs.WellFormed.{AreSlots};
 ghost use Rattle.kdf_place.specs.declared.image.Image.{Image};
 ghost use Rattle.kdf_processor.specs.Claims.{is_claimed};
 ghost use Rattle.kdf_processor.specs.State.{State, begin, fixture_at, word_at};
-ghost use Rattle.kdf_director.specs.Advance.{Advance, Enters};
-ghost use Rattle.kdf_director.specs.Legal.{IsLegal};
+ghost use Rattle.kdf_director.specs.Advance.{Advance, Enters, OthersStay};
+ghost use Rattle.kdf_director.specs.Legal.{IsLegal, IsTrue};
 ghost use Rattle.kdf_director.specs.Lends.{IsLent, IsStored, window_in};
 ghost use Rattle.kdf_director.specs.Loading.{HaveImages, slots_of};
 ghost use Rattle.kdf_director.specs.Fields.{IsLoaded, loaded};
@@ -28,7 +28,7 @@ use crate::shown::{device_in, is_claimed_in, registers_of, texts_of, window_give
 use crate::starting::cancel_all;
 use crate::{Loaded, Place, Program};
 use kdf_job::Job;
-use kdf_journal::{CALL_LIMIT, Entry, Journal, MOVE_LIMIT};
+use kdf_journal::{CALL_LIMIT, Entry, Journal};
 use kdf_lockout::Store;
 use kdf_place::Image;
 use kdf_processor::{Need, Registers, Spooled};
@@ -132,13 +132,15 @@ impl Machine {
         self.room
     }
 
-    /// Moves the next `n` words of the transfer on device `d`, or those that are left; where it has none, that they were
-    /// called for is entered all the same.
+    /// Moves the next `n` words, 1 to 4,096, of the transfer on device `d`, or those that are left; where it has none, that
+    /// they were called for is entered all the same. Every other program stays as it is.
     pub fn move_words(&mut self, d: u8, n: u16)
         requires device { d < 16 }
         requires room { 0 < self.old.room }
-        requires few_moves { moves self.old.journal + n ≤ MOVE_LIMIT }
-        ensures { Enters self.old self.new (Moves d n) }
+        requires some { 0 < n }
+        requires few { n ≤ 4096 }
+        ensures entered { Enters self.old self.new (Moves d n) }
+        ensures others { OthersStay self.old self.new d }
     {
         moving(
             &self.windows,
@@ -153,11 +155,13 @@ impl Machine {
         self.room -= 1;
     }
 
-    /// Moves the rest of the transfer on device `d` and ends it; where it has none, its end is entered all the same.
+    /// Moves the rest of the transfer on device `d` and ends it; where it has none, its end is entered all the same. Every other
+    /// program stays as it is.
     pub fn end(&mut self, d: u8)
         requires device { d < 16 }
         requires room { 0 < self.old.room }
-        ensures { Enters self.old self.new (Ends d) }
+        ensures entered { Enters self.old self.new (Ends d) }
+        ensures others { OthersStay self.old self.new d }
     {
         ending(
             &self.windows,
@@ -171,13 +175,26 @@ impl Machine {
         self.room -= 1;
     }
 
-    /// Sets the clock, which never goes back.
+    /// Sets the clock, which never goes back, and changes no program.
     pub fn clock(&mut self, t: u64)
         requires room { 0 < self.old.room }
         requires rises { clock self.old.journal ≤ t }
-        ensures { Enters self.old self.new (Sets t) }
+        ensures entered { Enters self.old self.new (Sets t) }
+        ensures states { self.new.states ≡ self.old.states }
     {
         self.journal.push(Entry::Clock { t });
+        self.room -= 1;
+    }
+
+    /// Exchanges the priorities of two programs, and changes neither.
+    pub fn swap(&mut self, p: u8, q: u8)
+        requires p { p < 4 }
+        requires q { q < 4 }
+        requires room { 0 < self.old.room }
+        ensures entered { Enters self.old self.new (Swaps p q) }
+        ensures states { self.new.states ≡ self.old.states }
+    {
+        self.journal.push(Entry::Swap { p, q });
         self.room -= 1;
     }
 
@@ -185,6 +202,7 @@ impl Machine {
     pub(crate) fn is_any_live(&self) -> bool
         ensures live { result ≡ any_live self.now.slots self.now.journal }
         ensures legal { IsLegal self.now.slots self.now.journal }
+        ensures truly { IsTrue self.now.slots self.now.journal }
         ensures seen { ShowsSeen self.now }
     {
         is_any_on(&self.programs)
@@ -195,6 +213,7 @@ impl Machine {
         ensures registers { option_copied result
             ≡ option_map (λ state. state.registers) (state_of self.now p) }
         ensures legal { IsLegal self.now.slots self.now.journal }
+        ensures truly { IsTrue self.now.slots self.now.journal }
         ensures seen { ShowsSeen self.now }
     {
         registers_of(&self.programs, p)
@@ -241,6 +260,7 @@ impl Machine {
     pub fn journal(&self) -> &Journal
         ensures entries { result.now.entries ≡ self.now.journal }
         ensures legal { IsLegal self.now.slots self.now.journal }
+        ensures truly { IsTrue self.now.slots self.now.journal }
         ensures seen { ShowsSeen self.now }
     {
         &self.journal

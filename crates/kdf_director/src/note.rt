@@ -9,4 +9,8 @@ pub enum Note {
     Began(u8),
     /// It asked, and was told this.
     Told(u64),
+    /// It took this device from the pool.
+    Took(u8),
+    /// It gave this device of the pool back.
+    Gave(u8),
 }

@@ -1,35 +1,72 @@
 //! The run of a schedule.
-ghost use Rattle.std.specs.Prelude.{◌≡◌, ◌+◌, ◌≤◌, [], ◌∷◌, OnOk, replicate, sum_by, true};
+ghost use Rattle.std.specs.Prelude.{◌≡◌, ◌+◌, ◌≤◌, [], ◌∷◌, OnOk, drop, length, replicate, sum_by, take, true};
 ghost use Rattle.std.specs.List.{All};
-ghost use Rattle.kdf_journal.specs.Counts.{calls, clock, moves};
+ghost use Rattle.kdf_journal.specs.Counts.{calls, clock};
 ghost use Rattle.kdf_journal.specs.Steps.{steps};
-ghost use Rattle.kdf_schedule.specs.Calls.{AnOrder, calls_of, orders_in, order_count};
+ghost use Rattle.kdf_schedule.specs.Calls.{AnOrder, calls_made, calls_of, orders_in, order_count};
 ghost use Rattle.kdf_schedule.specs.Events.{IsInRange};
-ghost use Rattle.kdf_director.specs.Course.{course};
-ghost use Rattle.kdf_director.specs.Follows.{IsJournal, IsRising, words_in, entries_in, time_behind};
-ghost use Rattle.kdf_director.specs.Legal.{IsLegal};
-ghost use Rattle.kdf_director.specs.Next.{any_live};
+ghost use Rattle.kdf_course.specs.Follows.{Reaches};
+ghost use Rattle.kdf_director.specs.Follows.{IsJournal, IsRising, entries_in, time_behind};
+ghost use Rattle.kdf_director.specs.Legal.{IsLegal, IsTrue};
+ghost use Rattle.kdf_director.specs.Next.{any_live, lone_dispatched};
 ghost use Rattle.kdf_director.specs.Shown.{ShowsSeen};
 
 use crate::Machine;
-use kdf_journal::{CALL_LIMIT, MOVE_LIMIT};
+use kdf_journal::CALL_LIMIT;
 use kdf_schedule::Event;
 use std::alloc::AllocError;
 
 /// Makes the calls of the schedule, and stops as soon as no program is live.
 ///
-/// The schedule has at most 20,000,000 orders, its moves at most 2,048,000,000 words, and the machine room for its other events;
-/// it names devices below 16 alone, and doesn't set the clock back. Where there is no memory, it stops early.
+/// The schedule has at most 20,000,000 orders, and the machine room for its other events; each of its moves is of 1 to 4,096
+/// words, it names devices below 16 and slots below 4 alone, and doesn't set the clock back. Where there is no memory, it stops
+/// early.
 pub fn follow(machine: &mut Machine, events: &[Event]) -> Result<(), AllocError>
     requires fresh { machine.old.journal ≡ [] }
     requires few { order_count events.now ≤ CALL_LIMIT }
-    requires words { sum_by words_in events.now ≤ MOVE_LIMIT }
     requires room { sum_by entries_in events.now ≤ machine.old.room }
     requires rises { IsRising 0 events.now }
     requires in_range { All IsInRange events.now }
     ensures slots { machine.new.slots ≡ machine.old.slots }
     ensures journal { OnOk result (IsJournal machine.new.slots events.now machine.new.journal) }
     ensures seen { OnOk result (ShowsSeen machine.new) }
+    ensures room { OnOk result (machine.old.room ≤ machine.new.room + sum_by entries_in events.now) }
+{
+    follow_on(machine, events, 0)
+}
+
+/// Goes on with a schedule whose first events the machine has followed, as `follow` would have. The machine has room for the
+/// other events after them.
+pub fn follow_on(machine: &mut Machine, events: &[Event], first: usize) -> Result<(), AllocError>
+    requires within { first ≤ length events.now }
+    requires followed { IsJournal machine.old.slots (take first events.now) machine.old.journal }
+    requires few { order_count events.now ≤ CALL_LIMIT }
+    requires room { sum_by entries_in (drop first events.now) ≤ machine.old.room }
+    requires rises { IsRising 0 events.now }
+    requires in_range { All IsInRange events.now }
+    ensures slots { machine.new.slots ≡ machine.old.slots }
+    ensures journal { OnOk result (IsJournal machine.new.slots events.now machine.new.journal) }
+    ensures seen { OnOk result (ShowsSeen machine.new) }
+    ensures room { OnOk result (machine.old.room
+        ≤ machine.new.room + sum_by entries_in (drop first events.now)) }
+{
+    follow_each(machine, &events[first..])?;
+    Ok(())
+}
+
+/// Makes the calls of further events, and stops as soon as no program is live.
+fn follow_each(machine: &mut Machine, events: &[Event]) -> Result<(), AllocError>
+    requires few { calls machine.old.journal + order_count events.now ≤ CALL_LIMIT }
+    requires room { sum_by entries_in events.now ≤ machine.old.room }
+    requires rises { IsRising (clock machine.old.journal) events.now }
+    requires in_range { All IsInRange events.now }
+    ensures slots { machine.new.slots ≡ machine.old.slots }
+    ensures steps { OnOk result (Reaches (lone_dispatched machine.old.slots)
+        (steps machine.old.journal) (calls_made events.now) (steps machine.new.journal)) }
+    ensures legal { OnOk result (IsLegal machine.new.slots machine.new.journal) }
+    ensures truly { OnOk result (IsTrue machine.new.slots machine.new.journal) }
+    ensures seen { OnOk result (ShowsSeen machine.new) }
+    ensures room { OnOk result (machine.old.room ≤ machine.new.room + sum_by entries_in events.now) }
 {
     for event in events {
         if !machine.is_any_live() {
@@ -46,14 +83,12 @@ fn make_calls(machine: &mut Machine, event: Event) -> Result<(), AllocError>
     requires live { any_live machine.old.slots machine.old.journal ≡ true }
     requires legal { IsLegal machine.old.slots machine.old.journal }
     requires few { calls machine.old.journal + orders_in event ≤ CALL_LIMIT }
-    requires words { moves machine.old.journal + words_in event ≤ MOVE_LIMIT }
     requires room { entries_in event ≤ machine.old.room }
     requires rises { IsRising (clock machine.old.journal) (event ∷ []) }
     requires in_range { IsInRange event }
-    ensures steps { OnOk result (steps machine.new.journal
-        ≡ course machine.old.slots (steps machine.old.journal) (calls_of event)) }
+    ensures steps { OnOk result (Reaches (lone_dispatched machine.old.slots)
+        (steps machine.old.journal) (calls_of event) (steps machine.new.journal)) }
     ensures calls { OnOk result (calls machine.new.journal ≤ calls machine.old.journal + orders_in event) }
-    ensures words { OnOk result (moves machine.new.journal ≡ moves machine.old.journal + words_in event) }
     ensures room { OnOk result (machine.new.room + entries_in event ≡ machine.old.room) }
     ensures time { OnOk result (clock machine.new.journal ≡ time_behind (clock machine.old.journal) event) }
     ensures slots { machine.new.slots ≡ machine.old.slots }
@@ -63,6 +98,7 @@ fn make_calls(machine: &mut Machine, event: Event) -> Result<(), AllocError>
         Event::Move(d, n) => machine.move_words(d, n),
         Event::End(d) => machine.end(d),
         Event::Clock(t) => machine.clock(t),
+        Event::Swap(p, q) => machine.swap(p, q),
     }
     Ok(())
 }
@@ -70,10 +106,9 @@ fn make_calls(machine: &mut Machine, event: Event) -> Result<(), AllocError>
 /// So many orders, or fewer where no program is live any more.
 fn obey_orders(machine: &mut Machine, n: u32) -> Result<(), AllocError>
     requires { calls machine.old.journal + n ≤ CALL_LIMIT }
-    ensures steps { OnOk result (steps machine.new.journal
-        ≡ course machine.old.slots (steps machine.old.journal) (replicate n AnOrder)) }
+    ensures steps { OnOk result (Reaches (lone_dispatched machine.old.slots)
+        (steps machine.old.journal) (replicate n AnOrder) (steps machine.new.journal)) }
     ensures calls { OnOk result (calls machine.new.journal ≤ calls machine.old.journal + n) }
-    ensures words { OnOk result (moves machine.new.journal ≡ moves machine.old.journal) }
     ensures room { machine.new.room ≡ machine.old.room }
     ensures time { OnOk result (clock machine.new.journal ≡ clock machine.old.journal) }
     ensures slots { machine.new.slots ≡ machine.old.slots }

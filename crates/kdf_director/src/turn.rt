@@ -44,14 +44,15 @@ impl<'a> Turn<'a> {
     ghost use Rattle.std.specs.Prelude.{◌&&◌, not, [], find, IfSome, IfNone, OnOk, ℕ};
     ghost use Rattle.kdf_processor.specs.Claims.{is_claimed};
     ghost use Rattle.kdf_processor.specs.Effect.{Acquires, Asks, Question};
-    ghost use Rattle.kdf_processor.specs.State.{fixture_at};
+    ghost use Rattle.kdf_processor.specs.State.{own_fixture_at};
     ghost use Rattle.kdf_processor.specs.View.{groups_of};
     ghost use Rattle.kdf_director.specs.Claiming.{first_free};
     ghost use Rattle.kdf_director.specs.Parts.{numbers, own_claims};
     ghost use Rattle.kdf_director.specs.Shared.{is_busy_in, is_out_of};
     ghost use Rattle.kdf_director.specs.Spots.{is_wanted};
     ghost use Rattle.kdf_director.specs.Turn.{part_of, shared, Stays, Acts, CanStart, CanSpool, HasRoomAhead};
-    ghost use Rattle.kdf_director.specs.declared.note.Note.TheVariants.{Quiet};
+    ghost use Rattle.kdf_director.specs.declared.note.Note.TheVariants.{Quiet, Told};
+    ghost use Rattle.kdf_director.specs.Notes.{note_of};
 
     /// The view of slot `p` over this window, with these devices.
     pub fn new(
@@ -132,7 +133,7 @@ impl<'a> Turn<'a> {
                 last,
             } => self.take_for_transfer(device, order, first, last),
             Ahead::Spools { first, last, .. } => self.take_for_text(first, last),
-            Ahead::Else => Ok(()),
+            Ahead::Takes | Ahead::Else => Ok(()),
         }
     }
 
@@ -188,7 +189,7 @@ impl<'a> Turn<'a> {
     /// Whether a device of the slot is wanted and isn't claimed.
     fn is_free(&self, d: u8, wanted: &Wanted) -> bool
         requires { d < 16 }
-        ensures { result ≡ (is_wanted wanted.now (fixture_at (own_claims (part_of self.now) (shared self.now)) d)
+        ensures { result ≡ (is_wanted wanted.now (own_fixture_at (own_claims (part_of self.now) (shared self.now)) d)
             && not (is_claimed (own_claims (part_of self.now) (shared self.now)) d)) }
     {
         is_free(self.devices, self.claimed, self.places, d, wanted)
@@ -222,7 +223,8 @@ impl<'a> Turn<'a> {
 
     /// Notes an answer.
     fn tell(&mut self, answer: u64)
-        ensures { (question : Question) → Acts self.old (Asks question answer) self.new }
+        ensures { (question : Question) → note_of (Asks question answer) ≡ Told answer
+            → Acts self.old (Asks question answer) self.new }
     {
         self.note = Note::Told(answer);
     }
@@ -331,6 +333,19 @@ impl Port for Turn<'_> {
     #[tactic(auto, using(crate::proofs::Claiming::kind_free))]
     fn claim_kind(&mut self, kind: Kind) -> Option<u8> {
         self.claim(&Wanted::Kinded(kind))
+    }
+
+    fn may_take(&self, _kind: Kind) -> bool {
+        false
+    }
+
+    #[tactic(auto, unfolding(crate::specs::Shared::is_pool_taken))]
+    fn pool_free(&self, _kind: Kind) -> bool {
+        false
+    }
+
+    fn take_pool(&mut self, _kind: Kind) -> u8 {
+        unreachable!()
     }
 
     fn give_back(&mut self, device: u8) {

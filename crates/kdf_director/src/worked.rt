@@ -1,14 +1,16 @@
 //! Programs with transfers in flight under schedules, worked out from the definitions, each as the contract of a function
 //! that does nothing.
 ghost use Rattle.std.specs.Prelude.{◌≡◌, [], ◌∷◌, false, replicate};
-ghost use Rattle.kdf_journal.specs.declared.entry.Entry.TheVariants.{Ran, Start, Answer, Fail, Ended, Lov, Busy, Idle};
+ghost use Rattle.kdf_journal.specs.declared.entry.Entry.TheVariants.{Ran, Start, Answer, Take, Fail, Ended, Lov, Busy, Wait, Idle};
 ghost use Rattle.kdf_journal.specs.declared.entry.Entry.TheVariants as entry;
+ghost use Rattle.kdf_journal.specs.declared.kind.Kind.TheVariants.{Tp};
 ghost use Rattle.kdf_journal.specs.declared.failure.Failure.TheVariants.{Liv};
-ghost use Rattle.kdf_schedule.specs.declared.event.Event.TheVariants.{Orders, Move, End, Clock};
+ghost use Rattle.kdf_schedule.specs.declared.event.Event.TheVariants.{Orders, Move, End, Clock, Swap};
 ghost use Rattle.kdf_transfer.specs.Examples.{having, placed};
-ghost use Rattle.kdf_director.specs.Cut.{cut};
+ghost use Rattle.kdf_course.specs.Cut.{cut};
 ghost use Rattle.kdf_director.specs.Slots.{AreSlots};
-ghost use Rattle.kdf_director.specs.Worked.{asks, device_seen, journal_under, keeps, looks, loops, overruns};
+ghost use Rattle.kdf_director.specs.Worked.{asks, borrowers, borrowing, device_seen, journal_under, keeps, looks, loops};
+ghost use Rattle.kdf_director.specs.Worked.{loops_two, one_stint, overruns, stints_seen};
 ghost use Rattle.kdf_director.specs.Worked.{prints, punches, reads, reads_journal, words_seen};
 
 /// A program reads a paper tape to its store and is held up by the group of the area until the transfer ends.
@@ -98,6 +100,23 @@ pub fn fails_behind_its_transfer()
 pub fn is_locked_out()
     ensures { journal_under (looks ∷ []) (Orders 12 ∷ [])
         ≡ Ran 0 8 ∷ Start 0 3 8 ∷ Ran 0 1 ∷ Answer 0 1 ∷ Ran 0 1 ∷ Busy 0 3 ∷ Idle 1 ∷ [] }
+{}
+
+/// Two programs take the one punch of the pool in turn: the second waits until the first, which doesn't give it back, has ended. Each
+/// keeps its own block.
+pub fn takes_from_the_pool()
+    ensures journal { journal_under borrowers borrowing
+        ≡ Ran 0 4 ∷ Take 0 9 ∷ Ran 0 4 ∷ Start 0 9 8 ∷ Ran 0 1 ∷ Busy 0 9 ∷ Ran 1 3 ∷ Wait 1 Tp ∷ Idle 6
+        ∷ entry.End 9 ∷ Ran 0 1 ∷ Ended 0 ∷ Ran 1 1 ∷ Take 1 9 ∷ Ran 1 4 ∷ Start 1 9 8 ∷ Ran 1 1 ∷ Busy 1 9
+        ∷ Idle 12 ∷ entry.End 9 ∷ Ran 1 1 ∷ Ended 1 ∷ [] }
+    ensures first { stints_seen borrowers (journal_under borrowers borrowing) 0 ≡ one_stint }
+    ensures second { stints_seen borrowers (journal_under borrowers borrowing) 1 ≡ one_stint }
+{}
+
+/// Two programs exchange their priorities, and exchange them again.
+pub fn exchanges_priorities()
+    ensures { journal_under loops_two (Orders 5 ∷ Swap 0 1 ∷ Orders 5 ∷ Swap 0 1 ∷ Orders 2 ∷ [])
+        ≡ Ran 0 5 ∷ entry.Swap 0 1 ∷ Ran 1 5 ∷ entry.Swap 0 1 ∷ Ran 0 2 ∷ [] }
 {}
 
 /// Two of these slots are such as can be loaded: what the laws take for granted of slots can be met.

@@ -6,7 +6,7 @@ use Rattle.std.proofs.lemmas.List.Elements.{All-push}
 use Rattle.std.proofs.lemmas.List.{length_push}
 use Rattle.std.proofs.lemmas.Bool.Decides.{nat_tests}
 use Rattle.kdf_schedule.specs.declared.event.Event.{Event}
-use Rattle.kdf_schedule.specs.declared.event.Event.TheVariants.{Orders, Move, End, Clock}
+use Rattle.kdf_schedule.specs.declared.event.Event.TheVariants.{Orders, Move, End, Clock, Swap}
 use Rattle.kdf_schedule.specs.Calls.{order_count, orders_in}
 use Rattle.kdf_schedule.specs.Events.{IsInRange}
 use Rattle.kdf_job.specs.Draft.{clock_behind, clock_of, count_fault, event_fault}
@@ -25,22 +25,26 @@ GoesOn t (Clock u) = t ≤ u
 GoesOn t (Orders n) = Unit {0}
 GoesOn t (Move d n) = Unit {0}
 GoesOn t (End d) = Unit {0}
+GoesOn t (Swap p q) = Unit {0}
 
 rising_push : (t : ℕ) (es : List Event) (e : Event) → IsRising t es → GoesOn (fold clock_behind t es) e → IsRising t (es ++ e ∷ [])
 rising_push t [] (Clock u) r on = (on, tt {0})
 rising_push t [] (Orders n) r on = tt {0}
 rising_push t [] (Move d n) r on = tt {0}
 rising_push t [] (End d) r on = tt {0}
+rising_push t [] (Swap p q) r on = tt {0}
 rising_push t (Clock u ∷ es) e r on = (r.0, rising_push u es e r.1 on)
 rising_push t (Orders n ∷ es) e r on = rising_push t es e r on
 rising_push t (Move d n ∷ es) e r on = rising_push t es e r on
 rising_push t (End d ∷ es) e r on = rising_push t es e r on
+rising_push t (Swap p q ∷ es) e r on = rising_push t es e r on
 
 goes_on : (es : List Event) (e : Event) → event_fault e es ≡ None → GoesOn (clock_of es) e
 goes_on es (Clock u) h = grind (arith, nat_tests)
 goes_on es (Orders n) h = tt {0}
 goes_on es (Move d n) h = tt {0}
 goes_on es (End d) h = tt {0}
+goes_on es (Swap p q) h = tt {0}
 
 count_few : (es : List Event) → count_fault es ≡ None → length es < 500000
 count_few es h = grind (arith, nat_tests)
@@ -50,12 +54,14 @@ few_events es (Clock u) h = grind (arith, nat_tests)
 few_events es (Orders n) h = grind (arith, nat_tests)
 few_events es (Move d n) h = count_few es h
 few_events es (End d) h = count_few es h
+few_events es (Swap p q) h = count_few es h
 
 pub few_orders : (es : List Event) (e : Event) → event_fault e es ≡ None → order_count es ≤ 20000000 → order_count es + orders_in e ≤ 20000000
 few_orders es (Clock u) h few = omega arith
 few_orders es (Orders n) h few = grind (arith, nat_tests)
 few_orders es (Move d n) h few = omega arith
 few_orders es (End d) h few = omega arith
+few_orders es (Swap p q) h few = omega arith
 
 pub schedule_push : (es : List Event) (e : Event) → IsSchedule es → IsInRange e → event_fault e es ≡ None → IsSchedule (es ++ e ∷ [])
 schedule_push es e was range h = record {

@@ -3,6 +3,7 @@ use Rattle.std.specs.Prelude.{ℕ, List, codes}
 use Rattle.kdf_job.specs.declared.fault.JobFault.{JobFault}
 use Rattle.kdf_job.specs.declared.fault.JobFault.TheVariants.{Header, BadLine, BadNumber, SlotOrder, SizeNotGroups, StoreFull, DeviceTwice, BadLabel, LabelTwice, BadMedium, ShowRange, ClockFalls, TooManyOrders, TooManyEvents}
 
+-- the name of each fault
 abbrev pub name_of : JobFault → List ℕ
 name_of Header = codes "Header"
 name_of BadLine = codes "BadLine"

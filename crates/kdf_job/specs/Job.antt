@@ -18,6 +18,7 @@ pub record SlotJob : Type 0 where
   pub devices : List JobDevice
   pub shows : List (ℕ × ℕ)
 
+-- the slots and the schedule
 pub record Job : Type 0 where
   pub slots : List SlotJob
   pub events : List Event

@@ -15,6 +15,7 @@ abbrev pub with_code : Option ℕ → Option (List ℕ) → Option (List ℕ)
 with_code (Some code) (Some codes) = Some (code ∷ codes)
 with_code _ _ = None
 
+-- the code of each byte of a text, if each has one
 unfoldable pub codes_in : List ℕ → Option (List ℕ)
 codes_in [] = Some []
 codes_in (byte ∷ bytes) = with_code (code_of byte) (codes_in bytes)
@@ -45,6 +46,7 @@ abbrev pub label_of : Kind → ℕ → ℕ
 label_of Mt label = label
 label_of _ label = 0
 
+-- a device before its medium
 abbrev pub new_device : ℕ → Kind → ℕ → JobDevice
 new_device d kind label =
     record {

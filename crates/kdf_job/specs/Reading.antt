@@ -20,7 +20,7 @@ abbrev pub with_told : Draft → Result Form JobFault → Result Draft JobFault
 with_told d (Err fault) = Err fault
 with_told d (Ok form) = or_fault form d (fault_of form d)
 
--- and with a line
+-- the draft with a line more, or what is wrong with the line
 unfoldable pub read_line : Draft → List ℕ → Result Draft JobFault
 read_line d line = with_told d (told_at d.place line)
 

@@ -47,6 +47,7 @@ pub record IsSchedule (events : List Event) : Type 0 where
   pub few_orders : order_count events ≤ most_orders
   pub rising : IsRising 0 events
 
+-- what holds of every job that is read
 pub record IsJob (j : Job) : Type 0 where
   pub some : 1 ≤ length j.slots
   pub slots : AreSlots j.slots

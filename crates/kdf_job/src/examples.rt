@@ -42,7 +42,10 @@ pub fn lines_tell()
         ≡ Err fault.BadLine }
     ensures medium_behind_show { told_at place.BehindShow (codes "+A") ≡ Err fault.BadLine }
     ensures event { told_at place.InSchedule (codes "END 3") ≡ Ok (AnEvent (event.End 3)) }
+    ensures swap { told_at place.InSchedule (codes "SWAP 0 3") ≡ Ok (AnEvent (event.Swap 0 3)) }
     ensures bad_event { told_at place.InSchedule (codes "MOVE 3 0") ≡ Err fault.BadNumber }
+    ensures swap_of_slot_4 { told_at place.InSchedule (codes "SWAP 0 4") ≡ Err fault.BadNumber }
+    ensures swap_of_one { told_at place.InSchedule (codes "SWAP 0") ≡ Err fault.BadLine }
     ensures end_job { told_at place.InSchedule (codes "ENDJOB") ≡ Ok AnEndJob }
     ensures behind_end { told_at place.BehindEnd [] ≡ Err fault.BadLine }
 {}

@@ -118,7 +118,7 @@ fn texts_have_faults(rt: HostRuntime) -> Result<(), Fail> {
 const SLOT: &str = "KDF9 JOB 1\nSLOT 0\nSTORE 64\nDECK\nENDDECK\n";
 
 /// Texts behind `SLOT`.
-const DEVICES: [(&str, JobFault, u32); 43] = [
+const DEVICES: [(&str, JobFault, u32); 44] = [
     ("DEVICE 3 XX\n", JobFault::BadLine, 6),
     ("DEVICE 3 MT\n", JobFault::BadLine, 6),
     ("DEVICE 3 TR A\n", JobFault::BadLine, 6),
@@ -173,11 +173,12 @@ const DEVICES: [(&str, JobFault, u32); 43] = [
     ("SHOW 3 3 \n", JobFault::BadLine, 6),
     ("SLOT 0\n", JobFault::SlotOrder, 6),
     ("SCHEDULE \n", JobFault::BadLine, 6),
+    ("POOL\n", JobFault::BadLine, 6),
     ("ENDJOB\n", JobFault::BadLine, 6),
 ];
 
 /// Texts behind `SLOT` and the begin of the schedule.
-const SCHEDULES: [(&str, Option<(JobFault, u32)>); 20] = [
+const SCHEDULES: [(&str, Option<(JobFault, u32)>); 25] = [
     ("", Some((JobFault::BadLine, 7))),
     ("\n", Some((JobFault::BadLine, 7))),
     ("SHOW 0 0\n", Some((JobFault::BadLine, 7))),
@@ -191,6 +192,10 @@ const SCHEDULES: [(&str, Option<(JobFault, u32)>); 20] = [
     ("ORDERS 20000001\n", Some((JobFault::BadNumber, 7))),
     ("MOVE 16 1\n", Some((JobFault::BadNumber, 7))),
     ("END \n", Some((JobFault::BadNumber, 7))),
+    ("SWAP 0\n", Some((JobFault::BadLine, 7))),
+    ("SWAP 0 1 2\n", Some((JobFault::BadLine, 7))),
+    ("SWAP 0 4\n", Some((JobFault::BadNumber, 7))),
+    ("SWAP 4 0\n", Some((JobFault::BadNumber, 7))),
     (
         "CLOCK 5\nORDERS 1\nCLOCK 4\n",
         Some((JobFault::ClockFalls, 9)),
@@ -206,6 +211,7 @@ const SCHEDULES: [(&str, Option<(JobFault, u32)>); 20] = [
     ("ENDJOB", None),
     ("ENDJOB\n", None),
     ("CLOCK 5\nCLOCK 5\nENDJOB\n", None),
+    ("SWAP 0 3\nSWAP 2 2\nENDJOB\n", None),
     ("ORDERS 19999999\nMOVE 15 4096\nORDERS 1\nENDJOB\n", None),
 ];
 
@@ -286,7 +292,7 @@ const JOB: &str = "KDF9 JOB 1\nSLOT 1\nSTORE 64\nDECK\nA;\n\n ENDDECK\nENDDECK\n
     DEVICE 0 TR\n+\n+AB\n+C 1\nDEVICE 5 CR\n+\n+AB\nDEVICE 6 TP\nDEVICE 15 LP\n\
     DEVICE 7 MT TAPE7\n+A\n=12345678\nSHOW 0 63\nSHOW 5 5\n\
     SLOT 3\nSTORE 8192\nDECK\nENDDECK\nDEVICE 8 MT TAPE7\nDEVICE 9 MT A\nDEVICE 1 TR\n\
-    SCHEDULE\nCLOCK 7\nORDERS 20\nMOVE 3 9\nEND 14\nENDJOB";
+    SCHEDULE\nCLOCK 7\nORDERS 20\nMOVE 3 9\nEND 14\nSWAP 3 0\nENDJOB";
 
 /// What it tells.
 const TOLD: &str = "SLOT 1 SIZE 64 DECK 13\n\
@@ -297,7 +303,7 @@ const TOLD: &str = "SLOT 1 SIZE 64 DECK 13\n\
     SHOW 0 63\nSHOW 5 5\n\
     SLOT 3 SIZE 8192 DECK 0\n\
     8 MT 6441604527000000\n9 MT 4100000000000000\n1 TR\n\
-    CLOCK 7\nORDERS 20\nMOVE 3 9\nEND 14\n";
+    CLOCK 7\nORDERS 20\nMOVE 3 9\nEND 14\nSWAP 3 0\n";
 
 /// A device: words of a reader, the first word of each card, label and blocks of a tape.
 fn describe_device(out: &mut String, d: u8, device: &Device) -> Result<(), AllocError> {
@@ -347,6 +353,7 @@ fn describe_event(out: &mut String, event: Event) -> Result<(), AllocError> {
         Event::Move(d, n) => write!(out, "MOVE {d} {n}\n")?,
         Event::End(d) => write!(out, "END {d}\n")?,
         Event::Clock(t) => write!(out, "CLOCK {t}\n")?,
+        Event::Swap(p, q) => write!(out, "SWAP {p} {q}\n")?,
     }
     Ok(())
 }

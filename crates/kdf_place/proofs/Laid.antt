@@ -13,7 +13,7 @@ use Rattle.kdf_place.specs.declared.here.Section.{Section}
 use Rattle.kdf_place.specs.Layout.{stores, round_up, advance, section_after, after, walked, front, end_of}
 use Rattle.kdf_place.specs.Names.{Names}
 use Rattle.kdf_place.specs.Late.{wrong, wrongs}
-use Rattle.kdf_place.specs.Placement.{order_of, spelt, filling, syllables_of, syllables, words_of, with_constants, start_of, first_word, words}
+use Rattle.kdf_place.specs.Placement.{order_of, spelt, filling, syllables_of, syllables, words_of, with_constants, jump_target, start_of, first_word, words}
 use Rattle.kdf_place.specs.Stands.{syllable_at, Stand, IsFilled, begins_word}
 use Rattle.kdf_place.proofs.Lengths.{round_up-above, length-statement, length-syllables, length-words_of, length-first, words-image}
 use Rattle.kdf_place.proofs.Untouched.{Misses, one-untouched, untouched-before, untouched-later}
@@ -181,10 +181,10 @@ stand-last m ss are ok =
     )
 
 -- word 0
-pub stand-start : (m : Names) (ss : List Statement) → AreInRange ss → wrongs m front ss ≡ [] → Stand (words m ss) 0 (spelling (Jump 0x20 (start_of m)))
+pub stand-start : (m : Names) (ss : List Statement) → AreInRange ss → wrongs m front ss ≡ [] → Stand (words m ss) 0 (spelling (Jump 0x20 (jump_target (start_of m))))
 unfolding spelling
 stand-start m ss are ok =
-    let jump = spelling (Jump 0x20 (start_of m)) in
+    let jump = spelling (Jump 0x20 (jump_target (start_of m))) in
     let above = walked-above m front ss in
     let rest : List ℕ = 1 ∷ 1 ∷ 1 ∷ [] in (
       omega (arith, words-image m ss, above),

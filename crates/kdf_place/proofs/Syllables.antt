@@ -14,8 +14,8 @@ use Rattle.kdf_usercode.specs.WellFormed.{IsWhat, AreInRange}
 use Rattle.kdf_place.specs.declared.here.Here.{Here}
 use Rattle.kdf_place.specs.declared.here.Section.{Section}
 use Rattle.kdf_place.specs.Layout.{round_up, stores, after}
-use Rattle.kdf_place.specs.Names.{Names, address, syllable_of}
-use Rattle.kdf_place.specs.Placement.{number, syllable_number, order_of, spelt, filling, syllables_of, syllables, words_of, first_word, start_of}
+use Rattle.kdf_place.specs.Names.{Names, address, syllable_of, first_order}
+use Rattle.kdf_place.specs.Placement.{number, syllable_number, jump_target, order_of, spelt, filling, syllables_of, syllables, words_of, first_word, start_of}
 use Rattle.kdf_place.specs.Stands.{syllable_at}
 
 -- each of the numbers is a byte
@@ -47,6 +47,12 @@ bytes-replicate (suc n) b low (suc k) = bytes-replicate n b low k
 syllable_number-below : (at : ℕ) → syllable_number at < 6 * 8192
 syllable_number-below at = grind (arith, nat_tests)
 
+target-below : (at : ℕ) → at < 6 * 8192 → jump_target at < 6 * 8192
+target-below at low = omega arith
+
+target_of-below : (at : ℕ) → jump_target (syllable_number at) < 6 * 8192
+target_of-below at = target-below (syllable_number at) (syllable_number-below at)
+
 bytes-spelt : (names : Names) (section : Section) (what : What) → IsWhat what → AreBytes (spelt (order_of names section what))
 bytes-spelt names section (Plain order) is = spelling-below order is.0
 bytes-spelt names section (Fetch place q u) is =
@@ -58,7 +64,7 @@ bytes-spelt names section (Keep place q u) is =
 bytes-spelt names section (SetAddress place) is = spelling-below (orders.Set (number (address names section place) % 2 ^ 16)) (omega arith)
 bytes-spelt names section (Go c target) is =
     let at = number (syllable_of names section target) in
-    spelling-below (orders.Jump c (syllable_number at)) (is.0, syllable_number-below at)
+    spelling-below (orders.Jump c (jump_target (syllable_number at))) (is.0, target_of-below at)
 bytes-spelt names section (Short r q) is = spelling-below (orders.Single 0x6f q) (inr refl, is.1)
 bytes-spelt names section what is = none-bytes
 
@@ -85,9 +91,9 @@ bytes-jump target low = spelling-below (orders.Jump 0x20 target) (omega arith, l
 -- all syllables of a deck are bytes
 pub bytes-all : (names : Names) (here : Here) (ss : List Statement) → AreInRange ss → AreBytes (first_word names ++ syllables names here ss)
 bytes-all names here ss are =
-    let jump = spelling (orders.Jump 0x20 (start_of names)) in
+    let jump = spelling (orders.Jump 0x20 (jump_target (start_of names))) in
     bytes-append (first_word names) (syllables names here ss)
-    (bytes-append jump (replicate 3 1) (bytes-jump (start_of names) (syllable_number-below _)) (bytes-replicate 3 1 (lit< tt)))
+    (bytes-append jump (replicate 3 1) (bytes-jump (jump_target (start_of names)) (target_of-below (number (first_order names 0)))) (bytes-replicate 3 1 (lit< tt)))
     (bytes-syllables names here ss are)
 
 -- the syllables of words are those of which they were made

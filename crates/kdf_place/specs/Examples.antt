@@ -31,9 +31,9 @@ two_parts =
 abbrev pub two_parts_image : Picture
 two_parts_image = record {
   words = 0xa00001010101 ∷ 0x09a08004a100 ∷ 0x04a000010101 ∷ 0 ∷ 0xa00001030101 ∷ [];
-  start = 1;
+  start = 6;
   labels =
-      label 0 1 1 ∷ label 0 2 1 ∷ label 0 3 3 ∷ label 3 1 4 ∷ label 3 2 0x8004 ∷ [];
+      label 0 1 6 ∷ label 0 2 6 ∷ label 0 3 18 ∷ label 3 1 24 ∷ label 3 2 28 ∷ [];
 }
 
 -- `PROGRAM; 1; 1; FINISH;`

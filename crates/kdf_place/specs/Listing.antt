@@ -7,7 +7,7 @@ use Rattle.kdf_place.specs.Placement.{Picture}
 
 -- the word and the syllable of a syllable number
 abbrev pub place : ℕ → List ℕ
-place at = decimal (at % 8192) ++ codes " " ++ decimal (at / 8192)
+place at = decimal (at / 6) ++ codes " " ++ decimal (at % 6)
 
 abbrev pub head_line : ℕ → List ℕ
 head_line slot = codes "KDF9 LISTING " ++ decimal slot

@@ -31,9 +31,13 @@ abbrev pub number : Result ℕ DeckFault → ℕ
 number (Ok n) = n
 number (Err fault) = 0
 
--- the syllable number of a place: 8192 times the syllable, and the word; behind word 8191 it is 0
+-- the syllable number of a place: 6 times the word, and the syllable; after word 8191 it is 0
 abbrev pub syllable_number : ℕ → ℕ
-syllable_number at = if nat_lt (at / 6) 8192 then 8192 * (at % 6) + at / 6 else 0
+syllable_number at = if nat_lt (at / 6) 8192 then at else 0
+
+-- a syllable number as a jump has it: 8192 times the syllable, and the word
+abbrev pub jump_target : ℕ → ℕ
+jump_target at = 8192 * (at % 6) + at / 6
 
 -- ---- orders
 
@@ -47,7 +51,7 @@ order_of names section (Keep place q u) =
 order_of names section (SetAddress place) =
     Some (orders.Set (number (address names section place) % 2 ^ 16))
 order_of names section (Go c target) =
-    Some (orders.Jump c (syllable_number (number (syllable_of names section target))))
+    Some (orders.Jump c (jump_target (syllable_number (number (syllable_of names section target)))))
 order_of names section (Short r q) = Some (orders.Single 0x6f q)
 order_of names section what = None
 
@@ -101,13 +105,13 @@ with_constants names here (s ∷ ss) words =
 
 -- ---- the image
 
--- the first order of the main part
+-- the syllable number of the first order of the main part
 abbrev pub start_of : Names → ℕ
 start_of names = syllable_number (number (first_order names 0))
 
 -- a jump to the first order, and three DUMMY
 abbrev pub first_word : Names → List ℕ
-first_word names = spelling (orders.Jump 0x20 (start_of names)) ++ 1 ∷ 1 ∷ 1 ∷ []
+first_word names = spelling (orders.Jump 0x20 (jump_target (start_of names))) ++ 1 ∷ 1 ∷ 1 ∷ []
 
 -- the words of a deck: word 0, the parts, and the stores of the groups, zero
 abbrev pub words : Names → List Statement → List ℕ

@@ -13,7 +13,7 @@ use Rattle.kdf_usercode.specs.declared.statement.What.TheVariants.{Star, Referen
 use Rattle.kdf_place.specs.Layout.{is_order, is_opening, round_up, walked, front}
 use Rattle.kdf_place.specs.Names.{part_opened, names, address as address_of, reference, first_order}
 use Rattle.kdf_place.specs.Late.{wrong}
-use Rattle.kdf_place.specs.Placement.{order_of, value, Picture}
+use Rattle.kdf_place.specs.Placement.{order_of, jump_target, value, Picture}
 
 -- ---- the syllables of an image
 
@@ -99,4 +99,4 @@ pub record IsLaidOut (ss : List Statement) (image : Picture) : Type 0 where
       → address_of (names ss) (walked front before).section place ≡ Ok address
       → address < length image.words
   -- word 0 begins with a jump to the start
-  pub start : Stand image.words 0 (spelling (Jump 0x20 image.start))
+  pub start : Stand image.words 0 (spelling (Jump 0x20 (jump_target image.start)))

@@ -1,5 +1,5 @@
 //! The listing of a deck.
-ghost use Rattle.std.specs.Prelude.{◌≡◌, ◌≤◌, ◌++◌, [], ◌∷◌, length, map, IfOk, OnOk, string_bytes};
+ghost use Rattle.std.specs.Prelude.{◌≡◌, ◌++◌, [], ◌∷◌, length, map, IfOk, OnOk, string_bytes};
 ghost use Rattle.kdf_text.specs.Text.{text, Adds, end_line};
 ghost use Rattle.kdf_place.specs.Listing.{absent_listing, head_line, listing_text, reference_line, start_line, word_lines};
 ghost use Rattle.kdf_place.specs.Placement.{shown_image};
@@ -10,10 +10,9 @@ use kdf_word::Word;
 use std::alloc::{AllocError, Global};
 use std::fmt::Write;
 
-/// The listing of the image of a slot: the place of its first order, each of its words, of which there are at most 8,192,
-/// and its references in the order of the deck.
+/// The listing of the image of a slot: the place of its first order, each of its words, and its references in the order of the
+/// deck.
 pub fn listing(alloc: Global, image: &Image, slot: u8) -> Result<Vec<u8>, AllocError>
-    requires { length image.now.words.items ≤ 8192 }
     ensures { IfOk result (λ bytes. bytes.items ≡ listing_text slot (shown_image image.now)) }
 {
     let mut out = begun(alloc, slot)?;
@@ -55,19 +54,18 @@ fn ended(out: String) -> Result<Vec<u8>, AllocError>
 fn write_start(out: &mut String, start: u16) -> Result<(), AllocError>
     ensures { OnOk result (Adds out.old out.new (start_line start ∷ [])) }
 {
-    let word = start % 8192;
-    let syllable = start / 8192;
+    let word = start / 6;
+    let syllable = start % 6;
     writeln!(out, "START {word} {syllable}")
 }
 
-/// Each word behind its address.
+/// Each word after its address.
 #[tactic(auto, unfolding(kdf_text::specs::Text::text))]
 fn write_words(out: &mut String, words: &[Word]) -> Result<(), AllocError>
-    requires { length words.now ≤ 8192 }
     ensures { OnOk result (Adds out.old out.new (word_lines words.now)) }
 {
     for (address, word) in words.iter().enumerate() {
-        write_word(out, address as u16, word.bits())?;
+        write_word(out, address, word.bits())?;
     }
     Ok(())
 }
@@ -89,7 +87,7 @@ fn write_reference(out: &mut String, label: &Label) -> Result<(), AllocError>
     ensures { OnOk result (Adds out.old out.new (reference_line label.now ∷ [])) }
 {
     let Label { part, number, at } = *label;
-    let word = at % 8192;
-    let syllable = at / 8192;
+    let word = at / 6;
+    let syllable = at % 6;
     writeln!(out, "REF {part} {number} {word} {syllable}")
 }

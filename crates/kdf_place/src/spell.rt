@@ -4,7 +4,7 @@ ghost use Rattle.kdf_syllable.specs.Spelling.{IsOrder, spelling};
 ghost use Rattle.kdf_usercode.specs.WellFormed.{IsWhat, AreInRange};
 ghost use Rattle.kdf_place.specs.Layout.{stores, front};
 ghost use Rattle.kdf_place.specs.Names.{address, syllable_of};
-ghost use Rattle.kdf_place.specs.Placement.{number, syllable_number, order_of, spelt, filling, syllables_of, syllables, start_of, first_word};
+ghost use Rattle.kdf_place.specs.Placement.{number, syllable_number, jump_target, order_of, spelt, filling, syllables_of, syllables, start_of, first_word};
 ghost use Rattle.kdf_place.specs.Tables.{meaning, kept};
 
 use crate::here::{Here, Section, round_up, stores};
@@ -29,17 +29,21 @@ fn number(found: Result<u64, DeckFault>) -> u64
     found.unwrap_or(0)
 }
 
-/// The syllable number of a place: 8192 times the syllable, and the word. Behind word 8191 it is 0.
+/// The syllable number of a place: 6 times the word, and the syllable. After word 8191 it is 0.
 pub fn syllable_number(at: u64) -> u16
     ensures value { result ≡ syllable_number at }
     ensures small { result < 6 * 8192 }
 {
-    let word = at / 6;
-    if word < 8192 {
-        (8192 * (at % 6) + word) as u16
-    } else {
-        0
-    }
+    if at / 6 < 8192 { at as u16 } else { 0 }
+}
+
+/// A syllable number as a jump has it: 8192 times the syllable, and the word.
+fn jump_target(at: u16) -> u16
+    requires { at < 6 * 8192 }
+    ensures value { result ≡ jump_target at }
+    ensures small { result < 6 * 8192 }
+{
+    8192 * (at % 6) + at / 6
 }
 
 /// The address that a store has in this part, in its last 16 bits.
@@ -49,13 +53,13 @@ pub fn address_of(meanings: &Meanings, section: Section, place: Named) -> u16
     (number(meanings.address(section, place)) % 65536) as u16
 }
 
-/// The syllable number of a target in this part.
+/// A target in this part, as a jump has it.
 fn target_of(meanings: &Meanings, section: Section, target: Target) -> u16
     ensures value { let found = syllable_of (meaning meanings.now) section target in
-        result ≡ syllable_number (number found) }
+        result ≡ jump_target (syllable_number (number found)) }
     ensures small { result < 6 * 8192 }
 {
-    syllable_number(number(meanings.syllable_of(section, target)))
+    jump_target(syllable_number(number(meanings.syllable_of(section, target))))
 }
 
 /// The address of a store as a fetch or a keep has it: its last 15 bits.
@@ -186,7 +190,7 @@ fn push_first_word(syllables: &mut Vec<u8>, meanings: &Meanings) -> Result<(), A
 {
     let jump = Order::Jump {
         c: ALWAYS,
-        target: start_of(meanings),
+        target: jump_target(start_of(meanings)),
     };
     push_order(syllables, &jump)?;
     push_copies(syllables, 3, DUMMY)

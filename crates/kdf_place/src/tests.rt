@@ -94,7 +94,7 @@ fn short_loop(rt: HostRuntime) -> Result<(), Fail> {
         0x6f10_0921_0101,
     ];
     assert!(rt; has_words(&image, &words));
-    assert_eq!(rt; image.start, 1);
+    assert_eq!(rt; image.start, 6);
     Ok(())
 }
 
@@ -120,7 +120,7 @@ fn stores(rt: HostRuntime) -> Result<(), Fail> {
         0,
     ];
     assert!(rt; has_words(&image, &words));
-    assert_eq!(rt; image.start, 4);
+    assert_eq!(rt; image.start, 24);
     assert_eq!(rt; image.labels.len(), 0);
     Ok(())
 }
@@ -138,7 +138,7 @@ fn references(rt: HostRuntime) -> Result<(), Fail> {
         0xa000_0103_0101,
     ];
     assert!(rt; has_words(&image, &words));
-    let labels = [(0, 1, 1), (0, 2, 1), (0, 3, 3), (3, 1, 4), (3, 2, 0x8004)];
+    let labels = [(0, 1, 6), (0, 2, 6), (0, 3, 18), (3, 1, 24), (3, 2, 28)];
     assert_eq!(rt; image.labels.len(), labels.len());
     for (label, (part, number, at)) in image.labels.iter().zip(labels) {
         assert!(rt; *label == Label { part, number, at });
@@ -161,12 +161,12 @@ fn references_that_fall(rt: HostRuntime) -> Result<(), Fail> {
     ];
     assert!(rt; has_words(&image, &words));
     let labels = [
-        (0, 9, 1),
-        (0, 3, 0x2001),
-        (0, 7, 0x4001),
-        (2, 3, 4),
-        (1, 9, 5),
-        (1, 3, 0x2005),
+        (0, 9, 6),
+        (0, 3, 7),
+        (0, 7, 8),
+        (2, 3, 24),
+        (1, 9, 30),
+        (1, 3, 31),
     ];
     assert_eq!(rt; image.labels.len(), labels.len());
     for (label, (part, number, at)) in image.labels.iter().zip(labels) {

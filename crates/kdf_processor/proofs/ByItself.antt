@@ -2,8 +2,9 @@
 -- and which answer an order takes.
 use Rattle.std.proofs.Common.{◌≡◌, ◌≢◌, ℕ, Bool, Option, Some, None, List, [], ◌∷◌, refl, sym, ap, ◌∙◌, subst}
 use Rattle.std.specs.Prelude.{find}
+use Rattle.kdf_journal.specs.declared.kind.Kind.{Kind}
 use Rattle.kdf_processor.specs.declared.step.Need.{Need}
-use Rattle.kdf_processor.specs.declared.step.Need.TheVariants.{Group, Device}
+use Rattle.kdf_processor.specs.declared.step.Need.TheVariants.{Group, Device, Pool}
 use Rattle.kdf_processor.specs.declared.registers.Registers.{Registers}
 use Rattle.kdf_processor.specs.declared.step.Step.TheVariants.{Held}
 use Rattle.kdf_processor.specs.Effect.{Act, Asks, Question, Effect, Failing, Ending, Changing, Fetching, Keeping, Testing, Starting, Asking, Claiming, Returning, Spooling}
@@ -21,6 +22,7 @@ pub first_pending_alone : (k : Stock) (answer : Question → ℕ) (ns : List Nee
 first_pending_alone k answer [] = refl
 first_pending_alone k answer (Group g ∷ ns) = first_pending_alone k answer ns
 first_pending_alone k answer (Device d ∷ ns) = first_pending_alone k answer ns
+first_pending_alone k answer (Pool kind ∷ ns) = first_pending_alone k answer ns
 
 -- no group is out, and no device is busy
 pub none_out : (k : Stock) (answer : Question → ℕ) (gs : List ℕ) → find (by_itself answer k).is_out gs ≡ None
@@ -46,7 +48,7 @@ done_not_held answer (Testing d what after) s need h = cc
 done_not_held answer (Starting d o first last after) s need h = cc
 done_not_held answer (Asking question after) s need h = cc
 done_not_held answer (Claiming d after) s need h = cc
-done_not_held answer (Returning d after) s need h = cc
+done_not_held answer (Returning pooled d after) s need h = cc
 done_not_held answer (Spooling stream first last after) s need h = cc
 
 pub never_held : (answer : Question → ℕ) (s : State) (need : Need) → (next_of s answer).step ≢ Held need
@@ -60,12 +62,12 @@ row_alone k k' answer r r' registers stock =
     ∙ ap (state (next_of (state r k) answer).registers) (stock ∙ ap (λ (x : Outcome). at_once x.act k) o)
 
 -- what a port shows that shows this stock, some of it pending
-abbrev pub among : Stock → (Question → ℕ) → (out busy : ℕ → Bool) → List ℕ → View
-among k answer out busy mine = record (by_itself answer k) { is_out = out; is_busy = busy; mine = mine }
+abbrev pub among : Stock → (Question → ℕ) → (out busy : ℕ → Bool) → (taken : Kind → Bool) → List ℕ → View
+among k answer out busy taken mine = record (by_itself answer k) { is_out = out; is_busy = busy; is_taken = taken; mine = mine }
 
 -- over such a port the next order is held by the first pending need of the state, or does what it does by itself
-pub outcome_among : (k : Stock) (answer : Question → ℕ) (out busy : ℕ → Bool) (mine : List ℕ) (r : Registers) → outcome (among k answer out busy mine) r ≡ held_or r (first_pending (among k answer out busy mine) (needs (state r k) mine)) (next_of (state r k) answer)
-outcome_among k answer out busy mine r = refl
+pub outcome_among : (k : Stock) (answer : Question → ℕ) (out busy : ℕ → Bool) (taken : Kind → Bool) (mine : List ℕ) (r : Registers) → outcome (among k answer out busy taken mine) r ≡ held_or r (first_pending (among k answer out busy taken mine) (needs (state r k) mine)) (next_of (state r k) answer)
+outcome_among k answer out busy taken mine r = refl
 
 -- ---- answers
 

@@ -18,12 +18,13 @@ use Rattle.kdf_processor.specs.declared.step.Need.{Need}
 use Rattle.kdf_processor.specs.declared.step.Need.TheVariants.{Group, Device}
 use Rattle.kdf_processor.specs.declared.registers.Registers.{Registers}
 use Rattle.kdf_processor.specs.declared.spooled.Spooled.{Spooled}
-use Rattle.kdf_processor.specs.State.{State, Claims, word_at, device_at, fixture_at, new_progress}
-use Rattle.kdf_processor.specs.Effect.{Question, Effect, Failing, Ending, Changing, Fetching, Keeping, Testing, Starting, Asking, Claiming, Returning, Spooling}
+use Rattle.kdf_processor.specs.State.{State, Claims, Stint, word_at, device_at, fixture_at, new_progress}
+use Rattle.kdf_processor.specs.Claims.{taken}
+use Rattle.kdf_processor.specs.Effect.{Question, FreeOf, Effect, Failing, Ending, Changing, Fetching, Keeping, Testing, Starting, Asking, Claiming, Returning, Spooling}
 use Rattle.kdf_processor.specs.Table.{on}
 use Rattle.kdf_processor.specs.Needs.{group_of, decoded_or_none, effect_or_liv, syllable_at, syllables, syllable_needs, count_at, fetch_needs, effect_at, effect_needs, next_effect, needs}
 use Rattle.kdf_processor.specs.Outcome.{counted}
-use Rattle.kdf_processor.specs.Row.{transferred, area_words, perform, row}
+use Rattle.kdf_processor.specs.Row.{answered, handed, released, transferred, area_words, perform, row}
 use Rattle.kdf_processor.specs.View.{order_groups, test_of}
 use Rattle.kdf_processor.specs.Frame.{Agrees, Leaves, HidesNone}
 use Rattle.kdf_processor.proofs.AreaLemmas.{WordsAgree, set_agree, area_agree, order_words_agree, length-stored, stored_agree, stored_apart}
@@ -34,7 +35,7 @@ words_agree hidden s t h = record { size = h.size; words = h.words }
 -- a transfer leaves states that agree such, if neither its device nor a group of its area is hidden
 transfer_agree : (hidden : Need → Bool) (d : ℕ) (o : TransferOrder) (first last : ℕ) (f : Option Fixture) (r r' : Registers) (s t : State) → r ≡ r' → Agrees hidden s t → HidesNone hidden (Device d ∷ map Group (order_groups o first last)) → Agrees hidden (record { registers = r; stock = transferred d o first last f s.stock }) (record { registers = r'; stock = transferred d o first last f t.stock })
 transfer_agree hidden d o first last None r r' s t e h none =
-    record { registers = e; claims = h.claims; spooled = h.spooled; asked = h.asked; size = h.size; number = h.number; words = h.words; devices = h.devices }
+    record { registers = e; claims = h.claims; spooled = h.spooled; asked = h.asked; stints = h.stints; size = h.size; number = h.number; words = h.words; devices = h.devices }
 transfer_agree hidden d o first last (Some f) r r' s t e h none =
     let parts = or_parts _ _ none in
     let device = h.devices d parts.0 in
@@ -45,22 +46,67 @@ transfer_agree hidden d o first last (Some f) r r' s t e h none =
       claims = h.claims;
       spooled = h.spooled;
       asked = h.asked;
+      stints = h.stints;
       size = length-stored o first last f (device_at s d) s.stock.store ∙ h.size ∙ sym (length-stored o first last f (device_at t d) t.stock.store);
       number = simp (length-set, h.number);
       words = λ x free. rw device (stored_agree o first last f (device_at t d) hidden s.stock.store t.stock.store x (words_agree hidden s t h) parts.1 free);
       devices = λ x free. rw same (set_agree s.stock.devices t.stock.devices d _ new_progress x h.number (h.devices x free));
     }
 
+-- and so does an answer
+answered_agree : (hidden : Need → Bool) (question : Question) (a : ℕ) (r r' : Registers) (s t : State) → r ≡ r' → Agrees hidden s t → Agrees hidden (record { registers = r; stock = answered question a s.stock }) (record { registers = r'; stock = answered question a t.stock })
+answered_agree hidden (FreeOf kind) a r r' s t e h =
+    record {
+      registers = e;
+      claims = ap (λ (c : Claims). record c { claimed = set c.claimed (taken c kind a) true }) h.claims;
+      spooled = h.spooled;
+      asked = ap (λ n. n + 1) h.asked;
+      stints = ap₂ (λ (c : Claims) (xs : List Stint). xs ++ record { device = taken c kind a; left = None } ∷ []) h.claims h.stints;
+      size = h.size;
+      number = h.number;
+      words = h.words;
+      devices = h.devices;
+    }
+answered_agree hidden question a r r' s t e h =
+    record { registers = e; claims = h.claims; spooled = h.spooled; asked = ap (λ n. n + 1) h.asked; stints = h.stints; size = h.size; number = h.number; words = h.words; devices = h.devices }
+
+-- and a device that is given back, if it isn't hidden
+released_agree : (hidden : Need → Bool) (pooled : Bool) (d : ℕ) (r r' : Registers) (s t : State) → r ≡ r' → Agrees hidden s t → hidden (Device d) ≡ false → Agrees hidden (record { registers = r; stock = released pooled d s.stock }) (record { registers = r'; stock = released pooled d t.stock })
+released_agree hidden false d r r' s t e h free =
+    record {
+      registers = e;
+      claims = ap (λ (c : Claims). record c { claimed = set c.claimed d false }) h.claims;
+      spooled = h.spooled;
+      asked = h.asked;
+      stints = h.stints;
+      size = h.size;
+      number = h.number;
+      words = h.words;
+      devices = h.devices;
+    }
+released_agree hidden true d r r' s t e h free =
+    record {
+      registers = e;
+      claims = ap (λ (c : Claims). record c { claimed = set c.claimed d false }) h.claims;
+      spooled = h.spooled;
+      asked = h.asked;
+      stints = ap₂ (λ p (xs : List Stint). map (handed d p) xs) (h.devices d free) h.stints;
+      size = h.size;
+      number = simp (length-set, h.number);
+      words = h.words;
+      devices = λ x seen. set_agree s.stock.devices t.stock.devices d new_progress new_progress x h.number (h.devices x seen);
+    }
+
 -- an effect leaves states that agree such, if nothing that it needs is hidden
 pub perform_agree : (hidden : Need → Bool) (mine : List ℕ) (answer : Question → ℕ) (e : Effect) (s t : State) → Agrees hidden s t → HidesNone hidden (effect_needs mine e) → Agrees hidden (perform answer e s) (perform answer e t)
 perform_agree hidden mine answer (Failing kind) s t h none =
-    record { registers = ap (λ (r : Registers). counted r (Failed kind) r) h.registers; claims = h.claims; spooled = h.spooled; asked = h.asked; size = h.size; number = h.number; words = h.words; devices = h.devices }
+    record { registers = ap (λ (r : Registers). counted r (Failed kind) r) h.registers; claims = h.claims; spooled = h.spooled; asked = h.asked; stints = h.stints; size = h.size; number = h.number; words = h.words; devices = h.devices }
 perform_agree hidden mine answer (Ending after) s t h none =
-    record { registers = ap (λ (r : Registers). counted r Ended after) h.registers; claims = h.claims; spooled = h.spooled; asked = h.asked; size = h.size; number = h.number; words = h.words; devices = h.devices }
+    record { registers = ap (λ (r : Registers). counted r Ended after) h.registers; claims = h.claims; spooled = h.spooled; asked = h.asked; stints = h.stints; size = h.size; number = h.number; words = h.words; devices = h.devices }
 perform_agree hidden mine answer (Changing after) s t h none =
-    record { registers = ap (λ (r : Registers). counted r r.state after) h.registers; claims = h.claims; spooled = h.spooled; asked = h.asked; size = h.size; number = h.number; words = h.words; devices = h.devices }
+    record { registers = ap (λ (r : Registers). counted r r.state after) h.registers; claims = h.claims; spooled = h.spooled; asked = h.asked; stints = h.stints; size = h.size; number = h.number; words = h.words; devices = h.devices }
 perform_agree hidden mine answer (Fetching a after) s t h none =
-    record { registers = ap₂ (λ (r : Registers) w. counted r r.state (after w)) h.registers (h.words a (or_parts _ _ none).0); claims = h.claims; spooled = h.spooled; asked = h.asked; size = h.size; number = h.number; words = h.words; devices = h.devices }
+    record { registers = ap₂ (λ (r : Registers) w. counted r r.state (after w)) h.registers (h.words a (or_parts _ _ none).0); claims = h.claims; spooled = h.spooled; asked = h.asked; stints = h.stints; size = h.size; number = h.number; words = h.words; devices = h.devices }
 perform_agree hidden mine answer (Keeping a w after) s t h none =
     let same : w (word_at s a) ≡ w (word_at t a) = ap w (h.words a (or_parts _ _ none).0) in
     record {
@@ -68,13 +114,14 @@ perform_agree hidden mine answer (Keeping a w after) s t h none =
       claims = h.claims;
       spooled = h.spooled;
       asked = h.asked;
+      stints = h.stints;
       size = simp (length-set, h.size);
       number = h.number;
       words = λ x free. rw same (set_agree s.stock.store t.stock.store a (w (word_at t a)) 0 x h.size (h.words x free));
       devices = h.devices;
     }
 perform_agree hidden mine answer (Testing d what after) s t h none =
-    record { registers = ap₂ (λ (r : Registers) p. counted r r.state (after (test_of what p))) h.registers (h.devices d (or_parts _ _ none).0); claims = h.claims; spooled = h.spooled; asked = h.asked; size = h.size; number = h.number; words = h.words; devices = h.devices }
+    record { registers = ap₂ (λ (r : Registers) p. counted r r.state (after (test_of what p))) h.registers (h.devices d (or_parts _ _ none).0); claims = h.claims; spooled = h.spooled; asked = h.asked; stints = h.stints; size = h.size; number = h.number; words = h.words; devices = h.devices }
 perform_agree hidden mine answer (Starting d o first last after) s t h none =
     let e : counted s.registers s.registers.state after ≡ counted t.registers t.registers.state after = ap (λ (r : Registers). counted r r.state after) h.registers in
     subst
@@ -83,38 +130,21 @@ perform_agree hidden mine answer (Starting d o first last after) s t h none =
     h.claims
     (transfer_agree hidden d o first last (fixture_at s.stock.claims d) (counted s.registers s.registers.state after) (counted t.registers t.registers.state after) s t e h none)
 perform_agree hidden mine answer (Asking question after) s t h none =
-    record {
-      registers = ap (λ (r : Registers). counted r r.state (after (answer question))) h.registers;
-      claims = h.claims;
-      spooled = h.spooled;
-      asked = ap (λ n. n + 1) h.asked;
-      size = h.size;
-      number = h.number;
-      words = h.words;
-      devices = h.devices;
-    }
+    answered_agree hidden question (answer question) (counted s.registers s.registers.state (after (answer question))) (counted t.registers t.registers.state (after (answer question))) s t (ap (λ (r : Registers). counted r r.state (after (answer question))) h.registers) h
 perform_agree hidden mine answer (Claiming d after) s t h none =
     record {
       registers = ap (λ (r : Registers). counted r r.state after) h.registers;
       claims = ap (λ (c : Claims). record c { claimed = set c.claimed d true }) h.claims;
       spooled = h.spooled;
       asked = h.asked;
+      stints = h.stints;
       size = h.size;
       number = h.number;
       words = h.words;
       devices = h.devices;
     }
-perform_agree hidden mine answer (Returning d after) s t h none =
-    record {
-      registers = ap (λ (r : Registers). counted r r.state after) h.registers;
-      claims = ap (λ (c : Claims). record c { claimed = set c.claimed d false }) h.claims;
-      spooled = h.spooled;
-      asked = h.asked;
-      size = h.size;
-      number = h.number;
-      words = h.words;
-      devices = h.devices;
-    }
+perform_agree hidden mine answer (Returning pooled d after) s t h none =
+    released_agree hidden pooled d (counted s.registers s.registers.state after) (counted t.registers t.registers.state after) s t (ap (λ (r : Registers). counted r r.state after) h.registers) h (or_parts _ _ none).0
 perform_agree hidden mine answer (Spooling stream first last after) s t h none =
     let same : area_words first last s.stock ≡ area_words first last t.stock = area_agree hidden s.stock.store t.stock.store first last (words_agree hidden s t h) none in
     record {
@@ -122,6 +152,7 @@ perform_agree hidden mine answer (Spooling stream first last after) s t h none =
       claims = h.claims;
       spooled = ap₂ (λ words (texts : List Spooled). texts ++ record { stream = stream; text = through_end (codes_of_all words) } ∷ []) same h.spooled;
       asked = h.asked;
+      stints = h.stints;
       size = h.size;
       number = h.number;
       words = h.words;
@@ -141,6 +172,20 @@ transfer_leaves hidden d o first last (Some f) r s none =
       devices = λ x is. get_or-set_other s.stock.devices d x _ new_progress (λ e. false≢true (sym parts.0 ∙ (ap (λ y. hidden (Device y)) (sym e) ∙ is)));
     }
 
+answered_leaves : (hidden : Need → Bool) (question : Question) (a : ℕ) (r : Registers) (s : State) → Leaves hidden s (record { registers = r; stock = answered question a s.stock })
+answered_leaves hidden (FreeOf kind) a r s = record { size = refl; number = refl; words = λ x is. refl; devices = λ x is. refl }
+answered_leaves hidden question a r s = record { size = refl; number = refl; words = λ x is. refl; devices = λ x is. refl }
+
+released_leaves : (hidden : Need → Bool) (pooled : Bool) (d : ℕ) (r : Registers) (s : State) → hidden (Device d) ≡ false → Leaves hidden s (record { registers = r; stock = released pooled d s.stock })
+released_leaves hidden false d r s free = record { size = refl; number = refl; words = λ x is. refl; devices = λ x is. refl }
+released_leaves hidden true d r s free =
+    record {
+      size = refl;
+      number = sym (length-set s.stock.devices d new_progress);
+      words = λ x is. refl;
+      devices = λ x is. get_or-set_other s.stock.devices d x new_progress new_progress (λ e. false≢true (sym free ∙ (ap (λ y. hidden (Device y)) (sym e) ∙ is)));
+    }
+
 -- an effect leaves what is hidden as it was, if nothing that it needs is hidden
 pub perform_leaves : (hidden : Need → Bool) (mine : List ℕ) (answer : Question → ℕ) (e : Effect) (s : State) → HidesNone hidden (effect_needs mine e) → Leaves hidden s (perform answer e s)
 perform_leaves hidden mine answer (Keeping a w after) s none =
@@ -152,6 +197,10 @@ perform_leaves hidden mine answer (Keeping a w after) s none =
     }
 perform_leaves hidden mine answer (Starting d o first last after) s none =
     transfer_leaves hidden d o first last (fixture_at s.stock.claims d) (counted s.registers s.registers.state after) s none
+perform_leaves hidden mine answer (Asking question after) s none =
+    answered_leaves hidden question (answer question) (counted s.registers s.registers.state (after (answer question))) s
+perform_leaves hidden mine answer (Returning pooled d after) s none =
+    released_leaves hidden pooled d (counted s.registers s.registers.state after) s (or_parts _ _ none).0
 perform_leaves hidden mine answer e s none =
     record { size = refl; number = refl; words = λ a is. refl; devices = λ d is. refl }
 
@@ -249,6 +298,7 @@ agree_under hidden wanted s t more h =
       claims = h.claims;
       spooled = h.spooled;
       asked = h.asked;
+      stints = h.stints;
       size = h.size;
       number = h.number;
       words = λ a free. h.words a (false_from_ne_true _ (λ is. false≢true (sym free ∙ more (Group (group_of a)) is)));

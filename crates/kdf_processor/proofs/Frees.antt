@@ -1,15 +1,39 @@
 -- The least device that isn't claimed, as the first of sixteen that passes a test.
-use Rattle.std.proofs.Common.{◌≡◌, ℕ, Option, refl}
+use Rattle.std.proofs.Common.{◌≡◌, ℕ, Bool, false, List, [], ◌∷◌, Option, Some, None, is_some, cond, get_or, refl, ap, ◌∙◌}
 use Rattle.std.specs.Prelude.{find, not, ◌&&◌}
 use Rattle.std.specs.List.{range_with_len}
 use Rattle.kdf_journal.specs.declared.kind.Kind.{Kind}
-use Rattle.kdf_processor.specs.Claims.{free_kind, free_label, has_label, is_claimed, is_kind, kind_at}
-use Rattle.kdf_processor.specs.State.{Claims, fixture_at}
+use Rattle.kdf_journal.specs.declared.kind.Kind.TheVariants.{Tr, Tp, Cr, Lp, Mt}
+use Rattle.kdf_processor.specs.Claims.{can_take, least_pooled, free_kind, free_label, has_label, is_claimed, is_kind, may_take, own_kind_at}
+use Rattle.kdf_processor.specs.State.{Claims, own_fixture_at}
 
-pub free_kind_is : (c : Claims) (k : Kind) → free_kind c k ≡ find (λ d. is_kind k (kind_at c d) && not (is_claimed c d)) (range_with_len 0 16)
+pub free_kind_is : (c : Claims) (k : Kind) → free_kind c k ≡ find (λ d. is_kind k (own_kind_at c d) && not (is_claimed c d)) (range_with_len 0 16)
 unfolding free_kind
 free_kind_is c k = refl
 
-pub free_label_is : (c : Claims) (label : ℕ) → free_label c label ≡ find (λ d. has_label label (fixture_at c d) && not (is_claimed c d)) (range_with_len 0 16)
+pub free_label_is : (c : Claims) (label : ℕ) → free_label c label ≡ find (λ d. has_label label (own_fixture_at c d) && not (is_claimed c d)) (range_with_len 0 16)
 unfolding free_label
 free_label_is c label = refl
+
+pub least_pooled_is : (c : Claims) (k : Kind) → least_pooled c k ≡ find (can_take c k) (range_with_len 0 16)
+unfolding least_pooled
+least_pooled_is c k = refl
+
+-- a pool without devices has none of a kind
+pub none_of_kind : (k : Kind) → is_kind k None ≡ false
+none_of_kind Tr = refl
+none_of_kind Tp = refl
+none_of_kind Cr = refl
+none_of_kind Lp = refl
+none_of_kind Mt = refl
+
+pub none_of_pool : (k : Kind) (pool : List (Option Kind)) (test : ℕ → Bool) → pool ≡ [] → (ds : List ℕ) → find (λ d. is_kind k (get_or pool d None) && test d) ds ≡ None
+none_of_pool k pool test none [] = refl
+none_of_pool k pool test none (d ∷ ds) =
+    ap (λ b. cond (b && test d) (Some d) (find (λ x. is_kind k (get_or pool x None) && test x) ds)) (ap (λ (ps : List (Option Kind)). is_kind k (get_or ps d None)) none ∙ none_of_kind k)
+    ∙ none_of_pool k pool test none ds
+
+-- so nothing can be taken from it
+pub none_taken : (c : Claims) (k : Kind) → c.pool ≡ [] → may_take c k ≡ false
+unfolding least_pooled
+none_taken c k none = ap is_some (none_of_pool k c.pool (λ d. not (is_claimed c d)) none (range_with_len 0 16))

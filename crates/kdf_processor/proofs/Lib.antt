@@ -9,3 +9,6 @@ pub mod Frees
 pub mod Groups
 pub mod Pending
 pub mod Small
+pub mod Fit
+pub mod Stinting
+pub mod Lending

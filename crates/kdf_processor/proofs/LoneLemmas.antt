@@ -3,15 +3,16 @@ use Rattle.std.proofs.Common.{◌≡◌, ℕ, zero, suc, ◌+◌, ◌<◌, ◌�
 use Rattle.std.proofs.lemmas.Bool.{cases_Bool, cases_lt}
 use Rattle.std.proofs.lemmas.List.{get_or_append_left}
 use Rattle.kdf_processor.specs.State.{State, fixture_at}
-use Rattle.kdf_processor.specs.Effect.{Question, Effect, Starting, Asking}
+use Rattle.kdf_processor.specs.Effect.{Question, Effect, Starting, Asking, Returning}
 use Rattle.kdf_processor.specs.Needs.{next_effect}
 use Rattle.kdf_processor.specs.Row.{perform, row}
 use Rattle.kdf_processor.specs.Lone.{is_live, lone_step, lone}
-use Rattle.kdf_processor.proofs.RowFacts.{next_answer, transferred_asked}
+use Rattle.kdf_processor.proofs.RowFacts.{answered_asked, next_answer, released_asked, transferred_asked}
 
 -- an effect takes one answer, or none and then doesn't look at it
 asks_or_not : (e : Effect) (s : State) → ((answer : Question → ℕ) → (perform answer e s).stock.asked ≡ s.stock.asked + 1) ⊎ ((answer : Question → ℕ) → (perform answer e s).stock.asked ≡ s.stock.asked) × ((answer other : Question → ℕ) → perform answer e s ≡ perform other e s)
-asks_or_not (Asking question after) s = inl (λ answer. refl)
+asks_or_not (Asking question after) s = inl (λ answer. answered_asked question (answer question) s.stock)
+asks_or_not (Returning pooled d after) s = inr (λ answer. released_asked pooled d s.stock, λ answer other. refl)
 asks_or_not (Starting d o first last after) s =
     inr (λ answer. transferred_asked d o first last (fixture_at s.stock.claims d) s.stock, λ answer other. refl)
 asks_or_not e s = inr (λ answer. refl, λ answer other. refl)

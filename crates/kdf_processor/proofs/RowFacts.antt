@@ -1,5 +1,5 @@
 -- What is known of a row without looking at the table.
-use Rattle.std.proofs.Common.{◌≡◌, ℕ, zero, suc, ◌+◌, ◌≤◌, List, length, get_or, Option, Some, None, true, false, refl, sym, ap, ◌∙◌, ⊎_elim, cond, arith}
+use Rattle.std.proofs.Common.{◌≡◌, ℕ, zero, suc, ◌+◌, ◌≤◌, List, length, get_or, Option, Some, None, Bool, true, false, refl, sym, ap, ◌∙◌, ⊎_elim, cond, arith}
 use Rattle.std.proofs.lemmas.Bool.{cases_Bool, false≢true}
 use Rattle.std.proofs.lemmas.List.{length-set}
 use Rattle.kdf_transfer.specs.Devices.{Fixture}
@@ -8,10 +8,10 @@ use Rattle.kdf_processor.specs.declared.registers.Life.{Life}
 use Rattle.kdf_processor.specs.declared.registers.Life.TheVariants.{Ended, Failed}
 use Rattle.kdf_processor.specs.declared.step.Step.{Step}
 use Rattle.kdf_processor.specs.declared.step.Step.TheVariants.{Done, Held, Fails, Ends}
-use Rattle.kdf_processor.specs.State.{State, Claims, Stock, device_in, fixture_at}
-use Rattle.kdf_processor.specs.Effect.{Act, Asks, Question, Effect, Failing, Ending, Keeping, Starting, Asking}
+use Rattle.kdf_processor.specs.State.{State, Claims, Stock, device_in, fixture_at, new_progress}
+use Rattle.kdf_processor.specs.Effect.{Act, Asks, Question, FreeOf, Effect, Failing, Ending, Keeping, Starting, Asking, Returning}
 use Rattle.kdf_processor.specs.Needs.{next_effect}
-use Rattle.kdf_processor.specs.Row.{transferred, perform, done_by, next_of, row}
+use Rattle.kdf_processor.specs.Row.{answered, released, transferred, perform, done_by, next_of, row}
 use Rattle.kdf_processor.specs.Lone.{is_live, lone_step, lone}
 use Rattle.kdf_processor.proofs.AreaLemmas.{length-stored}
 
@@ -40,13 +40,47 @@ transferred_devices : (d : ℕ) (o : TransferOrder) (first last : ℕ) (f : Opti
 transferred_devices d o first last None k = refl
 transferred_devices d o first last (Some f) k = length-set k.devices d _
 
+-- so does an answer, but that it was taken, and a device that is given back
+pub answered_asked : (question : Question) (a : ℕ) (k : Stock) → (answered question a k).asked ≡ k.asked + 1
+answered_asked (FreeOf kind) a k = refl
+answered_asked question a k = refl
+
+answered_size : (question : Question) (a : ℕ) (k : Stock) → (answered question a k).claims.size ≡ k.claims.size
+answered_size (FreeOf kind) a k = refl
+answered_size question a k = refl
+
+answered_store : (question : Question) (a : ℕ) (k : Stock) → length (answered question a k).store ≡ length k.store
+answered_store (FreeOf kind) a k = refl
+answered_store question a k = refl
+
+answered_devices : (question : Question) (a : ℕ) (k : Stock) → length (answered question a k).devices ≡ length k.devices
+answered_devices (FreeOf kind) a k = refl
+answered_devices question a k = refl
+
+pub released_asked : (pooled : Bool) (d : ℕ) (k : Stock) → (released pooled d k).asked ≡ k.asked
+released_asked true d k = refl
+released_asked false d k = refl
+
+released_size : (pooled : Bool) (d : ℕ) (k : Stock) → (released pooled d k).claims.size ≡ k.claims.size
+released_size true d k = refl
+released_size false d k = refl
+
+released_store : (pooled : Bool) (d : ℕ) (k : Stock) → length (released pooled d k).store ≡ length k.store
+released_store true d k = refl
+released_store false d k = refl
+
+released_devices : (pooled : Bool) (d : ℕ) (k : Stock) → length (released pooled d k).devices ≡ length k.devices
+released_devices true d k = length-set k.devices d new_progress
+released_devices false d k = refl
+
 -- how many answers an act takes
 abbrev pub asks : Act → ℕ
 asks (Asks question answer) = 1
 asks act = 0
 
 asked_perform : (answer : Question → ℕ) (e : Effect) (s : State) → (perform answer e s).stock.asked ≡ s.stock.asked + asks (done_by answer e s).act
-asked_perform answer (Asking question after) s = refl
+asked_perform answer (Asking question after) s = answered_asked question (answer question) s.stock
+asked_perform answer (Returning pooled d after) s = released_asked pooled d s.stock ∙ omega arith
 asked_perform answer (Starting d o first last after) s = transferred_asked d o first last (fixture_at s.stock.claims d) s.stock ∙ omega arith
 asked_perform answer e s = omega arith
 
@@ -65,6 +99,8 @@ asked_most answer s = omega (arith, asked_row answer s, asks_few (next_of s answ
 size_perform : (answer : Question → ℕ) (e : Effect) (s : State) → (perform answer e s).stock.claims.size ≡ s.stock.claims.size
 size_perform answer (Failing kind) s = refl
 size_perform answer (Starting d o first last after) s = ap (λ (c : Claims). c.size) (transferred_claims d o first last (fixture_at s.stock.claims d) s.stock)
+size_perform answer (Asking question after) s = answered_size question (answer question) s.stock
+size_perform answer (Returning pooled d after) s = released_size pooled d s.stock
 size_perform answer e s = refl
 
 -- the size of the store is what it was
@@ -74,6 +110,8 @@ size_row answer s = size_perform answer (next_effect s) s
 store_perform : (answer : Question → ℕ) (e : Effect) (s : State) → length (perform answer e s).stock.store ≡ length s.stock.store
 store_perform answer (Keeping address w after) s = length-set s.stock.store address _
 store_perform answer (Starting d o first last after) s = transferred_store d o first last (fixture_at s.stock.claims d) s.stock
+store_perform answer (Asking question after) s = answered_store question (answer question) s.stock
+store_perform answer (Returning pooled d after) s = released_store pooled d s.stock
 store_perform answer e s = refl
 
 -- and so is the number of its words
@@ -82,6 +120,8 @@ store_row answer s = store_perform answer (next_effect s) s
 
 devices_perform : (answer : Question → ℕ) (e : Effect) (s : State) → length (perform answer e s).stock.devices ≡ length s.stock.devices
 devices_perform answer (Starting d o first last after) s = transferred_devices d o first last (fixture_at s.stock.claims d) s.stock
+devices_perform answer (Asking question after) s = answered_devices question (answer question) s.stock
+devices_perform answer (Returning pooled d after) s = released_devices pooled d s.stock
 devices_perform answer e s = refl
 
 -- and of its devices
@@ -136,6 +176,32 @@ step_sizes answers s =
 pub size_lone : (start : State) (answers : List ℕ) (n : ℕ) → (lone start answers n).stock.claims.size ≡ start.stock.claims.size
 size_lone start answers zero = refl
 size_lone start answers (suc n) = step_sizes answers (lone start answers n) ∙ size_lone start answers n
+
+answered_pool : (question : Question) (a : ℕ) (k : Stock) → (answered question a k).claims.pool ≡ k.claims.pool
+answered_pool (FreeOf kind) a k = refl
+answered_pool question a k = refl
+
+released_pool : (pooled : Bool) (d : ℕ) (k : Stock) → (released pooled d k).claims.pool ≡ k.claims.pool
+released_pool true d k = refl
+released_pool false d k = refl
+
+pool_perform : (answer : Question → ℕ) (e : Effect) (s : State) → (perform answer e s).stock.claims.pool ≡ s.stock.claims.pool
+pool_perform answer (Starting d o first last after) s = ap (λ (c : Claims). c.pool) (transferred_claims d o first last (fixture_at s.stock.claims d) s.stock)
+pool_perform answer (Asking question after) s = answered_pool question (answer question) s.stock
+pool_perform answer (Returning pooled d after) s = released_pool pooled d s.stock
+pool_perform answer e s = refl
+
+step_pools : (answers : List ℕ) (s : State) → (lone_step answers s).stock.claims.pool ≡ s.stock.claims.pool
+step_pools answers s =
+    ⊎_elim
+    (λ (live : is_live s.registers.state ≡ true). rw live (pool_perform (next_answer answers s) (next_effect s) s))
+    (λ (over : is_live s.registers.state ≡ false). rw over refl)
+    (cases_Bool (is_live s.registers.state))
+
+-- and the pool
+pub pool_lone : (start : State) (answers : List ℕ) (n : ℕ) → (lone start answers n).stock.claims.pool ≡ start.stock.claims.pool
+pool_lone start answers zero = refl
+pool_lone start answers (suc n) = step_pools answers (lone start answers n) ∙ pool_lone start answers n
 
 step_counts : (answers : List ℕ) (s : State) → (s.registers.ran ≤ (lone_step answers s).registers.ran) × ((lone_step answers s).registers.ran ≤ s.registers.ran + 1) × ((lone_step answers s).stock.asked ≤ s.stock.asked + 1)
 step_counts answers s =

@@ -19,21 +19,22 @@ use Rattle.kdf_processor.specs.declared.step.Need.TheVariants.{Group}
 use Rattle.std.specs.Prelude.{find}
 use Rattle.kdf_processor.specs.declared.test.Test.TheVariants.{Flag, Start, Mark}
 use Rattle.kdf_processor.specs.declared.registers.Registers.{Registers}
-use Rattle.kdf_processor.specs.Ahead.{IsSmall, may_begin, may_want}
+use Rattle.kdf_processor.specs.Ahead.{IsSmall, may_want}
 use Rattle.kdf_processor.specs.Fetch.{IsFetchedAt}
 use Rattle.kdf_processor.specs.declared.fetch.Fetched.{Fetched}
 use Rattle.kdf_processor.specs.declared.fetch.Fetched.TheVariants.{Spelt, Bad, Held}
 use Rattle.kdf_processor.specs.State.{Claims}
-use Rattle.kdf_processor.specs.Effect.{Change, Refused, Going, of_change, Effect, Failing, Ending, Changing, Fetching, Keeping, Testing, Starting, Asking, IsBusy, IsOut, Time, Claiming, Returning, Spooling}
+use Rattle.kdf_processor.specs.Effect.{Change, Refused, Going, of_change, Effect, Failing, Ending, Changing, Fetching, Keeping, Testing, Starting, Asking, IsBusy, IsOut, Time, FreeOf, Claiming, Returning, Spooling}
 use Rattle.kdf_processor.specs.Needs.{effect_or_liv, effect_needs, effect_at, needs_at, fetch_needs, order_at}
 use Rattle.kdf_processor.specs.Outcome.{Outcome, done, held_or, outcome, try_effect}
 use Rattle.kdf_processor.specs.Plan.{try_decoded}
 use Rattle.kdf_processor.specs.Table.{with_nest, room, on_top, plain_row, change_of, part_of, counts_on, moves, has_bit, indirect_address, indirect_half, indirect_effect, direct_effect, sets_tr, answered_in_tr, query_effect, guarded, effect}
 use Rattle.kdf_processor.specs.View.{View, is_pending, first_pending}
 
--- an effect that neither begins a transfer nor spools
+-- an effect that neither begins a transfer, nor takes a device from the pool, nor spools
 abbrev pub IsMild : Effect → Type 0
 IsMild (Starting d o first last after) = ⊥
+IsMild (Asking (FreeOf kind) after) = ⊥
 IsMild (Spooling stream first last after) = ⊥
 IsMild _ = Unit {0}
 
@@ -46,9 +47,10 @@ done_small v r (Fetching a after) h = tt
 done_small v r (Keeping a w after) h = tt
 done_small v r (Testing d what after) h = tt
 done_small v r (Starting d o first last after) h = absurd h
+done_small v r (Asking (FreeOf kind) after) h = absurd h
 done_small v r (Asking q after) h = tt
 done_small v r (Claiming d after) h = tt
-done_small v r (Returning d after) h = tt
+done_small v r (Returning pooled d after) h = tt
 done_small v r (Spooling stream first last after) h = absurd h
 
 held_small : (r : Registers) (n : Option Need) (o : Outcome) → IsSmall o.act → IsSmall (held_or r n o).act
@@ -77,8 +79,9 @@ guarded_mild c (Starting d o first last after) h = absurd h
 guarded_mild c (Asking (IsBusy d) after) h = either_mild _ (Asking (IsBusy d) after) (Failing Claim) tt tt
 guarded_mild c (Asking (IsOut first last) after) h = either_mild _ (Asking (IsOut first last) after) (Failing Liv) tt tt
 guarded_mild c (Asking Time after) h = tt
+guarded_mild c (Asking (FreeOf kind) after) h = absurd h
 guarded_mild c (Claiming d after) h = tt
-guarded_mild c (Returning d after) h = either_mild _ (Returning d after) (Failing Claim) tt tt
+guarded_mild c (Returning pooled d after) h = either_mild _ (Returning pooled d after) (Failing Claim) tt tt
 guarded_mild c (Spooling stream first last after) h = absurd h
 
 change_mild : (x : Change) → IsMild (of_change x)

@@ -5,25 +5,33 @@ use Rattle.kdf_processor.specs.declared.look.Ahead.{Ahead}
 use Rattle.kdf_processor.specs.declared.look.Ahead.TheVariants as ahead
 use Rattle.kdf_processor.specs.declared.fetch.Fetched.{Fetched}
 use Rattle.kdf_processor.specs.declared.fetch.Fetched.TheVariants.{Spelt, Bad, Held}
-use Rattle.kdf_processor.specs.Effect.{Act, Starts, Spools}
+use Rattle.kdf_processor.specs.Effect.{Act, Starts, Asks, FreeOf, Spools}
 
--- an act that neither begins a transfer nor spools
+-- an act that neither begins a transfer, nor takes a device from the pool, nor spools
 abbrev pub IsSmall : Act → Type 0
 IsSmall (Starts d o first last) = ⊥
+IsSmall (Asks (FreeOf kind) answer) = ⊥
 IsSmall (Spools stream first last) = ⊥
 IsSmall _ = Unit {0}
+
+-- an act that may take a device from the pool
+abbrev pub IsTaking : Act → Type 0
+IsTaking (Starts d o first last) = ⊥
+IsTaking (Spools stream first last) = ⊥
+IsTaking _ = Unit {0}
 
 -- this act is ahead
 abbrev pub IsAhead : Act → Ahead → Type 0
 IsAhead act (ahead.Starts d o first last) = act ≡ Starts d o first last
 IsAhead act (ahead.Spools stream first last) = act ≡ Spools stream first last
+IsAhead act ahead.Takes = IsTaking act
 IsAhead act ahead.Else = IsSmall act
 
 -- an order that begins with this syllable may act otherwise: it is that of OUT, or of one that begins a transfer
 abbrev pub may_begin : ℕ → Bool
 may_begin first = first == 0x21 || is_in_range 0x70 0x7D first
 
--- and so may an order that was fetched
+-- an order that was fetched may act otherwise: it is OUT, or one that begins a transfer
 abbrev pub may_want : Fetched → Bool
 may_want (Spelt a b d) = may_begin a
 may_want Bad = false

@@ -1,11 +1,11 @@
 -- Which devices a program has claimed, and which it may claim.
-use Rattle.std.specs.Prelude.{ℕ, ◌==◌, Bool, true, false, not, ◌&&◌, nat_lt, Option, Some, None, is_some, if◌then◌else◌, find, slice_index_or}
+use Rattle.std.specs.Prelude.{ℕ, ◌==◌, Bool, true, false, not, ◌&&◌, nat_lt, Option, Some, None, is_some, if◌then◌else◌, find, slice_index_or, unwrap_or}
 use Rattle.std.specs.List.{range_with_len}
 use Rattle.std.specs.Option.{option_map}
 use Rattle.kdf_journal.specs.declared.kind.Kind.{Kind}
 use Rattle.kdf_journal.specs.declared.kind.Kind.TheVariants.{Tr, Tp, Cr, Lp, Mt}
 use Rattle.kdf_transfer.specs.Devices.{Fixture}
-use Rattle.kdf_processor.specs.State.{Claims, fixture_at, device_limit}
+use Rattle.kdf_processor.specs.State.{Claims, fixture_at, own_fixture_at, pool_kind_at, device_limit}
 
 -- there is a kind, and it is this one
 abbrev pub is_kind : Kind → Option Kind → Bool
@@ -16,7 +16,7 @@ is_kind Lp (Some Lp) = true
 is_kind Mt (Some Mt) = true
 is_kind _ _ = false
 
--- the kind of a device of the program
+-- the kind of a device of the program or of the pool
 abbrev pub kind_at : Claims → ℕ → Option Kind
 kind_at c d = option_map (λ (f : Fixture). f.kind) (fixture_at c d)
 
@@ -25,6 +25,7 @@ abbrev pub claim : Claims → ℕ → Option Kind
 claim c d =
     if nat_lt d device_limit && slice_index_or c.claimed d false then kind_at c d else None
 
+-- the program has claimed a device
 abbrev pub is_claimed : Claims → ℕ → Bool
 is_claimed c d = is_some (claim c d)
 
@@ -33,15 +34,19 @@ abbrev pub has_label : ℕ → Option Fixture → Bool
 has_label label None = false
 has_label label (Some f) = is_kind Mt (Some f.kind) && f.label == label
 
--- the least device of this kind that isn't claimed
+-- the kind of a device of the program's own
+abbrev pub own_kind_at : Claims → ℕ → Option Kind
+own_kind_at c d = option_map (λ (f : Fixture). f.kind) (own_fixture_at c d)
+
+-- the least device of this kind, of the program's own, that isn't claimed
 unfoldable pub free_kind : Claims → Kind → Option ℕ
 free_kind c k =
-    find (λ d. is_kind k (kind_at c d) && not (is_claimed c d)) (range_with_len 0 device_limit)
+    find (λ d. is_kind k (own_kind_at c d) && not (is_claimed c d)) (range_with_len 0 device_limit)
 
 -- the least tape with this label that isn't claimed
 unfoldable pub free_label : Claims → ℕ → Option ℕ
 free_label c label =
-    find (λ d. has_label label (fixture_at c d) && not (is_claimed c d))
+    find (λ d. has_label label (own_fixture_at c d) && not (is_claimed c d))
     (range_with_len 0 device_limit)
 
 -- the kinds that a program may claim by number
@@ -52,3 +57,19 @@ kind_numbered n =
     else (if n == 3 then Some Lp
     else (if n == 4 then Some Cr
     else None)))
+
+-- a device of the pool is of this kind, and the program hasn't claimed it
+abbrev pub can_take : Claims → Kind → ℕ → Bool
+can_take c k d = is_kind k (pool_kind_at c d) && not (is_claimed c d)
+
+-- the least such device
+unfoldable pub least_pooled : Claims → Kind → Option ℕ
+least_pooled c k = find (can_take c k) (range_with_len 0 device_limit)
+
+-- there is one
+abbrev pub may_take : Claims → Kind → Bool
+may_take c k = is_some (least_pooled c k)
+
+-- the device that is taken where a is the answer: a itself where it is such, else the least
+abbrev pub taken : Claims → Kind → ℕ → ℕ
+taken c k a = if can_take c k a then a else unwrap_or (least_pooled c k) 0

@@ -1,15 +1,18 @@
 -- What an order does, and what is done to a program beside its registers.
 use Rattle.std.specs.Prelude.{◌≡◌, ℕ, Bool, Result, MatchResult}
 use Rattle.kdf_journal.specs.declared.failure.Failure.{Failure}
+use Rattle.kdf_journal.specs.declared.kind.Kind.{Kind}
 use Rattle.kdf_transfer.specs.declared.order.TransferOrder.{TransferOrder}
 use Rattle.kdf_processor.specs.declared.registers.Registers.{Registers}
 use Rattle.kdf_processor.specs.declared.test.Test.{Test}
 
--- What an order asks the machine: whether a device has a transfer, whether a group of an area is locked out, and the time.
+-- What an order asks the machine: whether a device has a transfer, whether a group of an area is locked out, the time, and
+-- which device of a kind in the pool it may take.
 pub data Question : Type 0 where
   IsBusy : (device : ℕ) → Question
   IsOut : (first last : ℕ) → Question
   Time : Question
+  FreeOf : (kind : Kind) → Question
 
 -- What an order does that reads and changes registers alone.
 pub data Change : Type 0 where
@@ -26,7 +29,7 @@ abbrev pub Comes : Change → (old new : Registers) → Result (Unit {0}) Failur
 Comes change old new result =
     MatchResult result (λ _. change ≡ Going new) (λ kind. (change ≡ Refused kind) × (new ≡ old))
 
--- And a decision likewise.
+-- A decision comes out so: it was made, with these registers, or it was refused, and they are as they were.
 abbrev pub Decides : Decision → (old new : Registers) → Result Bool Failure → Type 0
 Decides decision old new result =
     MatchResult result (λ jumps. decision ≡ Decided jumps new)
@@ -45,7 +48,8 @@ pub data Effect : Type 0 where
   Starting : (device : ℕ) (order : TransferOrder) (first last : ℕ) (after : Registers) → Effect
   Asking : (question : Question) (after : ℕ → Registers) → Effect
   Claiming : (device : ℕ) (after : Registers) → Effect
-  Returning : (device : ℕ) (after : Registers) → Effect
+  -- to the pool, or to the program's own
+  Returning : (pooled : Bool) (device : ℕ) (after : Registers) → Effect
   Spooling : (stream first last : ℕ) (after : Registers) → Effect
 
 -- such a change as an effect
@@ -60,5 +64,5 @@ pub data Act : Type 0 where
   Starts : (device : ℕ) (order : TransferOrder) (first last : ℕ) → Act
   Asks : (question : Question) (answer : ℕ) → Act
   Acquires : (device : ℕ) → Act
-  Releases : (device : ℕ) → Act
+  Releases : (pooled : Bool) (device : ℕ) → Act
   Spools : (stream first last : ℕ) → Act

@@ -1,5 +1,5 @@
 -- Registers and a store on which the rows of the table are worked.
-use Rattle.std.specs.Prelude.{ℕ, ◌+◌, ◌-◌, ◌*◌, ◌^◌, List, [], ◌∷◌, ◌++◌, Bool, true, false, replicate, Option, Some, None}
+use Rattle.std.specs.Prelude.{ℕ, ◌+◌, ◌-◌, ◌*◌, ◌^◌, List, [], ◌∷◌, ◌++◌, Bool, true, false, replicate, unwrap_or, Option, Some, None}
 use Rattle.kdf_qstore.specs.declared.triple.Triple.{Triple}
 use Rattle.kdf_qstore.specs.Triples.{zero_triples, with_triple}
 use Rattle.kdf_syllable.specs.declared.order.Order.{Order}
@@ -15,7 +15,8 @@ use Rattle.kdf_processor.specs.declared.step.Need.{Need}
 use Rattle.kdf_processor.specs.declared.registers.Life.TheVariants.{Ended, Failed}
 use Rattle.kdf_processor.specs.declared.registers.Registers.{Registers}
 use Rattle.kdf_processor.specs.declared.step.Step.TheVariants.{Done, Ends, Fails}
-use Rattle.kdf_processor.specs.Effect.{Change, Going, Act, Nothing, Starts}
+use Rattle.kdf_processor.specs.Claims.{least_pooled}
+use Rattle.kdf_processor.specs.Effect.{Change, Going, Question, FreeOf, Act, Nothing, Starts}
 use Rattle.kdf_processor.specs.Needs.{effect_needs}
 use Rattle.kdf_processor.specs.Outcome.{Outcome, done}
 use Rattle.kdf_processor.specs.State.{Claims, Stock, new_progress, new_registers, unclaimed}
@@ -77,12 +78,13 @@ word a = 2 ^ 24 * a + 7
 abbrev pub shown : View
 shown =
     record {
-      claims = record { size = 64; claimed = unclaimed; fixtures = [] };
+      claims = record { size = 64; claimed = unclaimed; fixtures = []; pool = [] };
       word = word;
       test = λ d what. false;
       answer = λ q. 0;
       is_out = λ _. false;
       is_busy = λ _. false;
+      is_taken = λ _. false;
       mine = [];
     }
 
@@ -128,7 +130,12 @@ devices =
 -- a store of 8,192 words, and these devices, of which the first n are claimed
 abbrev pub claiming : ℕ → Claims
 claiming n =
-    record { size = 8192; claimed = replicate n true ++ replicate (16 - n) false; fixtures = devices }
+    record {
+      size = 8192;
+      claimed = replicate n true ++ replicate (16 - n) false;
+      fixtures = devices;
+      pool = [];
+    }
 
 -- with devices that have come so far, and an answer to each question
 abbrev pub equipped : ℕ → Progress → ℕ → View
@@ -140,6 +147,7 @@ equipped n progress answer =
       answer = λ q. answer;
       is_out = λ _. false;
       is_busy = λ _. false;
+      is_taken = λ _. false;
       mine = [];
     }
 
@@ -194,7 +202,7 @@ rejects nest kind = fails (calling nest) kind
 abbrev pub waits_for : Registers → Order → List Need
 waits_for r o = effect_needs (2 ∷ 5 ∷ []) (effect (claiming 6) r o)
 
--- and OUT that ends the program with this nest
+-- OUT ends the program, with this nest
 abbrev pub ends_behind : List ℕ → Outcome
 ends_behind nest = ends (record (linked 61 nest []) { ran = 41 })
 
@@ -202,9 +210,20 @@ ends_behind nest = ends (record (linked 61 nest []) { ran = 41 })
 abbrev pub kept : List Bool → List Spooled → ℕ → List ℕ → Progress → Stock
 kept claimed spooled asked store progress =
     record {
-      claims = record { size = 4; claimed = claimed; fixtures = Some (paper ab) ∷ [] };
+      claims = record { size = 4; claimed = claimed; fixtures = Some (paper ab) ∷ []; pool = [] };
       spooled = spooled;
       asked = asked;
+      stints = [];
       store = store;
       devices = progress ∷ [];
     }
+
+-- what is answered that depends on nothing but a question of the pool: there the least device that may be taken, and else a
+abbrev pub answer_of : Claims → ℕ → Question → ℕ
+answer_of c a (FreeOf kind) = unwrap_or (least_pooled c kind) 0
+answer_of c a question = a
+
+-- an acting call where transfers move nothing
+abbrev pub still : Act → Act
+still (Starts d o first last) = Nothing
+still act = act

@@ -12,6 +12,7 @@ pub record Agrees (hidden : Need → Bool) (s t : State) : Type 0 where
   pub claims : s.stock.claims ≡ t.stock.claims
   pub spooled : s.stock.spooled ≡ t.stock.spooled
   pub asked : s.stock.asked ≡ t.stock.asked
+  pub stints : s.stock.stints ≡ t.stock.stints
   pub size : length s.stock.store ≡ length t.stock.store
   pub number : length s.stock.devices ≡ length t.stock.devices
   pub words : (a : ℕ) → hidden (Group (group_of a)) ≡ false → word_at s a ≡ word_at t a

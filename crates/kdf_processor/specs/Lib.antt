@@ -10,6 +10,8 @@ pub mod Lone
 pub mod Frame
 pub mod Jumps
 pub mod Examples
+pub mod PoolExamples
 pub mod Fetch
 pub mod Plan
 pub mod Ahead
+pub mod Stints

@@ -6,7 +6,7 @@ use Rattle.kdf_processor.specs.declared.registers.Life.TheVariants.{Live, Ended,
 use Rattle.kdf_processor.specs.State.{State}
 use Rattle.kdf_processor.specs.Row.{row}
 
--- a program runs
+-- a program runs: it hasn't ended and hasn't failed
 abbrev pub is_live : Life → Bool
 is_live Live = true
 is_live Ended = false
@@ -17,7 +17,7 @@ abbrev pub lone_step : List ℕ → State → State
 lone_step answers s =
     if is_live s.registers.state then row s (λ _. slice_index answers s.stock.asked) else s
 
--- the state after n orders
+-- the state of a program by itself after n orders
 abbrev pub lone : State → List ℕ → ℕ → State
 lone start answers zero = start
 lone start answers (suc n) = lone_step answers (lone start answers n)

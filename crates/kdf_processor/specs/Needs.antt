@@ -7,11 +7,11 @@ use Rattle.kdf_syllable.specs.Packing.{syllable}
 use Rattle.kdf_syllable.specs.Spelling.{size_of_first}
 use Rattle.kdf_journal.specs.declared.failure.Failure.TheVariants.{Liv}
 use Rattle.kdf_processor.specs.declared.step.Need.{Need}
-use Rattle.kdf_processor.specs.declared.step.Need.TheVariants.{Group, Device}
+use Rattle.kdf_processor.specs.declared.step.Need.TheVariants.{Group, Device, Pool}
 use Rattle.kdf_processor.specs.declared.registers.Registers.{Registers}
 use Rattle.kdf_decode.specs.Decoding.{decoded}
 use Rattle.kdf_processor.specs.State.{Claims, State, word_at}
-use Rattle.kdf_processor.specs.Effect.{Effect, Failing, Ending, Changing, Fetching, Keeping, Testing, Starting, Asking, Claiming, Returning, Spooling}
+use Rattle.kdf_processor.specs.Effect.{Question, FreeOf, Effect, Failing, Ending, Changing, Fetching, Keeping, Testing, Starting, Asking, Claiming, Returning, Spooling}
 use Rattle.kdf_processor.specs.Table.{on, effect}
 use Rattle.kdf_processor.specs.View.{groups_of, order_groups}
 
@@ -63,6 +63,11 @@ effect_or_liv c r (Some o) = effect c r o
 abbrev pub effect_at : Claims → (ℕ → ℕ) → Registers → Effect
 effect_at c word r = effect_or_liv c r (order_at c.size word r.at)
 
+-- what an order needs that asks: one that takes from the pool, a device of the kind
+abbrev pub question_needs : Question → List Need
+question_needs (FreeOf kind) = Pool kind ∷ []
+question_needs _ = []
+
 -- what an effect needs, where the program has transfers on these devices: one that fails or ends waits for all of them
 abbrev pub effect_needs : List ℕ → Effect → List Need
 effect_needs mine (Failing kind) = map Device mine
@@ -72,9 +77,9 @@ effect_needs mine (Fetching a after) = Group (group_of a) ∷ []
 effect_needs mine (Keeping a w after) = Group (group_of a) ∷ []
 effect_needs mine (Testing d what after) = Device d ∷ []
 effect_needs mine (Starting d o first last after) = Device d ∷ map Group (order_groups o first last)
-effect_needs mine (Asking question after) = []
+effect_needs mine (Asking question after) = question_needs question
 effect_needs mine (Claiming d after) = []
-effect_needs mine (Returning d after) = Device d ∷ []
+effect_needs mine (Returning pooled d after) = Device d ∷ []
 effect_needs mine (Spooling stream first last after) = map Group (groups_of first last)
 
 -- the groups of the next order's syllables, and then what its effect needs

@@ -45,7 +45,7 @@ done v r (Testing d what after) = went r (after (v.test d what)) Nothing
 done v r (Starting d o first last after) = went r after (Starts d o first last)
 done v r (Asking q after) = went r (after (v.answer q)) (Asks q (v.answer q))
 done v r (Claiming d after) = went r after (Acquires d)
-done v r (Returning d after) = went r after (Releases d)
+done v r (Returning pooled d after) = went r after (Releases pooled d)
 done v r (Spooling stream first last after) = went r after (Spools stream first last)
 
 -- held up by the first need that is pending, or else the outcome
@@ -53,7 +53,7 @@ abbrev pub held_or : Registers → Option Need → Outcome → Outcome
 held_or r (Some need) o = record { step = Held need; registers = r; act = Nothing }
 held_or r None o = o
 
--- the next order
+-- the outcome of the next order
 abbrev pub outcome : View → Registers → Outcome
 outcome v r =
     held_or r (first_pending v (needs_at v.claims v.word r v.mine))

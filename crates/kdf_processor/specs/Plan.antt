@@ -1,5 +1,5 @@
 -- What a plan stands for.
-use Rattle.std.specs.Prelude.{◌≡◌, ◌≢◌, ℕ, ◌+◌, ◌%◌, ◌^◌, ◌<◌, ◌≤◌, true, nat_lt, Option, Some, None, List, [], ◌∷◌, length}
+use Rattle.std.specs.Prelude.{◌≡◌, ◌≢◌, ℕ, ◌%◌, ◌^◌, ◌<◌, ◌≤◌, true, Option, Some, None, List, [], ◌∷◌, length}
 use Rattle.kdf_syllable.specs.declared.order.Order.{Order}
 use Rattle.kdf_syllable.specs.declared.order.Order.TheVariants as order
 use Rattle.kdf_syllable.specs.Spelling.{IsQ}
@@ -10,14 +10,14 @@ use Rattle.kdf_processor.specs.declared.plan.Beginning.{Beginning}
 use Rattle.kdf_processor.specs.declared.registers.Registers.{Registers}
 use Rattle.kdf_processor.specs.declared.test.Test.TheVariants.{Flag}
 use Rattle.kdf_transfer.specs.AtOnce.{kind_of, has_area, IsArea}
-use Rattle.kdf_processor.specs.State.{Claims, device_limit}
+use Rattle.kdf_processor.specs.State.{Claims, device_limit, is_pooled}
 use Rattle.kdf_processor.specs.Claims.{claim, is_kind, is_claimed, free_kind, free_label}
 use Rattle.kdf_processor.specs.Effect.{Act, Nothing, Acquires, of_change}
 use Rattle.kdf_processor.specs.Effect.{Effect, Failing, Ending, Changing, Fetching, Keeping, Testing, Starting, Asking, IsBusy, IsOut, Time, Returning, Spooling}
 use Rattle.kdf_processor.specs.Needs.{effect_or_liv}
 use Rattle.kdf_processor.specs.Outcome.{Outcome, done, try_effect}
 use Rattle.kdf_processor.specs.View.{View}
-use Rattle.kdf_processor.specs.Table.{with_nest, part_of, with_part, counts_on, effect, change_of, sets_tr, answered_in_tr, claims_found}
+use Rattle.kdf_processor.specs.Table.{with_nest, part_of, with_part, counts_on, effect, change_of, sets_tr, answered_in_tr, claims_found, claims_or_takes}
 
 -- the top of a nest
 abbrev pub top : List ℕ → ℕ
@@ -50,8 +50,8 @@ planned c (AskBusy d) r = Asking (IsBusy d) (answered_in_tr r)
 planned c (AskArea first last) r = Asking (IsOut first last) (answered_in_tr r)
 planned c AskTime r = Asking Time (λ t. with_nest 1 (t % 2 ^ 48 ∷ below_top r.nest) r)
 planned c (ClaimLabel label) r = claims_found r (below_two r.nest) (free_label c label)
-planned c (ClaimKind kind) r = claims_found r (below_two r.nest) (free_kind c kind)
-planned c (GiveBack d) r = Returning d (with_nest 1 (below_two r.nest) r)
+planned c (ClaimKind kind) r = claims_or_takes c r (below_two r.nest) kind (free_kind c kind)
+planned c (GiveBack d) r = Returning (is_pooled c d) d (with_nest 1 (below_two r.nest) r)
 planned c (Spool stream first last) r =
     Spooling stream first last (with_nest 1 (below_two r.nest) r)
 
@@ -130,7 +130,7 @@ try_order v r o = try_effect v r (effect v.claims r o)
 abbrev pub try_decoded : View → Registers → Option Order → Outcome
 try_decoded v r o = try_effect v r (effect_or_liv v.claims r o)
 
--- and of one that changes registers alone
+-- the try of an order that changes registers alone
 abbrev pub try_change : View → Registers → Order → Outcome
 try_change v r o = try_effect v r (of_change (change_of r o))
 

@@ -1,6 +1,8 @@
 -- The state of a program by itself.
-use Rattle.std.specs.Prelude.{ℕ, ◌-◌, List, [], ◌++◌, Bool, false, Option, None, length, replicate, slice_index, slice_index_or}
+use Rattle.std.specs.Prelude.{ℕ, ◌-◌, List, [], ◌++◌, Bool, false, Option, Some, None, is_some, length, map, replicate, slice_index, slice_index_or, unwrap_or}
 use Rattle.kdf_qstore.specs.Triples.{zero_triples}
+use Rattle.kdf_journal.specs.declared.kind.Kind.{Kind}
+use Rattle.kdf_journal.specs.declared.kind.Kind.TheVariants.{Tp}
 use Rattle.kdf_transfer.specs.Devices.{Fixture, Progress}
 use Rattle.kdf_processor.specs.declared.registers.Life.TheVariants.{Live}
 use Rattle.kdf_processor.specs.declared.registers.Registers.{Registers}
@@ -11,18 +13,27 @@ abbrev pub device_limit : ℕ
 device_limit = 16
 
 -- what an order is checked against, and no transfer hides: the size of the store,
--- and by number the devices and which of them are claimed
+-- and by number the program's own devices, the kinds of those in the pool, and which of both are claimed
 pub record Claims : Type 0 where
   pub size : ℕ
   pub claimed : List Bool
   pub fixtures : List (Option Fixture)
+  pub pool : List (Option Kind)
 
--- what a program has beside its registers
+-- a stint: that a device of the pool was taken. Until it is given back, the device of its number tells how far it has come;
+-- then the stint keeps that
+pub record Stint : Type 0 where
+  pub device : ℕ
+  pub left : Option Progress
+
+-- what a program has beside its registers: that; what it spooled; how many answers it took; its stints, in the order in which the devices were taken; its words; and by number how far each device has come
 pub record Stock : Type 0 where
   pub claims : Claims
   pub spooled : List Spooled
   -- how many answers it took
   pub asked : ℕ
+  -- its stints, in the order in which the devices were taken
+  pub stints : List Stint
   -- what a transfer may hide: the words, and by number how far each device has come
   pub store : List ℕ
   pub devices : List Progress
@@ -50,9 +61,49 @@ device_in k d = slice_index_or k.devices d new_progress
 abbrev pub device_at : State → ℕ → Progress
 device_at s d = device_in s.stock d
 
--- what a device is, where the program has one of this number
+-- what a device of the program's own is, where it has one of this number
+abbrev pub own_fixture_at : Claims → ℕ → Option Fixture
+own_fixture_at c d = slice_index_or c.fixtures d None
+
+-- the kind of a device of the pool, where it has one of this number
+abbrev pub pool_kind_at : Claims → ℕ → Option Kind
+pool_kind_at c d = slice_index_or c.pool d None
+
+abbrev pub is_pooled : Claims → ℕ → Bool
+is_pooled c d = is_some (pool_kind_at c d)
+
+-- what a device of the pool is: a punch or a printer
+abbrev pub pool_fixture : Kind → Fixture
+pool_fixture kind = record { kind = kind; label = 0; codes = []; cards = [] }
+
+-- a device of the pool, or else this one
+abbrev pub pooled_or : Option Kind → Option Fixture → Option Fixture
+pooled_or (Some kind) own = Some (pool_fixture kind)
+pooled_or None own = own
+
+-- what a device is, where the program or the pool has one of this number; no number is both's
 abbrev pub fixture_at : Claims → ℕ → Option Fixture
-fixture_at c d = slice_index_or c.fixtures d None
+fixture_at c d = pooled_or (pool_kind_at c d) (own_fixture_at c d)
+
+-- a stint as it is seen: the number and the kind of its device, how far that has come, and whether it was given back
+pub record Lending : Type 0 where
+  pub device : ℕ
+  pub kind : Kind
+  pub progress : Progress
+  pub given : Bool
+
+abbrev pub lending_of : Stock → Stint → Lending
+lending_of k x =
+    record {
+      device = x.device;
+      kind = unwrap_or (pool_kind_at k.claims x.device) Tp;
+      progress = unwrap_or x.left (device_in k x.device);
+      given = is_some x.left;
+    }
+
+-- the stints of a program, in the order in which the devices were taken
+unfoldable pub lendings : Stock → List Lending
+lendings k = map (lending_of k) k.stints
 
 -- a live program that has obeyed no order: its next is at syllable 0 of word 0
 abbrev pub new_registers : Registers
@@ -75,21 +126,25 @@ filled size image = image ++ replicate (size - length image) 0
 unfoldable pub unclaimed : List Bool
 unclaimed = replicate device_limit false
 
--- a slot as it is loaded: its number, the size of its store, the words of its image, and its devices by number
+-- a slot as it is loaded: its number, the size of its store, the words of its image, its devices by number, and by number the
+-- kinds of those in the pool
 pub record Slot : Type 0 where
   pub p : ℕ
   pub size : ℕ
   pub words : List ℕ
   pub fixtures : List (Option Fixture)
   pub devices : List Progress
+  pub pool : List (Option Kind)
 
--- what a program has at first: its store, with the image at its front, and its devices, none of them claimed
+-- what a program has at first: its store, with the image at its front, and its devices and those of the pool, none of them
+-- claimed
 abbrev pub stocked : Slot → Stock
 stocked s =
     record {
-      claims = record { size = s.size; claimed = unclaimed; fixtures = s.fixtures };
+      claims = record { size = s.size; claimed = unclaimed; fixtures = s.fixtures; pool = s.pool };
       spooled = [];
       asked = 0;
+      stints = [];
       store = filled s.size s.words;
       devices = s.devices;
     }

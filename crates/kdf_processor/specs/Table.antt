@@ -17,12 +17,11 @@ use Rattle.kdf_transfer.specs.AtOnce.{kind_of, has_area}
 use Rattle.kdf_transfer.specs.declared.order.TransferOrder.{TransferOrder}
 use Rattle.kdf_transfer.specs.declared.order.TransferOrder.TheVariants.{Prq, Preq, Pwq, Pweq, Crq, Lpq, Lpeq, Mfrq, Mbrq, Mwq, Mlwq, Mrwdq, Mfskq, Mbskq}
 use Rattle.kdf_processor.specs.declared.registers.Registers.{Registers}
-use Rattle.kdf_processor.specs.declared.test.Test.{Test}
 use Rattle.kdf_processor.specs.declared.test.Test.TheVariants.{Flag, Start, Mark}
-use Rattle.kdf_processor.specs.State.{Claims}
-use Rattle.kdf_processor.specs.Claims.{is_kind, claim, is_claimed, free_kind, free_label, kind_numbered}
+use Rattle.kdf_processor.specs.State.{Claims, is_pooled}
+use Rattle.kdf_processor.specs.Claims.{is_kind, claim, is_claimed, free_kind, free_label, kind_numbered, may_take, taken}
 use Rattle.kdf_processor.specs.Effect.{Change, Refused, Going, Decision, Undecided, Decided, of_change}
-use Rattle.kdf_processor.specs.Effect.{Effect, Failing, Ending, Changing, Fetching, Keeping, Testing, Starting, Asking, IsBusy, IsOut, Time, Claiming, Returning, Spooling}
+use Rattle.kdf_processor.specs.Effect.{Effect, Failing, Ending, Changing, Fetching, Keeping, Testing, Starting, Asking, IsBusy, IsOut, Time, FreeOf, Claiming, Returning, Spooling}
 
 -- the syllable that follows n syllables on; they are counted modulo 6 times 8,192
 abbrev pub on : ℕ → ℕ → ℕ
@@ -103,10 +102,18 @@ abbrev pub claims_found : Registers → List ℕ → Option ℕ → Effect
 claims_found r rest None = Failing Claim
 claims_found r rest (Some d) = Claiming d (with_nest 1 (d ∷ rest) r)
 
--- a device of a kind, where there is such a kind
+-- a device of a kind: the program's own that was found, or else one of the pool, where one isn't claimed; then the order asks which
+abbrev pub claims_or_takes : Claims → Registers → List ℕ → Kind → Option ℕ → Effect
+claims_or_takes c r rest kind (Some d) = Claiming d (with_nest 1 (d ∷ rest) r)
+claims_or_takes c r rest kind None =
+    if may_take c kind
+    then Asking (FreeOf kind) (λ a. with_nest 1 (taken c kind a ∷ rest) r)
+    else Failing Claim
+
+-- where there is such a kind
 abbrev pub claims_kind : Claims → Registers → List ℕ → Option Kind → Effect
 claims_kind c r rest None = Failing Out
-claims_kind c r rest (Some kind) = claims_found r rest (free_kind c kind)
+claims_kind c r rest (Some kind) = claims_or_takes c r rest kind (free_kind c kind)
 
 -- to one of eight streams, the characters of the area that a word names as a Q-store
 abbrev pub spools : Registers → List ℕ → Triple → Effect
@@ -123,7 +130,7 @@ out_effect c r number below =
     -- claim a device of a kind
     else (if number == 5 then on_top (Failing Nouv) below (λ n2 rest. claims_kind c r rest (kind_numbered n2))
     -- give a device back
-    else (if number == 6 then on_top (Failing Nouv) below (λ n2 rest. Returning n2 (with_nest 1 rest r))
+    else (if number == 6 then on_top (Failing Nouv) below (λ n2 rest. Returning (is_pooled c n2) n2 (with_nest 1 rest r))
     -- spool a text
     else (if number == 8 then on_top (Failing Nouv) below (λ n2 rest. spools r rest (triple_of n2))
     else (if number == 9 then Asking Time (λ t. with_nest 1 (t % 2 ^ 48 ∷ below) r)  -- the time
@@ -344,7 +351,7 @@ exit_row r n (link ∷ links) =
 abbrev pub sets_tr : Registers → Bool → Registers
 sets_tr r tr = with_nest 2 r.nest (with_tr tr r)
 
--- and one that sets it where its answer isn't 0
+-- an order of two syllables that sets TR where its answer isn't 0
 abbrev pub answered_in_tr : Registers → ℕ → Registers
 answered_in_tr r a = sets_tr r (nat_lt 0 a)
 
@@ -420,7 +427,7 @@ guarded c (Starting d o first last after) =
 guarded c (Asking (IsBusy d) after) = if_claimed c d (Asking (IsBusy d) after)
 guarded c (Asking (IsOut first last) after) =
     if_area c.size first last (Asking (IsOut first last) after)
-guarded c (Returning d after) = if_claimed c d (Returning d after)
+guarded c (Returning pooled d after) = if_claimed c d (Returning pooled d after)
 guarded c (Spooling stream first last after) =
     if_area c.size first last (Spooling stream first last after)
 guarded c e = e

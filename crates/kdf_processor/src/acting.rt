@@ -1,7 +1,7 @@
 //! The plans that act on devices, that ask and that spool, none of whose needs is pending.
 ghost use Rattle.std.specs.Prelude.{◌≡◌, ◌∷◌, ◌+◌, ◌<◌, ◌≤◌, ◌%◌, ◌^◌, None, length, false, true, find};
 ghost use Rattle.kdf_transfer.specs.AtOnce.{IsArea};
-ghost use Rattle.kdf_processor.specs.Claims.{is_claimed};
+ghost use Rattle.kdf_processor.specs.Claims.{free_kind, is_claimed, may_take};
 ghost use Rattle.kdf_processor.specs.Effect.{Act};
 ghost use Rattle.kdf_processor.specs.Outcome.{Obeyed, counted};
 ghost use Rattle.kdf_processor.specs.Plan.{done_plan, IsBeginning, below_top, below_two};
@@ -12,6 +12,7 @@ use crate::counting::count;
 use crate::plan::{Beginning, Plan};
 use crate::syllable_number::behind;
 use crate::{Port, Registers, Step, Test};
+use kdf_journal::Kind;
 use kdf_word::Word;
 
 /// Sets TR, behind an order of two syllables.
@@ -158,6 +159,24 @@ pub fn ask_time<P: Port>(registers: &mut Registers, port: &mut P) -> Step
 {
     let time = Word::new(port.ask_time() % (1 << 48));
     replace_top(registers, time);
+    count(registers);
+    Step::Done
+}
+
+/// Takes a device of a kind from the pool.
+pub fn take_pool<P: Port>(registers: &mut Registers, port: &mut P, kind: Kind) -> Step
+    requires ran { registers.old.ran < u32.MAX }
+    requires operands { 1 < length registers.old.nest }
+    requires none { free_kind (P.shows port.old).claims kind ≡ None }
+    requires may { may_take (P.shows port.old).claims kind ≡ true }
+    requires free { (P.shows port.old).is_taken kind ≡ false }
+    requires room { P.room port.old
+        (done_plan (P.shows port.old) registers.old (Plan.ClaimKind kind)).act }
+    ensures { Obeyed P.acts (done_plan (P.shows port.old) registers.old (Plan.ClaimKind kind))
+        port.old port.new registers.new result }
+{
+    let device = port.take_pool(kind);
+    take_number(registers, device);
     count(registers);
     Step::Done
 }

@@ -4,6 +4,7 @@
 
 pub mod acts;
 pub mod calls;
+pub mod pool;
 pub mod queries;
 pub mod transfers;
 pub mod waits;

@@ -1,12 +1,13 @@
 //! Laws of the definitions, each the contract of a function that does nothing.
-ghost use Rattle.std.specs.Prelude.{◌≡◌, ℕ, ◌≤◌, ◌++◌, List, length, Bool, true, false, find};
+ghost use Rattle.std.specs.Prelude.{◌≡◌, ℕ, ◌≤◌, ◌++◌, List, [], length, Bool, true, false, find};
 ghost use Rattle.kdf_processor.specs.declared.step.Need.{Need};
 ghost use Rattle.kdf_processor.specs.Effect.{Question};
 ghost use Rattle.kdf_processor.specs.Frame.{Agrees, Leaves, HidesNone};
 ghost use Rattle.kdf_processor.specs.Lone.{lone};
-ghost use Rattle.kdf_processor.specs.Needs.{needs};
+ghost use Rattle.kdf_processor.specs.Needs.{needs, next_effect};
 ghost use Rattle.kdf_processor.specs.Row.{row};
-ghost use Rattle.kdf_processor.specs.State.{Slot, State, begin};
+ghost use Rattle.kdf_processor.specs.State.{Slot, State, begin, lendings, stocked};
+ghost use Rattle.kdf_processor.specs.Stints.{HasPool, IsLent, lendings_after};
 
 /// The store of a program has as many words as its size says, at its start and after each order.
 pub fn store_size()
@@ -38,4 +39,14 @@ pub fn frame()
 pub fn longer_answers()
     ensures { (start : State) (xs ys : List ℕ) (n : ℕ) → (lone start xs n).stock.asked ≤ length xs →
         (k : ℕ) → k ≤ n → lone start (xs ++ ys) k ≡ lone start xs k }
+{}
+
+/// A program has no stint at its start, and an order makes of its stints what `lendings_after` says: one that takes from the pool begins
+/// one, one that gives back to it marks one, and a transfer on a device of the pool acts on the one of its number that isn't given back.
+pub fn stints()
+    ensures begun { (slot : Slot) → lendings (stocked slot) ≡ [] }
+    ensures row { (s : State) (answer : Question → ℕ) → IsLent s → lendings (row s answer).stock
+        ≡ lendings_after answer (next_effect s) s (lendings s.stock) }
+    ensures lent { (slot : Slot) → HasPool slot → IsLent (begin slot) }
+    ensures kept { (s : State) (answer : Question → ℕ) → IsLent s → IsLent (row s answer) }
 {}

@@ -33,6 +33,8 @@ pub enum Ahead {
         first: u16,
         last: u16,
     },
+    /// It may take a device from the pool.
+    Takes,
     /// It does anything else, or nothing.
     Else,
 }
@@ -67,8 +69,10 @@ fn look_at_plan<P: Port>(port: &P, plan: Plan) -> Ahead
     requires sound { IsSound (P.shows port.now).claims plan }
     ensures { (r : Registers) → IsAhead (try_plan (P.shows port.now) r plan).act result }
 {
-    if let Plan::ClaimLabel { .. } | Plan::ClaimKind { .. } = plan {
-        return Ahead::Else;
+    match plan {
+        Plan::ClaimLabel { .. } => return Ahead::Else,
+        Plan::ClaimKind { .. } => return Ahead::Takes,
+        _ => {}
     }
     match first_need(port, &plan) {
         Some(_) => Ahead::Else,

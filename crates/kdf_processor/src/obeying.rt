@@ -3,6 +3,7 @@ ghost use Rattle.std.specs.Prelude.{◌≡◌, ◌<◌, [], ◌∷◌, None, IfO
 ghost use Rattle.std.specs.Result.{result_ok};
 ghost use Rattle.kdf_decode.specs.Decoding.{first_decoded};
 ghost use Rattle.kdf_syllable.specs.Spelling.{IsOrder};
+ghost use Rattle.kdf_processor.specs.Claims.{free_kind};
 ghost use Rattle.kdf_processor.specs.Effect.{Nothing};
 ghost use Rattle.kdf_processor.specs.Fetch.{IsFetchedAt};
 ghost use Rattle.kdf_processor.specs.Needs.{effect_needs, group_of};
@@ -13,7 +14,8 @@ ghost use Rattle.kdf_processor.specs.Table.{with_nest};
 ghost use Rattle.kdf_processor.specs.View.{first_pending};
 
 use crate::acting::{
-    ask_area, ask_busy, ask_time, begin, count_orders, examine, give_back, pass, spool, take_number,
+    ask_area, ask_busy, ask_time, begin, count_orders, examine, give_back, pass, spool,
+    take_number, take_pool,
 };
 use crate::change::change;
 use crate::counting::count;
@@ -163,7 +165,26 @@ fn obey_label<P: Port>(registers: &mut Registers, port: &mut P, label: Word) -> 
     }
 }
 
-/// Claims a device of a kind, or fails where there is none.
+/// Takes a device of a kind from the pool, waits for one, or fails where the program has them all.
+fn obey_pool<P: Port>(registers: &mut Registers, port: &mut P, kind: Kind) -> Step
+    requires ran { registers.old.ran < u32.MAX }
+    requires operands { 1 < length registers.old.nest }
+    requires none { free_kind (P.shows port.old).claims kind ≡ None }
+    requires room { P.room port.old
+        (try_plan (P.shows port.old) registers.old (Plan.ClaimKind kind)).act }
+    ensures { Obeyed P.acts (try_plan (P.shows port.old) registers.old (Plan.ClaimKind kind))
+        port.old port.new registers.new result }
+{
+    if !port.may_take(kind) {
+        return obey_settled(registers, port, Plan::Fail(Failure::Claim));
+    }
+    if !port.pool_free(kind) {
+        return Step::Held(Need::Pool(kind));
+    }
+    take_pool(registers, port, kind)
+}
+
+/// Claims a device of a kind, or takes one from the pool where the program has none of its own.
 fn obey_kind<P: Port>(registers: &mut Registers, port: &mut P, kind: Kind) -> Step
     requires ran { registers.old.ran < u32.MAX }
     requires operands { 1 < length registers.old.nest }
@@ -178,7 +199,7 @@ fn obey_kind<P: Port>(registers: &mut Registers, port: &mut P, kind: Kind) -> St
             count(registers);
             Step::Done
         }
-        None => obey_settled(registers, port, Plan::Fail(Failure::Claim)),
+        None => obey_pool(registers, port, kind),
     }
 }
 

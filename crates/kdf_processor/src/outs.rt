@@ -4,6 +4,7 @@ ghost use Rattle.kdf_qstore.specs.Triples.{triple_of};
 ghost use Rattle.kdf_processor.specs.Claims.{kind_numbered};
 ghost use Rattle.kdf_processor.specs.Effect.{Returning};
 ghost use Rattle.kdf_processor.specs.Plan.{IsPlanOf, below_two, below_top};
+ghost use Rattle.kdf_processor.specs.State.{is_pooled};
 ghost use Rattle.kdf_processor.specs.Table.{effect, guarded, spools, out_effect, with_nest};
 ghost use Rattle.kdf_processor.specs.declared.registers.Registers.{Registers};
 
@@ -78,7 +79,8 @@ fn kind_numbered(number: Word) -> Option<Kind>
 #[tactic(auto, unfolding(crate::specs::Table::guarded))]
 fn plan_giving_back<P: Port>(port: &P, number: Word) -> Plan
     ensures { (r : Registers) → 1 < length r.nest → IsPlanOf (P.shows port.now).claims r
-        (guarded (P.shows port.now).claims (Returning number (with_nest 1 (below_two r.nest) r)))
+        (guarded (P.shows port.now).claims (Returning (is_pooled (P.shows port.now).claims number)
+        number (with_nest 1 (below_two r.nest) r)))
         result }
 {
     match u8::try_from(number.bits()) {

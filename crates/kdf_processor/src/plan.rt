@@ -64,7 +64,7 @@ pub enum Plan {
     AskTime,
     /// It claims a tape, if there is one to be claimed, and puts its number in place of two words.
     ClaimLabel { label: Word },
-    /// It claims a device, if there is one to be claimed, and puts its number in place of two words.
+    /// It claims a device, or takes one from the pool, if there is one to be had, and puts its number in place of two words.
     ClaimKind { kind: Kind },
     /// It gives a device back, and takes two words.
     GiveBack { device: u8 },

@@ -1,11 +1,11 @@
 //! The view of one program that an order is obeyed over.
-ghost use Rattle.std.specs.Prelude.{◌≡◌, ◌<◌, ◌≤◌, nat_lt, find, true, false, None, OnOk, OnErr, IfSome, IfNone, if◌then◌else◌};
+ghost use Rattle.std.specs.Prelude.{◌≡◌, ◌<◌, ◌≤◌, nat_lt, not, find, true, false, None, OnOk, OnErr, IfSome, IfNone, if◌then◌else◌};
 ghost use Rattle.kdf_transfer.specs.AtOnce.{has_area, kind_of, IsArea};
-ghost use Rattle.kdf_processor.specs.Claims.{claim, is_claimed, is_kind, free_kind, free_label};
-ghost use Rattle.kdf_processor.specs.Effect.{Act, Nothing, Writes, Starts, Asks, IsBusy, IsOut, Time, Acquires, Releases, Spools};
+ghost use Rattle.kdf_processor.specs.Claims.{can_take, claim, is_claimed, is_kind, free_kind, free_label, may_take};
+ghost use Rattle.kdf_processor.specs.Effect.{Act, Nothing, Writes, Starts, Asks, IsBusy, IsOut, Time, FreeOf, Acquires, Releases, Spools};
 ghost use Rattle.kdf_processor.specs.Needs.{group_of};
 ghost use Rattle.kdf_processor.specs.Plan.{claim_act};
-ghost use Rattle.kdf_processor.specs.State.{device_limit};
+ghost use Rattle.kdf_processor.specs.State.{device_limit, is_pooled};
 ghost use Rattle.kdf_processor.specs.View.{View, head, groups_of, order_groups};
 
 use crate::Test;
@@ -111,19 +111,40 @@ pub trait Port {
         ensures claimed { IfSome result (λ d. acts self.old (Acquires d) self.new) }
         ensures none { IfNone result (self.new ≡ self.old) };
 
-    /// Claims the least device of this kind that isn't claimed. Where there is none, nothing changes.
+    /// Claims the least device of this kind, of the program's own, that isn't claimed. Where there is none, nothing changes.
     fn claim_kind(&mut self, kind: Kind) -> Option<u8>
-        requires room { room self.old (claim_act (free_kind (shows self.old).claims kind)) }
+        requires room { IfSome (free_kind (shows self.old).claims kind) (λ d. room self.old (Acquires d)) }
         ensures least { result ≡ free_kind (shows self.old).claims kind }
         ensures claimed { IfSome result (λ d. acts self.old (Acquires d) self.new) }
         ensures none { IfNone result (self.new ≡ self.old) };
 
-    /// Gives a device back that is claimed and has no transfer; its state stays.
+    /// Whether the program hasn't claimed some device of this kind in the pool.
+    fn may_take(&self, kind: Kind) -> bool
+        ensures { result ≡ may_take (shows self.now).claims kind };
+
+    /// Whether some device of this kind in the pool has no holder.
+    fn pool_free(&self, kind: Kind) -> bool
+        ensures { result ≡ not ((shows self.now).is_taken kind) };
+
+    /// Takes a device of this kind from the pool, and records its number as an answer.
+    fn take_pool(&mut self, kind: Kind) -> u8
+        requires may { may_take (shows self.old).claims kind ≡ true }
+        requires free { (shows self.old).is_taken kind ≡ false }
+        requires room { room self.old
+            (Asks (FreeOf kind) ((shows self.old).answer (FreeOf kind))) }
+        ensures answer { result ≡ (shows self.old).answer (FreeOf kind) }
+        ensures can { can_take (shows self.old).claims kind result ≡ true }
+        ensures recorded { acts self.old
+            (Asks (FreeOf kind) ((shows self.old).answer (FreeOf kind))) self.new };
+
+    /// Gives a device back that is claimed and has no transfer. The state of the program's own stays; the stint of one of the
+    /// pool is over.
     fn give_back(&mut self, device: u8)
         requires claimed { is_claimed (shows self.old).claims device ≡ true }
         requires idle { (shows self.old).is_busy device ≡ false }
-        requires room { room self.old (Releases device) }
-        ensures { acts self.old (Releases device) self.new };
+        requires room { room self.old (Releases (is_pooled (shows self.old).claims device) device) }
+        ensures { acts self.old (Releases (is_pooled (shows self.old).claims device) device)
+            self.new };
 
     /// Spools the characters of an area that is free to a stream, 0 to 7, up to and with the first End Message.
     fn spool(&mut self, stream: u8, first: u16, last: u16)

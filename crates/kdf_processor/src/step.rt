@@ -1,5 +1,6 @@
 //! What an order waits for, and how a try to obey it goes.
 use crate::Failure;
+use kdf_journal::Kind;
 
 /// What an order may have to wait for.
 #[derive(Clone, Copy, Debug, PartialEq, Eq)]
@@ -8,6 +9,8 @@ pub enum Need {
     Group(u16),
     /// A device, by its number.
     Device(u8),
+    /// A device of this kind in the pool that no program has.
+    Pool(Kind),
 }
 
 /// How a try to obey an order went.

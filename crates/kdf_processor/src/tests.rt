@@ -7,6 +7,7 @@ mod devices;
 mod fitted;
 mod needs;
 mod outs;
+mod pool;
 mod queries;
 mod refusals;
 mod transfers;

@@ -2,7 +2,7 @@ pub mod FaultlessJobs
 pub mod Loaded
 pub mod LoadedJobs
 pub mod Numbers
-pub mod Sections
+pub mod SectionTexts
 pub mod SeenPrograms
 pub mod SummaryTexts
 pub mod Tried

@@ -52,7 +52,7 @@ alone_of_slot slot words given n is =
     record {
       size = same.size;
       shows = λ k d h. (is.shows k d h).1;
-      devices = own_same (lone (begin (loaded slot words)) given n) (begin (loaded slot words)) same.fixtures ∙ own_at_start slot words;
+      devices = own_same (lone (begin (loaded slot words)) given n) (begin (loaded slot words)) same.fixtures same.pool ∙ own_at_start slot words;
     }
 
 own_of_slot : (slots : List Slot) (J : List Entry) (p : ℕ) (slot : SlotJob) (words : List ℕ) → IsSlot slot → slot_of slots p ≡ Some (loaded slot words) → IsProgramOf slot (own slots J p)
@@ -61,7 +61,7 @@ own_of_slot slots J p slot words is at =
     subst (λ o. IsProgramOf slot (lone (start_of o) (answers p J) (ran p J))) (sym at) (alone_of_slot slot words (answers p J) (ran p J) is)
 
 seen_like : (flights : ℕ → Option Flight) (slot : SlotJob) (s : State) → IsProgramOf slot s → IsProgramOf slot (seen flights s)
-seen_like flights slot s is = record { size = is.size; shows = is.shows; devices = own_same (seen flights s) s refl ∙ is.devices }
+seen_like flights slot s is = record { size = is.size; shows = is.shows; devices = own_same (seen flights s) s refl refl ∙ is.devices }
 
 seen_of_slot : (slots : List Slot) (J : List Entry) (p : ℕ) (slot : SlotJob) (words : List ℕ) → IsSlot slot → slot_of slots p ≡ Some (loaded slot words) → IsProgramOf slot (seen_of slots J p)
 seen_of_slot slots J p slot words is at = seen_like (flights_of slots J p) slot (own slots J p) (own_of_slot slots J p slot words is at)

@@ -29,7 +29,7 @@ use Rattle.kdf_job.specs.Media.{codes_in}
 use Rattle.kdf_job.specs.Reading.{job, read_line}
 use Rattle.kdf_journal.specs.declared.failure.Failure.TheVariants.{Claim, Liv, Nouv, Out}
 use Rattle.kdf_processor.specs.declared.registers.Life.TheVariants.{Live, Ended, Failed}
-use Rattle.kdf_processor.specs.Claims.{free_kind, free_label}
+use Rattle.kdf_processor.specs.Claims.{free_kind, free_label, least_pooled}
 use Rattle.kdf_processor.specs.State.{unclaimed}
 use Rattle.kdf_processor.specs.Table.{plain_row, out_effect, brought, from_top, changed, single_row, decision, direct_effect, transfer_of, query_effect, guarded}
 use Rattle.kdf_director.specs.ByNumber.{by_number, device_count}
@@ -239,7 +239,7 @@ pub out_5_without_tr : alone 4 (job_lines (codes "STORE 32") (codes "PROGRAM; SE
   spooled = [];
   devices = [];
 } ∷ []
-unfolding after_read after_card rewound after_skip after_write printed first_word words_of given offered finished decoded arith arith_row free_kind free_label unclaimed plain_row out_effect brought from_top changed single_row decision direct_effect transfer_of query_effect guarded device_numbers by_number device_count to_binary from_binary text
+unfolding after_read after_card rewound after_skip after_write printed first_word words_of given offered finished decoded arith arith_row free_kind free_label least_pooled unclaimed plain_row out_effect brought from_top changed single_row decision direct_effect transfer_of query_effect guarded device_numbers by_number device_count to_binary from_binary text
 out_5_without_tr =
     ap (λ (slots : List SlotJob). map (λ (s : SlotJob). seen_after 4 s (image_words s.size s.deck)) slots) out_5_without_tr_slot
     ∙ ap (λ (image : List ℕ). seen_after 4 (a_slot 32 (text (codes "PROGRAM; SET 2; SET 5; OUT; FINISH;" ∷ [])) ([]) ([])) image ∷ []) out_5_without_tr_image

@@ -30,7 +30,7 @@ use Rattle.kdf_job.specs.Media.{codes_in, new_device}
 use Rattle.kdf_job.specs.Reading.{job, read_line}
 use Rattle.kdf_journal.specs.declared.failure.Failure.TheVariants.{Claim, Liv}
 use Rattle.kdf_processor.specs.declared.registers.Life.TheVariants.{Ended, Failed}
-use Rattle.kdf_processor.specs.Claims.{free_kind, free_label}
+use Rattle.kdf_processor.specs.Claims.{free_kind, free_label, least_pooled}
 use Rattle.kdf_processor.specs.State.{unclaimed}
 use Rattle.kdf_processor.specs.Table.{plain_row, out_effect, brought, from_top, changed, single_row, decision, direct_effect, transfer_of, query_effect, guarded}
 use Rattle.kdf_director.specs.ByNumber.{by_number, device_count}
@@ -344,7 +344,7 @@ pub the_least_that_is_free_is_claimed_device_15_last : alone 10 (job_lines (code
   spooled = [];
   devices = shown 0 true 0 false ([]) ([]) ∷ shown 7 false 0 false ([]) ([]) ∷ shown 15 true 0 false ([]) ([]) ∷ [];
 } ∷ []
-unfolding after_read after_card rewound after_skip after_write printed first_word words_of given offered finished decoded arith arith_row free_kind free_label unclaimed plain_row out_effect brought from_top changed single_row decision direct_effect transfer_of query_effect guarded device_numbers by_number device_count to_binary from_binary text
+unfolding after_read after_card rewound after_skip after_write printed first_word words_of given offered finished decoded arith arith_row free_kind free_label least_pooled unclaimed plain_row out_effect brought from_top changed single_row decision direct_effect transfer_of query_effect guarded device_numbers by_number device_count to_binary from_binary text
 the_least_that_is_free_is_claimed_device_15_last =
     ap (λ (slots : List SlotJob). map (λ (s : SlotJob). seen_after 10 s (image_words s.size s.deck)) slots) the_least_that_is_free_is_claimed_device_15_last_slot
     ∙ ap (λ (image : List ℕ). seen_after 10 (a_slot 32 (text (codes "PROGRAM; SET 2; SET 5; OUT; SET 2; SET 5; OUT; SET 2; SET 5; OUT; FINISH;" ∷ [])) (reader 15 ([]) ∷ reader 0 ([]) ∷ new_device 7 Tp 0 ∷ []) ([])) image ∷ []) the_least_that_is_free_is_claimed_device_15_last_image

@@ -62,6 +62,6 @@ device_lines s d =
 abbrev pub has_device : SlotJob → ℕ → Bool
 has_device slot d = list_any (λ (x : JobDevice). x.d == d) slot.devices
 
--- the numbers of the slot's devices, rising
+-- the numbers of the slot's devices, rising, in whatever order their lines stand
 unfoldable pub device_numbers : SlotJob → List ℕ
 device_numbers slot = filter (has_device slot) (range_with_len 0 device_limit)

@@ -52,9 +52,11 @@ a_program =
           size = 4;
           claimed = true ∷ false ∷ true ∷ [];
           fixtures = Some (of_kind Mt) ∷ Some (of_kind Cr) ∷ Some (of_kind Tp) ∷ [];
+          pool = [];
         };
         spooled = record { stream = 7; text = 33 ∷ 34 ∷ 61 ∷ [] } ∷ record { stream = 0; text = [] } ∷ [];
         asked = 0;
+        stints = [];
         store = 10 ∷ 11 ∷ 12 ∷ 13 ∷ [];
         devices = on_tape ∷ come 5 true ∷ wrote 1 ((35 ∷ []) ∷ []) ∷ [];
       };

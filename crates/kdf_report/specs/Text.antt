@@ -7,7 +7,7 @@ use Rattle.kdf_qstore.specs.declared.triple.Triple.{Triple}
 use Rattle.kdf_qstore.specs.Triples.{triple_at}
 use Rattle.kdf_journal.specs.Failures.{name_of}
 use Rattle.kdf_journal.specs.declared.entry.Entry.{Entry}
-use Rattle.kdf_journal.specs.declared.entry.Entry.TheVariants.{Ran, Start, Answer, Fail, Ended, Lov, Busy, Idle, Move, End, Clock}
+pub use Rattle.kdf_journal.specs.Printed.{entry_line}
 use Rattle.kdf_processor.specs.declared.registers.Life.{Life}
 use Rattle.kdf_processor.specs.declared.registers.Life.TheVariants as life
 use Rattle.kdf_processor.specs.declared.registers.Registers.{Registers}
@@ -16,19 +16,9 @@ use Rattle.kdf_processor.specs.State.{State, word_at}
 use Rattle.kdf_job.specs.Job.{Job, SlotJob}
 use Rattle.kdf_report.specs.Devices.{bit, device_lines, device_numbers, host_text}
 
--- an entry of the journal
-abbrev pub entry_line : Entry → List ℕ
-entry_line (Ran p n) = codes "RAN " ++ decimal p ++ codes " " ++ decimal n
-entry_line (Start p d k) = codes "START " ++ decimal p ++ codes " " ++ decimal d ++ codes " " ++ decimal k
-entry_line (Answer p v) = codes "ANSWER " ++ decimal p ++ codes " " ++ decimal v
-entry_line (Fail p kind) = codes "FAIL " ++ decimal p ++ codes " " ++ name_of kind
-entry_line (Ended p) = codes "ENDED " ++ decimal p
-entry_line (Lov p group) = codes "LOV " ++ decimal p ++ codes " " ++ decimal group
-entry_line (Busy p d) = codes "BUSY " ++ decimal p ++ codes " " ++ decimal d
-entry_line (Idle n) = codes "IDLE " ++ decimal n
-entry_line (Move d n) = codes "MOVE " ++ decimal d ++ codes " " ++ decimal n
-entry_line (End d) = codes "END " ++ decimal d
-entry_line (Clock t) = codes "CLOCK " ++ decimal t
+-- each number after a space
+abbrev pub spaced_numbers : List ℕ → List ℕ
+spaced_numbers numbers = flat_map (λ n. codes " " ++ decimal n) numbers
 
 -- a life, as it is printed
 abbrev pub life_name : Life → List ℕ
@@ -92,6 +82,7 @@ section slot s =
     ++ map spool_line s.stock.spooled
     ++ flat_map (device_lines s) (device_numbers slot)
 
+-- the first line of the text of a program that ran alone
 abbrev pub alone_line : ℕ → List ℕ
 alone_line p = codes "KDF9 ALONE " ++ decimal p
 
@@ -103,15 +94,22 @@ alone_text slot s = text (alone_line slot.p ∷ section slot s ++ end_line ∷ [
 abbrev pub absent_text : ℕ → List ℕ
 absent_text p = text (alone_line p ∷ end_line ∷ [])
 
+-- the first line of a report
 abbrev pub head_line : List ℕ
 head_line = codes "KDF9 REPORT 1"
+
+-- the lines of a journal
+abbrev pub journal_lines : List Entry → List (List ℕ)
+journal_lines J = map entry_line J
+
+-- the lines of the sections of all slots of a job, each from the state of the program of its number
+abbrev pub sections_lines : Job → (ℕ → State) → List (List ℕ)
+sections_lines job states = flat_map (λ (slot : SlotJob). section slot (states slot.p)) job.slots
 
 -- the report of a job: its journal, and a section for each slot, from the state of the program of its number
 unfoldable pub report_lines : Job → List Entry → (ℕ → State) → List (List ℕ)
 report_lines job J states =
-    (head_line ∷ map entry_line J)
-    ++ flat_map (λ (slot : SlotJob). section slot (states slot.p)) job.slots
-    ++ end_line ∷ []
+    (head_line ∷ journal_lines J) ++ sections_lines job states ++ end_line ∷ []
 
 abbrev pub report_text : Job → List Entry → (ℕ → State) → List ℕ
 report_text job J states = text (report_lines job J states)

@@ -54,7 +54,7 @@ unless_zero q t = if t.c == 0 && t.i == 0 && t.m == 0 then [] else (q, t.c, t.i,
 abbrev pub words_at : State → ℕ × ℕ → List ℕ
 words_at s show = map (word_at s) (range_with_len show.0 (show.1 + 1 - show.0))
 
--- and of a program: its life, its orders, the next syllable, V and TR, the nest, the links, the Q-stores, the words that the job shows,
+-- what is looked at of a program: its life, its orders, the next syllable, V and TR, the nest, the links, the Q-stores, the words that the job shows,
 -- what it spooled, and its devices
 pub record Seen : Type 0 where
   pub life : Life

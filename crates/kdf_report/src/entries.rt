@@ -1,7 +1,7 @@
 //! The lines of a journal.
-ghost use Rattle.std.specs.Prelude.{[], ◌∷◌, map, OnOk};
+ghost use Rattle.std.specs.Prelude.{◌≡◌, [], ◌∷◌, ◌++◌, map, OnOk, codes, decimal, string_bytes};
 ghost use Rattle.kdf_text.specs.Text.{Adds};
-ghost use Rattle.kdf_report.specs.Text.{entry_line};
+ghost use Rattle.kdf_report.specs.Text.{entry_line, spaced_numbers};
 
 use kdf_journal::{Entry, Journal};
 use std::alloc::AllocError;
@@ -24,24 +24,53 @@ fn write_each(out: &mut String, entries: &[Entry]) -> Result<(), AllocError>
     Ok(())
 }
 
-#[tactic(auto, unfolding(kdf_text::specs::Text::text))]
 fn write_entry(out: &mut String, entry: &Entry) -> Result<(), AllocError>
     ensures { OnOk result (Adds out.old out.new (entry_line entry.now ∷ [])) }
 {
     match *entry {
-        Entry::Ran { p, n } => writeln!(out, "RAN {p} {n}"),
-        Entry::Start { p, d, k } => writeln!(out, "START {p} {d} {k}"),
-        Entry::Answer { p, v } => writeln!(out, "ANSWER {p} {v}"),
-        Entry::Fail { p, kind } => {
-            let name = kind.name();
-            writeln!(out, "FAIL {p} {name}")
-        }
-        Entry::Ended { p } => writeln!(out, "ENDED {p}"),
-        Entry::Lov { p, group } => writeln!(out, "LOV {p} {group}"),
-        Entry::Busy { p, d } => writeln!(out, "BUSY {p} {d}"),
-        Entry::Idle { n } => writeln!(out, "IDLE {n}"),
-        Entry::Move { d, n } => writeln!(out, "MOVE {d} {n}"),
-        Entry::End { d } => writeln!(out, "END {d}"),
-        Entry::Clock { t } => writeln!(out, "CLOCK {t}"),
+        Entry::Ran { p, n } => write_line(out, "RAN", &[p.into(), n.into()]),
+        Entry::Start { p, d, k } => write_line(out, "START", &[p.into(), d.into(), k.into()]),
+        Entry::Answer { p, v } => write_line(out, "ANSWER", &[p.into(), v]),
+        Entry::Take { p, d } => write_line(out, "TAKE", &[p.into(), d.into()]),
+        Entry::Give { p, d } => write_line(out, "GIVE", &[p.into(), d.into()]),
+        Entry::Fail { p, kind } => write_named(out, "FAIL", p, kind.name()),
+        Entry::Ended { p } => write_line(out, "ENDED", &[p.into()]),
+        Entry::Lov { p, group } => write_line(out, "LOV", &[p.into(), group.into()]),
+        Entry::Busy { p, d } => write_line(out, "BUSY", &[p.into(), d.into()]),
+        Entry::Wait { p, kind } => write_named(out, "WAIT", p, kind.name()),
+        Entry::Idle { n } => write_line(out, "IDLE", &[n.into()]),
+        Entry::Move { d, n } => write_line(out, "MOVE", &[d.into(), n.into()]),
+        Entry::End { d } => write_line(out, "END", &[d.into()]),
+        Entry::Clock { t } => write_line(out, "CLOCK", &[t]),
+        Entry::Swap { p, q } => write_line(out, "SWAP", &[p.into(), q.into()]),
     }
+}
+
+/// A name and its numbers.
+#[tactic(auto, unfolding(kdf_text::specs::Text::text))]
+fn write_line(out: &mut String, name: &str, numbers: &[u64]) -> Result<(), AllocError>
+    ensures { OnOk result (Adds out.old out.new ((name.now ++ spaced_numbers numbers.now) ∷ [])) }
+{
+    out.push_str(name)?;
+    write_numbers(out, numbers)?;
+    writeln!(out)
+}
+
+/// Each number after a space.
+fn write_numbers(out: &mut String, numbers: &[u64]) -> Result<(), AllocError>
+    ensures { OnOk result (string_bytes out.new ≡ string_bytes out.old ++ spaced_numbers numbers.now) }
+{
+    for number in numbers {
+        write!(out, " {number}")?;
+    }
+    Ok(())
+}
+
+/// A name, the number of a program, and how it failed or what it waits for.
+#[tactic(auto, unfolding(kdf_text::specs::Text::text))]
+fn write_named(out: &mut String, name: &str, p: u8, what: &str) -> Result<(), AllocError>
+    ensures { OnOk result (Adds out.old out.new (
+        (name.now ++ codes " " ++ decimal p ++ codes " " ++ what.now) ∷ [])) }
+{
+    writeln!(out, "{name} {p} {what}")
 }

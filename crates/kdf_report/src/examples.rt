@@ -2,7 +2,7 @@
 #![tactic(auto, unfolding(kdf_code::specs::Code::host_of))]
 
 ghost use Rattle.std.specs.Prelude.{◌≡◌, [], ◌∷◌, ◌++◌, true, false, map, replicate, codes, None};
-ghost use Rattle.kdf_journal.specs.declared.entry.Entry.TheVariants.{Ran, Start, Answer, Fail, Ended, Lov, Busy, Idle, Move, End, Clock};
+ghost use Rattle.kdf_journal.specs.declared.entry.Entry.TheVariants.{Ran, Start, Answer, Fail, Ended, Take, Give, Lov, Busy, Wait, Idle, Move, End, Clock, Swap};
 ghost use Rattle.kdf_journal.specs.declared.failure.Failure.TheVariants.{Claim, Nouv};
 ghost use Rattle.kdf_journal.specs.declared.kind.Kind.TheVariants.{Cr, Lp, Mt, Tp, Tr};
 ghost use Rattle.kdf_processor.specs.declared.registers.Life.TheVariants as life;
@@ -53,8 +53,10 @@ pub fn entries()
         ≡ codes "RAN 0 49" ∷ codes "ANSWER 1 0" ∷ codes "FAIL 2 CLAIM" ∷ codes "ENDED 3" ∷ [] }
     ensures holds { map entry_line (Start 0 15 10 ∷ Lov 0 2 ∷ Busy 1 6 ∷ Idle 20 ∷ [])
         ≡ codes "START 0 15 10" ∷ codes "LOV 0 2" ∷ codes "BUSY 1 6" ∷ codes "IDLE 20" ∷ [] }
-    ensures events { map entry_line (Move 3 4096 ∷ End 3 ∷ Clock 50 ∷ [])
-        ≡ codes "MOVE 3 4096" ∷ codes "END 3" ∷ codes "CLOCK 50" ∷ [] }
+    ensures events { map entry_line (Move 3 4096 ∷ End 3 ∷ Clock 50 ∷ Swap 0 3 ∷ [])
+        ≡ codes "MOVE 3 4096" ∷ codes "END 3" ∷ codes "CLOCK 50" ∷ codes "SWAP 0 3" ∷ [] }
+    ensures pool { map entry_line (Take 0 9 ∷ Give 0 9 ∷ Wait 1 Tp ∷ [])
+        ≡ codes "TAKE 0 9" ∷ codes "GIVE 0 9" ∷ codes "WAIT 1 TP" ∷ [] }
 {}
 
 /// The lines of a summary: its first ones, and that of a slot; only what was punched counts as blocks.

@@ -24,6 +24,6 @@ pub mod worked;
 pub use alone::{alone_absent, alone_text};
 pub use entries::write_entries;
 pub use program::Program;
-pub use reports::report;
+pub use reports::{journal_text, report, sections};
 pub use section::write_section;
 pub use summaries::summary;

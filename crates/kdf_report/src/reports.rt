@@ -3,14 +3,15 @@ ghost use Rattle.std.specs.Prelude.{◌≡◌, [], ◌∷◌, All, IfOk, OnOk, m
 ghost use Rattle.std.specs.List.{flat_map};
 ghost use Rattle.kdf_director.specs.Shown.{state_at};
 ghost use Rattle.kdf_job.specs.Shows.{shown_job, shown_slot};
-ghost use Rattle.kdf_text.specs.Text.{Adds};
+ghost use Rattle.kdf_text.specs.Text.{Adds, text};
 ghost use Rattle.kdf_report.specs.MadeFrom.{HasProgram};
-ghost use Rattle.kdf_report.specs.Text.{head_line, report_text, section};
+ghost use Rattle.kdf_report.specs.Text.{head_line, journal_lines, report_text, section, sections_lines};
 
 use crate::in_slot::InSlot;
 use crate::{write_entries, write_section};
 use kdf_director::Machine;
 use kdf_job::{Job, SlotJob};
+use kdf_journal::Journal;
 use kdf_text::write_end;
 use std::alloc::{AllocError, Global};
 use std::fmt::Write;
@@ -27,6 +28,26 @@ pub fn report(alloc: Global, job: &Job, machine: &Machine) -> Result<Vec<u8>, Al
     write_entries(&mut out, machine.journal())?;
     write_sections(&mut out, &job.slots, machine)?;
     write_end(&mut out)?;
+    Ok(out.into_bytes())
+}
+
+/// The lines of a journal, as the report has them.
+pub fn journal_text(alloc: Global, journal: &Journal) -> Result<Vec<u8>, AllocError>
+    ensures { IfOk result (λ bytes. bytes.items ≡ text (journal_lines journal.now.entries)) }
+{
+    let mut out = String::new(alloc);
+    write_entries(&mut out, journal)?;
+    Ok(out.into_bytes())
+}
+
+/// The sections of all slots of a job, as the report has them. The machine was loaded from the job, and has the program of each slot.
+pub fn sections(alloc: Global, job: &Job, machine: &Machine) -> Result<Vec<u8>, AllocError>
+    requires { All (HasProgram machine.now) (map shown_slot job.now.slots.items) }
+    ensures { IfOk result (λ bytes. bytes.items
+        ≡ text (sections_lines (shown_job job.now) (state_at machine.now))) }
+{
+    let mut out = String::new(alloc);
+    write_sections(&mut out, &job.slots, machine)?;
     Ok(out.into_bytes())
 }
 

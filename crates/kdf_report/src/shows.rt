@@ -46,5 +46,5 @@ fn show_word<P: Program>(out: &mut String, address: u16, program: &P) -> Result<
     requires { address < (P.state program.now).stock.claims.size }
     ensures { OnOk result (Adds out.old out.new (word_line (P.state program.now) address ∷ [])) }
 {
-    write_word(out, address, program.word(address).bits())
+    write_word(out, usize::from(address), program.word(address).bits())
 }

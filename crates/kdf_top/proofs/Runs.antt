@@ -9,7 +9,6 @@ use Rattle.kdf_job.specs.declared.fault.JobFault.{JobFault}
 use Rattle.kdf_job.specs.Reading.{job, job_fault}
 use Rattle.kdf_director.specs.Shown.{Shown}
 use Rattle.kdf_job.specs.declared.job.TheConstants.{TEXT_LIMIT}
-use Rattle.kdf_top.specs.declared.command.TheConstants.{JOB_LIMIT}
 use Rattle.kdf_top.specs.declared.command.Command.{Command}
 use Rattle.kdf_top.specs.declared.command.Command.TheVariants.{Run, Alone, Asm, Make}
 use Rattle.kdf_top.specs.declared.command.Input.{Input}
@@ -18,7 +17,7 @@ use Rattle.kdf_top.specs.declared.status.Status.{Status}
 use Rattle.kdf_top.specs.declared.status.Status.TheVariants as status
 use Rattle.kdf_top.specs.Answered.{Inlet, Outlet, IsGiven, IsRun, Takes, TakesBy}
 use Rattle.kdf_top.specs.Answers.{Answers, called_by, job_text, reads_by, status_of_faults, status_of_job, text_by}
-use Rattle.kdf_top.specs.Commands.{input_of, is_read, is_too_long, text_in}
+use Rattle.kdf_top.specs.Commands.{input_of, is_read, is_too_long, text_in, job_limit}
 use Rattle.kdf_top.specs.Deck.{deck_fault}
 use Rattle.kdf_top.proofs.Answering.{given_memory, nothing_added, as_called, by_job_fault, by_deck_fault}
 
@@ -82,9 +81,9 @@ pub reads_it : (c : Command) (limit : ℕ) → input_of c ≡ Read limit → rea
 reads_it c limit e = ap is_read e
 
 pub within_limit : (c : Command) (limit : ℕ) → input_of c ≡ Read limit → limit ≤ TEXT_LIMIT
-within_limit Run limit is = let e : JOB_LIMIT ≡ limit = cc in omega arith
-within_limit (Alone p) limit is = let e : JOB_LIMIT ≡ limit = cc in omega arith
-within_limit (Asm p) limit is = let e : JOB_LIMIT ≡ limit = cc in omega arith
+within_limit Run limit is = let e : job_limit ≡ limit = cc in omega arith
+within_limit (Alone p) limit is = let e : job_limit ≡ limit = cc in omega arith
+within_limit (Asm p) limit is = let e : job_limit ≡ limit = cc in omega arith
 within_limit (Make n) limit is = cc
 
 makes_it : (c : Command) (n : ℕ) → input_of c ≡ Made n → reads_by (Some c) ≡ false

@@ -32,7 +32,7 @@ status_of_job bytes = status_of_faults (job_fault bytes) (deck_fault (job bytes)
 abbrev pub job_text : Command → List ℕ → List ℕ
 job_text c bytes = text_in (input_of c) bytes
 
--- and where the words are no command, just these bytes
+-- the text of the job that words work on, where these bytes are read: where they are no command, just these bytes
 abbrev pub text_by : Option Command → List ℕ → List ℕ
 text_by None bytes = bytes
 text_by (Some c) bytes = job_text c bytes
@@ -81,7 +81,7 @@ abbrev pub IsDue : Status → Option Command → List ℕ → List ℕ → Type 
 IsDue status.Done c job_bytes due = IsTextOf c job_bytes due
 IsDue called c job_bytes due = due ≡ text (refusal_lines called)
 
--- and that of a command, or of words that are none, where these bytes are read
+-- the text that is due by a command, or by words that are none, where these bytes are read
 abbrev pub IsDueBy : Option Command → List ℕ → List ℕ → Type 0
 IsDueBy c bytes due = IsDue (called_by c bytes) c (text_by c bytes) due
 
@@ -115,7 +115,7 @@ abbrev pub IsDoneOver : Option Command → List ℕ → Option Shown → (before
 IsDoneOver None job_bytes kept before after = ⊥
 IsDoneOver (Some c) job_bytes kept before after = IsWritten c job_bytes kept before after
 
--- and where these bytes are read
+-- there is a command, which was done over the job that it works on where these bytes are read
 abbrev pub IsDoneBy : Option Command → List ℕ → Option Shown → (before after : Option (List ℕ)) → Type 0
 IsDoneBy c bytes kept before after = IsDoneOver c (text_by c bytes) kept before after
 

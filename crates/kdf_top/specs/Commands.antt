@@ -3,7 +3,6 @@ use Rattle.std.specs.Prelude.{◌<◌, ℕ, Bool, true, false, List, [], ◌∷�
 use Rattle.kdf_text.specs.Lines.{is_text}
 use Rattle.kdf_text.specs.Numbers.{number_in}
 use Rattle.kdf_job.specs.Made.{made_text}
-use Rattle.kdf_top.specs.declared.command.TheConstants.{JOB_LIMIT}
 use Rattle.kdf_top.specs.declared.command.Input.{Input}
 use Rattle.kdf_top.specs.declared.command.Input.TheVariants.{Read, Made}
 use Rattle.kdf_top.specs.declared.command.Command.{Command}
@@ -35,13 +34,18 @@ command (name ∷ []) = command_of_name name
 command (name ∷ value ∷ []) = command_of_value name value
 command _ = None
 
+-- the words are a command
 abbrev pub is_command : List (List ℕ) → Bool
 is_command words = is_some (command words)
+
+-- a job that is read has at most so many bytes
+abbrev pub job_limit : ℕ
+job_limit = 4194304
 
 -- where a command's job comes from: it is read, or made from a number
 abbrev pub input_of : Command → Input
 input_of (Make n) = Made n
-input_of _ = Read JOB_LIMIT
+input_of _ = Read job_limit
 
 -- a job is read
 abbrev pub is_read : Input → Bool

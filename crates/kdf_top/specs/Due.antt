@@ -82,7 +82,7 @@ IsText c bytes due = (J : List Entry) × IsJournalOf c bytes J × (due ≡ text_
 
 -- ---- the machine that is kept
 
--- the machine is that of the job of these bytes: its journal is legal and whole, what it shows is what is seen of the lone
+-- the machine is that of the job of these bytes: its journal is legal, true and whole, what it shows is what is seen of the lone
 -- runs, and a program that isn't live has no transfer in flight
 pub record IsMachineOf (bytes : List ℕ) (m : Shown) : Type 0 where
   pub slots : m.slots ≡ slots_of (job bytes)
@@ -96,6 +96,7 @@ abbrev pub Keeps : Command → List ℕ → Option Shown → Type 0
 Keeps c bytes None = keeps_machine c ≡ false
 Keeps c bytes (Some m) = (keeps_machine c ≡ true) × IsMachineOf bytes m
 
+-- the journal of the machine that is kept, or the empty one
 abbrev pub journal_in : Option Shown → List Entry
 journal_in None = []
 journal_in (Some m) = m.journal

@@ -4,17 +4,21 @@ use Rattle.kdf_job.specs.declared.fault.JobFault.{JobFault}
 use Rattle.kdf_job.specs.Faults.{name_of}
 use Rattle.kdf_usercode.specs.declared.fault.DeckFault.{DeckFault}
 use Rattle.kdf_usercode.specs.Faults.{name_of as deck_fault_name}
-use Rattle.kdf_top.specs.declared.command.TheConstants.{JOB_LIMIT}
+use Rattle.kdf_top.specs.Commands.{job_limit}
 
+-- the line that tells a fault of the job
 abbrev pub job_fault_line : JobFault → ℕ → List ℕ
 job_fault_line fault line = codes "JOB " ++ name_of fault ++ codes " " ++ decimal line
 
+-- the line that tells a fault of a deck
 abbrev pub deck_fault_line : ℕ → DeckFault → ℕ → List ℕ
 deck_fault_line slot fault place =
     codes "DECK " ++ decimal slot ++ codes " " ++ deck_fault_name fault ++ codes " " ++ decimal place
 
+-- the line that tells how the program is used
 abbrev pub usage_line : List ℕ
 usage_line = codes "USAGE kdf9 run, alone K, asm K, make N"
 
+-- the line that tells that a job has too many bytes
 abbrev pub large_line : List ℕ
-large_line = codes "LARGE " ++ decimal JOB_LIMIT
+large_line = codes "LARGE " ++ decimal job_limit

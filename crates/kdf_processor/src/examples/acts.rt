@@ -44,7 +44,7 @@ pub fn answers()
 pub fn claims()
     ensures claimed { at_once (Acquires 0) (kept (false ∷ false ∷ []) [] 0 (1 ∷ []) (placed 8 true))
         ≡ kept (true ∷ false ∷ []) [] 0 (1 ∷ []) (placed 8 true) }
-    ensures given_back { at_once (Releases 1) (kept (true ∷ true ∷ []) [] 0 (1 ∷ []) (placed 8 true))
+    ensures given_back { at_once (Releases false 1) (kept (true ∷ true ∷ []) [] 0 (1 ∷ []) (placed 8 true))
         ≡ kept (true ∷ false ∷ []) [] 0 (1 ∷ []) (placed 8 true) }
 {}
 

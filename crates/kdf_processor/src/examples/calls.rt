@@ -1,8 +1,8 @@
 //! Examples of OUT. Devices 4 and 6 are tapes with the label A, and 5 is one with AB; 1 and 8 are punches, 0 and 7
 //! readers, 3 and 10 printers, and 2 and 9 cards. So many of them are claimed, from device 0 on.
-#![tactic(auto, unfolding(crate::specs::Table::out_effect, crate::specs::Table::guarded, crate::specs::Claims::free_kind, crate::specs::Claims::free_label))]
+#![tactic(auto, unfolding(crate::specs::Table::out_effect, crate::specs::Table::guarded, crate::specs::Claims::free_kind, crate::specs::Claims::free_label, crate::specs::Claims::least_pooled))]
 
-ghost use Rattle.std.specs.Prelude.{◌≡◌, ◌+◌, ◌-◌, ◌^◌, [], ◌∷◌};
+ghost use Rattle.std.specs.Prelude.{◌≡◌, ◌+◌, ◌-◌, ◌^◌, [], ◌∷◌, false};
 ghost use Rattle.kdf_journal.specs.declared.failure.Failure.TheVariants.{Liv, Nouv, Out, Claim};
 ghost use Rattle.kdf_processor.specs.Effect.{Nothing, Asks, Time, Acquires, Releases, Spools};
 ghost use Rattle.kdf_processor.specs.Examples.{calls, replaces, rejects, ends_behind, label_a, label_ab, label_b};
@@ -58,8 +58,8 @@ pub fn no_device_of_kind()
 
 /// OUT 6 gives a device back that is claimed, and takes two words.
 pub fn give_back()
-    ensures claimed { calls 6 (6 ∷ 5 ∷ 9 ∷ []) ≡ replaces (9 ∷ []) (Releases 5) }
-    ensures device_0 { calls 1 (6 ∷ 0 ∷ []) ≡ replaces [] (Releases 0) }
+    ensures claimed { calls 6 (6 ∷ 5 ∷ 9 ∷ []) ≡ replaces (9 ∷ []) (Releases false 5) }
+    ensures device_0 { calls 1 (6 ∷ 0 ∷ []) ≡ replaces [] (Releases false 0) }
     ensures not_claimed { calls 5 (6 ∷ 5 ∷ []) ≡ rejects (6 ∷ 5 ∷ []) Claim }
     ensures absent { calls 16 (6 ∷ 11 ∷ []) ≡ rejects (6 ∷ 11 ∷ []) Claim }
     ensures no_number { calls 16 (6 ∷ 16 ∷ []) ≡ rejects (6 ∷ 16 ∷ []) Claim }

@@ -51,10 +51,10 @@ const LOOKS: [(u64, &[u64], (u16, u16, u16), Ahead); 7] = [
             last: 170,
         },
     ),
-    // of a reader that isn't claimed, OUT 9, OUT 5 and DUMMY
+    // of a reader that isn't claimed, OUT 9, OUT 5, which may take from the pool, and DUMMY
     (0x7010_0000_0000, &[], (7, 90, 170), Ahead::Else),
     (0x2100_0000_0000, &[9], (0, 0, 0), Ahead::Else),
-    (0x2100_0000_0000, &[5, 1], (0, 0, 0), Ahead::Else),
+    (0x2100_0000_0000, &[5, 1], (0, 0, 0), Ahead::Takes),
     (0x0100_0000_0000, &[], (0, 0, 0), Ahead::Else),
 ];
 

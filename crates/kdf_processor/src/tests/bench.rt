@@ -37,6 +37,9 @@ pub enum Call {
         last: u16,
     },
     AsksTime,
+    Takes {
+        device: u8,
+    },
     Acquires {
         device: u8,
     },
@@ -65,7 +68,9 @@ pub struct Bench {
     pub busy: u8,
     /// The devices on which the program has a transfer, rising.
     pub own: Vec<u8>,
-    /// What is answered to each question, and how many were asked.
+    /// Every device of the pool has a holder.
+    pub taken: bool,
+    /// What is answered to each question but that of the pool, and how many were asked.
     pub answer: u64,
     pub asked: u32,
     /// The last acting call.
@@ -107,11 +112,19 @@ impl Bench {
     {
         self.devices.set_claimed(device, true);
     }
+
+    /// Adds a device to the pool.
+    pub fn add_to_pool(&mut self, device: u8, kind: Kind)
+        requires { device < 16 }
+    {
+        self.devices.add_to_pool(device, kind);
+    }
 }
 
 impl Port for Bench {
     ghost use Rattle.std.specs.Prelude.{◌≡◌, ◌==◌, ◌<◌, ◌||◌, [], vec_len, slice_index, refl, if◌then◌else◌};
     ghost use Rattle.std.specs.List.{list_any};
+    ghost use Rattle.kdf_processor.specs.Examples.{answer_of, still};
     ghost use Rattle.kdf_processor.specs.Row.{at_once};
     ghost use Rattle.kdf_processor.specs.State.{new_progress};
     ghost use Rattle.kdf_processor.specs.View.{test_of};
@@ -121,21 +134,23 @@ impl Port for Bench {
       word = slice_index b.words.items;
       test = λ d what. test_of what
           (record new_progress { place = if b.start then 0 else 1; flag = b.flag; mark = b.mark });
-      answer = λ question. b.answer;
+      answer = answer_of b.devices b.answer;
       is_out = λ g. g == b.out;
       is_busy = λ d. d == b.busy || list_any (λ own. d == own) b.own.items;
+      is_taken = λ kind. b.taken;
       mine = b.own.items;
     } };
 
-    ghost acts = { λ b act c. let k = at_once act (record {
-      claims = record b.devices { fixtures = [] };
+    ghost acts = { λ b act c. let k = at_once (still act) (record {
+      claims = b.devices;
       spooled = [];
       asked = b.asked;
+      stints = [];
       store = b.words.items;
       devices = [];
     }) in
         (c.words.items ≡ k.store)
-        × (record c.devices { fixtures = [] } ≡ k.claims)
+        × (c.devices ≡ k.claims)
         × (c.asked ≡ k.asked)
         × (c.out ≡ b.out) };
 
@@ -234,6 +249,26 @@ impl Port for Bench {
         Some(device)
     }
 
+    fn may_take(&self, kind: Kind) -> bool {
+        self.devices.least_in_pool(kind).is_some()
+    }
+
+    fn pool_free(&self, _kind: Kind) -> bool {
+        !self.taken
+    }
+
+    fn take_pool(&mut self, kind: Kind) -> u8 {
+        match self.devices.least_in_pool(kind) {
+            Some(device) => {
+                self.devices.set_claimed(device, true);
+                self.asked += 1;
+                self.call = Call::Takes { device };
+                device
+            }
+            None => unreachable!(),
+        }
+    }
+
     fn give_back(&mut self, device: u8) {
         self.devices.set_claimed(device, false);
         self.call = Call::Releases { device };
@@ -290,6 +325,7 @@ pub fn filled(alloc: Global, size: u16, image: &[u64]) -> Result<Bench, AllocErr
         out: NO_GROUP,
         busy: NO_DEVICE,
         own: Vec::new(alloc),
+        taken: false,
         answer: 0,
         asked: 0,
         call: Call::Nothing,

@@ -139,7 +139,7 @@ fn spool(rt: HostRuntime) -> Result<(), Fail> {
     Ok(())
 }
 
-/// BUSYQ, TLOQ, OUT 3, 4, 5 and 9 wait for nothing but their own group.
+/// BUSYQ, TLOQ, OUT 3, 4, 9 and an OUT 5 for a device of its own wait for nothing but their own group.
 #[test]
 fn none(rt: HostRuntime) -> Result<(), Fail> {
     let mut bench = bench(rt.alloc(), 1)?;

@@ -5,7 +5,6 @@ ghost use Rattle.kdf_place.specs.declared.image.Image.{Image as Made};
 ghost use Rattle.kdf_director.specs.Loading.{HaveImages, slots_of};
 ghost use Rattle.kdf_job.specs.Shows.{shown_job, shown_slot};
 ghost use Rattle.kdf_job.specs.WellFormed.{IsJob, IsSlot};
-ghost use Rattle.kdf_journal.specs.Counts.{moves};
 ghost use Rattle.kdf_report.specs.MadeFrom.{IsProgramOf};
 
 mod jobs;
@@ -17,7 +16,7 @@ use jobs::{JOBS, Shared};
 use kdf_alone::Alone;
 use kdf_director::Machine;
 use kdf_job::{Job, SlotJob};
-use kdf_journal::{CALL_LIMIT, Entry, MOVE_LIMIT};
+use kdf_journal::CALL_LIMIT;
 use kdf_place::Image;
 use kdf_processor::Life;
 use kdf_schedule::Event;
@@ -62,20 +61,6 @@ fn job_text(alloc: Global, shared: &Shared, k: u32) -> Result<String, AllocError
     Ok(out)
 }
 
-/// The sum of the numbers of the Move entries.
-fn moved_in(rt: &impl Abort, entries: &[Entry]) -> u64
-    ensures { result ≡ moves entries.now }
-{
-    let mut sum = 0u64;
-    for entry in entries {
-        if let Entry::Move { d: _, n } = entry {
-            assert!(rt; sum < 1_000_000);
-            sum += u64::from(*n);
-        }
-    }
-    sum
-}
-
 fn obey(rt: &impl Abort, machine: &mut Machine, orders: u32) -> Result<(), AllocError>
     ensures { machine.new.slots ≡ machine.old.slots }
 {
@@ -93,9 +78,7 @@ fn enter(rt: &impl Abort, machine: &mut Machine, event: Event) -> Result<(), All
     match event {
         Event::Orders(n) => obey(rt, machine, n)?,
         Event::Move(d, n) => {
-            let moved = moved_in(rt, machine.journal().entries());
-            assert!(rt; d < 16 && moved < 1_000_000);
-            assert!(rt; moved + u64::from(n) <= u64::from(MOVE_LIMIT));
+            assert!(rt; d < 16 && n > 0 && n <= 4096);
             machine.move_words(d, n);
         }
         Event::End(d) => {
@@ -105,6 +88,10 @@ fn enter(rt: &impl Abort, machine: &mut Machine, event: Event) -> Result<(), All
         Event::Clock(t) => {
             assert!(rt; machine.journal().clock() <= t);
             machine.clock(t);
+        }
+        Event::Swap(p, q) => {
+            assert!(rt; p < 4 && q < 4);
+            machine.swap(p, q);
         }
     }
     Ok(())

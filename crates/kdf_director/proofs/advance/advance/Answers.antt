@@ -1,6 +1,7 @@
 use Rattle.std.specs.Prelude.{IfOk}
 use Rattle.std.proofs.Common.{◌≡◌, List, cond, Some, None, refl, sym, ap, ◌∙◌, subst, arith}
 use Rattle.kdf_journal.specs.declared.entry.Entry.{Entry}
+use Rattle.kdf_journal.specs.Counts.{priorities}
 use Rattle.kdf_journal.specs.Recorded.{Recorded}
 use Rattle.kdf_journal.specs.Steps.{Waits, added}
 use Rattle.kdf_director.specs.declared.machine.Progress.TheVariants.{AllEnded, Idle}
@@ -21,24 +22,24 @@ next_of-requires-clause-near c =
 pub take_turn-requires-clause-there : goal.take_turn-requires-clause-there
 take_turn-requires-clause-there c =
     there c.args.slots.now c.args.windows.now c.args.store.now c.args.programs.now.items c.args.places.now.items c.args.journal.now.entries c.args.journal.now.spare c.args.room c.requires.ready c.in-Some.i
-    (found c.args.slots.now c.args.windows.now c.args.store.now c.args.programs.now.items c.args.places.now.items c.args.journal.now.entries c.args.journal.now.spare c.args.room c.requires.ready c.next_of.result (Some c.in-Some.i) c.deref.result.now c.deref-2.result.now c.deref.ensures.value c.deref-2.ensures.value c.next_of.ensures c.in-Some.is)
+    (found c.args.slots.now c.args.windows.now c.args.store.now c.args.programs.now.items c.args.places.now.items c.args.journal.now.entries c.args.journal.now.spare c.args.room c.requires.ready c.next_of.result (Some c.in-Some.i) c.deref.result.now c.deref-2.result.now c.deref.ensures.value c.deref-2.ensures.value c.priorities-priorities.result (c.priorities-priorities.ensures ∙ ap priorities c.reserve.ensures.entries) c.next_of.ensures c.in-Some.is)
 
 pub take_turn-requires-clause-live : goal.take_turn-requires-clause-live
 take_turn-requires-clause-live c =
     live c.args.slots.now c.args.windows.now c.args.store.now c.args.programs.now.items c.args.places.now.items c.args.journal.now.entries c.args.journal.now.spare c.args.room c.requires.ready c.in-Some.i
-    (found c.args.slots.now c.args.windows.now c.args.store.now c.args.programs.now.items c.args.places.now.items c.args.journal.now.entries c.args.journal.now.spare c.args.room c.requires.ready c.next_of.result (Some c.in-Some.i) c.deref.result.now c.deref-2.result.now c.deref.ensures.value c.deref-2.ensures.value c.next_of.ensures c.in-Some.is)
+    (found c.args.slots.now c.args.windows.now c.args.store.now c.args.programs.now.items c.args.places.now.items c.args.journal.now.entries c.args.journal.now.spare c.args.room c.requires.ready c.next_of.result (Some c.in-Some.i) c.deref.result.now c.deref-2.result.now c.deref.ensures.value c.deref-2.ensures.value c.priorities-priorities.result (c.priorities-priorities.ensures ∙ ap priorities c.reserve.ensures.entries) c.next_of.ensures c.in-Some.is)
 
 pub take_turn-requires-clause-ran : goal.take_turn-requires-clause-ran
 take_turn-requires-clause-ran c =
     let few = ran c.args.slots.now c.args.windows.now c.args.store.now c.args.programs.now.items c.args.places.now.items c.args.journal.now.entries c.args.journal.now.spare c.args.room c.requires.ready c.in-Some.i
-    (found c.args.slots.now c.args.windows.now c.args.store.now c.args.programs.now.items c.args.places.now.items c.args.journal.now.entries c.args.journal.now.spare c.args.room c.requires.ready c.next_of.result (Some c.in-Some.i) c.deref.result.now c.deref-2.result.now c.deref.ensures.value c.deref-2.ensures.value c.next_of.ensures c.in-Some.is) in
+    (found c.args.slots.now c.args.windows.now c.args.store.now c.args.programs.now.items c.args.places.now.items c.args.journal.now.entries c.args.journal.now.spare c.args.room c.requires.ready c.next_of.result (Some c.in-Some.i) c.deref.result.now c.deref-2.result.now c.deref.ensures.value c.deref-2.ensures.value c.priorities-priorities.result (c.priorities-priorities.ensures ∙ ap priorities c.reserve.ensures.entries) c.next_of.ensures c.in-Some.is) in
     omega arith
 
 pub returns-in-Some-clause-ready : goal.returns-in-Some-clause-ready
 returns-in-Some-clause-ready c =
     ready_turned c.args.slots.now c.args.windows.now c.args.store.now c.args.programs.now.items c.args.places.now.items c.args.journal.now.entries c.args.journal.now.spare c.args.room c.requires.ready
     c.in-Some.i
-    (found c.args.slots.now c.args.windows.now c.args.store.now c.args.programs.now.items c.args.places.now.items c.args.journal.now.entries c.args.journal.now.spare c.args.room c.requires.ready c.next_of.result (Some c.in-Some.i) c.deref.result.now c.deref-2.result.now c.deref.ensures.value c.deref-2.ensures.value c.next_of.ensures c.in-Some.is)
+    (found c.args.slots.now c.args.windows.now c.args.store.now c.args.programs.now.items c.args.places.now.items c.args.journal.now.entries c.args.journal.now.spare c.args.room c.requires.ready c.next_of.result (Some c.in-Some.i) c.deref.result.now c.deref-2.result.now c.deref.ensures.value c.deref-2.ensures.value c.priorities-priorities.result (c.priorities-priorities.ensures ∙ ap priorities c.reserve.ensures.entries) c.next_of.ensures c.in-Some.is)
     c.requires.few_calls c.take_turn.new.store c.take_turn.new.programs.items c.take_turn.new.places.items c.take_turn.new.journal.entries c.take_turn.new.journal.spare c.take_turn.ensures.many c.take_turn.ensures.dry
     (omega (arith, c.in_ok-reserve.ensures.room, c.take_turn.ensures.spare))
     c.take_turn.ensures.running c.take_turn.result
@@ -51,7 +52,7 @@ pub returns-in-Some-clause-took : goal.returns-in-Some-clause-took
 returns-in-Some-clause-took c =
     advance_turned c.args.slots.now c.args.windows.now c.args.store.now c.args.programs.now.items c.args.places.now.items c.args.journal.now.entries c.args.journal.now.spare c.args.room c.requires.ready
     c.in-Some.i
-    (found c.args.slots.now c.args.windows.now c.args.store.now c.args.programs.now.items c.args.places.now.items c.args.journal.now.entries c.args.journal.now.spare c.args.room c.requires.ready c.next_of.result (Some c.in-Some.i) c.deref.result.now c.deref-2.result.now c.deref.ensures.value c.deref-2.ensures.value c.next_of.ensures c.in-Some.is)
+    (found c.args.slots.now c.args.windows.now c.args.store.now c.args.programs.now.items c.args.places.now.items c.args.journal.now.entries c.args.journal.now.spare c.args.room c.requires.ready c.next_of.result (Some c.in-Some.i) c.deref.result.now c.deref-2.result.now c.deref.ensures.value c.deref-2.ensures.value c.priorities-priorities.result (c.priorities-priorities.ensures ∙ ap priorities c.reserve.ensures.entries) c.next_of.ensures c.in-Some.is)
     c.requires.few_calls c.take_turn.new.store c.take_turn.new.programs.items c.take_turn.new.places.items c.take_turn.new.journal.entries c.take_turn.new.journal.spare c.take_turn.ensures.many c.take_turn.ensures.dry
     (omega (arith, c.in_ok-reserve.ensures.room, c.take_turn.ensures.spare))
     c.take_turn.ensures.running c.take_turn.result
@@ -64,7 +65,7 @@ pub returns-in-Some-clause-err : goal.returns-in-Some-clause-err
 returns-in-Some-clause-err c =
     err_turned c.args.slots.now c.args.windows.now c.args.store.now c.args.programs.now.items c.args.places.now.items c.args.journal.now.entries c.args.journal.now.spare c.args.room c.requires.ready
     c.in-Some.i
-    (found c.args.slots.now c.args.windows.now c.args.store.now c.args.programs.now.items c.args.places.now.items c.args.journal.now.entries c.args.journal.now.spare c.args.room c.requires.ready c.next_of.result (Some c.in-Some.i) c.deref.result.now c.deref-2.result.now c.deref.ensures.value c.deref-2.ensures.value c.next_of.ensures c.in-Some.is)
+    (found c.args.slots.now c.args.windows.now c.args.store.now c.args.programs.now.items c.args.places.now.items c.args.journal.now.entries c.args.journal.now.spare c.args.room c.requires.ready c.next_of.result (Some c.in-Some.i) c.deref.result.now c.deref-2.result.now c.deref.ensures.value c.deref-2.ensures.value c.priorities-priorities.result (c.priorities-priorities.ensures ∙ ap priorities c.reserve.ensures.entries) c.next_of.ensures c.in-Some.is)
     c.requires.few_calls c.take_turn.new.store c.take_turn.new.programs.items c.take_turn.new.places.items c.take_turn.new.journal.entries c.take_turn.new.journal.spare c.take_turn.ensures.many c.take_turn.ensures.dry
     (omega (arith, c.in_ok-reserve.ensures.room, c.take_turn.ensures.spare))
     c.take_turn.ensures.running c.take_turn.result
@@ -79,7 +80,7 @@ returns-in-None-clause-ready c =
     c.args.store.now c.args.programs.now.items c.args.places.now.items c.wait.new.journal.entries c.wait.new.journal.spare refl c.requires.ready.dry
     (omega (arith, c.in_ok-reserve.ensures.room, c.wait.ensures.spare))
     c.requires.few_calls
-    (found c.args.slots.now c.args.windows.now c.args.store.now c.args.programs.now.items c.args.places.now.items c.args.journal.now.entries c.args.journal.now.spare c.args.room c.requires.ready c.next_of.result None c.deref.result.now c.deref-2.result.now c.deref.ensures.value c.deref-2.ensures.value c.next_of.ensures c.in-None.is)
+    (found c.args.slots.now c.args.windows.now c.args.store.now c.args.programs.now.items c.args.places.now.items c.args.journal.now.entries c.args.journal.now.spare c.args.room c.requires.ready c.next_of.result None c.deref.result.now c.deref-2.result.now c.deref.ensures.value c.deref-2.ensures.value c.priorities-priorities.result (c.priorities-priorities.ensures ∙ ap priorities c.reserve.ensures.entries) c.next_of.ensures c.in-None.is)
     refl refl refl c.wait.result
     (subst (λ (xs : List Program). c.wait.result ≡ cond (any_on xs) Idle AllEnded) c.deref-in-None.ensures.value c.wait.ensures.answer)
     (subst (λ (xs : List Program). c.wait.new.journal.entries ≡ cond (any_on xs) (added c.args.journal.now.entries Waits) c.args.journal.now.entries) c.deref-in-None.ensures.value
@@ -91,7 +92,7 @@ returns-in-None-clause-took c =
     c.args.store.now c.args.programs.now.items c.args.places.now.items c.wait.new.journal.entries c.wait.new.journal.spare refl c.requires.ready.dry
     (omega (arith, c.in_ok-reserve.ensures.room, c.wait.ensures.spare))
     c.requires.few_calls
-    (found c.args.slots.now c.args.windows.now c.args.store.now c.args.programs.now.items c.args.places.now.items c.args.journal.now.entries c.args.journal.now.spare c.args.room c.requires.ready c.next_of.result None c.deref.result.now c.deref-2.result.now c.deref.ensures.value c.deref-2.ensures.value c.next_of.ensures c.in-None.is)
+    (found c.args.slots.now c.args.windows.now c.args.store.now c.args.programs.now.items c.args.places.now.items c.args.journal.now.entries c.args.journal.now.spare c.args.room c.requires.ready c.next_of.result None c.deref.result.now c.deref-2.result.now c.deref.ensures.value c.deref-2.ensures.value c.priorities-priorities.result (c.priorities-priorities.ensures ∙ ap priorities c.reserve.ensures.entries) c.next_of.ensures c.in-None.is)
     refl refl refl c.wait.result
     (subst (λ (xs : List Program). c.wait.result ≡ cond (any_on xs) Idle AllEnded) c.deref-in-None.ensures.value c.wait.ensures.answer)
     (subst (λ (xs : List Program). c.wait.new.journal.entries ≡ cond (any_on xs) (added c.args.journal.now.entries Waits) c.args.journal.now.entries) c.deref-in-None.ensures.value

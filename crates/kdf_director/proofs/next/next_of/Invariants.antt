@@ -1,13 +1,11 @@
-use Rattle.std.proofs.Common.{◌≡◌, ◌-◌, length, map}
-use Rattle.std.specs.Prelude.{find}
-use Rattle.std.specs.List.{range_with_len}
-use Rattle.kdf_director.specs.Going.{first_going, goes_at}
+use Rattle.std.proofs.Common.{◌≡◌, drop, map}
+use Rattle.kdf_director.specs.Going.{first_going}
 use Rattle.kdf_director.specs.Parts.{shared_in}
 use Rattle.kdf_director.specs.Running.{reaches_in, seats_in}
 use Rattle.kdf_director.specs.declared.program.Program.{Program}
 use Rattle.kdf_director.proofs.next.next_of.Given as goal
 
-abbrev pub invariant-loop-i : goal.invariant-loop-i
-invariant-loop-i l =
-    first_going (reaches_in l.windows l.slots) (seats_in l.programs) (map (λ (x : Program). x.hold) l.programs) (shared_in l.store l.places)
-    ≡ find (goes_at (reaches_in l.windows l.slots) (seats_in l.programs) (map (λ (x : Program). x.hold) l.programs) (shared_in l.store l.places)) (range_with_len l.i (length l.programs - l.i))
+abbrev pub invariant-loop-p : goal.invariant-loop-p
+invariant-loop-p l =
+    first_going (reaches_in l.windows l.slots) (seats_in l.programs) (map (λ (x : Program). x.hold) l.programs) (shared_in l.store l.places) l.priorities
+    ≡ first_going (reaches_in l.windows l.slots) (seats_in l.programs) (map (λ (x : Program). x.hold) l.programs) (shared_in l.store l.places) (drop l.p-index l.priorities)

@@ -12,7 +12,7 @@ struct Case {
     due: &'static str,
 }
 
-const CASES: [Case; 9] = [
+const CASES: [Case; 10] = [
     Case {
         name: "waits for its area",
         job: "KDF9 JOB 1\nSLOT 0\nSTORE 64\nDECK\nPROGRAM V0; V0=Q0/32/33; SET 2; SET 5; OUT; V0; =Q1; =C1; PRQ1; E32; ZERO; OUT; FINISH;\nENDDECK\nDEVICE 3 TR\n+ABCDEFGHIJKLMNOP\nSCHEDULE\nORDERS 12\nEND 3\nORDERS 5\nENDJOB\n",
@@ -47,6 +47,11 @@ const CASES: [Case; 9] = [
         name: "slots 1 and 3",
         job: "KDF9 JOB 1\nSLOT 1\nSTORE 32\nDECK\nPROGRAM; 1; J1; FINISH;\nENDDECK\nSLOT 3\nSTORE 32\nDECK\nPROGRAM; 1; J1; FINISH;\nENDDECK\nSCHEDULE\nORDERS 5\nENDJOB\n",
         due: "RAN 1 5\nSLOT 1\nSTATE LIVE\nORDERS 5\nAT 1 0\nNEST 0\nSLOT 3\nSTATE LIVE\nORDERS 0\nAT 0 0\nNEST 0\n",
+    },
+    Case {
+        name: "exchanges priorities",
+        job: "KDF9 JOB 1\nSLOT 0\nSTORE 32\nDECK\nPROGRAM; 1; J1; FINISH;\nENDDECK\nSLOT 1\nSTORE 32\nDECK\nPROGRAM; 1; J1; FINISH;\nENDDECK\nSCHEDULE\nORDERS 5\nSWAP 0 1\nORDERS 5\nSWAP 0 1\nORDERS 2\nENDJOB\n",
+        due: "RAN 0 5\nSWAP 0 1\nRAN 1 5\nSWAP 0 1\nRAN 0 2\nSLOT 0\nSTATE LIVE\nORDERS 7\nAT 1 0\nNEST 0\nSLOT 1\nSTATE LIVE\nORDERS 5\nAT 1 0\nNEST 0\n",
     },
     Case {
         name: "no order",

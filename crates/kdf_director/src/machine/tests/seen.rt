@@ -69,5 +69,12 @@ fn write_entry(out: &mut String, entry: Entry) -> Result<(), AllocError> {
         Entry::Move { d, n } => writeln!(out, "MOVE {d} {n}"),
         Entry::End { d } => writeln!(out, "END {d}"),
         Entry::Clock { t } => writeln!(out, "CLOCK {t}"),
+        Entry::Swap { p, q } => writeln!(out, "SWAP {p} {q}"),
+        Entry::Take { p, d } => writeln!(out, "TAKE {p} {d}"),
+        Entry::Give { p, d } => writeln!(out, "GIVE {p} {d}"),
+        Entry::Wait { p, kind } => {
+            let name = kind.name();
+            writeln!(out, "WAIT {p} {name}")
+        }
     }
 }

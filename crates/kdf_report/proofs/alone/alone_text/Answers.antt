@@ -1,6 +1,6 @@
 use Rattle.std.proofs.Common.{◌∙◌, ap, vec_items}
 use Rattle.kdf_job.specs.Shows.{shown_slot}
-use Rattle.kdf_report.proofs.Sections.{whole_text}
+use Rattle.kdf_report.proofs.SectionTexts.{whole_text}
 use Rattle.kdf_report.proofs.alone.alone_text.Goals as goal
 
 pub returns : goal.returns

@@ -13,3 +13,7 @@ returns-clause-holds c = refl
 pub returns-clause-events : goal.returns-clause-events
 unfolding digits
 returns-clause-events c = refl
+
+pub returns-clause-pool : goal.returns-clause-pool
+unfolding digits
+returns-clause-pool c = refl

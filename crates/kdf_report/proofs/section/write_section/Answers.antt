@@ -1,6 +1,6 @@
 use Rattle.std.proofs.lemmas.Result.{on_ok_weaker}
 use Rattle.kdf_job.specs.Shows.{shown_slot}
-use Rattle.kdf_report.proofs.Sections.{section_text}
+use Rattle.kdf_report.proofs.SectionTexts.{section_text}
 use Rattle.kdf_report.proofs.section.write_section.Goals as goal
 
 pub write_shows-requires : goal.write_shows-requires

@@ -3,7 +3,7 @@ use Rattle.kdf_director.specs.Shown.{state_at}
 use Rattle.kdf_job.specs.Shows.{shown_job, shown_slot}
 use Rattle.kdf_job.specs.WellFormed.{IsSlot}
 use Rattle.kdf_report.specs.MadeFrom.{HasProgram}
-use Rattle.kdf_report.proofs.Sections.{all_shown}
+use Rattle.kdf_report.proofs.SectionTexts.{all_shown}
 use Rattle.kdf_report.proofs.SummaryTexts.{summary_whole}
 use Rattle.kdf_report.proofs.summaries.summary.Goals as goal
 

@@ -1,21 +1,12 @@
-use Rattle.std.proofs.Common.{◌*◌, ◌≤◌, ℕ, List, length, ap, ◌∙◌, arith}
-use Rattle.std.specs.Prelude.{sum_by}
+use Rattle.std.proofs.Common.{ℕ, List, ap, ◌∙◌, arith}
 use Rattle.kdf_job.specs.Shows.{shown_job}
-use Rattle.kdf_director.specs.Follows.{words_in}
 use Rattle.kdf_director.specs.Loading as loading
 use Rattle.kdf_top.proofs.LoadedDecks.{fitting_images, same_words}
-use Rattle.kdf_top.proofs.Schedules.{entries_bound, rises, words_bound}
+use Rattle.kdf_top.proofs.Schedules.{entries_bound, rises}
 use Rattle.kdf_top.proofs.running.run_job.Goals as goal
 
 pub load-requires-clause-images : goal.load-requires-clause-images
 load-requires-clause-images c = fitting_images c.args.job.now.slots.items c.args.images.now c.requires.images
-
-pub follow-requires-clause-words : goal.follow-requires-clause-words
-follow-requires-clause-words c =
-    let events = c.args.job.now.events.items in
-    let bound : sum_by words_in events ≤ 4096 * length events = words_bound events c.requires.job.schedule.each in
-    let few : length events ≤ 500000 = c.requires.job.schedule.few in
-    rw c.deref.ensures.value (omega arith)
 
 pub follow-requires-clause-room : goal.follow-requires-clause-room
 follow-requires-clause-room c =
@@ -24,7 +15,7 @@ follow-requires-clause-room c =
     rw c.deref.ensures.value (omega arith)
 
 pub follow-requires-clause-rises : goal.follow-requires-clause-rises
-follow-requires-clause-rises c = rw c.deref.ensures.value (rises 0 c.args.job.now.events.items c.requires.job.schedule.rising)
+follow-requires-clause-rises c = rw c.deref.ensures.value (rises 0 c.args.job.now.events.items c.requires.job.schedule.rising c.requires.job.schedule.each)
 
 pub returns-in-Ok-clause-slots : goal.returns-in-Ok-clause-slots
 returns-in-Ok-clause-slots c =

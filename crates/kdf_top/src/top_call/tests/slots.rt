@@ -3,7 +3,7 @@ use super::{Case, check_all};
 use std::test::Fail;
 
 /// Programs that share the machine.
-const SLOTS: [Case; 4] = [
+const SLOTS: [Case; 5] = [
     Case {
         name: "the lower slot goes first",
         job: "KDF9 JOB 1\n\
@@ -83,6 +83,54 @@ const SLOTS: [Case; 4] = [
             STATE LIVE\n\
             ORDERS 0\n\
             AT 0 0\n\
+            FLAGS 0 0\n\
+            NEST 0\n\
+            LINKS 0\n\
+            ENDREPORT\n",
+    },
+    Case {
+        name: "programs exchange their priorities",
+        job: "KDF9 JOB 1\n\
+            SLOT 0\n\
+            STORE 32\n\
+            DECK\n\
+            PROGRAM; 1; J1; FINISH;\n\
+            ENDDECK\n\
+            SLOT 1\n\
+            STORE 32\n\
+            DECK\n\
+            PROGRAM; 1; J1; FINISH;\n\
+            ENDDECK\n\
+            SCHEDULE\n\
+            ORDERS 5\n\
+            SWAP 0 1\n\
+            ORDERS 5\n\
+            SWAP 1 1\n\
+            SWAP 3 0\n\
+            ORDERS 1\n\
+            SWAP 1 0\n\
+            ORDERS 2\n\
+            ENDJOB\n",
+        due: "KDF9 REPORT 1\n\
+            RAN 0 5\n\
+            SWAP 0 1\n\
+            RAN 1 5\n\
+            SWAP 1 1\n\
+            SWAP 3 0\n\
+            RAN 1 1\n\
+            SWAP 1 0\n\
+            RAN 0 2\n\
+            SLOT 0\n\
+            STATE LIVE\n\
+            ORDERS 7\n\
+            AT 1 0\n\
+            FLAGS 0 0\n\
+            NEST 0\n\
+            LINKS 0\n\
+            SLOT 1\n\
+            STATE LIVE\n\
+            ORDERS 6\n\
+            AT 1 0\n\
             FLAGS 0 0\n\
             NEST 0\n\
             LINKS 0\n\

@@ -1,0 +1,8 @@
+use Rattle.kdf_director.proofs.Holding.{legal_held, legal_taken}
+use Rattle.kdf_director.proofs.laws.journals.holders.Goals as goal
+
+pub returns-clause-held : goal.returns-clause-held
+returns-clause-held c slots J p d are l truly pooled live = legal_held slots J are l truly p d pooled live
+
+pub returns-clause-taken : goal.returns-clause-taken
+returns-clause-taken c slots J p kind are l truly live free = legal_taken slots J are l truly p kind live free

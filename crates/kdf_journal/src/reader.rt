@@ -1,0 +1,155 @@
+//! Reading a line of a journal.
+ghost use Rattle.std.specs.Prelude.{◌≡◌, ◌≤◌, ◌^◌, IfSome};
+ghost use Rattle.kdf_text.specs.Numbers.{number_in};
+ghost use Rattle.kdf_journal.specs.Printed.{entry_in, failure_named, kind_named, number_8, number_16, number_32, number_64, of_one, of_three, of_two, IsEntry};
+
+use crate::{Entry, Failure, Kind};
+use kdf_text::{cut_word, number_in};
+
+/// The entry that is printed so; `None` exactly where none is.
+#[tactic(auto, unfolding(crate::specs::Printed::entry_in))]
+pub fn read_entry(line: &[u8]) -> Option<Entry>
+    ensures { result ≡ entry_in line.now }
+{
+    let (name, numbers) = cut_word(line)?;
+    let Some((first, others)) = cut_word(numbers) else {
+        return of_one(name, numbers);
+    };
+    let Some((second, third)) = cut_word(others) else {
+        return of_two(name, first, others);
+    };
+    match cut_word(third) {
+        None => of_three(name, first, second, third),
+        Some(_) => None,
+    }
+}
+
+/// The entry of a name and one word.
+fn of_one(name: &[u8], a: &[u8]) -> Option<Entry>
+    ensures { result ≡ of_one name.now a.now }
+{
+    if name == b"ENDED".as_slice() {
+        Some(Entry::Ended { p: number_8(a)? })
+    } else if name == b"IDLE".as_slice() {
+        Some(Entry::Idle { n: number_32(a)? })
+    } else if name == b"END".as_slice() {
+        Some(Entry::End { d: number_8(a)? })
+    } else if name == b"CLOCK".as_slice() {
+        Some(Entry::Clock { t: number_64(a)? })
+    } else {
+        None
+    }
+}
+
+/// The entry of a name and two words.
+fn of_two(name: &[u8], a: &[u8], b: &[u8]) -> Option<Entry>
+    ensures { result ≡ of_two name.now a.now b.now }
+{
+    if name == b"RAN".as_slice() {
+        let (p, n) = (number_8(a)?, number_32(b)?);
+        Some(Entry::Ran { p, n })
+    } else if name == b"ANSWER".as_slice() {
+        let (p, v) = (number_8(a)?, number_64(b)?);
+        Some(Entry::Answer { p, v })
+    } else if name == b"TAKE".as_slice() {
+        let (p, d) = (number_8(a)?, number_8(b)?);
+        Some(Entry::Take { p, d })
+    } else if name == b"GIVE".as_slice() {
+        let (p, d) = (number_8(a)?, number_8(b)?);
+        Some(Entry::Give { p, d })
+    } else if name == b"FAIL".as_slice() {
+        let (p, kind) = (number_8(a)?, failure_named(b)?);
+        Some(Entry::Fail { p, kind })
+    } else if name == b"LOV".as_slice() {
+        let (p, group) = (number_8(a)?, number_16(b)?);
+        Some(Entry::Lov { p, group })
+    } else if name == b"BUSY".as_slice() {
+        let (p, d) = (number_8(a)?, number_8(b)?);
+        Some(Entry::Busy { p, d })
+    } else if name == b"WAIT".as_slice() {
+        let (p, kind) = (number_8(a)?, kind_named(b)?);
+        Some(Entry::Wait { p, kind })
+    } else if name == b"MOVE".as_slice() {
+        let (d, n) = (number_8(a)?, number_16(b)?);
+        Some(Entry::Move { d, n })
+    } else if name == b"SWAP".as_slice() {
+        let (p, q) = (number_8(a)?, number_8(b)?);
+        Some(Entry::Swap { p, q })
+    } else {
+        None
+    }
+}
+
+/// The entry of a name and three words.
+fn of_three(name: &[u8], a: &[u8], b: &[u8], c: &[u8]) -> Option<Entry>
+    ensures { result ≡ of_three name.now a.now b.now c.now }
+{
+    if name == b"START".as_slice() {
+        let (p, d, k) = (number_8(a)?, number_8(b)?, number_32(c)?);
+        Some(Entry::Start { p, d, k })
+    } else {
+        None
+    }
+}
+
+/// The kind of failure of a name.
+fn failure_named(word: &[u8]) -> Option<Failure>
+    ensures { result ≡ failure_named word.now }
+{
+    if word == b"LIV".as_slice() {
+        Some(Failure::Liv)
+    } else if word == b"NOUV".as_slice() {
+        Some(Failure::Nouv)
+    } else if word == b"OUT".as_slice() {
+        Some(Failure::Out)
+    } else if word == b"RESET".as_slice() {
+        Some(Failure::Reset)
+    } else if word == b"CLAIM".as_slice() {
+        Some(Failure::Claim)
+    } else {
+        None
+    }
+}
+
+/// The kind of device of a name.
+fn kind_named(word: &[u8]) -> Option<Kind>
+    ensures { result ≡ kind_named word.now }
+{
+    if word == b"TR".as_slice() {
+        Some(Kind::Tr)
+    } else if word == b"TP".as_slice() {
+        Some(Kind::Tp)
+    } else if word == b"CR".as_slice() {
+        Some(Kind::Cr)
+    } else if word == b"LP".as_slice() {
+        Some(Kind::Lp)
+    } else if word == b"MT".as_slice() {
+        Some(Kind::Mt)
+    } else {
+        None
+    }
+}
+
+fn number_8(word: &[u8]) -> Option<u8>
+    ensures { result ≡ number_8 word.now }
+{
+    number_in(0, u64::from(u8::MAX), word).map(|n| n as u8)
+}
+
+fn number_16(word: &[u8]) -> Option<u16>
+    ensures { result ≡ number_16 word.now }
+{
+    number_in(0, u64::from(u16::MAX), word).map(|n| n as u16)
+}
+
+fn number_32(word: &[u8]) -> Option<u32>
+    ensures { result ≡ number_32 word.now }
+{
+    number_in(0, u64::from(u32::MAX), word).map(|n| n as u32)
+}
+
+fn number_64(word: &[u8]) -> Option<u64>
+    ensures { result ≡ number_64 word.now }
+{
+    number_in(0, u64::MAX, word)
+}
