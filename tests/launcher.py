@@ -1,38 +1,26 @@
-"""Tries ./kdf9 in a folder of its own, where an rt stands that builds at once a program which tells its source, its words and its input."""
+"""Tries ./kdf9 in a folder of its own, where a stand-in for rt builds a program which tells its source, its words and its input."""
 import fcntl
 import os
 import pathlib
 import pty
+import re
 import shutil
+import signal
 import subprocess
+import sys
 import tempfile
+import time
 
 ROOT = pathlib.Path(__file__).resolve().parent.parent
-MAIN, WORD, PROGRAM = "crates/kdf9/src/main.rt", "crates/kdf_word/src/lib.rt", "crates/kdf9/out/kdf9"
+MAIN, WORD, NEST, QSTORE = (f"crates/{name}" for name in ("kdf9/src/main.rt", "kdf_word/src/lib.rt", "kdf_nest/src/lib.rt", "kdf_qstore/src/lib.rt"))
+PROGRAM, TIMES = "crates/kdf9/out/kdf9", "tools/build-times.txt"
+LIST = "kdf9: kdf_nest kdf_qstore\nkdf_nest: kdf_word arrayvec\nkdf_qstore: kdf_word\nkdf_word:\n"
 
-# All commands that ./kdf9 may use, but for rt.
+# All commands that ./kdf9 may use, but for rt and python3.
 COMMANDS = (
     "bash", "cat", "chmod", "diff", "dirname", "find", "flock", "grep", "head", "mkdir", "mv", "readlink", "sed", "sha256sum", "sleep", "sort",
     "touch", "true", "xargs",
 )
-
-# As rt does, it wants the folder of the crate for itself.
-RT = """#!/usr/bin/env bash
-flock -n . true || exit 1
-echo built >> ../../log
-source=$(cat src/main.rt)
-[ "$source" != faulty ] || exit 1
-[ "$source" != slow ] || echo changed > src/main.rt
-sleep 0.2
-mkdir -p out
-cat > out/kdf9 <<END
-#!/usr/bin/env bash
-printf '<%s>' $source "\\$@"
-cat
-exit 42
-END
-chmod +x out/kdf9
-"""
 
 
 class Checkout:
@@ -40,12 +28,16 @@ class Checkout:
 
     def __init__(self, folder):
         self.folder = pathlib.Path(folder)
-        for name, text in (("crates.txt", "kdf9: kdf_word\n"), (MAIN, "first\n"), (WORD, "word\n"), ("commands/rt", RT)):
+        rt = f"#!{sys.executable}\n{(ROOT / 'tests/stand_in_rt.py').read_text()}"
+        for name, text in (("crates.txt", LIST), (MAIN, "first\n"), (WORD, "\n"), (NEST, "\n"), (QSTORE, "\n"), (TIMES, "# seconds\nkdf9 7\n"), ("commands/rt", rt)):
             self.write(name, text)
         (self.folder / "commands/rt").chmod(0o755)
         for command in COMMANDS:
             (self.folder / "commands" / command).symlink_to(shutil.which(command))
+        (self.folder / "commands/python3").symlink_to(sys.executable)
         shutil.copy(ROOT / "kdf9", self.folder)
+        shutil.copy(ROOT / "tools/build", self.folder / "tools")
+        shutil.copytree(ROOT / "tools/building", self.folder / "tools/building")
 
     def write(self, name, text):
         """Writes a file, which is newer than the program then, as by an editor some time later."""
@@ -67,19 +59,23 @@ class Checkout:
             program.write("# built by hand\n")
         self.date(PROGRAM, 20)
 
-    def without_rt(self):
-        (self.folder / "commands/rt").unlink()
+    def without(self, command):
+        (self.folder / "commands" / command).unlink()
 
     def builds(self):
         """How often the program was built."""
+        return self.log().count("builds")
+
+    def log(self):
+        """What rt did, in a line each."""
         log = self.folder / "log"
-        return log.read_text().count("built") if log.exists() else 0
+        return log.read_text().splitlines() if log.exists() else []
 
     def begin(self, *words, **streams):
         """A start of ./kdf9 by these words."""
         pipes = {"stdin": subprocess.DEVNULL, "stdout": subprocess.PIPE, "stderr": subprocess.PIPE, **streams}
-        path = {"PATH": str(self.folder / "commands")}
-        return subprocess.Popen([self.folder / "kdf9", *words], env=path, text=True, **pipes)
+        variables = {"PATH": str(self.folder / "commands"), "KDF9_JOBS": "2"}
+        return subprocess.Popen([self.folder / "kdf9", *words], env=variables, text=True, **pipes)
 
     def start(self, *words, text=""):
         """What a start by these words over this text wrote, and its status."""
@@ -102,26 +98,92 @@ def differs(run, status, out, *parts):
 BUILDING = "kdf9: building the program"
 
 
+def built(crates=4):
+    """The lines of a build of so many crates."""
+    return (f"{BUILDING}: {crates} crates, 2 at a time", *(f"is proved: {n} of {crates} after" for n in range(1, crates + 1)), "is built, after")
+
+
 def builds_once(checkout):
-    yield differs(checkout.start("run", "a b", "", text="job\n"), 42, "<first><run><a b><>job\n", BUILDING)
+    yield differs(checkout.start("run", "a b", "", text="job\n"), 42, "<first><run><a b><>job\n", *built())
     yield differs(checkout.start("make", "7", text="job"), 42, "<first><make><7>job")
 
 
-def tells_that_there_is_no_rt(checkout):
-    checkout.without_rt()
-    yield differs(checkout.start("run"), 1, "", "isn't built, and there is no rt")
+def proves_side_by_side(checkout):
+    checkout.write(NEST, "kdf_qstore\n")
+    checkout.write(QSTORE, "kdf_nest\n")
+    yield differs(checkout.start("make", "0"), 42, "<first><make><0>", *built())
+    log = checkout.log()
+    in_order = log[:2] == ["begins kdf_word", "proves kdf_word"] and log[-3:] == ["begins kdf9", "proves kdf9", "builds"]
+    yield None if in_order and len(log) == 9 else f"{log}"
 
 
-def tells_that_a_build_failed(checkout):
+def proves_in_turn_without_python(checkout):
+    checkout.without("python3")
+    yield differs(checkout.start("make", "0"), 42, "<first><make><0>", f"{BUILDING}; the first time this can take an hour")
     checkout.write(MAIN, "faulty\n")
-    yield differs(checkout.start("run"), 1, "", BUILDING, "could not be built")
+    yield differs(checkout.start("make", "0"), 1, "", BUILDING, "could not be built")
+
+
+def shows_the_end_of_a_check_that_failed(checkout):
+    checkout.write(NEST, "faulty\n")
+    checkout.write(QSTORE, "endless\n")
+    end = ("  fn kdf_nest::first: proved", "  fn kdf_nest::last: not proved")
+    yield differs(checkout.start("run"), 1, "", BUILDING, "kdf_word is proved: 1 of 4", "kdf_nest isn't proved, so the program could not be built", *end)
+    yield None if "last: not proved" in (checkout.folder / "crates/kdf_nest/out/check.log").read_text() else "no log is kept"
+    checkout.write(NEST, "\n")
+    checkout.write(QSTORE, "\n")
+    yield differs(checkout.start("run"), 42, "<first><run>", *built())
+    yield None if checkout.log().count("begins kdf_word") == 1 and "goes on with kdf_nest" in checkout.log() else f"{checkout.log()}"
+
+
+def goes_on_where_it_was_stopped(checkout):
+    checkout.write(QSTORE, "endless\n")
+    for end, status, line in ((signal.SIGINT, 130, "begins kdf_qstore"), (signal.SIGKILL, -signal.SIGKILL, "goes on with kdf_qstore")):
+        start = checkout.begin("make", "0", start_new_session=True)
+        while "kdf_nest is proved" not in start.stderr.readline():
+            pass
+        while line not in checkout.log():
+            time.sleep(0.1)
+        os.killpg(start.pid, end)
+        yield differs(ended(start), status, "", *["isn't built yet"] * (end == signal.SIGINT))
+    checkout.write(QSTORE, "\n")
+    yield differs(checkout.start("make", "0"), 42, "<first><make><0>", *built())
+    log = checkout.log()
+    yield None if [log.count(f"begins {name}") for name in ("kdf_word", "kdf_nest", "kdf_qstore")] == [1, 1, 1] else f"{log}"
+
+
+def draws_a_bar_on_a_terminal(checkout):
+    ours, theirs = pty.openpty()
+    start = checkout.begin("make", "0", stderr=theirs)
+    os.close(theirs)
+    drawn = b""
+    while b"is built, after" not in drawn:
+        drawn += os.read(ours, 1024)
+    os.close(ours)
+    bar = re.search(rb"\r\x1b\[Kkdf9: \[#*\.*\] (\d) of 4, \d:\d\d, .* more: kdf_", drawn)
+    yield None if bar else f"{drawn}"
+    start.communicate()
+
+
+def writes_down_how_long_crates_took(checkout):
+    checkout.write(WORD, "word\n")
+    words = [sys.executable, "tools/build", "--times"]
+    variables = {"PATH": str(checkout.folder / "commands")}
+    for _ in range(2):
+        subprocess.run(words, cwd=checkout.folder, env=variables, stderr=subprocess.PIPE, check=True)
+        yield None if (checkout.folder / TIMES).read_text() == "# seconds\nkdf9 1\nkdf_nest 1\nkdf_qstore 1\nkdf_word 1\n" else "other times"
+
+
+def tells_that_there_is_no_rt(checkout):
+    checkout.without("rt")
+    yield differs(checkout.start("run"), 1, "", "isn't built, and there is no rt")
 
 
 def builds_what_has_changed(checkout):
     checkout.start("make", "0")
-    for name, text, source in ((MAIN, "second\n", "second"), ("crates.txt", "kdf9:\n", "second"), ("crates/kdf_word/src/more.rt", "", "second")):
+    for name, text, crates in ((MAIN, "second\n", 4), ("crates.txt", "kdf9: kdf_word\nkdf_word:\n", 2), ("crates/kdf_word/src/more.rt", "", 2)):
         checkout.write(name, text)
-        yield differs(checkout.start("make", "0"), 42, f"<{source}><make><0>", BUILDING)
+        yield differs(checkout.start("make", "0"), 42, "<second><make><0>", *built(crates))
 
 
 def builds_nothing_for_a_date(checkout):
@@ -133,12 +195,12 @@ def builds_nothing_for_a_date(checkout):
 def sees_what_changed_while_it_built(checkout):
     checkout.write(MAIN, "slow\n")
     checkout.start("make", "0")
-    yield differs(checkout.start("make", "0"), 42, "<changed><make><0>", BUILDING)
+    yield differs(checkout.start("make", "0"), 42, "<changed><make><0>", *built())
 
 
 def tells_than_which_file_a_program_is_older(checkout):
     checkout.start("make", "0")
-    checkout.without_rt()
+    checkout.without("rt")
     checkout.date(MAIN, 10)
     checkout.write(WORD, "another\n")
     yield differs(checkout.start("make", "0"), 1, "", f"older than {WORD}, and there is no rt")
@@ -146,7 +208,7 @@ def tells_than_which_file_a_program_is_older(checkout):
 
 def starts_in_a_copy(checkout):
     checkout.start("make", "0")
-    checkout.without_rt()
+    checkout.without("rt")
     for path in checkout.folder.rglob("*.rt"):
         os.utime(path)
     checkout.date(PROGRAM, -1000)
@@ -159,7 +221,7 @@ def goes_by_dates_where_another_built(checkout):
     checkout.build_by_hand()
     yield differs(checkout.start("make", "0"), 42, "<first><make><0>")
     checkout.build_by_hand()
-    checkout.without_rt()
+    checkout.without("rt")
     checkout.date(WORD, 10)
     yield differs(checkout.start("make", "0"), 1, "", f"older than {WORD}, and there is no rt")
     (checkout.folder / f"{PROGRAM}.sums").unlink()
@@ -172,7 +234,7 @@ def starts_in_a_copy_of_what_another_built(checkout):
     checkout.start("make", "0")
     checkout.build_by_hand()
     checkout.start("make", "0")
-    checkout.without_rt()
+    checkout.without("rt")
     checkout.date(WORD, 10)
     yield differs(checkout.start("make", "0"), 42, "<first><make><0>")
 
@@ -181,7 +243,7 @@ def waits_for_another_start(checkout):
     runs = [ended(start) for start in [checkout.begin("make", "0") for _ in range(2)]]
     runs.sort(key=lambda run: BUILDING in run[2])
     yield differs(runs[0], 42, "<first><make><0>", "another start is building the program; this one waits")
-    yield differs(runs[1], 42, "<first><make><0>", BUILDING)
+    yield differs(runs[1], 42, "<first><make><0>", *built())
     yield None if checkout.builds() == 1 else f"{checkout.builds()} builds"
 
 
@@ -200,7 +262,7 @@ def says_how_a_job_is_handed_in(checkout):
     for words, said in (([], "./kdf9 run < FILE"), (["-h"], "./kdf9 run < FILE"), (["--help"], "./kdf9 run < FILE"), (["run", "my.job"], "./kdf9 run < my.job")):
         yield differs(checkout.start(*words), 42, "<first>" + "".join(f"<{word}>" for word in words), said)
     yield differs(checkout.start("alone", "0", "my job"), 42, "<first><alone><0><my job>", "./kdf9 alone 0 < my\\ job")
-    for words in (["run"], ["alone", "0"], ["asm", "3"], ["make", "0"], ["sum"]):
+    for words in (["run"], ["alone", "0"], ["asm", "3"], ["make", "0"], ["sum"], ["run", "--json"]):
         yield differs(checkout.start(*words), 42, "<first>" + "".join(f"<{word}>" for word in words))
 
 
@@ -222,7 +284,8 @@ def at_terminal(checkout, *words):
 
 
 CASES = (
-    builds_once, tells_that_there_is_no_rt, tells_that_a_build_failed, builds_what_has_changed, builds_nothing_for_a_date,
+    builds_once, proves_side_by_side, proves_in_turn_without_python, shows_the_end_of_a_check_that_failed, goes_on_where_it_was_stopped,
+    draws_a_bar_on_a_terminal, writes_down_how_long_crates_took, tells_that_there_is_no_rt, builds_what_has_changed, builds_nothing_for_a_date,
     sees_what_changed_while_it_built, tells_than_which_file_a_program_is_older, starts_in_a_copy, goes_by_dates_where_another_built,
     starts_in_a_copy_of_what_another_built, waits_for_another_start, starts_no_program_that_is_being_built, says_how_a_job_is_handed_in,
     says_that_a_terminal_is_read,
