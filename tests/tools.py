@@ -1,37 +1,34 @@
 """Tries the launcher and the tools: each fault of decks and of jobs, failed programs, hints, every example, bad input, and texts of the largest
 sizes.
 """
-import collections
+import json
 import os
-import pathlib
 import re
-import resource
 import subprocess
 import sys
-import xml.etree.ElementTree
+import tempfile
 from concurrent.futures import ThreadPoolExecutor
 
 from launcher import launcher_starts
-
-ROOT = pathlib.Path(__file__).resolve().parent.parent
-Run = collections.namedtuple("Run", "status out err")
-
-# The tools are tried with the python3 that runs this.
-ENVIRONMENT = {**os.environ, "PATH": os.path.dirname(sys.executable) + os.pathsep + os.environ["PATH"]}
+from pictures import SUITES as PICTURES
+from pictures import picture_is_wrong
+from runs import SUITES as RUNS
+from slips import SUITES as SLIPS
+from toolkit import ENVIRONMENT, HEAD, PLAIN, ROOT, TAIL, document, examples, job_of_deck, kdf9, refused
 
 # A deck's name of a fault, its lines, the line and the column in the deck, and how the sentence on it begins. The store has 32 words.
 DECK_FAULTS = [
-    ("BadByte", "PROGRAM;\n  ZERO;\t OUT;\nFINISH;", 2, 8, "The byte is none of a deck"),
+    ("BadByte", "PROGRAM;\n  ZERO;\t OUT;\nFINISH;", 2, 8, "This byte can't occur in a deck"),
     ("CommentOpen", "PROGRAM;\n ZERO; (adds\nFINISH;", 2, 8, "A `(` without a later `)`."),
-    ("NoSemicolon", "PROGRAM;\n  ZERO;\nFINISH", 3, 1, "Text behind the last `;`: its first byte."),
-    ("UnknownOrder", "PROGRAM; SET 5;\n(add) ADD; FINISH;", 2, 7, "The statement has no form of this document."),
+    ("NoSemicolon", "PROGRAM;\n  ZERO;\nFINISH", 3, 1, "There is text after the last `;`."),
+    ("UnknownOrder", "PROGRAM; SET 5;\n(add) ADD; FINISH;", 2, 7, "This isn't a Usercode statement."),
     ("Floating", "PROGRAM;\n ZERO;\n +F; FINISH;", 3, 2, "The statement is a floating-point order of the KDF9"),
     ("BadNumber", "PROGRAM;\nSET 5; SET 40000;\nFINISH;", 2, 8, "A number outside its range, other than in the next two."),
     ("QRange", "PROGRAM;\n\n   Q16; FINISH;", 3, 4, "The number of a Q-store is above 15."),
     ("ConstantRange", "PROGRAM V1; V0 = 1;\nV1 = 140737488355328; FINISH;", 2, 1, "A constant outside its range, or with more than 8 characters."),
     ("BadHeading", "PROGRAM V0;\nZERO;\n V0=1; FINISH;", 3, 2, "The statement isn't in its place in the sequence."),
-    ("NoFinish", "PROGRAM;\nZERO;", 3, 1, "There is no `FINISH`: the length of the deck."),
-    ("AfterFinish", "PROGRAM; ZERO;\nFINISH; ZERO;", 2, 9, "Text behind `FINISH`: its first byte."),
+    ("NoFinish", "PROGRAM;\nZERO;", 3, 1, "There is no `FINISH`."),
+    ("AfterFinish", "PROGRAM; ZERO;\nFINISH; ZERO;", 2, 9, "There is text after `FINISH`."),
     ("ReferenceTwice", "PROGRAM; 1; J1;\n  1; FINISH;", 2, 3, "The reference stood before in this part."),
     ("ReferenceMissing", "PROGRAM; 1;\n    J2; FINISH;", 2, 5, "The target's part is there and hasn't that reference."),
     ("PartTwice", "PROGRAM;\nP1; ZERO;\nP1; ZERO; FINISH;", 3, 1, "The part's number stood before."),
@@ -39,16 +36,12 @@ DECK_FAULTS = [
     ("VRange", "PROGRAM V1;\n  V2; FINISH;", 2, 3, "N is above the part's last V-store"),
     ("YRange", "Y1; PROGRAM;\nY0; YB0; FINISH;", 2, 5, "N is above the group's last store"),
     ("ShortLoopFar", "PROGRAM; 1;\nDC1; J1C1NZS; FINISH;", 2, 6, "Reference r of `JrCqNZS` isn't at the beginning of the word before."),
-    ("TooLarge", "Y99;\nPROGRAM; FINISH;", 3, 1, "The image has more words than the store: the length of the deck."),
+    ("TooLarge", "Y99;\nPROGRAM; FINISH;", 3, 1, "The image has more words than the store."),
 ]
-
-PLAIN = "PROGRAM; 1; J1; FINISH;"
-HEAD = f"KDF9 JOB 1\nSLOT 0\nSTORE 64\nDECK\n{PLAIN}\nENDDECK\n"
-TAIL = "SCHEDULE\nORDERS 10\nENDJOB\n"
 
 # A job's name of a fault, its text, the line and the column, and how the sentence on it begins.
 JOB_FAULTS = [
-    ("BadLine", HEAD + "PRINT 3\n" + TAIL, 7, 1, "no line of this form may stand here"),
+    ("BadLine", HEAD + "PRINT 3\n" + TAIL, 7, 1, "this line isn't allowed here"),
     ("BadNumber", HEAD + "SCHEDULE\nMOVE 3 4097\nENDJOB\n", 8, 8, "a word that has to be a number isn't one, or is out of its range"),
     ("SlotOrder", HEAD + HEAD[11:] + TAIL, 7, 6, "the slot isn't above the slot before"),
     ("SizeNotGroups", HEAD.replace("64", "65") + TAIL, 3, 7, "the store isn't a multiple of 32"),
@@ -79,17 +72,20 @@ MEDIA = [
     ("DEVICE 3 MT A\n=A\n+b\n", 9, 2),
 ]
 
+# Where a line of an exchange is wrong: its fault and its column.
+EXCHANGE_FAULTS = [("SWAP 0 4", "BadNumber", 8), ("SWAP 4 0", "BadNumber", 6), ("SWAP 0", "BadLine", 1), ("SWAP 0 1 2", "BadLine", 1)]
+
 # What stands in a deck of one line, and a part of the hint.
 HINTS = [
     ("PROGRAM; zero; OUT; FINISH;", "write ZERO"),
     ("PROGRAM V0; V0=Pabc; FINISH;", "write V0=PABC"),
-    ("PROGRAM; SET 5; SET 7\n+; ZERO; OUT; FINISH;", "a ; is missing at 5:22, behind SET 7"),
-    ("PROGRAM; ZERO (nothing) OUT; FINISH;", "a ; is missing at 5:14, behind ZERO"),
+    ("PROGRAM; SET 5; SET 7\n+; ZERO; OUT; FINISH;", "a ; is missing at 5:22, after SET 7"),
+    ("PROGRAM; ZERO (nothing) OUT; FINISH;", "a ; is missing at 5:14, after ZERO"),
     ("PROGRAM; ZERO;\r\nFINISH;", "byte 13"),
-    ("PROGRAM;\tZERO; FINISH;", "tabulator"),
+    ("PROGRAM;\tZERO; FINISH;", "this is a tab"),
     ("PROGRAM; SET 1; SET 1; DIV; FINISH;", "DIVI divides"),
-    ("PROGRAM V1; V0 = PDIVIDEND V1 = 17; FINISH;", "a ; is missing at 5:27, behind V0 = PDIVIDEND"),
-    ("PROGRAM V0 SET 5; FINISH;", "a ; is missing at 5:11, behind PROGRAM V0"),
+    ("PROGRAM V1; V0 = PDIVIDEND V1 = 17; FINISH;", "a ; is missing at 5:27, after V0 = PDIVIDEND"),
+    ("PROGRAM V0 SET 5; FINISH;", "a ; is missing at 5:11, after PROGRAM V0"),
     ("PROGRAM; SET 5; =K1; FINISH;", "it is Director's"),
     ("PROGRAM; W0; FINISH;", "there are V-stores and Y-stores"),
     ("PROGRAM; ZERO; FINISH", "a ; is missing at 5:22"),
@@ -101,6 +97,7 @@ JOB_HINTS = [
     ((HEAD + TAIL).replace("SLOT", "slot"), "write SLOT 0\n"),
     (HEAD + "DEVICE 3 tr\n" + TAIL, "write DEVICE 3 TR\n"),
     (HEAD + "Device 3 " + "tr" * 9999 + TAIL, "write DEVICE 3 " + "TR" * 24 + "...\n"),
+    ((HEAD + TAIL).replace("ORDERS 10", "swap 0 1"), "write SWAP 0 1\n"),
     ((HEAD + TAIL).replace("ORDERS 10", "ORDERS  10"), "exactly one space"),
     ((HEAD + TAIL).replace("ORDERS 10", "ORDERS 010"), "no zeros in front"),
     ((HEAD + TAIL).replace("ENDDECK\n", ""), "ENDDECK hasn't come"),
@@ -110,11 +107,11 @@ JOB_HINTS = [
 
 # How a program fails, its deck, the line and the column in the deck at which it stands, and a part of what is said of it.
 FAILURES = [
-    ("LIV", "PROGRAM;\n ZERO; (to nowhere)\n =E9999; FINISH;", 3, 2, "a syllable is outside the program's store"),
-    ("NOUV", "PROGRAM; SET 5;\n   +; FINISH;", 2, 4, "fewer words than the order needs"),
-    ("OUT", "PROGRAM;\nSET 7; OUT;\nFINISH;", 2, 8, "an OUT with a number that isn't one"),
-    ("RESET", "PROGRAM; SET -1;\n=LINK; EXIT; FINISH;", 2, 8, "a link with syllable 6 or 7"),
-    ("CLAIM", "PROGRAM;\nZERO; =Q1;\n    PRQ1; FINISH;", 3, 5, "a device that the program may not use"),
+    ("LIV", "PROGRAM;\n ZERO; (to nowhere)\n =E9999; FINISH;", 3, 2, "LIV: its address is 9999; the store has words 0 to 31"),
+    ("NOUV", "PROGRAM; SET 5;\n   +; FINISH;", 2, 4, "the nest has 1 word, which is too few for +"),
+    ("OUT", "PROGRAM;\nSET 7; OUT;\nFINISH;", 2, 8, "OUT 7 isn't one of 0, 3, 4, 5, 6, 8 and 9"),
+    ("RESET", "PROGRAM; SET -1;\n=LINK; EXIT; FINISH;", 2, 8, "the link is 8191/7, and a word has the syllables 0 to 5"),
+    ("CLAIM", "PROGRAM;\nZERO; =Q1;\n    PRQ1; FINISH;", 3, 5, "Q1 is 0/0/0, and its counter names device 0: is =C1 forgotten?; the slot has no devices"),
     ("LIVE", "PROGRAM; 1;\n  J1; FINISH;", 2, 3, "was live when the schedule ended, after 10 orders"),
 ]
 
@@ -136,6 +133,17 @@ BAD_INPUT = [
     (["explain", "no/such/file"], "", "no/such/file: No such file"),
     (["listing", "-"], "KDF9 JOB 1\n" + " " * 4194304, "-: the job has more than 4194304 bytes"),
     (["picture", "--svg"], "", "usage: ./kdf9 picture"),
+    (["json", "-"], "", "usage: ./kdf9 json"),
+    (["json"], "", "-:1: this is no report"),
+    (["json"], "KDF9 REPORT 1\nRAN 0 01\nENDREPORT\n", "-:2: this line isn't allowed here: RAN 0 01"),
+    (["json"], "KDF9 REPORT 1\nSLOT 0\nSTATE LIVE\nORDERS x\n", "-:4: this line isn't allowed here: ORDERS x"),
+    (["json"], "KDF9 REPORT 1\nRAN 0 1\n", "-:3: this line isn't allowed here: the report ends here"),
+    (["json"], "KDF9 REPORT 1\nENDREPORT\n\n", "-:3: this line isn't allowed here: "),
+    (["report", "-"], "", "usage: ./kdf9 report"),
+    (["report"], '{"text":', "-:1:9: this is no JSON"),
+    (["report"], "[]", "-: this JSON is no report"),
+    (["report"], '{"text": "KDF9 REPORT 1", "journal": [{"entry": "RAN", "slot": 0}], "slots": []}', "-: this JSON is no report: 'orders'"),
+    (["report"], '{"text": "KDF9 REPORT 1", "journal": [{"entry": "IDLE", "calls": 1, "more": 2}], "slots": []}', "-: this JSON is no report"),
     (["picture"], "", "-:1: this is no report"),
     (["picture", "--text"], HEAD + TAIL, "-:1: this is no report"),
     (["picture"], "KDF9 REPORT 1\nRAN 0 1\nSLEPT 0\nENDREPORT\n", "-:3: this is no entry of a journal: SLEPT 0"),
@@ -149,62 +157,19 @@ BAD_INPUT = [
     (["picture"], "KDF9 REPORT 1\nSTART 1 3 1\nSLOT 0\nSTATE LIVE\nDEVICE 3 TR FREE PLACE 0 FLAG 0\nENDREPORT\n", "-:2: the report has no slot"),
     (["picture"], "KDF9 REPORT 1\nBUSY 0 9\nSLOT 0\nSTATE LIVE\nENDREPORT\n", "-:2: the report has no slot or device 9"),
     (["picture"], "KDF9 REPORT 1\nSLOT 0\nENDREPORT\n", "-:3: slot 0 has no line STATE"),
+    (["picture"], "KDF9 REPORT 1\nSWAP 0 4\nSLOT 0\nSTATE LIVE\nENDREPORT\n", "-:2: the report has no slot or device 4"),
+    (["picture"], "KDF9 REPORT 1\nSWAP 0\nENDREPORT\n", "-:2: this is no entry of a journal: SWAP 0"),
 ]
 
-# A report of 60 calls: MOVEs of a transfer and of none, and the clock, twice at once.
-MOVES = """KDF9 REPORT 1
-RAN 0 8
-START 0 3 8
-BUSY 0 3
-IDLE 19
-MOVE 3 2
-IDLE 9
-MOVE 3 7
-MOVE 3 4096
-CLOCK 5
-CLOCK 6
-IDLE 9
-END 3
-MOVE 3 1
-MOVE 4 1
-RAN 0 14
-SLOT 0
-STATE LIVE
-ORDERS 22
-DEVICE 3 TR HELD PLACE 0 FLAG 0
-ENDREPORT
-"""
-
-# The titles and the rows that its pictures have to have.
-MOVES_TITLES = [
-    "device 3 TR, call 29: up to 2 words moved by 1 MOVE", "device 3 TR, call 38: up to 4103 words moved by 2 MOVEs",
-    "call 38: the clock was set to 5 and so on up to 6", "slot 0, calls 9 to 46: held up for 38 calls by device 3 TR, which has a transfer",
+# Two programs, of which the second fails, with what explain says of their priorities after the schedule.
+TWO_LOOPS = HEAD + HEAD[11:].replace("SLOT 0", "SLOT 1")
+FAILS_SECOND = TWO_LOOPS[::-1].replace("J1"[::-1], "+"[::-1], 1)[::-1]
+TURNS = [
+    (TWO_LOOPS, "ORDERS 5\nSWAP 0 1\n", ["  priorities at the end, the highest first: 1, 0; it is the turn of slot 1\n"]),
+    (TWO_LOOPS, "ORDERS 5\nSWAP 0 0\n", ["  priorities at the end, the highest first: 0, 1; it is the turn of slot 0\n"]),
+    (TWO_LOOPS, "ORDERS 19999999\nSWAP 0 2\nORDERS 1\n", ["  priorities at the end, the highest first: 1, 0\n"]),
+    (FAILS_SECOND, "SWAP 0 1\nORDERS 5\nSWAP 0 1\n", ["order 2; its nest, the top first: empty\n  priorities then, the highest first: 1, 0\n"]),
 ]
-MOVES_ROWS = [
-    ("device 3 TR", "        " + "0" * 20 + "m" + "0" * 8 + "m" + "0" * 8 + " " * 14, "1 transfer, 3 MOVEs"),
-    ("clock", " " * 37 + "c" + " " * 22, "set 2 times"),
-]
-
-# What a picture counts: the entries of a report for it, and the titles of what is drawn.
-COUNTS = [
-    ("orders", r"^RAN (?P<key>\d) (?P<number>\d+)$", r"^slot (?P<key>\d),.*obeyed (?P<number>\d+) order"),
-    ("transfers", r"^START \d (?P<key>\d+) \d+$", r"^device (?P<key>\d+) .*?(?P<number>\d+) transfers? begun"),
-    ("idle calls", r"^IDLE (?P<number>\d+)$", r": (?P<number>\d+) calls? idle"),
-    ("failures", r"^FAIL (?P<key>\d) \w+$", r"^slot (?P<key>\d) failed with call \d+: \w+$"),
-    ("ends", r"^ENDED (?P<key>\d)$", r"^slot (?P<key>\d) ended with call \d+$"),
-]
-
-
-def kdf9(words, text):
-    """A run of ./kdf9 by these words over this text."""
-    whole = [ROOT / "kdf9", *words]
-    done = subprocess.run(whole, input=text.encode("latin-1"), capture_output=True, cwd=ROOT, env=ENVIRONMENT, check=False)
-    return Run(done.returncode, done.stdout.decode("latin-1"), done.stderr.decode("latin-1"))
-
-
-def job_of_deck(deck):
-    """A job of this deck alone: its first line is line 5 of the job."""
-    return f"KDF9 JOB 1\nSLOT 0\nSTORE 32\nDECK\n{deck}\nENDDECK\n{TAIL}"
 
 
 def explained(text, head, parts):
@@ -222,8 +187,9 @@ def pointed(text, line, column):
     """The line of a text with the caret below the column, as explain writes them."""
     lines = text.split("\n")
     shown = re.sub(r"[^ -~]", "?", lines[line - 1] if line <= len(lines) else "")
-    first = max(0, column - 61)
-    return f"    {shown[first:column + 39]}\n    {' ' * (column - 1 - first)}^\n"
+    first, end = max(0, column - 61), column + 39
+    part = ("..." if first else "") + shown[first + (3 if first else 0):end]
+    return f"    {part[:-3] + '...' if end < len(shown) else part}\n    {' ' * (column - 1 - first)}^\n"
 
 
 def faults_are_found():
@@ -243,6 +209,10 @@ def faults_are_found():
         yield f"the medium {devices[:24]!r}", explained(HEAD + devices + TAIL, f"-:{line}:{column}: BadMedium", [])
 
 
+    for line, name, column in EXCHANGE_FAULTS:
+        yield f"the line {line}", explained(HEAD + f"SCHEDULE\n{line}\nENDJOB\n", f"-:8:{column}: {name}", [])
+
+
 def documents_have_no_other_faults():
     """Each fault of the documents is one of those that are looked for."""
     headings = re.findall(r"^### \d+ (\w+)$", document("USERCODE.md"), re.MULTILINE)
@@ -251,20 +221,14 @@ def documents_have_no_other_faults():
     yield "the fourteen faults of jobs", None if rows == ["Header"] + [fault[0] for fault in JOB_FAULTS] else f"are {rows}"
 
 
-def document(name):
-    """The text of a page of the documents."""
-    return (ROOT / "docs" / name).read_text(encoding="utf-8")
-
-
 def hints_are_given():
     for deck, part in HINTS:
         yield f"a hint on {deck!r}", explained(job_of_deck(deck), "", ["  hint: ", part])
     for text, part in JOB_HINTS:
         yield f"a hint on a job: {part}", explained(text, "", ["  hint: ", part])
-    yield "no hint on a line of no kind", None if "hint" not in kdf9(["explain", "-"], HEAD + "print 3\n" + TAIL).err else "a hint"
     for order in re.search(r"^for name in (.*); do$", document("DIFFERENCES.md"), re.MULTILINE)[1].split():
         yield f"a hint on {order}", explained(job_of_deck(f"PROGRAM; {order}; FINISH;"), "", ["hint: the KDF9 has this order, and this machine leaves"])
-    for deck in ("PROGRAM; ADD; FINISH;", "PROGRAM V0; V0 = PABCDEFGHIJ; FINISH;", "PROGRAM V1; V1 = 140737488355328; FINISH;"):
+    for deck in ("PROGRAM; NOSUCHORDER; FINISH;", "PROGRAM V0; V0 = PABCDEFGHIJ; FINISH;", "PROGRAM V1; V1 = 140737488355328; FINISH;"):
         yield f"no hint on {deck!r}", None if "hint" not in kdf9(["explain", "-"], job_of_deck(deck)).err else "a hint"
 
 
@@ -280,17 +244,9 @@ def failures_are_found():
     yield "a program that stands at no statement", nowhere
 
 
-def examples():
-    """The examples: the name of each and its job."""
-    for path in sorted((ROOT / "examples").glob("*.job")):
-        yield path.stem, path.read_text(encoding="latin-1")
-    for path in sorted((ROOT / "examples").glob("*.make")):
-        yield path.stem, subprocess.run([path], capture_output=True, check=True).stdout.decode("latin-1")
-
-
-def refused(run):
-    """Whether a tool refused its input as it should: with one line, status 1 and no output."""
-    return run.status == 1 and not run.out and run.err.count("\n") == 1
+def example_report(name):
+    """The report of the example of this name."""
+    return (ROOT / "examples" / f"{name}.report").read_text(encoding="latin-1")
 
 
 def examples_are_shown():
@@ -312,6 +268,22 @@ def example_is_shown(name, text):
         yield f"listing of {name}", listing_is_wrong(text, section[0])
         yield f"steps of {name}", steps_are_wrong(text, section[0])
     yield f"picture of {name}", picture_is_wrong(own.out)
+    yield f"json of {name}", json_is_wrong(own.out)
+
+
+def json_is_wrong(report):
+    """What is wrong with a report as JSON: its words are those of the report, and the way back leads to it; or None."""
+    run = kdf9(["json"], report)
+    if run.status or run.err:
+        return run.err
+    record = json.loads(run.out)
+    words = [f"{word['octal']} {word['number']}" for section in record["slots"] for word in section["words"]]
+    due = [f"{word} {int(word, 8) - 2**48 if word[0] > '3' else int(word, 8)}" for word in re.findall(r"^WORD \d+ (\d+)$", report, re.MULTILINE)]
+    if words != due or len(record["journal"]) != report[:report.index("\nSLOT ")].count("\n"):
+        return f"words {words} in place of {due}, and {len(record['journal'])} entries"
+    back = kdf9(["report"], run.out)
+    again = kdf9(["json"], back.out)
+    return None if back == (0, report, "") and again.out == run.out else f"back: {back}"
 
 
 def listing_is_wrong(text, slot):
@@ -358,47 +330,10 @@ def number_or_octal(digits):
     return str(number) if abs(number) < 10**9 else digits
 
 
-def picture_is_wrong(report):
-    """What is wrong with the pictures of a report: what they count is counted in the report; or None."""
-    run, text = kdf9(["picture"], report), kdf9(["picture", "--text"], report)
-    if run.status or run.err or text.status or text.err:
-        return run.err + text.err
-    titles = "\n".join(titles_of(run.out))
-    for what, entry, title in COUNTS:
-        due, seen = tally(entry, report), tally(title, titles)
-        if due != seen:
-            return f"{what}: {seen} in place of {due}"
-    for slot, state, orders in re.findall(r"^SLOT (\d)\nSTATE (.*)\nORDERS (\d+)$", report, re.MULTILINE):
-        if not re.search(rf"^slot {slot} .*\| {state}, {orders} orders?, held \d+$", text.out, re.MULTILINE):
-            return f"the text doesn't show slot {slot}: {text.out}"
-    return None
-
-
-def titles_of(picture):
-    """The titles of a picture, in order."""
-    return [title.text for title in xml.etree.ElementTree.fromstring(picture).iter("{http://www.w3.org/2000/svg}title")]
-
-
-def moves_and_clock_are_drawn():
-    titles, text = titles_of(kdf9(["picture"], MOVES).out), kdf9(["picture", "--text"], MOVES).out
-    for title in MOVES_TITLES:
-        yield f"a picture with the title {title}", None if titles.count(title) == 1 else f"has {titles}"
-    yield "a MOVE of no transfer isn't drawn", None if sum("moved by" in title for title in titles) == 2 else f"is in {titles}"
-    for before, row, behind in MOVES_ROWS:
-        yield f"a picture's row of {before}", None if f"\n{before:<12}|{row}| {behind}\n" in text else f"isn't in {text}"
-    often = MOVES.replace("MOVE 3 2\n", "MOVE 3 1\n" * 200)
-    run, row = kdf9(["picture"], often), "        " + "0" * 38 + " " * 14
-    yield "many MOVEs in a title", None if "call 29: up to 200 words moved by 200 MOVEs" in run.out else "are missing"
-    yield "many MOVEs in a row", None if f"|{row}| 1 transfer, 202 MOVEs" in kdf9(["picture", "--text"], often).out else "are drawn"
-
-
-def tally(pattern, text):
-    """The numbers that a pattern finds, added by their keys; where there is no number, each counts as one."""
-    found = collections.Counter()
-    for match in re.finditer(pattern, text, re.MULTILINE):
-        parts = match.groupdict()
-        found[parts.get("key")] += int(parts.get("number", 1))
-    return found
+def turns_are_told():
+    for slots, schedule, parts in TURNS:
+        yield f"whose turn it is after {schedule!r}", explained(f"{slots}SCHEDULE\n{schedule}ENDJOB\n", "", parts)
+    yield "no turns without exchanges", None if "priorities" not in kdf9(["explain", "-"], TWO_LOOPS + TAIL).err else "are told"
 
 
 def bad_input_is_refused():
@@ -408,32 +343,53 @@ def bad_input_is_refused():
         yield f"bad input of {' '.join(words)}", None if good else f"{run.status} {run.out[:60]!r} {run.err[:200]!r} in place of {line!r}"
 
 
-def large_texts_take_seconds():
-    """Jobs of 4 MB and a journal of a million entries, timed by what the processor spends."""
+def large_jobs():
+    """Jobs of 4 MB, each with what it is of, the tools that read it, and the sizes that what they write may have."""
     head, tail = "KDF9 JOB 1\nSLOT 0\nSTORE 64\nDECK\nPROGRAM;\n", "\nZERO; OUT; FINISH;\nENDDECK\n" + TAIL
     room = 4194304 - len(head) - len(tail)
-    for what, filling in (("comments", "()" * (room // 2)), ("stars", "*" * room), ("lines", "\n" * room), ("one statement", "SET 5 " * (room // 6))):
-        for tool in ("explain", "listing", "steps"):
-            yield f"{tool} of 4 MB of {what}", takes_long([tool, "-"], head + filling + tail)
+    fillings = {"comments": "()" * (room // 2), "stars": "*" * room, "lines": "\n" * room, "one statement": "SET 5 " * (room // 6)}
+    for what, filling in fillings.items():
+        yield what, [["explain", "-"], ["listing", "-"], ["steps", "-"]], head + filling + tail, range(2000000)
+    yield "comments", [["same", "-"]], head + fillings["comments"] + tail, range(99)
+    yield "comments", [["schedule", "-"]], head + fillings["comments"] + tail, range(room, 2 * room)
     references = "".join(f"{number};" for number in range(1, 10000))
     parts = "".join(f"P{part};{references}" for part in range(1, room // len(references)))
-    yield "listing of 4 MB of references", takes_long(["listing", "-"], head + parts + tail, range(6 * room, 10 * room))
+    yield "references", [["listing", "-"]], head + parts + tail, range(6 * room, 10 * room)
+    yield "lines END", [["explain", "-"]], HEAD + "SCHEDULE\nORDERS 10\n" + "END 3\n" * 250000 + "ENDJOB\n", range(10**7)
+
+
+def large_texts():
+    """Runs over jobs of 4 MB and over a journal of a million entries: what it is, the words, the text, and the sizes of what is written."""
+    for what, runs, text, sizes in large_jobs():
+        for words in runs:
+            yield f"{words[0]} of 4 MB of {what}", words, text, sizes
     rounds = (f"RAN {i % 4} 7\nSTART {i % 4} {i % 4} {i}\nBUSY {i % 4} {i % 4}\nIDLE 3\nEND {i % 4}\n" for i in range(200000))
-    sections = (f"SLOT {slot}\nSTATE LIVE\nDEVICE {slot} TR HELD PLACE 0 FLAG 0\n" for slot in range(4))
+    sections = (
+        f"SLOT {slot}\nSTATE LIVE\nORDERS 350000\nAT 1 0\nFLAGS 0 0\nNEST 0\nLINKS 0\nDEVICE {slot} TR HELD PLACE 0 FLAG 0\n" for slot in range(4)
+    )
     report = "KDF9 REPORT 1\n" + "".join(rounds) + "".join(sections) + "ENDREPORT\n"
-    for words in (["picture"], ["picture", "--text"]):
-        yield f"{' '.join(words)} of a million entries", takes_long(words, report)
+    for words in (["picture"], ["picture", "--text"], ["json"]):
+        yield f"{' '.join(words)} of a million entries", words, report, range(10**8)
 
 
-def takes_long(words, text, sizes=range(2000000)):
-    """What is wrong with the time of a run, or with the size of what it writes; or None."""
-    before = resource.getrusage(resource.RUSAGE_CHILDREN)
-    run = kdf9(words, text)
-    after = resource.getrusage(resource.RUSAGE_CHILDREN)
-    seconds = after.ru_utime + after.ru_stime - before.ru_utime - before.ru_stime
-    if seconds > 60 or len(run.out) not in sizes or "Traceback" in run.err:
-        return f"{seconds:.0f} seconds, {len(run.out)} characters, {run.err[:200]}"
-    return None
+def large_texts_take_seconds():
+    """Each is timed by what the processor spends; some run at once."""
+    with ThreadPoolExecutor() as pool:
+        names, *cases = zip(*large_texts())
+        yield from zip(names, pool.map(takes_long, *cases))
+
+
+def takes_long(words, text, sizes):
+    """What is wrong with the time of a run and of what it starts, or with the size of what it writes; or None."""
+    with tempfile.TemporaryFile() as given, tempfile.TemporaryFile() as written, tempfile.TemporaryFile() as said:
+        given.write(text.encode("latin-1"))
+        given.seek(0)
+        process = subprocess.Popen([ROOT / "kdf9", *words], stdin=given, stdout=written, stderr=said, cwd=ROOT, env=ENVIRONMENT)
+        _, process.returncode, usage = os.wait4(process.pid, 0)
+        size, seconds = written.seek(0, os.SEEK_END), usage.ru_utime + usage.ru_stime
+        said.seek(0)
+        err = said.read(200)
+    return f"{seconds:.0f} seconds, {size} bytes, {err}" if seconds > 60 or size not in sizes or b"Traceback" in err else None
 
 
 def documents_are_true():
@@ -442,29 +398,29 @@ def documents_are_true():
         whole = ["bash", "-c", f"exec 2>&1; {command}"]
         done = subprocess.run(whole, cwd=ROOT, stdout=subprocess.PIPE, text=True, env=ENVIRONMENT, check=False)
         yield f"docs/TOOLS.md: {command}", None if done.stdout == due else f"gives {done.stdout}"
-    report = (ROOT / "examples" / "adds-cards-while-a-tape-is-copied.report").read_text(encoding="latin-1")
     job = re.search(r"^```job share.job\n(.*?)```$", document("TOUR.md"), re.MULTILINE | re.DOTALL)[1]
-    for picture, of in (("picture.svg", report), ("share.svg", kdf9(["run"], job).out)):
+    named = re.findall(r"`([a-z0-9-]+)`(?=[^|]*\|[^|]*\|$)", document("EXAMPLES.md"), re.MULTILINE)
+    there = {path.stem for path in (ROOT / "examples").iterdir()}
+    yield "docs/EXAMPLES.md", None if sorted(named) == sorted(there) else f"differs by {there ^ set(named)}"
+    reports = [example_report("adds-cards-while-a-tape-is-copied"), kdf9(["run"], job).out, example_report("lets-a-starved-program-in")]
+    for picture, of in zip(("picture.svg", "share.svg", "exchange.svg"), reports):
         yield f"docs/{picture}", None if kdf9(["picture"], of).out == document(picture) else "isn't the picture of its report"
 
 
 SUITES = (
     launcher_starts, faults_are_found, documents_have_no_other_faults, hints_are_given, failures_are_found, bad_input_is_refused,
-    moves_and_clock_are_drawn, examples_are_shown, large_texts_take_seconds, documents_are_true,
+    turns_are_told, examples_are_shown, large_texts_take_seconds, documents_are_true, *PICTURES, *RUNS, *SLIPS,
 )
 
 
 def main():
-    failed = passed = 0
-    for cases in SUITES:
-        for what, why in cases():
-            if why:
-                print(f"tools: {what}: {why}")
-                failed += 1
-            else:
-                passed += 1
-    print(f"tools: {passed} passed, {failed} failed")
-    return 1 if failed else 0
+    with ThreadPoolExecutor(len(SUITES)) as pool:
+        cases = [case for suite in pool.map(lambda suite: list(suite()), SUITES) for case in suite]
+    faults = [(what, why) for what, why in cases if why]
+    for what, why in faults:
+        print(f"tools: {what}: {why}")
+    print(f"tools: {len(cases) - len(faults)} passed, {len(faults)} failed")
+    return 1 if faults else 0
 
 
 if __name__ == "__main__":

@@ -16,6 +16,10 @@ DECLARATION = re.compile(r"Y([A-Z]?)(\d+)\Z")
 OPENING = re.compile(r"(?:PROGRAM|P(\d+))(?:V(\d+))?\Z")
 CONSTANT = re.compile(r"V(\d+)=")
 
+# The number of a Q-store in a statement that sets a part of it, and in one that uses one.
+SETS_Q = re.compile(r"(?:\A=[+R]?[QCIM]|TOQ)(\d+)\Z")
+USES_Q = re.compile(r"[QCIM](\d+)")
+
 
 class Statement(NamedTuple):
     """A statement: the offset in its deck of its first byte that means something, that behind its last, what stands there with single
@@ -62,13 +66,14 @@ def statements(deck):
     of `*` is taken as one.
     """
     for found in STATEMENT.finditer(without_comments(deck)):
-        words, start = found[0].split(), found.start()
-        if words[0][0] == "*":
+        text, start = found[0], found.start()
+        if text[0] == "*":
             yield Statement(start, found.end(), "*", "*")
-        elif len(words) == 1:
-            yield Statement(start, start + len(words[0]), words[0], words[0])
+        elif " " not in text and "\n" not in text:
+            yield Statement(start, start + len(text), text, text)
         else:
-            yield Statement(start, start + len(found[0].rstrip()), " ".join(words), "".join(words))
+            words = text.split()
+            yield Statement(start, start + len(text.rstrip()), " ".join(words), "".join(words))
 
 
 def statement_at(deck, offset):
@@ -137,11 +142,49 @@ class Layout:
             return self.names[at].name(address - self.names[at].address)
         return f"E{address}"
 
+    def order_before(self, place):
+        """The statement of the order that goes on at this place, which is no order's: that before it, with what fills its word."""
+        last, end = None, 0
+        for row in self.rows:
+            if row.kind == "order":
+                last, end = row.statement, row.place + row.size
+            elif row.kind == "filling" and row.place == end:
+                end += row.size
+            if last and end >= place:
+                break
+        return last if end == place else None
+
+    def constant_at(self, address):
+        """The statement of the constant at this address, or None."""
+        return next((row.statement for row in self.rows if row.kind == "constant" and row.place == WORD * address), None)
+
+    def unset_q_stores(self):
+        """The Q-stores that statements use and none sets, each with the first statement that uses it; Q0 is none of them."""
+        used, set_ones = {}, {"0"}
+        for row in self.rows:
+            if row.kind == "order":
+                set_ones.update(SETS_Q.findall(row.statement.text))
+                for q in USES_Q.findall(row.statement.text):
+                    used.setdefault(q, row.statement)
+        return [(q, statement) for q, statement in used.items() if q not in set_ones]
+
+    def address_of(self, name):
+        """The address of the word of this name, or None where no store has it."""
+        found = re.fullmatch(r"(V|Y[A-Z]?|E)(\d{1,5})(P\d{1,3})?", name)
+        if not found:
+            return None
+        before, number, behind = found[1], int(found[2]), found[3] or ""
+        if before == "E":
+            return None if behind else number
+        behind = "" if behind == "P0" else behind
+        ours = [names for names in self.names if (names.before, names.behind) == (before, behind) and number < names.count]
+        return ours[0].address + number if ours else None
+
     def _add(self, statement):
         text = statement.text
         if text.isdigit():
             self._refer(int(text))
-            self._put("reference", 0, statement)
+            self.rows.append(Row("reference", self._place, 0, statement))
         elif text == "*":
             self._add_star(statement)
         elif text == "FINISH":

@@ -8,6 +8,10 @@ from kdf9.program import ROOT, BadInput, ask
 
 HEADER = "KDF9 JOB 1"
 
+# The bytes that some editors write first, and how many blank lines before a job are taken for a slip.
+BYTE_ORDER_MARK = "\xef\xbb\xbf"
+BLANK_LINES = 9
+
 # Which word of a line is the one at fault, counted from 0.
 WORD_AT_FAULT = {
     "SlotOrder": 1, "SizeNotGroups": 1, "StoreFull": 1, "DeviceTwice": 1, "BadLabel": 3, "LabelTwice": 3,
@@ -18,6 +22,7 @@ WORD_AT_FAULT = {
 RANGES = {
     "SLOT": [(0, 3)], "STORE": [(32, 8192)], "DEVICE": [(0, 15)], "SHOW": [(0, 8191), (0, 8191)],
     "ORDERS": [(1, 20000000)], "MOVE": [(0, 15), (1, 4096)], "END": [(0, 15)], "CLOCK": [(0, 2**47 - 1)],
+    "SWAP": [(0, 3), (0, 3)],
 }
 KEYWORDS = {*RANGES, "DECK", "ENDDECK", "SCHEDULE", "ENDJOB"}
 NUMBER = re.compile(r"(?:0|[1-9][0-9]*)\Z")
@@ -139,14 +144,8 @@ def sentence(fault):
         found = re.search(rf"^\| `{fault.name}` \| (.*?) \|$", page("JOB.md"), re.MULTILINE)
         return found[1], "(docs/JOB.md)"
     found = re.search(rf"^### (\d+) {fault.name}\n\n(.*?)\n\n", page("USERCODE.md"), re.MULTILINE | re.DOTALL)
-    return " ".join(found[2].split()), f"(docs/USERCODE.md, fault {found[1]})"
-
-
-def sentences_of_failure(kind):
-    """What the documents say of failures of this kind."""
-    items = re.findall(r"^\d+\. (.*?)(?=\n\d+\. |\n\n)", page("MACHINE.md"), re.MULTILINE | re.DOTALL)
-    heads = [item for item in items if f"**{kind}**" in item]
-    return [" ".join(item.replace("*", "").split()) for item in heads]
+    said = " ".join(found[2].split())
+    return said.partition(" Its place is")[0], f"(docs/USERCODE.md, fault {found[1]})"
 
 
 def lines_of_job(source, text):
@@ -155,23 +154,40 @@ def lines_of_job(source, text):
     if lines[:1] == [HEADER]:
         return lines
     fault = fault_of_job("Header", 1, lines)
-    hint = f"; {BYTE_13}" if lines and "\r" in lines[0] else ""
+    hint = hint_of_header(lines)
     raise BadInput(f"{fault.head(source)}: {' '.join(sentence(fault))}{hint}")
+
+
+def hint_of_header(lines):
+    """What may have led to a text whose first line isn't that of a job, or nothing."""
+    first = lines[0] if lines else ""
+    if "\r" in first:
+        return f"; {BYTE_13}"
+    if first.startswith(BYTE_ORDER_MARK):
+        return "; the text begins with a byte-order mark; save it without one"
+    if first.upper() == HEADER:
+        return f"; small letters mean nothing here; write {HEADER}"
+    if not first.strip() and HEADER in lines[:BLANK_LINES]:
+        return "; nothing, not even a blank line, stands before it"
+    return ""
+
+
+def sound_lines(source, text):
+    """The lines of a job. One with a fault, be it of a deck, is bad input."""
+    lines = lines_of_job(source, text)
+    refuse(source, lines, ask(["asm", "0"], text))
+    return lines
 
 
 def sound_slot(source, text, words):
     """The slot of a job which the command's words name, or its first, with the program's listing of it. A job with a fault, or without
     that slot, is bad input.
     """
-    lines = lines_of_job(source, text)
-    answer = ask(["asm", "0"], text)
-    refuse(source, lines, answer)
-    slots = jobs.read_slots(lines)
+    slots = jobs.read_slots(sound_lines(source, text))
     slot = slots.get(words[0]) if words else slots[min(slots)]
     if slot is None:
         raise BadInput(f"{source}: the job has no slot {words[0]}")
-    listing = decks.read_listing((answer if slot.number == 0 else ask(["asm", str(slot.number)], text)).text)
-    return slot, listing
+    return slot, decks.read_listing(ask(["asm", str(slot.number)], text).text)
 
 
 def refuse(source, lines, answer):

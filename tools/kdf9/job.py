@@ -18,6 +18,15 @@ class Slot(NamedTuple):
         line = self.deck.count("\n", 0, offset)
         return self.deck_line + line, offset - (self.deck.rfind("\n", 0, offset) + 1) + 1
 
+    def lines(self):
+        """What a program has from its job, but for the number of its slot."""
+        return self.store, self.deck, self.devices
+
+    def kinds(self):
+        """The kinds of the slot's devices by their numbers."""
+        words = [line.split(" ") for line in self.devices if line.startswith("DEVICE ")]
+        return {int(number): kind for _, number, kind, *_ in words}
+
 
 def read_lines(text):
     """The lines of a job; behind the last line end there is a line only if it isn't empty."""
@@ -49,9 +58,17 @@ def join_lines(lines):
     return "".join(line + "\n" for line in lines)
 
 
+def job_text(slots, schedule, shown=()):
+    """The text of a job of these slots, with the lines of its schedule, that shows the whole store of the slots whose numbers are `shown`."""
+    return "KDF9 JOB 1\n" + "".join(text_of_slot(slot, slot.number in shown) for slot in slots) + join_lines(["SCHEDULE", *schedule, "ENDJOB"])
+
+
+def text_of_slot(slot, is_shown):
+    """The lines of a slot, which show its whole store or nothing."""
+    head = join_lines([f"SLOT {slot.number}", f"STORE {slot.store}", "DECK"])
+    return head + slot.deck + join_lines(["ENDDECK", *slot.devices, *([f"SHOW 0 {slot.store - 1}"] if is_shown else [])])
+
+
 def lone_job(slot, orders):
     """A job of this slot alone that shows its whole store, with a schedule of so many orders."""
-    schedule = [f"ORDERS {orders}"] if orders else []
-    head = ["KDF9 JOB 1", f"SLOT {slot.number}", f"STORE {slot.store}", "DECK"]
-    rest = ["ENDDECK", *slot.devices, f"SHOW 0 {slot.store - 1}", "SCHEDULE", *schedule, "ENDJOB"]
-    return join_lines(head) + slot.deck + join_lines(rest)
+    return job_text([slot], [f"ORDERS {orders}"] if orders else [], [slot.number])

@@ -1,42 +1,74 @@
 """A journal over time: what each program and each device did in each stretch of calls.
 
-Time is counted in calls of the machine. A chart has so many stretches of the same length, so that a run of ten million calls takes no more
+Time is counted in calls of the machine. A chart has so many stretches, each of which is a column, so that a run of ten million calls takes no more
 room than one of ten: in each stretch it keeps how many calls went to what.
 """
 from collections import Counter
 from typing import NamedTuple
 
+from kdf9.columns import Columns
 from kdf9.program import BadInput
 
 RAN, READY = "ran", "ready"
 
+# The slots before any exchange, the highest priority first.
+SLOTS = (0, 1, 2, 3)
+
 
 class Held(NamedTuple):
-    """That a program is held up, and by what: a device or a group, and its number."""
+    """That a program is held up, and by what: a device or a group, and its number; or the pool, and a kind of device."""
 
     what: str
-    number: int
+    which: object
+
+
+class Exchange(NamedTuple):
+    """That two slots exchanged their priorities, and the slots after that, the highest priority first."""
+
+    slots: tuple
+    after: tuple
+
+
+def exchanged(order, p, q):
+    """The slots of some order after p and q exchanged their places in it."""
+    if not {p, q} <= set(order):
+        raise KeyError(max(p, q))
+    return tuple({p: q, q: p}.get(slot, slot) for slot in order)
+
+
+def priorities(entries):
+    """The slots after these entries of a journal, the highest priority first."""
+    order = SLOTS
+    for kind, *numbers in entries:
+        if kind == "SWAP":
+            order = exchanged(order, *numbers)
+    return order
+
+
+def in_order(order, there):
+    """Slots by their priority, the highest first, in words; only those that are there."""
+    return ", ".join(str(slot) for slot in order if slot in there)
 
 
 class Lane:
     """What went on in one row of a chart: for each stretch, how many of its calls went to what, and what happened in it."""
 
-    def __init__(self, stretches, length):
-        self.length = length
-        self.calls = [Counter() for _ in range(stretches)]
-        self.events = [[] for _ in range(stretches)]
+    def __init__(self, columns):
+        self.columns = columns
+        self.calls = [Counter() for _ in range(columns.number)]
+        self.events = [[] for _ in range(columns.number)]
 
     def span(self, first, end, what):
         """The calls from `first` on, up to and without `end`, went to this."""
+        starts, stretch = self.columns.starts, self.columns.at(first)
         while first < end:
-            stretch = first // self.length
-            until = min(end, (stretch + 1) * self.length)
+            until = min(end, starts[stretch + 1])
             self.calls[stretch][what] += until - first
-            first = until
+            first, stretch = until, stretch + 1
 
     def event(self, at, what):
         """This happened when so many calls had been made."""
-        self.events[min(at // self.length, len(self.events) - 1)].append(what)
+        self.events[self.columns.at(at)].append(what)
 
     def happened(self):
         """What happened, each with its stretch."""
@@ -61,22 +93,22 @@ class Program:
 
 
 class Chart:
-    """A run drawn to scale: lanes of its programs by slot and of its devices by number, of idle calls and of the clock.
+    """A run drawn to scale: lanes of its programs by slot and of its devices by number, of idle calls, of the clock and of priorities.
 
     A report doesn't tell which transfer locks out a group. So a program that is held up by one counts as held up until it goes on or the
     last transfer that it had under way has ended.
     """
 
     def __init__(self, report, name, stretches):
-        self.total = sum(map(calls_of, report.entries))
-        self.length = max(1, -(-self.total // stretches))
-        self.stretches = max(1, -(-self.total // self.length))
+        self.columns = Columns(*idle_stretches(report.entries), stretches)
+        self.total = self.columns.total
         self.sections = report.sections
         self.devices = {device.number: device.kind for section in report.sections.values() for device in section.devices}
         self.slot_lanes = {number: self._lane() for number in report.sections}
         self.device_lanes = {number: self._lane() for number in sorted(self.devices)}
         self.move_lanes = {number: self._lane() for number in sorted(self.devices)}
-        self.idle, self.clock = self._lane(), self._lane()
+        self.idle, self.clock, self.exchanges = self._lane(), self._lane(), self._lane()
+        self.order = SLOTS
         self.transfers = Counter()
         self._now = 0
         self._programs = {number: Program() for number in report.sections}
@@ -84,12 +116,13 @@ class Chart:
         self._read(report.entries, name)
 
     def _lane(self):
-        return Lane(self.stretches, self.length)
+        return Lane(self.columns)
 
     def _read(self, entries, name):
         takers = {
             "RAN": self._ran, "START": self._start, "FAIL": self._stop, "ENDED": self._stop, "BUSY": self._busy,
-            "LOV": self._lov, "IDLE": self._idle, "MOVE": self._move, "END": self._end, "CLOCK": self._clock,
+            "LOV": self._lov, "WAIT": self._wait, "IDLE": self._idle, "MOVE": self._move, "END": self._end, "CLOCK": self._clock,
+            "SWAP": self._swap,
         }
         try:
             for line, (kind, *numbers) in enumerate(entries, 2):
@@ -129,6 +162,10 @@ class Chart:
     def _lov(self, number, group):
         self._hold(number, Held("group", group), {device for device, (_, owner) in self._flying.items() if owner == number})
 
+    def _wait(self, number, kind):
+        """Of the pool a report tells too little: a program counts as held up by it until it goes on."""
+        self._hold(number, Held("pool", kind), {kind})
+
     def _stop(self, number, failure=None):
         self._turn(number, None)
         self.slot_lanes[number].event(max(0, self._now - 1), (self._now, failure))
@@ -139,6 +176,10 @@ class Chart:
 
     def _clock(self, time):
         self.clock.event(self._now, time)
+
+    def _swap(self, p, q):
+        self.order = exchanged(self.order, p, q)
+        self.exchanges.event(self._now, Exchange((p, q), self.order))
 
     def _start(self, number, device, _order):
         if number not in self._programs:
@@ -171,7 +212,25 @@ def calls_of(entry):
     """How many calls of the machine an entry stands for."""
     if entry[0] in ("RAN", "IDLE"):
         return entry[-1]
-    return 1 if entry[0] in ("BUSY", "LOV") else 0
+    return 1 if entry[0] in ("BUSY", "LOV", "WAIT") else 0
+
+
+def idle_stretches(entries):
+    """How many calls a journal has, and its idle stretches, each as the calls before it and their number."""
+    total, idle = 0, []
+    for entry in entries:
+        if entry[0] == "IDLE":
+            idle.append((total, entry[1]))
+        total += calls_of(entry)
+    return total, idle
+
+
+def turns(entries):
+    """How many calls were the turn of each slot; that of none is None, where every live program was held up."""
+    calls = Counter()
+    for entry in entries:
+        calls[None if entry[0] == "IDLE" else entry[1]] += calls_of(entry)
+    return calls
 
 
 def groups(lane):

@@ -81,6 +81,14 @@ def ask(words, job):
     return Answer(done.returncode, done.stdout.decode(ENCODING))
 
 
+def answer_to(words, job):
+    """The text that the program answers to a job in which it found no fault."""
+    answer = ask(words, job)
+    if answer.status:
+        raise BadInput(f"the program ended with status {answer.status}: {answer.text.strip()}")
+    return answer.text
+
+
 def number(word, least, most):
     """The number that a word of the command spells, from `least` to `most`."""
     if not (word.isascii() and word.isdigit() and least <= int(word) <= most):

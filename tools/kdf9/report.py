@@ -7,13 +7,19 @@ from kdf9.program import BadInput
 # The entries of a journal, and how many words stand behind each.
 ENTRIES = {
     "RAN": 2, "START": 3, "ANSWER": 2, "FAIL": 2, "ENDED": 1, "LOV": 2, "BUSY": 2, "IDLE": 1,
-    "MOVE": 2, "END": 1, "CLOCK": 1,
+    "MOVE": 2, "END": 1, "CLOCK": 1, "SWAP": 2, "TAKE": 2, "GIVE": 2, "WAIT": 2,
 }
+
+# The entries whose last word is a name.
+NAMING = ("FAIL", "WAIT")
 
 # No entry is longer; a longer number would take Python long, or be refused by it.
 LONGEST_ENTRY = 40
 
 SLOTS = ["0", "1", "2", "3"]
+
+# What the program writes in place of a report, by its first word, and the status that it has then.
+STATUSES = {"USAGE": 1, "JOB": 2, "DECK": 3, "LARGE": 4}
 
 
 class Device(NamedTuple):
@@ -87,6 +93,12 @@ READERS = {
 }
 
 
+def status_of_fault(text):
+    """The status with which the program wrote this text in place of a report, or 0 where it is no such line."""
+    word = text.partition(" ")[0]
+    return STATUSES.get(word, 0) if text.count("\n") == 1 and len(text) <= LONGEST_ENTRY * 2 else 0
+
+
 class Report(NamedTuple):
     """A report: the entries of its journal, each with its words and with numbers for those that are, and its sections by slot."""
 
@@ -104,14 +116,32 @@ def read_alone(text, number):
     return read(text, "the program's text", f"KDF9 ALONE {number}").sections[number]
 
 
+def read_section(text, number):
+    """The section of this slot in the text of a sound report, of which nothing else is read."""
+    start = text.index(f"\nSLOT {number}\n") + 1
+    end = text.find("\nSLOT ", start)
+    section = text[start:] if end < 0 else text[start:end + 1] + "ENDREPORT\n"
+    return read_sections(read_lines(section), 0, "the report")[number]
+
+
 def read(text, name, header):
     """The report, or a text of its form, which begins with the line `header`."""
     lines = read_lines(text)
     if lines[:1] != [header]:
         raise BadInput(f"{name}:1: this is no report: its first line isn't {header}")
     sections_from = next((at for at, line in enumerate(lines) if line.startswith(("SLOT ", "ENDREPORT"))), len(lines))
-    entries = [read_entry(line, at, name) for at, line in enumerate(lines[1:sections_from], 2)]
-    return Report(entries, read_sections(lines, sections_from, name))
+    return Report(read_entries(lines[1:sections_from], name), read_sections(lines, sections_from, name))
+
+
+def read_entries(lines, name):
+    """The entries of a journal, which stand in the lines from the second of a report on. Many are alike, and each is read once."""
+    entries, known = [], {}
+    for at, line in enumerate(lines, 2):
+        entry = known.get(line)
+        if entry is None:
+            entry = known[line] = read_entry(line, at, name)
+        entries.append(entry)
+    return entries
 
 
 def read_entry(line, at, name):
@@ -120,7 +150,7 @@ def read_entry(line, at, name):
     if ENTRIES.get(word) == len(rest) and len(line) <= LONGEST_ENTRY:
         if "".join(rest).isdecimal() and "" not in rest:
             return (word, *map(int, rest))
-        if word == "FAIL" and rest[0].isdecimal():
+        if word in NAMING and rest[0].isdecimal():
             return word, int(rest[0]), rest[1]
     raise BadInput(f"{name}:{at}: this is no entry of a journal: {line[:60]}")
 

@@ -1,0 +1,185 @@
+"""Tries the tools that run a job in other ways: schedule, same, and steps with --run. Each is tried on every example."""
+import os
+import re
+import subprocess
+import tempfile
+from concurrent.futures import ThreadPoolExecutor
+
+from toolkit import ENVIRONMENT, HEAD, ROOT, examples, kdf9, refused, side_by_side
+
+# Where a program asks whether its device is busy, how its order is answered depends on the schedule.
+ASKS = """KDF9 JOB 1
+SLOT 2
+STORE 64
+DECK
+PROGRAM V0; V0 = Q0/32/33;
+  SET 2; SET 5; OUT; V0; =Q1; =C1; PRQ1;
+  BUSYQ1; J1TR; ZERO; OUT;
+1; E32; ZERO; OUT;
+FINISH;
+ENDDECK
+DEVICE 3 TR
++ABCDEFGHIJKLMNOP
+SCHEDULE
+ORDERS 30
+ENDJOB
+"""
+
+# The words of schedule, and the lines that it has to write for ASKS.
+SCHEDULES = [
+    (["--after", "0"], "ORDERS 8 END 3 ORDERS 22"), (["--after", "3"], "ORDERS 11 END 3 ORDERS 19"), (["3=9"], "ORDERS 17 END 3 ORDERS 13"),
+    (["--after", "2", "--every", "5"], "ORDERS 13 MOVE 3 1 ORDERS 5 MOVE 3 1 END 3 ORDERS 12"), (["--after", "22"], "ORDERS 30"),
+]
+
+# The schedule of ASKS in one job and in another, and what same says.
+SAME = [
+    (["--after", "0"], None, "slot 2: the same\n"),
+    (["--after", "7"], None, "slot 2: the same after 8 orders, but for the transfer in flight of device 3; order 9 asked, and was answered 1 in {} and 0 alone\n"),
+    (["--after", "99"], ["--after", "80"], "slot 2: the same after 10 orders\n"),
+    (["--after", "7"], ["--after", "9"], "slot 2: the same\n"),
+    (["--after", "7"], ["--after", "0"], "slot 2: the same after 8 orders; order 9 asked, and was answered 1 in {} and 0 in {}\n"),
+]
+
+BAD_INPUT = [
+    (["schedule"], "", "usage: ./kdf9 schedule JOB"),
+    (["schedule", "-", "--after"], ASKS, "usage: ./kdf9 schedule JOB"),
+    (["schedule", "-", "--every", "0"], ASKS, "usage: ./kdf9 schedule JOB"),
+    (["schedule", "-", "16=3"], ASKS, "usage: ./kdf9 schedule JOB"),
+    (["schedule", "-", "4=3"], ASKS, "-: the job has no device 4"),
+    (["schedule", "-"], ASKS.replace("SET 2", "SETT 2"), "-:6:3: UnknownOrder: SETT 2"),
+    (["schedule", "-", "--after", "20000000", "--every", "1"], ASKS.replace("ORDERS 30", "ORDERS 700000"), "-: the schedule would have more than 500000 lines"),
+    (["same"], "", "usage: ./kdf9 same JOB"),
+    (["same", "-", "no/such/file"], ASKS, "no/such/file: No such file"),
+    (["same", "-"], HEAD, "-:7:1: BadLine: the job ends here"),
+    (["same", "-", "examples/adds-cards.job"], ASKS, "examples/adds-cards.job: no slot has the lines of a slot of -"),
+    (["steps", "-", "--run", "--watch"], ASKS, "-: slot 2 has no word "),
+    (["steps", "-", "2", "--watch", "V1"], ASKS, "-: slot 2 has no word V1"),
+    (["steps", "-", "2", "12", "--run"], ASKS, "-: in this run the program obeys 10 orders: there is no order 12"),
+]
+
+
+def schedule_of(text):
+    """The lines of a job's schedule, in one line."""
+    return " ".join(text[text.rindex("\nSCHEDULE\n") + 10:].split("\n")[:-2])
+
+
+def schedules_are_written():
+    for words, due in SCHEDULES:
+        run = kdf9(["schedule", "-", *words], ASKS)
+        yield f"schedule {' '.join(words)}", None if schedule_of(run.out) == due and not run.status else f"{run} in place of {due}"
+    clock = kdf9(["schedule", "-", "--after", "5"], ASKS.replace("ORDERS 30", "ORDERS 4\nCLOCK 9\nEND 3\nMOVE 3 1\nORDERS 6\nCLOCK 10\nORDERS 20"))
+    due = "ORDERS 4 CLOCK 9 ORDERS 6 CLOCK 10 ORDERS 3 END 3 ORDERS 17"
+    yield "a schedule keeps the clock", None if schedule_of(clock.out) == due else f"{clock} in place of {due}"
+
+
+def transfer_is_late(text, delay):
+    """What is wrong with the schedule of a job whose transfers all have to end so many calls after they began; or None."""
+    calls, begun, over = 0, {}, {}
+    for line in kdf9(["run"], text).out.split("\n"):
+        word, *rest = line.split(" ")
+        if word == "START":
+            begun[rest[1]] = calls
+        elif word == "END" and rest[0] in begun:
+            over[rest[0]] = calls - begun.pop(rest[0])
+        elif word in ("RAN", "IDLE"):
+            calls += int(rest[-1])
+        elif word in ("LOV", "BUSY"):
+            calls += 1
+        if any(taken != delay for taken in over.values()):
+            return f"transfers took {over}"
+    late = {device: call for device, call in begun.items() if call + delay < calls}
+    return f"transfers didn't end: {late}" if late else None
+
+
+def programs_are_compared():
+    with tempfile.TemporaryDirectory() as folder:
+        for one, other, due in SAME:
+            names = []
+            for words in (one, other):
+                if words:
+                    names.append(os.path.join(folder, str(len(names))))
+                    with open(names[-1], "w", encoding="latin-1") as file:
+                        file.write(kdf9(["schedule", "-", *words], ASKS).out)
+            run, due = kdf9(["same", *names], ""), due.format(*names)
+            yield f"same by {one}, {other}", None if (run.status, run.out) == (0, due) else f"{run} in place of {due}"
+        yield "same of a program that isn't", other_machine_is_seen(folder)
+        yield "same with other neighbours", other_neighbours_are_seen(folder)
+
+
+def other_neighbours_are_seen(folder):
+    """What is wrong with what same says of a job and the same job without its slot 1; or None."""
+    job = "examples/computes-while-it-reads.job"
+    lonely = os.path.join(folder, "lonely")
+    with open(lonely, "w", encoding="latin-1") as file:
+        file.write(re.sub(r"^SLOT 1\n.*?^(?=SCHEDULE$)", "", (ROOT / job).read_text(), flags=re.MULTILINE | re.DOTALL))
+    run = kdf9(["same", job, lonely], "")
+    return None if (run.status, run.out) == (0, f"slot 0: the same\nslot 1: not in {lonely}\n") else f"{run}"
+
+
+def other_machine_is_seen(folder):
+    """What is wrong with what same says of a machine in which a lone program leaves another nest; or None."""
+    machine = os.path.join(folder, "machine")
+    with open(machine, "w", encoding="ascii") as file:
+        file.write(f'#!/bin/sh\n"{ROOT}/kdf9" "$@" | if [ "$1" = alone ]; then sed "s/^NEST .*/NEST 9/"; else cat; fi\n')
+    os.chmod(machine, 0o755)
+    whole = [os.path.join(ROOT, "tools", "same"), os.path.join(ROOT, "examples", "adds-5-and-7.job")]
+    done = subprocess.run(whole, env={**ENVIRONMENT, "KDF9": machine}, capture_output=True, text=True, check=False)
+    return None if (done.returncode, done.stdout) == (1, "slot 0: NOT the same after 7 orders: NEST\n") else f"{done}"
+
+
+def orders_are_traced():
+    run = kdf9(["steps", "-", "2", "8", "--run", "--watch", "E32"], kdf9(["schedule", "-", "--after", "7"], ASKS).out)
+    due = [
+        r" +8 +8 +4/2  PRQ1 +empty +E32 = 0 = 0{16}; a transfer of device 3 begins", r" +9  3 +9 +4/4  BUSYQ1 .*; answered 1",
+        r" +10  3 +10 +5/0  J1TR .*", r" +calls 11 to 15: held up from call 11 by group 1; 4 calls idle; END 3 after call 15; E32 = .* = 4142434445464750",
+        r" +16 +11 +5/5  E32 .*", r" +17 +12 +6/2  ZERO .*", r" +18 +13 +6/3  OUT .*",
+    ]
+    lines = run.out.split("\n")[1:-1]
+    alike = len(lines) == len(due) and all(map(re.fullmatch, due, lines))
+    yield "steps --run of a program that asks", None if alike else f"{run} in place of {due}"
+    tail = kdf9(["steps", "-", "--run"], ASKS).out.split("\n")[-2]
+    due = "          calls 11 to 30: held up from call 11 by group 1; 19 calls idle"
+    yield "steps --run of a program that is held for good", None if tail == due else f"{tail!r} in place of {due!r}"
+
+
+def run_is_wrong(text, slot):
+    """What is wrong with the first orders of a program as it ran beside others: they have to be those of the job's own report; or None."""
+    run, own = kdf9(["steps", "-", slot, "1", "12", "--run"], text), kdf9(["run"], text).out
+    section = own[own.index(f"\nSLOT {slot}\n"):]
+    orders = int(re.search(r"^ORDERS (\d+)$", section, re.MULTILINE)[1])
+    if orders == 0:
+        return None if refused(run) else f"{run}"
+    lines = [line.split() for line in run.out.split("\n")[1:-1] if line[7] != " "]
+    shown = [next(word for word in words[1:] if re.fullmatch(r"\d+", word)) for words in lines]
+    due = min(orders, 12)
+    return None if len(shown) == due and run.status == 0 and not run.err else f"{run} in place of {due} orders"
+
+
+def examples_are_run():
+    with ThreadPoolExecutor() as pool:
+        for cases in pool.map(lambda example: list(example_is_run(*example)), examples()):
+            yield from cases
+
+
+def example_is_run(name, text):
+    """Each of these tools over one example."""
+    own = kdf9(["run"], text)
+    if own.status:
+        runs = [kdf9(words, text) for words in (["schedule", "-"], ["same", "-"], ["steps", "-", "--run"])]
+        yield f"tools that refuse {name}", None if all(map(refused, runs)) else f"aren't refused: {runs}"
+        return
+    alone = kdf9(["same", "-"], text)
+    yield f"same of {name}", None if alone.status == 0 and not alone.err else f"{alone}"
+    scheduled = kdf9(["schedule", "-", "--after", "9"], text)
+    yield f"schedule of {name}", transfer_is_late(scheduled.out, 9) if scheduled.status == 0 else f"{scheduled}"
+    for slot in re.findall(r"^SLOT (\d)$", own.out, re.MULTILINE):
+        yield f"steps --run of {name}", run_is_wrong(text, slot)
+
+
+def bad_input_is_refused():
+    for (words, _, line), run in zip(BAD_INPUT, side_by_side([case[:2] for case in BAD_INPUT])):
+        good = refused(run) and run.err.startswith(line)
+        yield f"bad input of {' '.join(words)}", None if good else f"{run} in place of {line!r}"
+
+
+SUITES = (schedules_are_written, programs_are_compared, orders_are_traced, examples_are_run, bad_input_is_refused)

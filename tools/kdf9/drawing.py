@@ -1,0 +1,278 @@
+"""A chart as an SVG picture."""
+from html import escape
+
+from kdf9.journal import RAN, groups
+from kdf9.said import (MOST_SIGNS, description, exchanges_in_all, held_calls, name_of_device, said_of_device, said_of_exchanges, said_of_slot, state_of,
+                       sums_of_slot, title_of, transfers_and_moves)
+from kdf9.words import count
+
+# Colours that stay apart for those who don't see red and green as two, by slot; and the shades of what is no program's.
+COLOURS = ("#0072b2", "#e69f00", "#009e73", "#cc79a7")
+IDLE, READY_LINE, FAILURE = "#9a9a9a", "#8a8a8a", "#d55e00"
+
+# Where things stand, in pixels.
+LEFT, WIDTH, RIGHT, TOP = 170, 880, 420, 46
+SLOT_HEIGHT, DEVICE_HEIGHT, GAP, LINE = 30, 18, 8, 18
+
+# How many pixels a character takes of the slots that stand after the sign of an exchange, and how many the sign itself.
+CHARACTER, SIGN = 7.5, 12
+
+# How wide a bar is at least that has the digit of its slot in it, and the colours of digits by slot.
+BAR_OF_DIGIT = 14
+DIGITS = ("#fff", "#000", "#fff", "#000")
+
+HEAD = """<svg xmlns="http://www.w3.org/2000/svg" viewBox="0 0 {width} {height}" width="{width}" height="{height}" \
+font-family="sans-serif" font-size="14" role="img" aria-labelledby="title desc">
+<title id="title">{title}</title>
+<desc id="desc">{desc}</desc>
+<defs><pattern id="held" width="6" height="6" patternUnits="userSpaceOnUse" patternTransform="rotate(45)">\
+<rect width="6" height="6" fill="#fff"/><rect width="2.4" height="6" fill="#7a7a7a"/></pattern></defs>
+<rect width="100%" height="100%" fill="#fff"/>
+<text x="{left}" y="20" font-size="16">{title}</text>"""
+
+
+class Drawing:
+    """The lines of an SVG picture of a chart, with the place of each lane."""
+
+    def __init__(self, chart):
+        self.chart = chart
+        self.columns = chart.columns
+        self.scale = WIDTH / chart.columns.number
+        self.lines = []
+        self.y = TOP
+
+    def x(self, stretch):
+        """Where a stretch begins, in pixels from the left."""
+        return LEFT + stretch * self.scale
+
+    def add(self, line):
+        self.lines.append(line)
+
+    def text(self, x, y, words, rest=""):
+        self.add(f'<text x="{x:g}" y="{y:g}"{rest}>{escape(words)}</text>')
+
+    def box(self, x, y, width, height, fill):
+        """A rectangle, in the form that is put together with others. Its sides are whole, so that no seam is seen between neighbours."""
+        left = round(x)
+        width = max(1, round(x + width) - left)
+        return f'<rect x="{left}" y="{y:.1f}" width="{width}" height="{height:.1f}" fill="{fill}" shape-rendering="crispEdges"/>'
+
+    def titled(self, title, shapes):
+        """Shapes of which a title is shown where the pointer rests."""
+        self.add(f"<g><title>{escape(title)}</title>{''.join(shapes)}</g>")
+
+    def when(self, first, end):
+        """The calls of some stretches in words, counted from 1."""
+        begins, ends = self.columns.starts[first] + 1, self.columns.starts[end]
+        return f"calls {begins} to {ends}" if begins < ends else f"call {begins}"
+
+    def stack(self, first, end, height, parts):
+        """Boxes one on the other from the bottom of the lane, each as high as its share of the calls, for pairs of calls and fill."""
+        whole = self.columns.starts[end] - self.columns.starts[first]
+        bottom = self.y + height
+        for calls, fill in parts:
+            if calls:
+                part = max(1.5, height * calls / whole)
+                bottom = max(self.y, bottom - part)
+                yield self.box(self.x(first), bottom, self.x(end) - self.x(first), part, fill)
+
+    def slot(self, number, lane):
+        """The lane of a program."""
+        section = self.chart.sections[number]
+        self.label(SLOT_HEIGHT, f"slot {number}: {state_of(section)}", sums_of_slot(section, lane))
+        for first, end, calls, events in groups(lane):
+            boxes = list(self.stack(first, end, SLOT_HEIGHT, [(calls[RAN], COLOURS[number]), (held_calls(calls), "url(#held)")]))
+            if not boxes:
+                boxes = [self.box(self.x(first), self.y + SLOT_HEIGHT - 1.5, self.x(end) - self.x(first), 1.5, READY_LINE)]
+            if 2 * calls[RAN] > sum(calls.values()):
+                boxes += self.digit(number, first, end, SLOT_HEIGHT)
+            self.titled(f"slot {number}, {self.when(first, end)}: {said_of_slot(self.chart, calls)}", boxes)
+        for stretch, (at, failure) in lane.happened():
+            sign = self.failure_sign if failure else self.end_sign
+            said = f"failed with call {at}: {failure}" if failure else f"ended with call {at}"
+            self.titled(f"slot {number} {said}", [sign(self.x(stretch + 1))])
+        self.y += SLOT_HEIGHT + GAP
+
+    def digit(self, number, first, end, height):
+        """The digit of a slot in a bar, where there is room for it."""
+        if self.x(end) - self.x(first) >= BAR_OF_DIGIT:
+            yield f'<text x="{(self.x(first) + self.x(end)) / 2:.1f}" y="{self.y + height - 4}" text-anchor="middle" fill="{DIGITS[number]}">{number}</text>'
+
+    def label(self, height, before, behind):
+        """What stands before a lane and after it."""
+        self.text(8, self.y + height / 2 + 5, before)
+        self.text(LEFT + WIDTH + 22, self.y + height / 2 + 5, behind)
+
+    def end_sign(self, x):
+        return f'<rect x="{x + 2:.1f}" y="{self.y + 10}" width="10" height="10" fill="#000"/>'
+
+    def failure_sign(self, x):
+        return f'<path d="M{x + 2:.1f} {self.y + 9}l12 12m0 -12l-12 12" stroke="{FAILURE}" stroke-width="4"/>'
+
+    def start_sign(self, x):
+        return f'<path d="M{x:.1f} {self.y - 2}v{DEVICE_HEIGHT + 4}" stroke="#000" stroke-width="1"/>'
+
+    def move_sign(self, x):
+        return f'<path d="M{x - 3:.1f} {self.y}h6l-3 6z" fill="#fff" stroke="#000" stroke-width="0.7"/>'
+
+    def small_move_sign(self, x):
+        return f'<path d="M{x:.1f} {self.y}v3" stroke="#000" stroke-width="0.7"/>'
+
+    def clock_sign(self, x):
+        return f'<path d="M{x:.1f} {self.y + 2}l5 12h-10z" fill="#000"/>'
+
+    def device(self, number, lane):
+        """The lane of a device. Where transfers are too many to be told apart, their beginnings are only counted."""
+        name, transfers = name_of_device(self.chart, number), self.chart.transfers[number]
+        self.label(DEVICE_HEIGHT, name, transfers_and_moves(self.chart, number))
+        for first, end, calls, events in groups(lane):
+            boxes = list(self.stack(first, end, DEVICE_HEIGHT, [(calls[slot], COLOURS[slot]) for slot in sorted(calls)]))
+            if len(calls) == 1:
+                boxes += self.digit(*calls, first, end, DEVICE_HEIGHT)
+            if events and (transfers <= MOST_SIGNS or not boxes):
+                boxes.append(self.start_sign(self.x(first)))
+            self.titled(f"{name}, {self.when(first, end if calls else first + 1)}: {said_of_device(calls, events)}", boxes)
+        self.moves(name, self.chart.move_lanes[number])
+        self.y += DEVICE_HEIGHT + GAP
+
+    def moves(self, name, lane):
+        """The signs of words that were moved early."""
+        sign = self.move_sign if lane.number_of_events() <= MOST_SIGNS else self.small_move_sign
+        for first, _, _, words in groups(lane):
+            said = f"up to {count(sum(words), 'word')} moved by {count(len(words), 'MOVE')}"
+            self.titled(f"{name}, {self.when(first, first + 1)}: {said}", [sign(self.x(first))])
+
+    def idle(self):
+        """The lane of the calls that found every live program held up."""
+        lane = self.chart.idle
+        self.label(DEVICE_HEIGHT, "idle", count(lane.total()["idle"], "call"))
+        for first, end, calls, _ in groups(lane):
+            boxes = self.stack(first, end, DEVICE_HEIGHT, [(calls["idle"], IDLE)])
+            self.titled(f"{self.when(first, end)}: {count(calls['idle'], 'call')} idle, every live program being held up", boxes)
+        self.y += DEVICE_HEIGHT + GAP
+
+    def clock(self):
+        """The lane of the clock, if it was ever set."""
+        if not self.chart.times:
+            return
+        self.label(DEVICE_HEIGHT, "clock", f"set {count(self.chart.times, 'time')}")
+        for first, _, _, times in groups(self.chart.clock):
+            self.titled(f"{self.when(first, first + 1)}: the clock was set to {span(times)}", [self.clock_sign(self.x(first))])
+        self.y += DEVICE_HEIGHT + GAP
+
+    def exchanges(self):
+        """The lane of the exchanges of priorities, if there are any. After the sign of one stand its slots, where there is room."""
+        if not self.chart.exchanges.number_of_events():
+            return
+        self.label(DEVICE_HEIGHT, "priorities", exchanges_in_all(self.chart))
+        marked = list(groups(self.chart.exchanges))
+        nexts = [self.x(first) for first, _, _, _ in marked[1:]] + [LEFT + WIDTH + RIGHT]
+        for (first, _, _, exchanges), following in zip(marked, nexts):
+            x, slots = self.x(first), ", ".join(f"{p} {q}" for (p, q), _ in exchanges)
+            shapes = [exchange_sign(x, self.y + 2)]
+            if x + SIGN + CHARACTER * len(slots) + SIGN <= following:
+                shapes.append(f'<text x="{x + SIGN:.1f}" y="{self.y + 12}" font-size="11">{slots}</text>')
+            self.titled(f"{self.when(first, first + 1)}: {said_of_exchanges(self.chart, exchanges)}", shapes)
+        self.y += DEVICE_HEIGHT + GAP
+
+    def axis(self):
+        """The calls at the bottom, with lines through all lanes, which stand behind what is drawn."""
+        lines = []
+        for calls in self.numbers_of_axis():
+            x = self.x(self.columns.place(calls))
+            lines.append(f'<path d="M{x:.1f} {TOP - 6}V{self.y + 4}" stroke="#d8d8d8"/>')
+            self.text(x, self.y + 18, str(calls), ' text-anchor="middle"')
+        self.text(8, self.y + 18, "calls made")
+        for stretch in sorted(self.columns.folds):
+            if stretch - 1 not in self.columns.folds:
+                self.fold(stretch)
+        self.lines[:0] = lines
+        self.y += 44
+
+    def numbers_of_axis(self):
+        """The numbers that stand on the axis: none where a long idle stretch is folded."""
+        starts, folds = self.columns.starts, self.columns.folds
+        step = step_of_axis(sum(starts[at + 1] - starts[at] for at in range(self.columns.number) if at not in folds))
+        for at in range(self.columns.number):
+            if at not in folds:
+                yield from range(-(-starts[at] // step) * step, starts[at + 1], step)
+        if self.columns.total % step == 0:
+            yield self.columns.total
+
+    def fold(self, stretch):
+        """The sign that a long idle stretch is folded, from this column on."""
+        end = next(at for at in range(stretch, self.columns.number + 1) if at not in self.columns.folds)
+        x = (self.x(stretch) + self.x(end)) / 2
+        calls = count(self.columns.starts[end] - self.columns.starts[stretch], "call")
+        sign = f'<path d="M{x - 4:.1f} {TOP - 6}l4 {(self.y - TOP) / 2:.1f}l-4 0l4 {(self.y - TOP) / 2:.1f}" fill="none" stroke="#000" stroke-dasharray="5 3"/>'
+        self.titled(f"{self.when(stretch, end)}: {calls}, folded", [sign])
+
+    def legend(self):
+        """What the shades and signs mean."""
+        y = self.y
+        shades = [(COLOURS[slot], f"slot {slot} obeys orders; a transfer for it") for slot in self.chart.sections]
+        shades += [("url(#held)", "held up by a device or a group of words"), (IDLE, "idle: all live programs are held up")]
+        for index, (fill, words) in enumerate(shades):
+            self.key(index, self.box(0, 0, 22, 12, fill), words)
+        signs = [
+            (f'<rect width="22" height="1.5" y="9" fill="{READY_LINE}"/>', "could go on; another runs"),
+            (f'<path d="M11 0v13" stroke="#000"/>', "a transfer begins"),
+            (f'<path d="M8 4h6l-3 6z" fill="#fff" stroke="#000" stroke-width="0.7"/>', "words are moved by MOVE"),
+            (f'<rect x="6" y="1" width="10" height="10"/>', "ended"),
+            (f'<path d="M5 0l12 12m0 -12l-12 12" stroke="{FAILURE}" stroke-width="4"/>', "failed"),
+            (f'<path d="M11 0l5 12h-10z"/>', "the clock is set"),
+        ]
+        if self.chart.exchanges.number_of_events():
+            signs.append((exchange_sign(11, 0), "two slots exchange their priorities"))
+        for index, (shape, words) in enumerate(signs, len(shades)):
+            self.key(index, shape, words)
+        self.y = y + LINE * -(-(len(shades) + len(signs)) // 3)
+        if self.columns.length > 1:
+            self.text(8, self.y + 12, f"Each column stands for {self.columns.length} calls; its heights are shares of them.")
+            self.y += LINE
+        if self.columns.folds:
+            self.text(8, self.y + 12, "A broken line stands for a long idle stretch, which is folded.")
+            self.y += LINE
+
+    def key(self, index, shape, words):
+        """An entry of the legend: they stand in three columns."""
+        x, y = 8 + 420 * (index % 3), self.y + LINE * (index // 3)
+        self.add(f'<g transform="translate({x} {y})">{shape}</g>')
+        self.text(x + 30, y + 11, words)
+
+
+def exchange_sign(x, y):
+    """An arrow up and one down, with x between them and y at their top."""
+    return f'<path d="M{x - 4:.1f} {y + 12}v-12m-2.5 3.5l2.5 -3.5l2.5 3.5M{x + 4:.1f} {y}v12m-2.5 -3.5l2.5 3.5l2.5 -3.5" fill="none" stroke="#000"/>'
+
+
+def span(events):
+    """The first and the last of some times, in words."""
+    return str(events[0]) if len(events) == 1 else f"{events[0]} and so on up to {events[-1]}"
+
+
+def step_of_axis(total):
+    """The distance of the numbers of the axis: 1, 2 or 5 with zeros, so that there are at most twelve."""
+    power = 1
+    while True:
+        for step in (power, 2 * power, 5 * power):
+            if total <= 12 * step:
+                return step
+        power *= 10
+
+
+def svg(chart):
+    """The lines of the picture."""
+    drawing = Drawing(chart)
+    for number, lane in chart.slot_lanes.items():
+        drawing.slot(number, lane)
+    for number, lane in chart.device_lanes.items():
+        drawing.device(number, lane)
+    drawing.idle()
+    drawing.clock()
+    drawing.exchanges()
+    drawing.axis()
+    drawing.legend()
+    words = {"title": title_of(chart), "desc": escape(description(chart))}
+    head = HEAD.format(width=LEFT + WIDTH + RIGHT, height=drawing.y + 10, left=8, **words)
+    return [head, *drawing.lines, "</svg>"]

@@ -1,0 +1,142 @@
+"""What may have led to a fault of a job or of its deck."""
+import itertools
+import re
+
+from kdf9 import deck as decks
+from kdf9 import fault as faults
+from kdf9.names import distance_is_one, has_form, hint_of_name
+from kdf9.words import listed
+
+CAPITALS = "small letters mean nothing here; write {}"
+
+# The form of each line of a job that has operands.
+FORMS = {
+    "SLOT": "SLOT p", "STORE": "STORE n", "DEVICE": "DEVICE d k, or DEVICE d MT label", "SHOW": "SHOW a b", "ORDERS": "ORDERS n", "MOVE": "MOVE d n",
+    "END": "END d", "CLOCK": "CLOCK t", "SWAP": "SWAP p q",
+}
+SCHEDULED = ["ORDERS", "MOVE", "END", "CLOCK", "SWAP", "ENDJOB"]
+
+# A lost `;` is looked for after the first pieces of a statement, so many; no statement has more that are only one, and few have more than four.
+PIECES, FEW_PIECES = 16, 4
+PIECE = re.compile(r"[^ \n]+")
+
+# Orders of the KDF9 that this machine leaves out, beside those of floating point, and what comes nearest.
+LEFT_OUT = {
+    "X": "XD and CONT multiply whole numbers", "MAX": "compare by - and JrLTZ", "SIGN": "compare by JrGTZ and JrLTZ",
+    "DIV[DR]?": "DIVI divides whole numbers", "ROUNDH?": "SHA to the right rounds", r"CTQ\d+": "no order ends a transfer",
+    r"=K[0-3]|K[457]|CLOQ\d+": "it is Director's, which is no program here", r"=?W\d+Q?": "there are V-stores and Y-stores",
+}
+
+
+def begins_statement(text):
+    """Whether the first pieces of a text are a statement that the program knows."""
+    return any(has_form(text[:piece.end()]) for piece in itertools.islice(PIECE.finditer(text), FEW_PIECES))
+
+
+def lost_semicolon(fault, statement):
+    """Where a `;` is missing, if what stands before a gap of the statement is one by itself, and so is what begins after it; None else."""
+    text = decks.without_comments(fault.slot.deck)[statement.start:statement.end]
+    pieces = list(itertools.islice(PIECE.finditer(text), PIECES))
+    for piece in reversed(pieces[:-1]):
+        if has_form(text[:piece.end()]) and begins_statement(text[piece.end():]):
+            line, column = fault.slot.place(statement.start + piece.end())
+            return f"perhaps a ; is missing at {line}:{column}, after {' '.join(text[:piece.end()].split())}"
+    return None
+
+
+def hint_of_statement(fault):
+    """A hint for a statement that has no form."""
+    statement = decks.statement_at(fault.slot.deck, fault.offset)
+    text = statement.text
+    for left_out, nearest in LEFT_OUT.items():
+        if re.fullmatch(left_out, text):
+            return f"the KDF9 has this order, and this machine leaves it out; {nearest}"
+    if text != text.upper() and has_form(text.upper()):
+        return CAPITALS.format(faults.brief(statement.written.upper()))
+    return lost_semicolon(fault, statement) or (hint_of_name(text) if fault.name == "UnknownOrder" else None)
+
+
+def hint_of_deck(fault):
+    """A hint for a fault of a deck, or None."""
+    if fault.name == "BadByte":
+        return {13: faults.BYTE_13, 9: "this is a tab; write spaces"}.get(ord(fault.slot.deck[fault.offset]))
+    if fault.name == "Floating":
+        return "the KDF9 has this order, and this machine leaves out floating point; it reckons in whole numbers"
+    if fault.name in ("UnknownOrder", "ConstantRange"):
+        return hint_of_statement(fault)
+    if fault.name == "NoSemicolon":
+        line, column = fault.slot.place(len(decks.without_comments(fault.slot.deck).rstrip()))
+        return f"a ; is missing at {line}:{column}"
+    return None
+
+
+def hint_of_job(fault, lines):
+    """A hint for a fault of a job, or None."""
+    if fault.line > len(lines):
+        return ("ENDDECK" if is_in_deck(lines) else "ENDJOB") + " hasn't come"
+    line = lines[fault.line - 1]
+    if "\r" in line:
+        return faults.BYTE_13
+    if fault.name == "BadMedium":
+        return hint_of_medium(line, faults.device_above(lines, fault.line), fault.column)
+    capitals = line.upper()
+    if line != capitals and not faults.KEYWORDS.isdisjoint(capitals.split()[:1]):
+        return CAPITALS.format(faults.brief(faults.shown(capitals)))
+    if line != " ".join(line.split()):
+        return "words are separated by exactly one space, and a line neither begins nor ends with one"
+    if re.search(r" 0[0-9]", line) and fault.name == "BadNumber":
+        return "a number has no zeros in front"
+    if fault.name == "BadNumber":
+        return hint_of_number(line)
+    if fault.name == "BadLine":
+        return hint_of_line(line, expected_at(lines, fault.line))
+    if fault.name == "ShowRange":
+        store = next(lines[at] for at in range(fault.line - 1, -1, -1) if lines[at].startswith("STORE ") and lines[at + 1] == "DECK")
+        return f"the store has words 0 to {int(store[6:]) - 1}"
+    return None
+
+
+def hint_of_line(line, expected):
+    """A hint for a line that isn't allowed where it stands: what is."""
+    word = line.split(" ")[0]
+    if word in FORMS and word in expected:
+        return f"the line is written {FORMS[word]}"
+    meant = next((name for name in expected if distance_is_one(word, name)), None)
+    return f"did you mean {meant}?" if meant else f"expected {listed(expected, 'or')}"
+
+
+def expected_at(lines, line):
+    """What may begin the line of this number of a job, in which the lines before have no fault."""
+    before = lines[line - 2]
+    if "SCHEDULE" in lines[:line - 1] and not is_in_deck(lines[:line - 1]):
+        return ["the end of the job"] if before == "ENDJOB" else SCHEDULED
+    first = {"KDF9": ["SLOT"], "SLOT": ["STORE"], "STORE": ["DECK"], "SHOW": ["SHOW", "SLOT", "SCHEDULE"]}
+    word = before.split(" ")[0]
+    if word in first:
+        return first[word]
+    media = {"TR": ["+"], "CR": ["+"], "MT": ["+", "="]}
+    has_device = word == "DEVICE" or before[:1] in ("+", "=")
+    return (media.get(faults.device_above(lines, line), []) if has_device else []) + ["DEVICE", "SHOW", "SLOT", "SCHEDULE"]
+
+
+def hint_of_number(line):
+    """The range of the first number of a line that is out of it."""
+    word, index = line.split(" ")[0], faults.word_of_bad_number(line)
+    if index == 0:
+        return None
+    least, most = faults.RANGES[word][index - 1]
+    return f"here stands a number from {least} to {most}"
+
+
+def is_in_deck(lines):
+    """Whether the lines of a job stop in a deck."""
+    return "DECK" in lines and "ENDDECK" not in lines[len(lines) - lines[::-1].index("DECK"):]
+
+
+def hint_of_medium(line, kind, column):
+    """A hint for a line of a medium that is wrong at this column."""
+    if kind in ("TP", "LP"):
+        return f"a device of kind {kind} begins with nothing, and has no lines"
+    if line[column - 1:column].islower():
+        return "small letters are no characters"
+    return None

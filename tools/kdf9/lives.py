@@ -1,0 +1,144 @@
+"""Why a program is still live when the run stops: it is held up for good, it goes round in a loop, or it never had a turn."""
+import re
+from typing import NamedTuple
+
+from kdf9 import report
+from kdf9.deck import WORD
+from kdf9.job import read_slots
+from kdf9.program import answer_to
+from kdf9.schedule import cut, job_with, read_schedule, start_of
+from kdf9.timeline import call_of_order, in_flight
+from kdf9.words import count, listed
+
+GROUP = 32
+
+# A loop is looked for in so many of the last orders.
+LONGEST_LOOP = 40
+
+COUNTERS = re.compile(r"(?:J.*C|DC|=C)(\d+)")
+
+
+class Hold(NamedTuple):
+    """What held up a program last: BUSY, LOV or WAIT, and the number of the device or group, or the kind."""
+
+    kind: str
+    number: int
+
+
+class Stopped:
+    """A run that has stopped: its job, its report, and what it was like after any call."""
+
+    def __init__(self, lines, run):
+        self.lines, self.report = lines, run
+        self.slots, self._schedule = read_slots(lines), read_schedule(lines)
+        self.flying = in_flight(run.entries)
+
+    def after_order(self, number, order):
+        """The section of the program of this slot after this order of its own."""
+        schedule = cut(self._schedule, call_of_order(self.report.entries, number, order))
+        return report.read_section(answer_to(["run"], job_with(self.slots, schedule)), number)
+
+    def hold_of(self, number):
+        """What a program was held up by last, if it hasn't obeyed an order since; or None."""
+        for kind, *rest in reversed(self.report.entries):
+            if kind in ("RAN", "BUSY", "LOV", "WAIT") and rest[0] == number:
+                return None if kind == "RAN" else Hold(kind, rest[1])
+        return None
+
+    def is_held_for_good(self, number):
+        """Whether a program that is live waits for a transfer that nothing ends."""
+        hold = self.hold_of(number)
+        if hold is None or self.report.sections[number].state != ["LIVE"]:
+            return False
+        return hold.number in self.flying if hold.kind == "BUSY" else bool(self.flights_of(number)) or hold.kind == "WAIT"
+
+    def flights_of(self, number):
+        """The devices with a transfer of this program in flight, with the call that each began with."""
+        return {device: call for device, (slot, call) in sorted(self.flying.items()) if slot == number}
+
+
+def story(stopped, case):
+    """What is said of a program that is live, line by line."""
+    section, number = case.section, case.section.number
+    if section.orders == 0:
+        yield from story_of_no_turn(stopped, number)
+        return
+    hold = stopped.hold_of(number)
+    if hold:
+        yield from story_of_hold(stopped, case, hold)
+        yield from devices_that_are_none(stopped)
+    else:
+        yield from story_of_loop(stopped, case)
+
+
+def story_of_no_turn(stopped, number):
+    """Why a program obeyed no order."""
+    if not any(line.startswith("ORDERS ") for line in stopped.lines[start_of(stopped.lines):]):
+        yield f"slot {number} never had a turn: the schedule has no ORDERS"
+    else:
+        above = [other for other in stopped.report.sections if other < number]
+        yield f"slot {number} never had a turn: {slots(above) if above else 'another slot'} could go on at each call"
+
+
+def slots(numbers):
+    """These slots in words."""
+    return f"slot {numbers[0]}" if len(numbers) == 1 else f"one of the slots {listed(list(map(str, numbers)), 'or')}"
+
+
+def story_of_hold(stopped, case, hold):
+    """What a program waits for, and why that doesn't come."""
+    number = case.section.number
+    flights = {hold.number: stopped.flying[hold.number][1]} if hold.kind == "BUSY" and hold.number in stopped.flying else {}
+    if hold.kind == "LOV":
+        flights = stopped.flights_of(number)
+        first = GROUP * hold.number
+        words = f"words {first} to {first + GROUP - 1}"
+        own = " hold this order, and" if hold.number in groups_of_order(case) else ""
+        yield f"it needs group {hold.number}: {words}{own} are locked out by a transfer"
+    for device, call in flights.items():
+        yield f"the transfer of device {device} began with call {call}, and the schedule has no END {device} after it"
+
+
+def groups_of_order(case):
+    """The groups in which the next order of a program lies."""
+    if case.row is None:
+        return set()
+    return {place // WORD // GROUP for place in range(case.row.place, case.row.place + max(1, case.row.size))}
+
+
+def devices_that_are_none(stopped):
+    """The lines END and MOVE of devices that no slot has, with what may have been meant."""
+    devices = {device for slot in stopped.slots.values() for device in slot.kinds()}
+    seen = set()
+    for at in range(start_of(stopped.lines) + 1, len(stopped.lines) - 1):
+        word, _, rest = stopped.lines[at].partition(" ")
+        if word not in ("END", "MOVE") or int(rest.split(" ")[0]) in devices | seen:
+            continue
+        device = int(rest.split(" ")[0])
+        seen.add(device)
+        meant = [other for other in sorted(stopped.flying) if set(str(other)) & set(str(device))] or sorted(stopped.flying)
+        did = f"; did you mean {word} {meant[0]}?" if meant else ""
+        yield f"line {at + 1}, {stopped.lines[at]}: no slot has device {device}{did}"
+
+
+def story_of_loop(stopped, case):
+    """That a program goes round in a loop, and how its counters change, if it was at the same place not long before."""
+    section = case.section
+    places, earlier = set(), None
+    for orders in range(section.orders - 1, max(0, section.orders - LONGEST_LOOP), -1):
+        earlier = stopped.after_order(section.number, orders)
+        places.add(WORD * earlier.at[0] + earlier.at[1])
+        if earlier.at == section.at:
+            break
+    else:
+        return
+    rounds = section.orders - earlier.orders
+    yield f"it goes round in a loop: it was here {count(rounds, 'order')} before{''.join(counters(case, earlier, places))}"
+
+
+def counters(case, earlier, places):
+    """The counters that the orders at these places name, now and a round before."""
+    rows = [case.layout.row_at(place) for place in places]
+    found = {int(q) for row in rows if row and row.statement for q in COUNTERS.findall(row.statement.text)}
+    for q in sorted(found):
+        yield f"; C{q} = {case.q_store(q)[0]}, and was {earlier.q_stores.get(q, (0, 0, 0))[0]} then"

@@ -1,0 +1,93 @@
+"""What is said of a chart in words: of its programs, devices and exchanges, in all or in some of its stretches."""
+from kdf9.journal import RAN, READY, Held, in_order
+from kdf9.words import count
+
+# Beginnings of transfers are drawn for a device that has no more of them than this; of more MOVEs the signs are small.
+MOST_SIGNS = 100
+
+
+def name_of_device(chart, number):
+    """A device in words: its number and its kind."""
+    return f"device {number} {chart.devices[number]}"
+
+
+def reasons(chart, calls):
+    """By what a program was held up in so many calls each, in words, most first."""
+    held = [(number, reason) for reason, number in calls.items() if isinstance(reason, Held)]
+    for number, reason in sorted(held, key=lambda one: -one[0]):
+        yield f"held up for {count(number, 'call')} by {said_of_hold(chart, reason)}"
+
+
+def said_of_hold(chart, reason):
+    """What holds a program up, in words."""
+    if reason.what == "device":
+        return f"{name_of_device(chart, reason.which)}, which has a transfer"
+    if reason.what == "group":
+        return f"group {reason.which}, which is locked out"
+    return f"the pool, whose devices of kind {reason.which} all have holders"
+
+
+def held_calls(calls):
+    """For how many calls a program was held up."""
+    return sum(number for reason, number in calls.items() if isinstance(reason, Held))
+
+
+def said_of_slot(chart, calls):
+    """What a program did in these calls, in words."""
+    said = [f"obeyed {count(calls[RAN], 'order')}"] if calls[RAN] else []
+    said += reasons(chart, calls)
+    if calls[READY]:
+        said.append(f"could go on for {count(calls[READY], 'call')}, while another ran")
+    return "; ".join(said)
+
+
+def said_of_device(calls, events):
+    """For whom a device had transfers in these calls, in words."""
+    said = [f"a transfer for slot {slot} during {count(calls[slot], 'call')}" for slot in sorted(calls)]
+    if events:
+        said.append(f"{count(len(events), 'transfer')} begun")
+    return "; ".join(said)
+
+
+def transfers_and_moves(chart, number):
+    """How many transfers a device had, and how many lines MOVE moved words of them, in words."""
+    said, moves = count(chart.transfers[number], "transfer"), chart.move_lanes[number].number_of_events()
+    return f"{said}, {count(moves, 'MOVE')}" if moves else said
+
+
+def said_of_exchanges(chart, exchanges):
+    """Some exchanges of priorities and what they lead to, in words."""
+    first, last = exchanges[0], exchanges[-1]
+    said = f"SWAP {first.slots[0]} {first.slots[1]}"
+    if len(exchanges) > 1:
+        said += f" and so on up to SWAP {last.slots[0]} {last.slots[1]}"
+    return f"{said}; priorities, the highest first: {in_order(last.after, chart.sections)}"
+
+
+def exchanges_in_all(chart):
+    """How often priorities were exchanged, and what that led to, in words."""
+    return f"{count(chart.exchanges.number_of_events(), 'exchange')}, at the end {in_order(chart.order, chart.sections)}"
+
+
+def sums_of_slot(section, lane):
+    """What became of a program in all, in words."""
+    total = lane.total()
+    return f"{count(section.orders, 'order')}, held up for {count(held_calls(total), 'call')}, ready for {total[READY]}"
+
+
+def description(chart):
+    """The whole picture in words, for those who can't see it."""
+    said = [f"slot {number}: {state_of(chart.sections[number])}, {sums_of_slot(chart.sections[number], lane)}" for number, lane in chart.slot_lanes.items()]
+    said += [f"{name_of_device(chart, number)}: {transfers_and_moves(chart, number)}" for number in chart.device_lanes]
+    return "; ".join(said) + "."
+
+
+def state_of(section):
+    """The life of a program at the end, in words."""
+    return " ".join(section.state)
+
+
+def title_of(chart):
+    """The run in one line."""
+    transfers = sum(chart.transfers.values())
+    return f"{count(chart.total, 'call')}, {count(chart.idle.total()['idle'], 'call')} of them idle; {count(transfers, 'transfer')}"

@@ -1,0 +1,64 @@
+"""The schedule of a job over time: which of its lines stands after how many calls; and the same job with another schedule."""
+from typing import NamedTuple
+
+from kdf9.job import job_text
+
+MOST_LINES = 500000
+
+
+class Event(NamedTuple):
+    """A line of a schedule other than ORDERS, and the number of calls before it."""
+
+    calls: int
+    line: str
+
+
+class Schedule(NamedTuple):
+    """So many calls, and the events between them, in order."""
+
+    calls: int
+    events: list
+
+
+def start_of(lines):
+    """The index of the line SCHEDULE. A deck may have such a line too; no line after the schedule's first is one."""
+    return len(lines) - 1 - lines[::-1].index("SCHEDULE")
+
+
+def read_schedule(lines):
+    """The schedule of a job of these lines."""
+    calls, events = 0, []
+    for line in lines[start_of(lines) + 1:-1]:
+        if line.startswith("ORDERS "):
+            calls += int(line[7:])
+        else:
+            events.append(Event(calls, line))
+    return Schedule(calls, events)
+
+
+def lines_of_schedule(schedule):
+    """The lines of a schedule, which stand between SCHEDULE and ENDJOB."""
+    lines, calls = [], 0
+    for event in schedule.events:
+        if event.calls > calls:
+            lines.append(f"ORDERS {event.calls - calls}")
+            calls = event.calls
+        lines.append(event.line)
+    if schedule.calls > calls:
+        lines.append(f"ORDERS {schedule.calls - calls}")
+    return lines
+
+
+def cut(schedule, calls):
+    """The schedule up to this call: what stands after it is left out."""
+    return Schedule(calls, [event for event in schedule.events if event.calls < calls])
+
+
+def cut_before_next(schedule, calls):
+    """The schedule up to what stands between this call and the next."""
+    return Schedule(calls, [event for event in schedule.events if event.calls <= calls])
+
+
+def job_with(slots, schedule, shown=()):
+    """The text of a job of these slots and this schedule that shows the whole stores of the slots whose numbers are `shown`."""
+    return job_text(slots.values(), lines_of_schedule(schedule), shown)

@@ -1,0 +1,81 @@
+"""The orders of one program as it ran beside others: the call of each, what was between it and the one before, and the transfers meanwhile."""
+from collections import Counter
+from typing import NamedTuple
+
+from kdf9.timeline import timed
+from kdf9.words import count
+
+# What may hold up a program, and the lines of a schedule, of which so many are told between two orders.
+HOLDS = {"BUSY": "device", "LOV": "group", "WAIT": "the pool's want of a"}
+SCHEDULED = ("MOVE", "END", "CLOCK", "SWAP")
+MOST_SCHEDULED = 8
+
+
+class Moment(NamedTuple):
+    """An order of a program: its number, the call it was obeyed with, the devices that had a transfer then, the entries since the order
+    before, each with the number of calls before it, and those of the order itself.
+    """
+
+    order: int
+    call: int
+    flying: list
+    between: list
+    own: list
+
+
+class Trace:
+    """The orders of the program of a slot from `first` to `last`, read off a journal, and what came after the last that it obeyed."""
+
+    def __init__(self, entries, slot, first, last):
+        self._slot, self._orders = slot, range(first, last + 1)
+        self._flying, self._obeyed = set(), 0
+        self.moments, self.rest, self.call_before = [], [], 0
+        for calls, entry in timed(entries):
+            self._take(calls, entry)
+
+    @property
+    def obeyed(self):
+        """How many orders the program obeyed in the whole run."""
+        return self._obeyed
+
+    def _take(self, calls, entry):
+        kind, *numbers = entry
+        if kind == "RAN" and numbers[0] == self._slot:
+            self._ran(calls, numbers[1])
+        elif kind in ("START", "ANSWER", "FAIL", "ENDED") and numbers[0] == self._slot:
+            if self.moments and self.moments[-1].order == self._obeyed:
+                self.moments[-1].own.append(entry)
+        elif kind not in ("START", "ANSWER"):
+            self.rest.append((calls, entry))
+        if kind == "START":
+            self._flying.add(numbers[1])
+        elif kind == "END":
+            self._flying.discard(numbers[0])
+
+    def _ran(self, calls, orders):
+        """Takes so many orders, of which those that aren't asked for are only counted."""
+        first = max(self._orders.start, self._obeyed + 1)
+        for order in range(first, min(self._orders.stop, self._obeyed + orders + 1)):
+            between = self.rest if order == self._obeyed + 1 else []
+            self.moments.append(Moment(order, calls + order - self._obeyed, sorted(self._flying), between, []))
+        if self._obeyed < self._orders.start - 1 <= self._obeyed + orders:
+            self.call_before = calls + self._orders.start - 1 - self._obeyed
+        self._obeyed += orders
+        self.rest = []
+
+
+def said_of(between, slot):
+    """What happened between two orders of the program of a slot, in words."""
+    holds, ran, scheduled, idle = [], Counter(), [], 0
+    for calls, (kind, *numbers) in between:
+        if kind in HOLDS and numbers[0] == slot:
+            holds.append(f"held up from call {calls + 1} by {HOLDS[kind]} {numbers[1]}")
+        elif kind == "RAN":
+            ran[numbers[0]] += numbers[1]
+        elif kind == "IDLE":
+            idle += numbers[0]
+        elif kind in SCHEDULED:
+            scheduled.append(f"{' '.join(map(str, [kind, *numbers]))} after call {calls}")
+    others = [f"slot {number} obeyed {count(orders, 'order')}" for number, orders in sorted(ran.items())]
+    more = [f"{len(scheduled) - MOST_SCHEDULED} more lines of the schedule"] if len(scheduled) > MOST_SCHEDULED else []
+    return holds + others + ([f"{count(idle, 'call')} idle"] if idle else []) + scheduled[:MOST_SCHEDULED] + more
