@@ -66,11 +66,15 @@ pub record IsHeld (reaches : List Reach) (seats : List Seat) (d : ℕ) (x : Spot
   pub there : by < length seats
   pub flight : IsFlightOf (part_at reaches seats by) d x h
 
--- the programs stand by their slots and the windows lie one behind the other, each device is of one program,
--- and each transfer is of a program
+-- programs that stand by their slots
+abbrev pub AreNumbered : List Seat → Type 0
+AreNumbered seats = (i j : ℕ) → i < j → j < length seats → (seat_at seats i).p < (seat_at seats j).p
+
+-- the programs stand by their slots, the windows lie one after the other, each device is of one program, and
+-- each transfer is of a program
 pub record IsRunning (reaches : List Reach) (seats : List Seat) (s : Shared) : Type 0 where
   pub sound : IsSound s
-  pub numbered : (i j : ℕ) → i < j → j < length seats → (seat_at seats i).p < (seat_at seats j).p
+  pub numbered : AreNumbered seats
   pub at_group : (i : ℕ) → i < length seats → (reach_at reaches i).base % 32 ≡ 0
   pub in_store : (i : ℕ) → i < length seats
       → (reach_at reaches i).base + (reach_at reaches i).size ≤ 32 * length s.cells

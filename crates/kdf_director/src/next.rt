@@ -3,9 +3,9 @@ ghost use Rattle.std.specs.Prelude.{◌≡◌, ◌+◌, ◌*◌, ◌/◌, ◌%�
 ghost use Rattle.kdf_lockout.specs.Groups.{is_out};
 ghost use Rattle.kdf_processor.specs.Lone.{is_live};
 ghost use Rattle.kdf_director.specs.declared.program.Program.{Program};
-ghost use Rattle.kdf_director.specs.Going.{any_on, first_going, goes, if_goes, is_stopped, place_of, AreNearHolds, IsNearHold};
+ghost use Rattle.kdf_director.specs.Going.{any_on, first_going, goes, goes_at, if_goes, is_stopped, place_of, AreNearHolds, IsNearHold};
 ghost use Rattle.kdf_director.specs.Parts.{reach_of, seat_of, shared_in, window_at};
-ghost use Rattle.kdf_director.specs.Running.{reaches_in, seats_in, IsRunning};
+ghost use Rattle.kdf_director.specs.Running.{reaches_in, seats_in, AreNumbered, IsRunning};
 ghost use Rattle.kdf_director.specs.Shared.{is_busy_in};
 
 use crate::dispatch::window_of;
@@ -82,9 +82,8 @@ fn goes(
         && !is_stopped(window_of(windows, slot.p), store, places, program.hold)
 }
 
-/// Which of the programs is in this slot.
-#[inline(always)]
-fn place_of(programs: &[Program], p: u8) -> Option<usize>
+/// Which of the programs is in this slot, found by looking at one after the other.
+fn search(programs: &[Program], p: u8) -> Option<usize>
     ensures result { result ≡ place_of (seats_in programs.now) p }
     ensures there { IfSome result (λ i. i < length programs.now) }
 {
@@ -96,35 +95,42 @@ fn place_of(programs: &[Program], p: u8) -> Option<usize>
     None
 }
 
-/// The program in this slot, if it goes on.
+/// Which of the programs is in this slot. Where no slot before it is absent, its number is its place, so that is tried first.
 #[inline(always)]
-fn going(
+fn place_of(programs: &[Program], p: u8) -> Option<usize>
+    requires numbered { AreNumbered (seats_in programs.now) }
+    ensures result { result ≡ place_of (seats_in programs.now) p }
+    ensures there { IfSome result (λ i. i < length programs.now) }
+{
+    match programs.get(usize::from(p)) {
+        Some(program) if program.p == p => Some(usize::from(p)),
+        _ => search(programs, p),
+    }
+}
+
+/// Whether the program at this place is live, and isn't held up still.
+#[inline(always)]
+fn goes_at(
     windows: &[Window; 4],
     slots: &[Loaded],
     programs: &[Program],
     store: &Store,
     places: &[Place],
-    p: u8,
-) -> Option<usize>
+    i: usize,
+) -> bool
+    requires there { i < length programs.now }
     requires slots { length slots.now ≡ length programs.now }
     requires running { IsRunning (reaches_in windows.now slots.now) (seats_in programs.now)
         (shared_in store.now places.now) }
     requires near { AreNearHolds (reaches_in windows.now slots.now)
         (map (λ (x : Program). x.hold) programs.now) }
-    ensures result { result ≡ if_goes (reaches_in windows.now slots.now) (seats_in programs.now)
-        (map (λ (x : Program). x.hold) programs.now) (shared_in store.now places.now)
-        (place_of (seats_in programs.now) p) }
-    ensures there { IfSome result (λ i. i < length programs.now) }
+    ensures { result ≡ goes_at (reaches_in windows.now slots.now) (seats_in programs.now)
+        (map (λ (x : Program). x.hold) programs.now) (shared_in store.now places.now) i }
 {
-    let i = place_of(programs, p)?;
-    if goes(windows, &slots[i], &programs[i], store, places) {
-        Some(i)
-    } else {
-        None
-    }
+    goes(windows, &slots[i], &programs[i], store, places)
 }
 
-/// The program that is next, if one is.
+/// The program that is next, if one is. Where a program that is there alone doesn't go on, the other slots aren't looked for.
 #[inline(always)]
 pub(crate) fn next_of(
     windows: &[Window; 4],
@@ -144,8 +150,13 @@ pub(crate) fn next_of(
         priorities.now }
 {
     for p in priorities {
-        if let Some(i) = going(windows, slots, programs, store, places, *p) {
-            return Some(i);
+        if let Some(i) = place_of(programs, *p) {
+            if goes_at(windows, slots, programs, store, places, i) {
+                return Some(i);
+            }
+            if programs.len() == 1 {
+                return None;
+            }
         }
     }
     None
