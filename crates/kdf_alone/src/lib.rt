@@ -7,8 +7,6 @@ mod loading;
 mod memory;
 mod obeying;
 mod places;
-#[cfg(test)]
-mod tests;
 mod text;
 pub mod worked;
 

@@ -15,7 +15,7 @@ use kdf_word::Word;
 use std::alloc::AllocError;
 
 /// What a claim looks for.
-#[derive(Debug, Drop)]
+#[derive(Drop)]
 pub enum Wanted {
     /// A device of this kind.
     Kinded(Kind),

@@ -1,5 +1,5 @@
--- A word of characters as a number under the radices that stand in the characters of another word,
--- and back.
+-- A word of characters as a number under the radices that stand in the characters of another word, and a number
+-- as such characters.
 use Rattle.std.specs.Prelude.{ℕ, zero, suc, ◌+◌, ◌-◌, ◌*◌, ◌/◌, ◌%◌, ◌==◌, if◌then◌else◌}
 use Rattle.kdf_word.specs.Characters.{character_of, with_character}
 

@@ -37,7 +37,7 @@ shifted code n nest = arith (Shift code n) nest clear
 abbrev pub leaves : List ℕ → Option Arith
 leaves nest = Some (record { nest = nest; flags = clear })
 
--- and where the value doesn't fit
+-- it leaves this nest and sets V, since the value doesn't fit
 abbrev pub overflows : List ℕ → Option Arith
 overflows nest = Some (record { nest = nest; flags = overflow })
 

@@ -27,7 +27,7 @@ turned n w = w % 2 ^ (48 - n) * 2 ^ n + w / 2 ^ (48 - n)
 abbrev pub joined : ℕ → ℕ → ℕ
 joined a b = a * 2 ^ 48 + b
 
--- and the last 96 bits as two words
+-- the last 96 bits of a number as two words
 abbrev pub parted : ℕ → List ℕ
 parted w = w / 2 ^ 48 % 2 ^ 48 ∷ w % 2 ^ 48 ∷ []
 

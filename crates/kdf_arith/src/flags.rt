@@ -2,7 +2,7 @@
 ghost use Rattle.std.specs.Prelude.{◌≡◌, ◌||◌};
 
 /// The overflow register V and the test register TR.
-#[derive(Clone, Copy, Debug, PartialEq, Eq)]
+#[derive(Clone, Copy, PartialEq, Eq)]
 pub struct Flags {
     /// Whether a value didn't fit since V was cleared last.
     pub v: bool,

@@ -12,8 +12,6 @@ mod operands;
 mod order;
 mod scales;
 mod shifts;
-#[cfg(test)]
-mod tests;
 mod values;
 mod words;
 

@@ -1,7 +1,7 @@
 //! The orders of arithmetic.
 
 /// An order of arithmetic.
-#[derive(Clone, Copy, Debug, PartialEq, Eq)]
+#[derive(Clone, Copy, PartialEq, Eq)]
 pub enum ArithOrder {
     /// One of a single syllable: a code from 02 to 12, from 14 to 1C, 1F or 20 hexadecimal.
     Plain { code: u8 },

@@ -3,7 +3,5 @@
 
 mod code;
 pub mod laws;
-#[cfg(test)]
-mod tests;
 
 pub use code::{to_code, to_host};

@@ -12,7 +12,7 @@ use crate::two_syllables::decode_two;
 use kdf_syllable::Order;
 
 /// No order has this spelling.
-#[derive(Clone, Copy, Debug, PartialEq, Eq)]
+#[derive(Clone, Copy, PartialEq, Eq)]
 pub struct BadCode;
 
 /// The order whose spelling begins the bytes, or `BadCode` where there is none. What stands behind

@@ -9,8 +9,6 @@ mod jumps;
 pub mod laws;
 mod one_syllable;
 mod stores;
-#[cfg(test)]
-mod tests;
 mod two_syllables;
 
 pub use decoding::{BadCode, decode};

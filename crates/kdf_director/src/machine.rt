@@ -39,7 +39,7 @@ use std::alloc::{AllocError, Global};
 use std::marker::Model;
 
 /// What a call of a machine did.
-#[derive(Clone, Copy, Debug, PartialEq, Eq)]
+#[derive(Clone, Copy, PartialEq, Eq)]
 pub enum Progress {
     /// The program of this slot obeyed an order.
     Ran(u8),
@@ -334,6 +334,3 @@ fn first(alloc: Global, parts: Parts, journal: Journal, room: u32) -> Machine
         room,
     }
 }
-
-#[cfg(test)]
-mod tests;

@@ -26,7 +26,7 @@ pub enum Place {
 }
 
 /// What a claim looks for.
-#[derive(Debug, Drop)]
+#[derive(Drop)]
 pub enum Wanted {
     /// A device of this kind.
     Kinded(Kind),

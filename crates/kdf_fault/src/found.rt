@@ -6,7 +6,7 @@ ghost use Rattle.kdf_fault.specs.Faults.{before, lesser};
 use crate::numbered::Numbered;
 
 /// A fault and the place where it was found.
-#[derive(Clone, Copy, Debug, PartialEq, Eq)]
+#[derive(Clone, Copy, PartialEq, Eq)]
 pub struct Found<F> {
     pub fault: F,
     pub place: u32,

@@ -9,8 +9,6 @@
 mod found;
 pub mod laws;
 mod numbered;
-#[cfg(test)]
-mod tests;
 
 pub use found::{Found, earlier, is_before};
 pub use numbered::Numbered;

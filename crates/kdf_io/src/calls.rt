@@ -2,7 +2,7 @@ ghost use Rattle.std.specs.Prelude.{◌≡◌, ◌↔◌, IsTrue, Contains};
 ghost use Rattle.kdf_io.specs.Counts.{one_more};
 
 /// The calls of a source or a sink over memory: which are to fail, and how many were made.
-#[derive(Debug, Drop)]
+#[derive(Drop)]
 pub struct Calls {
     pub fail: Vec<u32>,
     pub made: u64,

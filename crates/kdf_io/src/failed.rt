@@ -1,3 +1,3 @@
 /// The answer of a source or a sink that failed; its count of faults says so too.
-#[derive(Clone, Copy, Debug, PartialEq, Eq)]
+#[derive(Clone, Copy, PartialEq, Eq)]
 pub struct Failed;

@@ -4,7 +4,7 @@ ghost use Rattle.kdf_io.specs.Counts.{one_more};
 use crate::Failed;
 
 /// A count of faults, which stops at its highest.
-#[derive(Debug, Drop)]
+#[derive(Drop)]
 pub struct Faults {
     pub count: u64,
     ghost bounded: { count < 2 ^ 64 },

@@ -18,8 +18,6 @@ mod read_from;
 mod reading;
 mod sink;
 mod source;
-#[cfg(test)]
-mod tests;
 mod write_to;
 mod writing;
 

@@ -6,7 +6,7 @@ use crate::{Failed, Sink};
 use std::alloc::{AllocError, Global};
 
 /// A sink that keeps its bytes in memory, and fails as it is asked to.
-#[derive(Debug, Drop)]
+#[derive(Drop)]
 pub struct MemorySink {
     bytes: Vec<u8>,
     room: usize,

@@ -5,7 +5,7 @@ use crate::faults::Faults;
 use crate::{Failed, Source};
 
 /// A source that gives bytes of memory, and fails as it is asked to.
-#[derive(Debug, Drop)]
+#[derive(Drop)]
 pub struct MemorySource {
     bytes: Vec<u8>,
     at: usize,

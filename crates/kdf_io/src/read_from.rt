@@ -7,7 +7,7 @@ use std::io::Read;
 /// A source that gives what a reader of the standard library gives.
 ///
 /// It tells nothing of the bytes left, and counts each error of the reader as a fault.
-#[derive(Debug, Drop)]
+#[derive(Drop)]
 pub struct ReadFrom<R> {
     reader: R,
     faults: Faults,

@@ -8,7 +8,7 @@ use std::io::Write;
 ///
 /// It tells nothing of the bytes written, and counts as a fault each error of the writer, and each
 /// put at which the writer takes nothing of a nonempty piece.
-#[derive(Debug, Drop)]
+#[derive(Drop)]
 pub struct WriteTo<W> {
     writer: W,
     faults: Faults,

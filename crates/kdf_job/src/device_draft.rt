@@ -6,6 +6,7 @@ ghost use Rattle.kdf_job.specs.Shows.{blocks_in, fixture_in, shown_device, shown
 ghost use Rattle.kdf_transfer.specs.Devices.{fixture_of, progress_of};
 ghost use Rattle.kdf_job.specs.Lengths.{medium_length};
 
+use crate::forms::MediumLine;
 use crate::media::codes_in;
 use crate::medium::{CardStack, Paper, TapeBlocks};
 use crate::{JobFault, LineError};
@@ -50,13 +51,15 @@ impl DeviceDraft {
     }
 
     /// Adds a line to its medium.
-    pub fn add_line(&mut self, alloc: Global, marked: bool, text: &[u8]) -> Result<(), LineError>
-        requires { medium_length (shown_device_draft self.old) + length text.now + 1 < 2 ^ 32 }
-        ensures { IsFound (with_medium marked text.now (shown_device_draft self.old))
+    pub fn add_line(&mut self, alloc: Global, line: MediumLine<'_>) -> Result<(), LineError>
+        requires { medium_length (shown_device_draft self.old) + length line.text.now + 1
+            < 2 ^ 32 }
+        ensures { IsFound
+            (with_medium line.entry.marked line.entry.text.now (shown_device_draft self.old))
             (shown_device_draft self.new) result }
     {
-        match codes_in(alloc, text)? {
-            Some(codes) => self.add_codes(marked, codes),
+        match codes_in(alloc, line.text)? {
+            Some(codes) => self.add_codes(line.marked, codes),
             None => Err(LineError::Fault(JobFault::BadMedium)),
         }
     }

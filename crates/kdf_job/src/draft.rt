@@ -215,7 +215,7 @@ impl Draft {
     {
         self.place = Place::BehindDevice;
         match &mut self.slot {
-            Some(slot) => slot.add_medium_line(alloc, line.marked, line.text),
+            Some(slot) => slot.add_medium_line(alloc, line),
             None => Err(LineError::Fault(JobFault::BadMedium)),
         }
     }

@@ -17,8 +17,6 @@ mod reader;
 mod schedule;
 mod slot_draft;
 mod taking;
-#[cfg(test)]
-mod tests;
 
 pub use fault::{JobError, JobFault};
 pub use job::{Job, SlotJob, TEXT_LIMIT};

@@ -6,9 +6,6 @@ ghost use Rattle.kdf_job.specs.Made.{after_steps, letter_of, letters_from, made_
 use std::alloc::{AllocError, Global};
 use std::fmt::Write;
 
-#[cfg(test)]
-mod tests;
-
 const SLOTS: u8 = 4;
 
 const READER_LINES: u16 = 200;

@@ -66,7 +66,7 @@ fn is_label_byte(byte: u8) -> bool
 }
 
 /// A card of these characters, with spaces behind them.
-pub fn card_of(codes: &[u8]) -> [u8; 80]
+pub fn card_of(codes: &[u8]) -> [u8; CARD_LENGTH]
     requires short { length codes.now ≤ 80 }
     requires small { All (λ c. c < 64) codes.now }
     ensures card { result ≡ card_of codes.now }

@@ -48,7 +48,7 @@ impl Paper {
 /// A stack of cards.
 #[derive(Drop)]
 pub struct CardStack {
-    pub cards: Vec<[u8; 80]>,
+    pub cards: Vec<[u8; CARD_LENGTH]>,
     ghost small: { All (λ card. All (λ code. code < 64) card) cards.items },
     ghost few: { length cards.items < 2 ^ 32 },
 }

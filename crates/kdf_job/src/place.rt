@@ -1,7 +1,7 @@
 //! Where a line of a job stands.
 
 /// Where a line stands, which the line before it tells.
-#[derive(Clone, Copy, Debug, PartialEq, Eq)]
+#[derive(Clone, Copy, PartialEq, Eq)]
 pub enum Place {
     /// It is the first line.
     First,

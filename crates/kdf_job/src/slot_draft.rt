@@ -11,6 +11,7 @@ ghost use Rattle.kdf_job.specs.Shows.{shown_device, shown_device_draft, shown_sl
 ghost use Rattle.kdf_job.specs.declared.fault.JobFault.TheVariants.{BadMedium};
 
 use crate::device_draft::DeviceDraft;
+use crate::forms::MediumLine;
 use crate::{JobFault, LineError, SlotJob};
 use kdf_journal::Kind;
 use kdf_text::LINE_END;
@@ -122,21 +123,16 @@ impl SlotDraft {
     }
 
     /// Adds a line to the medium of its last device.
-    pub fn add_medium_line(
-        &mut self,
-        alloc: Global,
-        marked: bool,
-        text: &[u8],
-    ) -> Result<(), LineError>
-        requires { slot_length (shown_slot_draft self.old) + length text.now + 1 < 2 ^ 32 }
+    pub fn add_medium_line(&mut self, alloc: Global, line: MediumLine<'_>) -> Result<(), LineError>
+        requires { slot_length (shown_slot_draft self.old) + length line.text.now + 1 < 2 ^ 32 }
         ensures { IsChecked
-            (if is_none (with_line_of_medium marked text.now (shown_slot_draft self.old).device)
-            then Some BadMedium else None)
-            (tells (AMedium marked text.now) (shown_slot_draft self.old))
+            (if is_none (with_line_of_medium line.entry.marked line.entry.text.now
+            (shown_slot_draft self.old).device) then Some BadMedium else None)
+            (tells (AMedium line.entry.marked line.entry.text.now) (shown_slot_draft self.old))
             (shown_slot_draft self.new) result }
     {
         match &mut self.device {
-            Some(device) => device.add_line(alloc, marked, text),
+            Some(device) => device.add_line(alloc, line),
             None => Err(LineError::Fault(JobFault::BadMedium)),
         }
     }

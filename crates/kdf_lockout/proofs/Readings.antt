@@ -1,5 +1,5 @@
 -- What is read in a store after groups were taken out.
-use Rattle.std.proofs.Common.{◌≡◌, ℕ, ◌+◌, ◌-◌, ◌<◌, ◌≤◌, List, ◌++◌, length, get_or, take, drop, map, replicate, Option, None, Some, ap, ◌∙◌, arith, sym, refl, subst, length-append, length-take, length-drop}
+use Rattle.std.proofs.Common.{◌≡◌, ℕ, ◌+◌, ◌-◌, ◌<◌, ◌≤◌, List, ◌++◌, length, get_or, take, drop, map, replicate, Option, None, Some, ap, ◌∙◌, arith, refl, length-append, length-take, length-drop}
 use Rattle.std.proofs.lemmas.List.{length-map, length-replicate, get_or-replicate, length-take-le, get_or-append_right, get_or_append_left}
 use Rattle.kdf_lockout.specs.Groups.{Cells, Lent, group_at, words_in, lent_groups, with_groups, without_groups, IsOut}
 
@@ -38,14 +38,6 @@ lent_out store new l first n fits lease groups =
     record {
       inside = omega arith;
       out = λ g low high. ap (λ s. group_at s g) groups ∙ without_in store first n g fits (omega arith) (omega arith);
-    }
-
--- they are out, whatever words the lease has
-pub out_still : (store : Cells) (l m : Lent) → m.first ≡ l.first → length m.groups ≡ length l.groups → IsOut store l → IsOut store m
-out_still store l m first count out =
-    record {
-      inside = subst (λ n. n + length m.groups ≤ length store) (sym first) (subst (λ n. l.first + n ≤ length store) (sym count) out.inside);
-      out = λ g low high. out.out g (omega arith) (omega arith);
     }
 
 -- a store has as many groups after some came back

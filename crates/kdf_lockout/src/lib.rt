@@ -5,8 +5,6 @@
 mod group;
 mod lease;
 mod store;
-#[cfg(test)]
-mod tests;
 
 pub use group::Group;
 pub use lease::Lease;

@@ -13,8 +13,6 @@ mod printed;
 mod printer;
 mod punch;
 mod reader;
-#[cfg(test)]
-mod tests;
 
 pub use block::Block;
 pub use cards::Cards;

@@ -4,8 +4,6 @@
 
 mod links;
 mod nest;
-#[cfg(test)]
-mod tests;
 
 pub use links::Links;
 pub use nest::Nest;

@@ -68,13 +68,13 @@ pub record IsLaidOut (ss : List Statement) (image : Picture) : Type 0 where
       → ss ≡ before ++ s ∷ behind
       → order_of (names ss) (walked front before).section s.what ≡ Some order
       → Stand image.words (walked front before).at (spelling order)
-  -- and each name of a statement means something
+  -- each name of a statement means something
   pub named : (before behind : List Statement) (s : Statement) → ss ≡ before ++ s ∷ behind
       → wrong (names ss) (walked front before) s.what ≡ []
   -- the word that stands begun before a `*` and before a part is filled
   pub filled : (before behind : List Statement) (s : Statement) → ss ≡ before ++ s ∷ behind
       → begins_word s.what ≡ true → IsFilled image.words (walked front before).at
-  -- and the last one
+  -- the last word of the deck is filled too
   pub filled_last : IsFilled image.words (walked front ss).at
   -- a reference means the place of the next order of its part, or, where none follows, the place
   -- behind its last statement
@@ -83,7 +83,7 @@ pub record IsLaidOut (ss : List Statement) (image : Picture) : Type 0 where
       → AllPassed between → EndsAt behind
       → reference (names ss) (Some (walked front before).section) r
       ≡ Ok (walked front (before ++ s ∷ between)).at
-  -- and a part's number that of its first order
+  -- a part's number means the place of its first order
   pub firsts : (before between behind : List Statement) (s : Statement) (p : ℕ)
       → ss ≡ before ++ s ∷ (between ++ behind) → part_opened s.what ≡ Some p
       → AllPassed between → EndsAt behind
@@ -93,7 +93,7 @@ pub record IsLaidOut (ss : List Statement) (image : Picture) : Type 0 where
       → ss ≡ before ++ s ∷ behind → s.what ≡ Constant n constant
       → get_or image.words ((walked front before).section.base + n) 0
       ≡ value (names ss) (walked front before).section constant
-  -- and a store that is named in a part, but for a bare address, is one of the image
+  -- a store that is named in a part, but for a bare address, is one of the image
   pub stores : (before behind : List Statement) (place : Named) (address : ℕ)
       → ss ≡ before ++ behind → is_address place ≡ false
       → address_of (names ss) (walked front before).section place ≡ Ok address

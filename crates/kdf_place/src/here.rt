@@ -6,7 +6,7 @@ use kdf_syllable::size;
 use kdf_usercode::{Statement, What};
 
 /// A part, from the statement that opens it.
-#[derive(Clone, Copy, Debug)]
+#[derive(Clone, Copy)]
 pub struct Section {
     /// The place of its opening in the deck. It tells parts apart, also where two bear one number.
     pub opened: u32,
@@ -19,7 +19,7 @@ pub struct Section {
 }
 
 /// The part, and the syllable, counted from the begin of the image, behind all that stands before.
-#[derive(Clone, Copy, Debug)]
+#[derive(Clone, Copy)]
 pub struct Here {
     pub section: Section,
     pub at: u64,

@@ -3,7 +3,7 @@
 use kdf_word::Word;
 
 /// A deck in the words of a store.
-#[derive(Debug, Drop)]
+#[derive(Drop)]
 pub struct Image {
     /// The words from address 0 on, at most 8,192.
     pub words: Vec<Word>,
@@ -14,7 +14,7 @@ pub struct Image {
 }
 
 /// A reference of a part, and its syllable number `at`. The main part is 0.
-#[derive(Clone, Copy, Debug, PartialEq, Eq)]
+#[derive(Clone, Copy, PartialEq, Eq)]
 pub struct Label {
     pub part: u16,
     pub number: u16,

@@ -23,8 +23,6 @@ mod names;
 mod picture;
 mod spell;
 mod table;
-#[cfg(test)]
-mod tests;
 mod twice;
 mod words;
 

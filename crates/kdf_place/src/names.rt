@@ -8,7 +8,7 @@ use crate::table::Table;
 use kdf_usercode::{DeckFault, Named, Target};
 
 /// What a number means in a section, and the place of the statement that says so.
-#[derive(Clone, Copy, Debug)]
+#[derive(Clone, Copy)]
 pub struct Entry<T> {
     /// The place of the section's opening.
     pub section: u32,
@@ -29,14 +29,14 @@ impl<T> Entry<T> {
 }
 
 /// A reference: the number of its part, and its syllable.
-#[derive(Clone, Copy, Debug)]
+#[derive(Clone, Copy)]
 pub struct Mark {
     pub part: u16,
     pub at: u64,
 }
 
 /// What the number of a part means: the part, and the syllable of its first order.
-#[derive(Clone, Copy, Debug)]
+#[derive(Clone, Copy)]
 pub struct Opening {
     pub section: Section,
     pub first: u64,

@@ -1,23 +1,11 @@
--- The least device that isn't claimed, as the first of sixteen that passes a test.
+-- A pool without devices: nothing can be taken from it.
 use Rattle.std.proofs.Common.{◌≡◌, ℕ, Bool, false, List, [], ◌∷◌, Option, Some, None, is_some, cond, get_or, refl, ap, ◌∙◌}
 use Rattle.std.specs.Prelude.{find, not, ◌&&◌}
 use Rattle.std.specs.List.{range_with_len}
 use Rattle.kdf_journal.specs.declared.kind.Kind.{Kind}
 use Rattle.kdf_journal.specs.declared.kind.Kind.TheVariants.{Tr, Tp, Cr, Lp, Mt}
-use Rattle.kdf_processor.specs.Claims.{can_take, least_pooled, free_kind, free_label, has_label, is_claimed, is_kind, may_take, own_kind_at}
-use Rattle.kdf_processor.specs.State.{Claims, own_fixture_at}
-
-pub free_kind_is : (c : Claims) (k : Kind) → free_kind c k ≡ find (λ d. is_kind k (own_kind_at c d) && not (is_claimed c d)) (range_with_len 0 16)
-unfolding free_kind
-free_kind_is c k = refl
-
-pub free_label_is : (c : Claims) (label : ℕ) → free_label c label ≡ find (λ d. has_label label (own_fixture_at c d) && not (is_claimed c d)) (range_with_len 0 16)
-unfolding free_label
-free_label_is c label = refl
-
-pub least_pooled_is : (c : Claims) (k : Kind) → least_pooled c k ≡ find (can_take c k) (range_with_len 0 16)
-unfolding least_pooled
-least_pooled_is c k = refl
+use Rattle.kdf_processor.specs.Claims.{least_pooled, is_claimed, is_kind, may_take}
+use Rattle.kdf_processor.specs.State.{Claims}
 
 -- a pool without devices has none of a kind
 pub none_of_kind : (k : Kind) → is_kind k None ≡ false

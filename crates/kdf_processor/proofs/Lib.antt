@@ -6,7 +6,6 @@ pub mod ByItself
 pub mod Syllables
 pub mod Finding
 pub mod Frees
-pub mod Groups
 pub mod Pending
 pub mod Small
 pub mod Fit

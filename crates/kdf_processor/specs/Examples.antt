@@ -1,5 +1,5 @@
 -- Registers and a store on which the rows of the table are worked.
-use Rattle.std.specs.Prelude.{ℕ, ◌+◌, ◌-◌, ◌*◌, ◌^◌, List, [], ◌∷◌, ◌++◌, Bool, true, false, replicate, unwrap_or, Option, Some, None}
+use Rattle.std.specs.Prelude.{ℕ, ◌+◌, ◌-◌, ◌*◌, ◌^◌, List, [], ◌∷◌, ◌++◌, Bool, true, false, replicate, Option, Some, None}
 use Rattle.kdf_qstore.specs.declared.triple.Triple.{Triple}
 use Rattle.kdf_qstore.specs.Triples.{zero_triples, with_triple}
 use Rattle.kdf_syllable.specs.declared.order.Order.{Order}
@@ -15,8 +15,7 @@ use Rattle.kdf_processor.specs.declared.step.Need.{Need}
 use Rattle.kdf_processor.specs.declared.registers.Life.TheVariants.{Ended, Failed}
 use Rattle.kdf_processor.specs.declared.registers.Registers.{Registers}
 use Rattle.kdf_processor.specs.declared.step.Step.TheVariants.{Done, Ends, Fails}
-use Rattle.kdf_processor.specs.Claims.{least_pooled}
-use Rattle.kdf_processor.specs.Effect.{Change, Going, Question, FreeOf, Act, Nothing, Starts}
+use Rattle.kdf_processor.specs.Effect.{Change, Going, Act, Nothing, Starts}
 use Rattle.kdf_processor.specs.Needs.{effect_needs}
 use Rattle.kdf_processor.specs.Outcome.{Outcome, done}
 use Rattle.kdf_processor.specs.State.{Claims, Stock, new_progress, new_registers, unclaimed}
@@ -217,13 +216,3 @@ kept claimed spooled asked store progress =
       store = store;
       devices = progress ∷ [];
     }
-
--- what is answered that depends on nothing but a question of the pool: there the least device that may be taken, and else a
-abbrev pub answer_of : Claims → ℕ → Question → ℕ
-answer_of c a (FreeOf kind) = unwrap_or (least_pooled c kind) 0
-answer_of c a question = a
-
--- an acting call where transfers move nothing
-abbrev pub still : Act → Act
-still (Starts d o first last) = Nothing
-still act = act

@@ -12,8 +12,8 @@ use Rattle.kdf_processor.specs.declared.spooled.Spooled.{Spooled}
 abbrev pub device_limit : ℕ
 device_limit = 16
 
--- what an order is checked against, and no transfer hides: the size of the store,
--- and by number the program's own devices, the kinds of those in the pool, and which of both are claimed
+-- what an order is checked against, and no transfer hides: the size of the store, and by number the program's own
+-- devices, the kinds of those in the pool, and which of both are claimed
 pub record Claims : Type 0 where
   pub size : ℕ
   pub claimed : List Bool

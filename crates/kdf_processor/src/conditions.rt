@@ -11,7 +11,7 @@ use kdf_qstore::Part;
 use kdf_word::Word;
 
 /// What a jump tests of the word on top.
-#[derive(Clone, Copy, Debug)]
+#[derive(Clone, Copy)]
 pub enum Sign {
     Zero,
     NotZero,

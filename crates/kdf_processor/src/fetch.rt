@@ -13,7 +13,7 @@ use kdf_word::Word;
 const SYLLABLES: u16 = 49_152;
 
 /// What the fetch of an order gives.
-#[derive(Clone, Copy, Debug, PartialEq, Eq)]
+#[derive(Clone, Copy, PartialEq, Eq)]
 pub enum Fetched {
     /// These syllables, which the spelling begins. What stands behind it counts for nothing.
     Spelt { first: u8, second: u8, third: u8 },
@@ -24,7 +24,7 @@ pub enum Fetched {
 }
 
 /// What the fetch of a syllable gives.
-#[derive(Clone, Copy, Debug, PartialEq, Eq)]
+#[derive(Clone, Copy, PartialEq, Eq)]
 pub enum Syllable {
     Byte(u8),
     Outside,

@@ -33,8 +33,6 @@ mod spooled;
 mod step;
 mod syllable_number;
 mod test;
-#[cfg(test)]
-mod tests;
 mod transfers;
 mod waits;
 

@@ -18,7 +18,7 @@ use kdf_syllable::Order;
 use kdf_transfer::TransferOrder;
 
 /// The act of a next order, as far as memory is taken for it.
-#[derive(Clone, Copy, Debug, PartialEq, Eq)]
+#[derive(Clone, Copy, PartialEq, Eq)]
 pub enum Ahead {
     /// It begins a transfer.
     Starts {

@@ -17,7 +17,7 @@ use kdf_transfer::TransferOrder;
 use kdf_word::Word;
 
 /// A word of the store that an order fetches or keeps, or a half of it.
-#[derive(Clone, Copy, Debug)]
+#[derive(Clone, Copy)]
 pub struct Access {
     /// How many syllables the order has.
     pub size: u16,
@@ -29,7 +29,7 @@ pub struct Access {
 }
 
 /// A transfer that an order begins, by the device's number and the area in addresses of the program.
-#[derive(Clone, Copy, Debug)]
+#[derive(Clone, Copy)]
 pub struct Beginning {
     pub device: u8,
     pub order: TransferOrder,
@@ -38,7 +38,7 @@ pub struct Beginning {
 }
 
 /// What an order does that isn't a change of registers alone.
-#[derive(Clone, Copy, Debug)]
+#[derive(Clone, Copy)]
 pub enum Plan {
     /// It fails.
     Fail(Failure),

@@ -5,7 +5,7 @@ use kdf_nest::{Links, Nest};
 use kdf_qstore::QStores;
 
 /// Whether a program runs.
-#[derive(Clone, Copy, Debug, PartialEq, Eq)]
+#[derive(Clone, Copy, PartialEq, Eq)]
 pub enum Life {
     Live,
     Ended,

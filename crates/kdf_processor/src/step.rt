@@ -3,7 +3,7 @@ use crate::Failure;
 use kdf_journal::Kind;
 
 /// What an order may have to wait for.
-#[derive(Clone, Copy, Debug, PartialEq, Eq)]
+#[derive(Clone, Copy, PartialEq, Eq)]
 pub enum Need {
     /// A group of 32 words of the program's store, by its number.
     Group(u16),
@@ -14,7 +14,7 @@ pub enum Need {
 }
 
 /// How a try to obey an order went.
-#[derive(Clone, Copy, Debug, PartialEq, Eq)]
+#[derive(Clone, Copy, PartialEq, Eq)]
 pub enum Step {
     /// The order was obeyed, and the program goes on.
     Done,

@@ -1,7 +1,7 @@
 //! What a program may find out about a device.
 
 /// What a test of a device tells.
-#[derive(Clone, Copy, Debug, PartialEq, Eq)]
+#[derive(Clone, Copy, PartialEq, Eq)]
 pub enum Test {
     /// Its flag.
     Flag,

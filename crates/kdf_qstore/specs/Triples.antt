@@ -23,7 +23,7 @@ with_triple qs q t = if q == 0 then qs else slice_set qs q t
 abbrev pub triple_of : ℕ → Triple
 triple_of w = record { c = w / 2 ^ 32 % 2 ^ 16; i = w / 2 ^ 16 % 2 ^ 16; m = w % 2 ^ 16 }
 
--- and a triple as a word
+-- the word that a triple is
 abbrev pub word_of_triple : Triple → ℕ
 word_of_triple t = t.c * 2 ^ 32 + t.i * 2 ^ 16 + t.m
 

@@ -5,8 +5,6 @@
 pub mod laws;
 mod part;
 mod q_stores;
-#[cfg(test)]
-mod tests;
 mod triple;
 
 pub use part::Part;

@@ -1,7 +1,7 @@
 //! The parts of a Q-store.
 
 /// A part of a Q-store.
-#[derive(Clone, Copy, Debug, PartialEq, Eq)]
+#[derive(Clone, Copy, PartialEq, Eq)]
 pub enum Part {
     /// The counter.
     C,

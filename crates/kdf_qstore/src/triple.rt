@@ -6,7 +6,7 @@ use crate::Part;
 use kdf_word::Word;
 
 /// The parts of one Q-store.
-#[derive(Clone, Copy, Debug, PartialEq, Eq)]
+#[derive(Clone, Copy, PartialEq, Eq)]
 pub struct Triple {
     /// The counter.
     pub c: u16,

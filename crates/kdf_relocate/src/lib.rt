@@ -2,8 +2,6 @@
 //! before its base is added.
 #![tactic(auto)]
 
-#[cfg(test)]
-mod tests;
 mod window;
 
 pub use window::{Outside, Window, windows};

@@ -14,14 +14,14 @@ const ROOM: u32 = 31_744;
 const GROUP: u16 = 32;
 
 /// The words of a slot in the store: from place `base` on, as many as `size`.
-#[derive(Clone, Copy, Debug, PartialEq, Eq)]
+#[derive(Clone, Copy, PartialEq, Eq)]
 pub struct Window {
     pub base: u32,
     pub size: u16,
 }
 
 /// The address isn't in the window.
-#[derive(Clone, Copy, Debug, PartialEq, Eq)]
+#[derive(Clone, Copy, PartialEq, Eq)]
 pub struct Outside;
 
 impl Window {

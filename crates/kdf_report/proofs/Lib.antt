@@ -5,7 +5,6 @@ pub mod Numbers
 pub mod SectionTexts
 pub mod SeenPrograms
 pub mod SummaryTexts
-pub mod Tried
 pub mod TwoWorlds
 pub mod WorkedPaperTape
 pub mod WorkedPunches

@@ -17,8 +17,6 @@ mod section;
 mod shows;
 mod spool;
 mod summaries;
-#[cfg(test)]
-mod tests;
 pub mod worked;
 
 pub use alone::{alone_absent, alone_text};

@@ -3,7 +3,7 @@ ghost use Rattle.std.specs.Prelude.{◌≡◌};
 ghost use Rattle.kdf_syllable.specs.Spelling.{IsAmount, amount};
 
 /// The number of places of a shift.
-#[derive(Clone, Copy, Debug, PartialEq, Eq)]
+#[derive(Clone, Copy, PartialEq, Eq)]
 pub enum Amount {
     /// This number, from -64 to 63: to the left where it is 0 or more.
     Fixed { n: i8 },

@@ -8,8 +8,6 @@ mod order;
 mod packing;
 mod spelling;
 mod syllables;
-#[cfg(test)]
-mod tests;
 
 pub use amount::Amount;
 pub use order::Order;

@@ -2,7 +2,7 @@
 use crate::amount::Amount;
 
 /// An order. Its codes are hexadecimal here, and the numbers `k` and `q` of Q-stores are below 16.
-#[derive(Clone, Copy, Debug, PartialEq, Eq)]
+#[derive(Clone, Copy, PartialEq, Eq)]
 pub enum Order {
     /// One syllable, its code: 01 to 21, but not 13.
     Plain { code: u8 },

@@ -3,7 +3,7 @@ ghost use Rattle.std.specs.Prelude.{◌≡◌, ◌<◌, ◌^◌, [], ◌∷◌};
 ghost use Rattle.kdf_syllable.specs.Spelling.{three_bytes};
 
 /// The syllables of an order: the first `size` bytes, of which there are 1 to 3. The others are 0.
-#[derive(Clone, Copy, Debug, PartialEq, Eq)]
+#[derive(Clone, Copy, PartialEq, Eq)]
 pub struct Syllables {
     pub bytes: [u8; 3],
     pub size: u8,

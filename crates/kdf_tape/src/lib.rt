@@ -7,8 +7,6 @@
 pub mod examples;
 mod tape;
 mod tape_block;
-#[cfg(test)]
-mod tests;
 
 pub use tape::MagTape;
 pub use tape_block::TapeBlock;

@@ -69,8 +69,8 @@ text_of (Alone p) bytes J = alone_of p (job bytes)
 text_of (Asm p) bytes J = listing_of p (job bytes)
 text_of (Make n) bytes J = summary_of n bytes J
 
--- the journal that a command's text is made from: of a command that runs the job under Director it is the job's, legal, true
--- and whole, and of another the empty one
+-- the journal that a command's text is made from: for a command that runs the job under Director it is the job's, legal,
+-- true and whole, and for another it is empty
 abbrev pub IsJournalOf : Command → List ℕ → List Entry → Type 0
 IsJournalOf Run bytes J = IsJournal (slots_of (job bytes)) (job bytes).events J
 IsJournalOf (Make n) bytes J = IsJournal (slots_of (job bytes)) (job bytes).events J

@@ -11,7 +11,7 @@ use std::alloc::{AllocError, Global};
 use values::{Values, any_hyphen};
 
 /// What the words behind the program's name ask for. A slot is below 4.
-#[derive(Clone, Copy, Debug, PartialEq, Eq)]
+#[derive(Clone, Copy, PartialEq, Eq)]
 pub enum Command {
     /// `run`: reads a job, runs it under Director and writes its report.
     Run,
@@ -24,7 +24,7 @@ pub enum Command {
 }
 
 /// Where the job of a command comes from.
-#[derive(Clone, Copy, Debug, PartialEq, Eq)]
+#[derive(Clone, Copy, PartialEq, Eq)]
 pub enum Input {
     /// It is read, and has at most so many bytes.
     Read(usize),
@@ -103,6 +103,3 @@ fn made(word: &str) -> Option<u16>
 {
     Some(number_in(0, LAST_MADE, word.as_bytes())? as u16)
 }
-
-#[cfg(test)]
-mod tests;

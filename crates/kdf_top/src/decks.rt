@@ -13,7 +13,7 @@ use kdf_usercode::{DeckError, DeckFault, read_deck};
 use std::alloc::{AllocFailed, Global};
 
 /// Why a job has no images.
-#[derive(Debug, Drop)]
+#[derive(Drop)]
 pub enum DecksError {
     /// The first slot whose deck has a fault, its first fault, and the fault's place.
     Fault(u8, DeckFault, u32),

@@ -5,7 +5,7 @@ use kdf_job::JobFault;
 use kdf_usercode::DeckFault;
 
 /// What `run` answers.
-#[derive(Clone, Copy, Debug, PartialEq, Eq)]
+#[derive(Clone, Copy, PartialEq, Eq)]
 pub enum Status {
     /// The whole text of the command was written.
     Done,

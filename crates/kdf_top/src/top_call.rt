@@ -279,6 +279,3 @@ fn give_up(machine: Option<Machine>) -> Outcome
     }
     without_machine(Status::WriteFault)
 }
-
-#[cfg(test)]
-mod tests;

@@ -5,7 +5,7 @@ ghost use Rattle.kdf_transfer.specs.AtOnce.{area_len, has_area, place_of};
 use crate::TransferOrder;
 
 /// An area of the store, by its first and its last place.
-#[derive(Clone, Copy, Debug)]
+#[derive(Clone, Copy)]
 pub struct Area {
     pub first: usize,
     pub last: usize,

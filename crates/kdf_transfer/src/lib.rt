@@ -12,8 +12,6 @@ pub mod laws;
 mod one_step;
 mod order;
 mod ring;
-#[cfg(test)]
-mod tests;
 mod transfer;
 
 pub use area::Area;

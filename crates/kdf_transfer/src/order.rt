@@ -5,7 +5,7 @@ ghost use Rattle.kdf_transfer.specs.AtOnce.{kind_of, is_input, is_output, has_ar
 use kdf_journal::Kind;
 
 /// An order that begins a transfer. The two skips carry how many blocks they pass.
-#[derive(Clone, Copy, Debug, PartialEq, Eq)]
+#[derive(Clone, Copy, PartialEq, Eq)]
 pub enum TransferOrder {
     /// Reads paper tape.
     Prq,

@@ -5,7 +5,7 @@ ghost use Rattle.std.specs.List.{list_all};
 ghost use Rattle.kdf_usercode.specs.Grammar.{is_deck_byte};
 
 /// A byte of a deck with its offset.
-#[derive(Clone, Copy, Debug)]
+#[derive(Clone, Copy)]
 pub struct ByteAt {
     pub at: u32,
     pub byte: u8,

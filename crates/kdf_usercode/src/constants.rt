@@ -18,7 +18,7 @@ use kdf_fault::Found;
 use kdf_word::Word;
 
 /// A part of a constant for a Q-store, without its numbers.
-#[derive(Clone, Copy, Debug)]
+#[derive(Clone, Copy)]
 pub enum ItemForm {
     /// A number without a sign or with `+`.
     Up,
@@ -28,7 +28,7 @@ pub enum ItemForm {
 }
 
 /// A constant, without its numbers.
-#[derive(Clone, Copy, Debug)]
+#[derive(Clone, Copy)]
 pub enum ValueForm {
     /// A number without a sign or with `+`.
     Up,

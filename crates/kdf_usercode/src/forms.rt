@@ -25,7 +25,7 @@ use crate::stores::{
 use kdf_fault::Found;
 
 /// What a statement is, without its numbers.
-#[derive(Clone, Copy, Debug)]
+#[derive(Clone, Copy)]
 pub enum Form {
     Program,
     ProgramStores,

@@ -10,7 +10,7 @@ use crate::range::{PART, Q, REFERENCE, Range, q_at, short_at};
 use crate::statement::{Target, What};
 
 /// When a jump is taken. The counts are of a Q-store, whose number stands last.
-#[derive(Clone, Copy, Debug)]
+#[derive(Clone, Copy)]
 pub enum Test {
     Of { c: u8 },
     CountZero,
@@ -18,7 +18,7 @@ pub enum Test {
 }
 
 /// A target, without its numbers.
-#[derive(Clone, Copy, Debug)]
+#[derive(Clone, Copy)]
 pub enum TargetForm {
     Reference,
     Part,

@@ -30,8 +30,6 @@ mod reading;
 mod shape;
 mod statement;
 mod stores;
-#[cfg(test)]
-mod tests;
 mod unread;
 
 pub use fault::{DeckError, DeckFault};

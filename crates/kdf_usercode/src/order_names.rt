@@ -3,7 +3,7 @@
 use crate::fault::DeckFault;
 
 /// Such an order by its name. The numbers in the name aren't in it.
-#[derive(Clone, Copy, Debug)]
+#[derive(Clone, Copy)]
 pub enum OrderForm {
     Plain { code: u8 },
     Indirect { code: u8 },

@@ -7,7 +7,7 @@ use crate::forms::{Form, is_constant};
 use crate::stores::declared_group;
 
 /// How far a deck has come.
-#[derive(Clone, Copy, Debug)]
+#[derive(Clone, Copy)]
 pub enum Stage {
     /// Before `PROGRAM`.
     Heading,

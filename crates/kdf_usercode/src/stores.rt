@@ -10,7 +10,7 @@ use crate::range::{PART, Q, Range, STORE, q_at, short_at};
 use crate::statement::{Named, What};
 
 /// The name of a store, without its numbers.
-#[derive(Clone, Copy, Debug)]
+#[derive(Clone, Copy)]
 pub enum StoreName {
     Y { group: u8 },
     /// A V-store of this part.
@@ -20,14 +20,14 @@ pub enum StoreName {
 }
 
 /// Whether a store is fetched, or kept.
-#[derive(Clone, Copy, Debug)]
+#[derive(Clone, Copy)]
 pub enum Direction {
     Fetch,
     Keep,
 }
 
 /// What stands behind a store.
-#[derive(Clone, Copy, Debug)]
+#[derive(Clone, Copy)]
 pub enum Suffix {
     Nothing,
     M,

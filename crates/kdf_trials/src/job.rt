@@ -1,0 +1,434 @@
+//! Jobs that are read, jobs with a fault, and jobs that are made from numbers.
+ghost use Rattle.std.specs.Prelude.{◌+◌, ◌<◌, ◌^◌, length};
+
+use kdf_job::{JobError, TEXT_LIMIT, generated, read_job};
+use kdf_journal::Kind;
+use kdf_schedule::Event;
+use kdf_text::Lines;
+use kdf_transfer::Device;
+use std::alloc::{AllocError, Global};
+use std::process::Abort;
+use std::test::Fail;
+
+/// The lines of a slot before its devices.
+const SLOT: &str = "KDF9 JOB 1\nSLOT 0\nSTORE 64\nDECK\nENDDECK\n";
+
+/// The lines of a slot, and the begin of the schedule.
+const EVENTS: &str = "KDF9 JOB 1\nSLOT 0\nSTORE 64\nDECK\nENDDECK\nSCHEDULE\n";
+
+/// Three slots of the largest stores, and the number of a fourth.
+const STORES: &str = "KDF9 JOB 1\nSLOT 0\nSTORE 8192\nDECK\nENDDECK\n\
+    SLOT 1\nSTORE 8192\nDECK\nENDDECK\nSLOT 2\nSTORE 8192\nDECK\nENDDECK\nSLOT 3\n";
+
+/// The name of a fault, and the line that has it; None for a job that has none.
+type Fault = Option<(&'static str, u32)>;
+
+/// Texts in two pieces, and their faults.
+const TEXTS: &[(&str, &str, Fault)] = &[
+    ("", "", Some(("Header", 1))),
+    ("", "\n", Some(("Header", 1))),
+    ("", "KDF9 JOB 2\n", Some(("Header", 1))),
+    ("", "KDF9 JOB 1\r\n", Some(("Header", 1))),
+    ("", " KDF9 JOB 1\n", Some(("Header", 1))),
+    ("", "KDF9 JOB 1", Some(("BadLine", 2))),
+    ("", "KDF9 JOB 1\nSCHEDULE\n", Some(("BadLine", 2))),
+    ("", "KDF9 JOB 1\nSHOW 0 0\n", Some(("BadLine", 2))),
+    ("", "KDF9 JOB 1\nSLOT\n", Some(("BadLine", 2))),
+    ("", "KDF9 JOB 1\nSLOT 0 \n", Some(("BadLine", 2))),
+    ("", "KDF9 JOB 1\nSLOT \n", Some(("BadNumber", 2))),
+    ("", "KDF9 JOB 1\nSLOT 00\n", Some(("BadNumber", 2))),
+    ("", "KDF9 JOB 1\nSLOT 4\n", Some(("BadNumber", 2))),
+    ("", "KDF9 JOB 1\nSLOT 0\n", Some(("BadLine", 3))),
+    ("", "KDF9 JOB 1\nSLOT 0\nSLOT 1\n", Some(("BadLine", 3))),
+    ("", "KDF9 JOB 1\nSLOT 0\nSTORE 32 \n", Some(("BadLine", 3))),
+    (
+        "",
+        "KDF9 JOB 1\nSLOT 0\nSTORE 032\n",
+        Some(("BadNumber", 3)),
+    ),
+    ("", "KDF9 JOB 1\nSLOT 0\nSTORE 31\n", Some(("BadNumber", 3))),
+    (
+        "",
+        "KDF9 JOB 1\nSLOT 0\nSTORE 8193\n",
+        Some(("BadNumber", 3)),
+    ),
+    (
+        "",
+        "KDF9 JOB 1\nSLOT 0\nSTORE 33\n",
+        Some(("SizeNotGroups", 3)),
+    ),
+    (
+        "",
+        "KDF9 JOB 1\nSLOT 0\nSTORE 8191\n",
+        Some(("SizeNotGroups", 3)),
+    ),
+    ("", "KDF9 JOB 1\nSLOT 0\nSTORE 32\n", Some(("BadLine", 4))),
+    (
+        "",
+        "KDF9 JOB 1\nSLOT 0\nSTORE 32\nDECK \n",
+        Some(("BadLine", 4)),
+    ),
+    (
+        "",
+        "KDF9 JOB 1\nSLOT 0\nSTORE 32\nDECK",
+        Some(("BadLine", 5)),
+    ),
+    (
+        "",
+        "KDF9 JOB 1\nSLOT 0\nSTORE 32\nDECK\nA\nENDDECK \n",
+        Some(("BadLine", 7)),
+    ),
+    (
+        "",
+        "KDF9 JOB 1\nSLOT 0\nSTORE 32\nDECK\nENDDECK",
+        Some(("BadLine", 6)),
+    ),
+    (
+        "",
+        "KDF9 JOB 1\nSLOT 0\nSTORE 32\nDECK\nENDDECK\n\n",
+        Some(("BadLine", 6)),
+    ),
+    (
+        "",
+        "KDF9 JOB 1\nSLOT 0\nSTORE 32\nDECK\nENDDECK\nSTORE 32\n",
+        Some(("BadLine", 6)),
+    ),
+    (
+        "",
+        "KDF9 JOB 1\nSLOT 2\nSTORE 32\nDECK\nENDDECK\nSLOT 2\n",
+        Some(("SlotOrder", 6)),
+    ),
+    (
+        "",
+        "KDF9 JOB 1\nSLOT 2\nSTORE 32\nDECK\nENDDECK\nSLOT 1\n",
+        Some(("SlotOrder", 6)),
+    ),
+    (
+        "",
+        "KDF9 JOB 1\nSLOT 2\nSTORE 32\nDECK\nENDDECK\nSLOT 4\n",
+        Some(("BadNumber", 6)),
+    ),
+    (STORES, "STORE 7200\n", Some(("StoreFull", 15))),
+    (STORES, "STORE 7201\n", Some(("SizeNotGroups", 15))),
+    (SLOT, "DEVICE 3 XX\n", Some(("BadLine", 6))),
+    (SLOT, "DEVICE 3 MT\n", Some(("BadLine", 6))),
+    (SLOT, "DEVICE 3 TR A\n", Some(("BadLine", 6))),
+    (SLOT, "DEVICE 3 MT A B\n", Some(("BadLine", 6))),
+    (SLOT, "DEVICE 3\n", Some(("BadLine", 6))),
+    (SLOT, "DEVICE  TR\n", Some(("BadNumber", 6))),
+    (SLOT, "DEVICE 03 TR\n", Some(("BadNumber", 6))),
+    (SLOT, "DEVICE 16 TR\n", Some(("BadNumber", 6))),
+    (SLOT, "DEVICE 16 MT a\n", Some(("BadNumber", 6))),
+    (SLOT, "DEVICE 3 TR\nDEVICE 3 TP\n", Some(("DeviceTwice", 7))),
+    (
+        SLOT,
+        "DEVICE 3 TR\nDEVICE 3 MT a\n",
+        Some(("DeviceTwice", 7)),
+    ),
+    (
+        SLOT,
+        "DEVICE 3 MT A\nDEVICE 3 MT A\n",
+        Some(("DeviceTwice", 7)),
+    ),
+    (
+        SLOT,
+        "DEVICE 3 TR\nSLOT 1\nSTORE 32\nDECK\nENDDECK\nDEVICE 3 TP\n",
+        Some(("DeviceTwice", 11)),
+    ),
+    (SLOT, "DEVICE 3 MT a\n", Some(("BadLabel", 6))),
+    (SLOT, "DEVICE 3 MT \n", Some(("BadLabel", 6))),
+    (SLOT, "DEVICE 3 MT A-B\n", Some(("BadLabel", 6))),
+    (SLOT, "DEVICE 3 MT ABCDEFGHI\n", Some(("BadLabel", 6))),
+    (
+        SLOT,
+        "DEVICE 3 MT A\nDEVICE 4 MT A\n",
+        Some(("LabelTwice", 7)),
+    ),
+    (
+        SLOT,
+        "DEVICE 3 MT A\nDEVICE 4 MT AB\nDEVICE 5 MT A\n",
+        Some(("LabelTwice", 8)),
+    ),
+    (SLOT, "+A\n", Some(("BadLine", 6))),
+    (SLOT, "DEVICE 3 TR\nA\n", Some(("BadLine", 7))),
+    (SLOT, "DEVICE 3 TR\n\n", Some(("BadLine", 7))),
+    (SLOT, "DEVICE 3 TR\nSHOW 0 0\n+A\n", Some(("BadLine", 8))),
+    (SLOT, "SHOW 0 0\nDEVICE 3 TR\n", Some(("BadLine", 7))),
+    (SLOT, "DEVICE 3 TR\n+a\n", Some(("BadMedium", 7))),
+    (SLOT, "DEVICE 3 TR\n+A\r\n", Some(("BadMedium", 7))),
+    (SLOT, "DEVICE 3 TR\n=A\n", Some(("BadMedium", 7))),
+    (SLOT, "DEVICE 3 TP\n+\n", Some(("BadMedium", 7))),
+    (SLOT, "DEVICE 3 LP\n+A\n", Some(("BadMedium", 7))),
+    (SLOT, "DEVICE 3 CR\n=A\n", Some(("BadMedium", 7))),
+    (SLOT, "DEVICE 3 MT A\n+\n", Some(("BadMedium", 7))),
+    (SLOT, "DEVICE 3 MT A\n=\n", Some(("BadMedium", 7))),
+    (SLOT, "DEVICE 3 MT A\n+A\n+b\n", Some(("BadMedium", 8))),
+    (SLOT, "SHOW 1 0\n", Some(("ShowRange", 6))),
+    (SLOT, "SHOW 0 64\n", Some(("ShowRange", 6))),
+    (SLOT, "SHOW 0 8192\n", Some(("BadNumber", 6))),
+    (SLOT, "SHOW 3 \n", Some(("BadNumber", 6))),
+    (SLOT, "SHOW 3\n", Some(("BadLine", 6))),
+    (SLOT, "SHOW 3 3 \n", Some(("BadLine", 6))),
+    (SLOT, "SLOT 0\n", Some(("SlotOrder", 6))),
+    (SLOT, "SCHEDULE \n", Some(("BadLine", 6))),
+    (SLOT, "POOL\n", Some(("BadLine", 6))),
+    (SLOT, "ENDJOB\n", Some(("BadLine", 6))),
+    (EVENTS, "", Some(("BadLine", 7))),
+    (EVENTS, "\n", Some(("BadLine", 7))),
+    (EVENTS, "SHOW 0 0\n", Some(("BadLine", 7))),
+    (EVENTS, "orders 1\n", Some(("BadLine", 7))),
+    (EVENTS, "CLOCK\n", Some(("BadLine", 7))),
+    (EVENTS, "ENDJOB \n", Some(("BadLine", 7))),
+    (EVENTS, "ENDJOB\n\n", Some(("BadLine", 8))),
+    (EVENTS, "ENDJOB\nENDJOB\n", Some(("BadLine", 8))),
+    (EVENTS, "ORDERS 0\n", Some(("BadNumber", 7))),
+    (EVENTS, "ORDERS 010\n", Some(("BadNumber", 7))),
+    (EVENTS, "ORDERS 20000001\n", Some(("BadNumber", 7))),
+    (EVENTS, "MOVE 16 1\n", Some(("BadNumber", 7))),
+    (EVENTS, "END \n", Some(("BadNumber", 7))),
+    (EVENTS, "SWAP 0\n", Some(("BadLine", 7))),
+    (EVENTS, "SWAP 0 1 2\n", Some(("BadLine", 7))),
+    (EVENTS, "SWAP 0 4\n", Some(("BadNumber", 7))),
+    (EVENTS, "SWAP 4 0\n", Some(("BadNumber", 7))),
+    (
+        EVENTS,
+        "CLOCK 5\nORDERS 1\nCLOCK 4\n",
+        Some(("ClockFalls", 9)),
+    ),
+    (
+        EVENTS,
+        "ORDERS 20000000\nEND 1\nORDERS 1\n",
+        Some(("TooManyOrders", 9)),
+    ),
+    (
+        EVENTS,
+        "ORDERS 10000000\nORDERS 10000001\n",
+        Some(("TooManyOrders", 8)),
+    ),
+    (EVENTS, "ENDJOB", None),
+    (EVENTS, "ENDJOB\n", None),
+    (EVENTS, "CLOCK 5\nCLOCK 5\nENDJOB\n", None),
+    (EVENTS, "SWAP 0 3\nSWAP 2 2\nENDJOB\n", None),
+    (
+        EVENTS,
+        "ORDERS 19999999\nMOVE 15 4096\nORDERS 1\nENDJOB\n",
+        None,
+    ),
+];
+
+/// A text after `SLOT`: a begin, what stands so many times after it, and an end.
+type Pieces = (&'static str, &'static str, u32, &'static str);
+
+const LONG: &[(Pieces, Fault)] = &[
+    (("SCHEDULE\n", "END 0\n", 500_000, "ENDJOB\n"), None),
+    (
+        ("SCHEDULE\n", "END 0\n", 500_001, "ENDJOB\n"),
+        Some(("TooManyEvents", 500_007)),
+    ),
+    (
+        ("SCHEDULE\n", "END 0\n", 500_000, "END 16\n"),
+        Some(("BadNumber", 500_007)),
+    ),
+    (("DEVICE 3 CR\n+", "A", 80, "\nSCHEDULE\nENDJOB\n"), None),
+    (
+        ("DEVICE 3 CR\n+", "A", 81, "\nSCHEDULE\nENDJOB\n"),
+        Some(("BadMedium", 7)),
+    ),
+    (
+        ("DEVICE 3 MT A\n+", "A", 32_768, "\nSCHEDULE\nENDJOB\n"),
+        None,
+    ),
+    (
+        ("DEVICE 3 MT A\n+", "A", 32_769, "\nSCHEDULE\nENDJOB\n"),
+        Some(("BadMedium", 7)),
+    ),
+];
+
+/// The text of such pieces.
+fn long_text(alloc: Global, pieces: Pieces) -> Result<String, AllocError> {
+    let (begin, repeated, times, end) = pieces;
+    let mut job = format!(in alloc; "{SLOT}{begin}")?;
+    for _ in 0..times {
+        job.push_str(repeated)?;
+    }
+    job.push_str(end)?;
+    Ok(job)
+}
+
+/// Fails unless a job has this fault.
+fn check(rt: &impl Abort, alloc: Global, job: &str, fault: Fault) -> Result<(), AllocError> {
+    assert!(rt; job.len() <= TEXT_LIMIT);
+    let found = match read_job(alloc, job.as_bytes()) {
+        Ok(_) => None,
+        Err(JobError::Fault(found, line)) => Some((found.name(), line)),
+        Err(JobError::Memory) => return Err(AllocError),
+    };
+    assert_eq!(rt; found, fault, "of {job:?}");
+    Ok(())
+}
+
+#[test]
+fn texts_have_faults(rt: HostRuntime) -> Result<(), Fail> {
+    for (begin, end, fault) in TEXTS {
+        let job = format!(in rt.alloc(); "{begin}{end}")?;
+        check(&rt, rt.alloc(), job.as_str(), *fault)?;
+    }
+    for (pieces, fault) in LONG {
+        let job = long_text(rt.alloc(), *pieces)?;
+        check(&rt, rt.alloc(), job.as_str(), *fault)?;
+    }
+    Ok(())
+}
+
+/// A job with all kinds of devices and events.
+const JOB: &str = "KDF9 JOB 1\nSLOT 1\nSTORE 64\nDECK\nA;\n\n ENDDECK\nENDDECK\n\
+    DEVICE 0 TR\n+\n+AB\n+C 1\nDEVICE 5 CR\n+\n+AB\nDEVICE 6 TP\nDEVICE 15 LP\n\
+    DEVICE 7 MT TAPE7\n+A\n=12345678\nSHOW 0 63\nSHOW 5 5\n\
+    SLOT 3\nSTORE 8192\nDECK\nENDDECK\nDEVICE 8 MT TAPE7\nDEVICE 9 MT A\nDEVICE 1 TR\n\
+    SCHEDULE\nCLOCK 7\nORDERS 20\nMOVE 3 9\nEND 14\nSWAP 3 0\nENDJOB";
+
+/// Its devices in their order: slot, number, kind, and `words`.
+const DEVICES: &[(u8, u8, Kind, [u64; 3])] = &[
+    (1, 0, Kind::Tr, [0o4142_4300_2100_0000, 0, 0]),
+    (1, 5, Kind::Cr, [0, 0o4142_0000_0000_0000, 0]),
+    (1, 6, Kind::Tp, [0, 0, 0]),
+    (1, 15, Kind::Lp, [0, 0, 0]),
+    (
+        1,
+        7,
+        Kind::Mt,
+        [
+            0o6441_6045_2700_0000,
+            0o4100_0000_0000_0000,
+            0o2122_2324_2526_2730,
+        ],
+    ),
+    (3, 8, Kind::Mt, [0o6441_6045_2700_0000, 0, 0]),
+    (3, 9, Kind::Mt, [0o4100_0000_0000_0000, 0, 0]),
+    (3, 1, Kind::Tr, [0, 0, 0]),
+];
+
+/// The first two words of a reader, or of the first two cards; the label of a tape, and the first
+/// words of its two blocks, of which the second alone is marked. A word that there isn't is 0.
+fn words(device: &Device) -> [u64; 3] {
+    let words = match device {
+        Device::Tr(reader) => [reader.take_word(0, 0), reader.take_word(0, 1), None],
+        Device::Cr(cards) => [cards.take_word(0, 0), cards.take_word(1, 0), None],
+        Device::Mt(tape) => match tape.blocks() {
+            [a, b] if a.len() > 0 && b.len() > 0 && b.mark() && !a.mark() => {
+                [Some(tape.label()), Some(a.word(0)), Some(b.word(0))]
+            }
+            _ => [Some(tape.label()), None, None],
+        },
+        _ => [None; 3],
+    };
+    words.map(|word| word.map_or(0, |word| word.bits()))
+}
+
+#[test]
+fn a_job_is_read(rt: HostRuntime) -> Result<(), Fail> {
+    assert!(rt; JOB.len() <= TEXT_LIMIT);
+    let job = read_job(rt.alloc(), JOB.as_bytes())?;
+    let mut rows = DEVICES.iter();
+    for slot in &job.slots {
+        for (d, device) in &slot.devices {
+            let row = (slot.p, *d, device.kind(), words(device));
+            assert!(rt; rows.next() == Some(&row), "of device {d}");
+            assert!(rt; slot.device(*d).map(|device| device.kind()) == Some(row.2));
+        }
+        if slot.p == 1 {
+            assert!(rt; slot.size == 64 && slot.deck.as_slice() == b"A;\n\n ENDDECK\n".as_slice());
+            assert!(rt; slot.shows.as_slice() == [(0, 63), (5, 5)].as_slice());
+        }
+    }
+    assert!(rt; rows.next().is_none());
+    let events = [
+        Event::Clock(7),
+        Event::Orders(20),
+        Event::Move(3, 9),
+        Event::End(14),
+        Event::Swap(3, 0),
+    ];
+    assert!(rt; job.events.as_slice() == events.as_slice());
+    Ok(())
+}
+
+/// Lines of the texts that are made from numbers: a number, that of a line, and the line.
+const MADE: &[(u16, u32, &str)] = &[
+    (0, 1, "KDF9 JOB 1"),
+    (0, 2, "SLOT 0"),
+    (0, 3, "STORE 96"),
+    (0, 4, "DECK"),
+    (0, 5, "Y0; PROGRAM V0; V0=Q0/64/65;"),
+    (
+        0,
+        6,
+        "SET 2; SET 5; OUT; V0; =Q1; =C1; SET 1; SET 5; OUT; V0; =Q2; =C2;",
+    ),
+    (
+        0,
+        7,
+        "1; PRQ1; PARQ1; J2TR; E64; E65; NEV; Y0; NEV; =Y0; PWQ2; J1;",
+    ),
+    (0, 8, "2; ZERO; OUT; FINISH;"),
+    (0, 9, "ENDDECK"),
+    (0, 10, "DEVICE 0 TR"),
+    (0, 11, "+CIRPCFURSWAPFPNF"),
+    (0, 12, "+KQNAMPHPZMBIFXXF"),
+    (0, 210, "+KDGHIFANXLWHPLIH"),
+    (0, 211, "DEVICE 1 TP"),
+    (0, 212, "SHOW 12 12"),
+    (0, 213, "SLOT 1"),
+    (0, 221, "DEVICE 2 TR"),
+    (0, 843, "+FPIACISHQFYGEWXM"),
+    (0, 844, "DEVICE 7 TP"),
+    (0, 845, "SHOW 12 12"),
+    (0, 846, "SCHEDULE"),
+    (0, 847, "ORDERS 80"),
+    (0, 848, "END 0"),
+    (0, 855, "END 7"),
+    (0, 856, "ORDERS 80"),
+    (0, 4_528, "ORDERS 80"),
+    (0, 4_536, "END 7"),
+    (0, 4_537, "ENDJOB"),
+    (1, 11, "+WEATPFUXPDXMQMYE"),
+    (4_711, 11, "+KNZITCYGSAXEIUZR"),
+    (65_535, 11, "+DMJGPKVLWOCWZPCL"),
+    (65_535, 12, "+ARSSDSTSNWZSBRNY"),
+];
+
+/// A line of a text, counted from 1.
+fn line_at(text: &[u8], n: u32) -> &[u8]
+    requires { length text.now + 1 < 2 ^ 32 }
+{
+    let mut lines = Lines::new(text);
+    for _ in 1..n {
+        lines.take_line();
+    }
+    lines.take_line().text
+}
+
+#[test]
+fn jobs_are_made_from_numbers(rt: HostRuntime) -> Result<(), Fail> {
+    for row in MADE {
+        let (n, line, expected) = *row;
+        let text = generated(rt.alloc(), n)?;
+        assert!(rt;
+            line_at(&text, line) == expected.as_bytes(),
+            "of line {line} of {n}"
+        );
+        assert!(rt; text.last() == Some(&b'\n'));
+    }
+    for n in [0, 65_535] {
+        let job = read_job(rt.alloc(), &generated(rt.alloc(), n)?)?;
+        assert!(rt; job.slots.len() == 4, "of {n}");
+        for slot in &job.slots {
+            assert!(rt; slot.size == 96 && slot.devices.len() == 2, "of {n}");
+            assert!(rt; slot.shows.as_slice() == [(12, 12)].as_slice(), "of {n}");
+        }
+        assert!(rt; job.events.len() == 3_690, "of {n}");
+        assert!(rt; job.events.first() == Some(&Event::Orders(80)), "of {n}");
+        assert!(rt; job.events.last() == Some(&Event::End(7)), "of {n}");
+    }
+    Ok(())
+}

@@ -1,0 +1,101 @@
+//! Whole calls over memory: each answer, and what is written at it.
+ghost use Rattle.std.specs.Prelude.{◌≤◌};
+
+mod answers;
+mod commands;
+mod outside;
+
+use kdf_io::{MemorySink, MemorySource};
+use kdf_top::{Status, run};
+use std::alloc::{AllocError, Global};
+use std::process::Abort;
+
+/// Adds 5 and 7, and shows the sum.
+const JOB: &str = "KDF9 JOB 1\n\
+    SLOT 0\n\
+    STORE 32\n\
+    DECK\n\
+    Y0; PROGRAM; SET 5; SET 7; +; =Y0; ZERO; OUT; FINISH;\n\
+    ENDDECK\n\
+    SHOW 3 3\n\
+    SCHEDULE\n\
+    ORDERS 10\n\
+    ENDJOB\n";
+
+const REPORT: &str = "KDF9 REPORT 1\n\
+    RAN 0 7\n\
+    ENDED 0\n\
+    SLOT 0\n\
+    STATE ENDED\n\
+    ORDERS 7\n\
+    AT 3 0\n\
+    FLAGS 0 0\n\
+    NEST 0\n\
+    LINKS 0\n\
+    WORD 3 0000000000000014\n\
+    ENDREPORT\n";
+
+/// Commands that read a job.
+const READING: [&[&str]; 3] = [&["run"], &["alone", "0"], &["asm", "0"]];
+
+const USAGE: &str = "USAGE kdf9 run, alone K, asm K, make N\n";
+
+/// Words, and a source and a sink: how many bytes a read gives at most, which reads fail, for how
+/// many bytes there is room, how many a put takes at most, and which puts fail.
+#[derive(Clone, Copy)]
+struct Call<'a> {
+    words: &'a [&'a str],
+    job: &'a [u8],
+    most: usize,
+    fail: &'a [u32],
+    room: usize,
+    put_most: usize,
+    put_fail: &'a [u32],
+}
+
+/// A call over a source and a sink that don't fail.
+fn whole<'a>(words: &'a [&'a str], job: &'a [u8]) -> Call<'a> {
+    Call {
+        words,
+        job,
+        most: 1000,
+        fail: &[],
+        room: 4000,
+        put_most: 5,
+        put_fail: &[],
+    }
+}
+
+/// What a call answers, and what it writes. Of the commands `run` and `make` keep the machine where
+/// they are done.
+fn answer(rt: &impl Abort, alloc: Global, call: &Call) -> Result<(Status, Vec<u8>), AllocError> {
+    let mut words = Vec::new(alloc);
+    for word in call.words {
+        words.push(String::from_str(alloc, word)?)?;
+    }
+    assert!(rt; call.most >= 1 && call.put_most >= 1);
+    let bytes = Vec::from_slice(alloc, call.job)?;
+    let mut source = MemorySource::new(bytes, call.most, Vec::from_slice(alloc, call.fail)?);
+    let put_fail = Vec::from_slice(alloc, call.put_fail)?;
+    let mut sink = MemorySink::new(alloc, call.room, call.put_most, put_fail)?;
+    let outcome = run(alloc, &words, &mut source, &mut sink);
+    let status = outcome.status;
+    let keeps = matches!(call.words.first(), Some(&"run" | &"make"));
+    assert!(rt; outcome.machine.is_some() == (keeps && status == Status::Done));
+    outcome.close();
+    Ok((status, Vec::from_slice(alloc, sink.bytes())?))
+}
+
+/// Makes a call, which gives this answer and writes this.
+fn expect(
+    rt: &impl Abort,
+    alloc: Global,
+    call: &Call,
+    status: Status,
+    text: &[u8],
+) -> Result<(), AllocError> {
+    let (given, bytes) = answer(rt, alloc, call)?;
+    assert_eq!(rt; bytes.as_slice(), text, "{:?}", call.words);
+    assert!(rt; given == status, "{:?}", call.words);
+    Ok(())
+}

@@ -1,0 +1,88 @@
+//! A source and a sink that fail, at every call, and a job of too many bytes.
+use super::{JOB, READING, REPORT, USAGE, expect, whole};
+use kdf_top::Status;
+use std::alloc::{AllocError, Global};
+use std::process::Abort;
+use std::test::Fail;
+
+/// What `make 0` writes.
+const SUMMARY: &[u8] = b"KDF9 MAKE 0\n\
+    JOB 39175\n\
+    ENTRIES 9229\n\
+    SLOT 0 ENDED ORDERS 2218 BLOCKS 200 WORD 1315110432102430\n\
+    SLOT 1 ENDED ORDERS 2218 BLOCKS 200 WORD 0726262237251504\n\
+    SLOT 2 ENDED ORDERS 2218 BLOCKS 200 WORD 1303273006323414\n\
+    SLOT 3 ENDED ORDERS 2218 BLOCKS 200 WORD 3720220403211326\n\
+    ENDREPORT\n";
+
+/// Each read of a job by single bytes fails, and the one behind its last byte.
+fn reads_fail(rt: &impl Abort, alloc: Global) -> Result<(), AllocError> {
+    for words in READING {
+        for k in 1..=JOB.len() as u32 + 1 {
+            let fails = [k];
+            let mut call = whole(words, JOB.as_bytes());
+            call.most = 1;
+            call.fail = &fails;
+            expect(rt, alloc, &call, Status::ReadFault, b"")?;
+        }
+    }
+    Ok(())
+}
+
+/// There is room for fewer bytes of a report than it has, and each put of single bytes fails.
+fn puts_fail(rt: &impl Abort, alloc: Global) -> Result<(), AllocError> {
+    let report = REPORT.as_bytes();
+    for room in 0..report.len() {
+        let mut call = whole(&["run"], JOB.as_bytes());
+        call.room = room;
+        call.put_most = 7;
+        expect(rt, alloc, &call, Status::WriteFault, &report[..room])?;
+        let fails = [room as u32 + 1];
+        let mut call = whole(&["run"], JOB.as_bytes());
+        call.put_most = 1;
+        call.put_fail = &fails;
+        expect(rt, alloc, &call, Status::WriteFault, &report[..room])?;
+    }
+    Ok(())
+}
+
+/// Words that are no command, and a command that makes its job, ask nothing of a source that fails
+/// at once; what they write may fail too.
+fn nothing_is_read(rt: &impl Abort, alloc: Global) -> Result<(), AllocError> {
+    for (words, status, text) in [
+        (["ran"].as_slice(), Status::Usage, USAGE.as_bytes()),
+        (&["make", "0"], Status::Done, SUMMARY),
+    ] {
+        let mut call = whole(words, JOB.as_bytes());
+        call.most = 1;
+        call.fail = &[1];
+        expect(rt, alloc, &call, status, text)?;
+        for room in [0, 7, 11] {
+            call.room = room;
+            expect(rt, alloc, &call, Status::WriteFault, &text[..room])?;
+        }
+    }
+    Ok(())
+}
+
+/// A job has at most 4,194,304 bytes.
+fn a_job_has_a_limit(rt: &impl Abort, alloc: Global) -> Result<(), AllocError> {
+    let bytes = vec![in alloc; b'\n'; 4_194_305]?;
+    let mut call = whole(&["run"], &bytes);
+    call.most = 5000;
+    expect(rt, alloc, &call, Status::Large, b"LARGE 4194304\n")?;
+    call.job = &bytes[1..];
+    let (status, text) = super::answer(rt, alloc, &call)?;
+    assert!(rt; status.code() == 2 && text.as_slice() == b"JOB Header 1\n".as_slice());
+    Ok(())
+}
+
+#[test]
+fn source_and_sink_may_fail_at_every_call(rt: HostRuntime) -> Result<(), Fail> {
+    let alloc = rt.alloc();
+    reads_fail(&rt, alloc)?;
+    puts_fail(&rt, alloc)?;
+    nothing_is_read(&rt, alloc)?;
+    a_job_has_a_limit(&rt, alloc)?;
+    Ok(())
+}
