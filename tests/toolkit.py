@@ -41,9 +41,10 @@ def document(name):
 
 
 def examples():
-    """The examples: the name of each and its job."""
-    for path in sorted((ROOT / "examples").glob("*.job")):
-        yield path.stem, path.read_text(encoding="latin-1")
+    """The examples, and the cases whose jobs stand written: the name of each and its job."""
+    for folder in ("examples", "tests/cases"):
+        for path in sorted((ROOT / folder).glob("*.job")):
+            yield path.stem, path.read_text(encoding="latin-1")
     for path in sorted((ROOT / "examples").glob("*.make")):
         yield path.stem, subprocess.run([path], capture_output=True, check=True).stdout.decode("latin-1")
 
