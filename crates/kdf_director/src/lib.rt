@@ -27,8 +27,8 @@ mod turn;
 pub mod worked;
 
 pub use machine::{EVENT_LIMIT, Machine, Progress};
-pub use note::Note;
-pub use place::Place;
-pub use program::Program;
+use note::Note;
+use place::Place;
+use program::Program;
 pub use schedule::{follow, follow_on};
-pub use slot::Loaded;
+use slot::Loaded;
