@@ -1,6 +1,7 @@
 //! Programs run alone, with answers: all orders at once, and order by order.
 use kdf_alone::Alone;
 use kdf_job::read_job;
+use kdf_nest::Nest;
 use kdf_place::assemble;
 use kdf_processor::Life;
 use kdf_usercode::read_deck;
@@ -111,20 +112,29 @@ fn load(rt: &impl Abort, alloc: Global, case: &Case) -> Result<Alone, AllocError
 
 fn seen(program: &Alone) -> Seen {
     let registers = program.registers();
-    let depth = registers.nest.depth();
-    let mut words = [0; 3];
-    for i in 0..depth.min(3) {
-        words[i] = registers.nest.peek(i).bits();
-    }
-    let place = program.device(1).map_or(0, |device| device.place());
+    let nest = &registers.nest;
+    let words = [word_in(nest, 0), word_in(nest, 1), word_in(nest, 2)];
+    let place = match program.device(1) {
+        Some(device) => device.place(),
+        None => 0,
+    };
     (
         registers.ran,
         registers.at,
         registers.flags.tr,
-        (depth, words),
+        (nest.depth(), words),
         program.spooled().len(),
         place,
     )
+}
+
+/// The word at a place of a nest, or 0 where it isn't so deep.
+fn word_in(nest: &Nest, i: usize) -> u64 {
+    if i < nest.depth() {
+        nest.peek(i).bits()
+    } else {
+        0
+    }
 }
 
 /// Obeys orders one by one, each by a second call where memory is refused to the first, which then

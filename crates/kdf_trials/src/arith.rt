@@ -161,20 +161,14 @@ fn orders(rt: HostRuntime) {
         assert!(rt; code <= 0x1c);
         assert!(rt; code != 0x13);
         let order = ArithOrder::Plain { code };
-        assert!(rt;
-            leaves(&rt, order, before, *depth, after, *v),
-            "{code} of {before:?}"
-        );
+        assert!(rt; leaves(&rt, order, before, *depth, after, *v), "{code}");
     }
     for (code, n, before, after, v) in SHIFTS {
         let (code, n) = (*code, *n);
         assert!(rt; code >= 0x6a);
         assert!(rt; code <= 0x6e);
         let order = ArithOrder::Shift { code, n };
-        assert!(rt;
-            leaves(&rt, order, before, 4, after, *v),
-            "{code} by {n} of {before:?}"
-        );
+        assert!(rt; leaves(&rt, order, before, 4, after, *v), "{code} by {n}");
     }
 }
 
