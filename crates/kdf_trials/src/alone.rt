@@ -1,60 +1,105 @@
-//! Programs run alone: whole jobs with one program, and what is seen of them.
-mod answers;
-mod cards_and_lines;
-mod orders;
-mod paper;
-mod programs;
-mod section;
-mod tapes;
-
-use self::section::section;
+//! Programs run alone, with answers: all orders at once, and order by order.
 use kdf_alone::Alone;
-use kdf_job::{Job, read_job};
+use kdf_job::read_job;
+use kdf_nest::Nest;
 use kdf_place::assemble;
-use kdf_processor::{Life, Step};
+use kdf_processor::Life;
 use kdf_usercode::read_deck;
 use std::alloc::{AllocError, Global};
 use std::process::Abort;
-use std::string::String;
 use std::test::Fail;
 
-/// A program that is run alone, and what is seen of it then.
-#[derive(Drop)]
-struct Case {
-    name: &'static str,
-    /// The size of its store, and its deck.
-    size: u16,
-    deck: &'static str,
-    /// The lines of the job after the deck: devices with their media, and what is shown.
-    lines: &'static str,
-    /// How many orders it may obey.
-    orders: u32,
-    /// The section of the report.
-    due: &'static str,
-}
+/// What is seen of a program: its orders, its next syllable, whether its test register is set, how
+/// deep its nest is and the first three words of that, how many texts it spooled, and the place of
+/// device 1.
+type Seen = (u32, u16, bool, (usize, [u64; 3]), usize, u32);
 
-/// A job with one slot.
-fn job_text(alloc: Global, case: &Case) -> Result<String, AllocError> {
-    let (size, deck, lines) = (case.size, case.deck, case.lines);
-    format!(in alloc;
-        "KDF9 JOB 1\nSLOT 0\nSTORE {size}\nDECK\n{deck}\nENDDECK\n{lines}SCHEDULE\nENDJOB\n"
-    )
-}
+/// The deck of a program, the line of its device, what it is answered, how many orders it may obey,
+/// and what is seen then.
+type Case = (&'static str, &'static str, &'static [u64], u32, Seen);
 
-/// A job that is read, which has no fault.
-fn job_of(rt: &impl Abort, alloc: Global, text: &str) -> Result<Job, AllocError> {
-    assert!(rt; text.len() < 100_000);
-    match read_job(alloc, text.as_bytes()) {
-        Ok(job) => Ok(job),
-        Err(_) => Err(AllocError),
-    }
-}
+/// Asks three times for the time.
+const TIMES: &str = "PROGRAM; SET 9; OUT; SET 9; OUT; SET 9; OUT; ZERO; OUT; FINISH;";
 
-/// A program as it is loaded from the first slot of a job, whose deck has no fault.
-fn load(rt: &impl Abort, alloc: Global, job: &Job) -> Result<Alone, AllocError> {
+/// Asks whether an area is locked out, for the time, and for the area again.
+const AREAS: &str = "PROGRAM V0; V0=Q0/0/5; V0; =Q1; TLOQ1; SET 9; OUT; TLOQ1; ZERO; OUT; FINISH;";
+
+/// Want memory in each round of a loop.
+const PUNCHES: &str = "PROGRAM V1; V0=Q0/32/33; V1=PAB|CD; SET 1; SET 5; OUT; V0; =Q1; =C1; \
+    V1; =E32; 1; PWQ1; PWEQ1; J1; FINISH;";
+
+const PRINTS: &str = "PROGRAM V1; V0=Q0/32/33; V1=PAB|CD; SET 3; SET 5; OUT; V0; =Q1; =C1; \
+    V1; =E32; 1; LPQ1; LPEQ1; J1; FINISH;";
+
+const WRITES: &str = "PROGRAM V1; V0=Q0/32/33; V1=PT; V1; SET 4; OUT; V0; =Q1; =C1; \
+    V1; =E32; 1; MWQ1; MLWQ1; J1; FINISH;";
+
+const SPOOLS: &str = "PROGRAM V1; V0=Q6/32/32; V1=PAB|CD; V1; =E32; 1; V0; SET 8; OUT; J1; FINISH;";
+
+const CASES: &[Case] = &[
+    // Answers by their place, and 0 past the end.
+    (
+        TIMES,
+        "",
+        &[5, 62],
+        100,
+        (9, 20, false, (3, [0, 62, 5]), 0, 0),
+    ),
+    // A time has 48 bits.
+    (
+        TIMES,
+        "",
+        &[u64::MAX, 1 << 48, 8],
+        100,
+        (9, 20, false, (3, [8, 0, 0xffff_ffff_ffff]), 0, 0),
+    ),
+    // Any answer but 0 sets TR, a time leaves it, and an answer of 0 clears it.
+    (AREAS, "", &[7, 50], 4, (4, 19, true, (0, [0, 0, 0]), 0, 0)),
+    (AREAS, "", &[7, 50], 6, (6, 23, true, (1, [50, 0, 0]), 0, 0)),
+    (
+        AREAS,
+        "",
+        &[7, 50],
+        100,
+        (9, 27, false, (1, [50, 0, 0]), 0, 0),
+    ),
+    (
+        PUNCHES,
+        "DEVICE 1 TP\n",
+        &[],
+        18,
+        (18, 38, false, (0, [0, 0, 0]), 0, 6),
+    ),
+    (
+        PRINTS,
+        "DEVICE 1 LP\n",
+        &[],
+        18,
+        (18, 38, false, (0, [0, 0, 0]), 0, 6),
+    ),
+    (
+        WRITES,
+        "DEVICE 1 MT T\n",
+        &[],
+        18,
+        (18, 38, false, (0, [0, 0, 0]), 0, 6),
+    ),
+    (SPOOLS, "", &[], 23, (23, 24, false, (0, [0, 0, 0]), 5, 0)),
+];
+
+/// A program as it is loaded from the slot of a job, whose deck has no fault.
+fn load(rt: &impl Abort, alloc: Global, case: &Case) -> Result<Alone, AllocError> {
+    let (deck, device) = (case.0, case.1);
+    let text = format!(in alloc;
+        "KDF9 JOB 1\nSLOT 0\nSTORE 64\nDECK\n{deck}\nENDDECK\n{device}SCHEDULE\nENDJOB\n"
+    )?;
+    assert!(rt; text.len() < 1000);
+    let Ok(job) = read_job(alloc, text.as_bytes()) else {
+        return Err(AllocError);
+    };
     assert!(rt; !job.slots.is_empty());
     let slot = &job.slots[0];
-    assert!(rt; slot.deck.len() < 100_000 && slot.size <= 8192);
+    assert!(rt; slot.deck.len() < 1000 && slot.size <= 8192);
     let Ok(deck) = read_deck(alloc, &slot.deck) else {
         return Err(AllocError);
     };
@@ -65,127 +110,71 @@ fn load(rt: &impl Abort, alloc: Global, job: &Job) -> Result<Alone, AllocError> 
     Alone::load(alloc, slot, &image)
 }
 
-/// Tables of programs, each of which is answered nothing.
-const TABLES: [&[Case]; 11] = [
-    &paper::READERS,
-    &paper::PUNCHES,
-    &paper::GIVEN_BACK,
-    &cards_and_lines::CARDS,
-    &cards_and_lines::PRINTERS,
-    &tapes::READ,
-    &tapes::WRITTEN,
-    &orders::ORDERS,
-    &programs::PROGRAMS,
-    &programs::OUTS,
-    &programs::GROWING,
-];
-
-/// The section of a program after its orders, obeyed all in one call.
-fn run(rt: &impl Abort, alloc: Global, case: &Case, answers: &[u64]) -> Result<String, AllocError> {
-    let text = job_text(alloc, case)?;
-    let job = job_of(rt, alloc, text.as_str())?;
-    let mut program = load(rt, alloc, &job)?;
-    assert!(rt; program.registers().ran == 0 && case.orders < 1_000_000);
-    program.orders(answers, case.orders)?;
-    assert!(rt; !job.slots.is_empty());
-    section(rt, alloc, &program, &job.slots[0].shows)
-}
-
-/// The same, obeyed one by one.
-fn run_by_orders(
-    rt: &impl Abort,
-    alloc: Global,
-    case: &Case,
-    answers: &[u64],
-) -> Result<String, AllocError> {
-    let text = job_text(alloc, case)?;
-    let job = job_of(rt, alloc, text.as_str())?;
-    let mut program = load(rt, alloc, &job)?;
-    for _ in 0..case.orders {
-        if program.registers().state == Life::Live {
-            obey(rt, &mut program, answers)?;
-        }
-    }
-    assert!(rt; !job.slots.is_empty());
-    section(rt, alloc, &program, &job.slots[0].shows)
-}
-
-/// What is seen of a program at a glance: its orders, its next syllable, its nest, what it spooled,
-/// and how far its devices are.
-fn glance(program: &Alone) -> (u32, u16, usize, usize, [u32; 16]) {
-    let mut places = [0; 16];
-    for d in 0..16u8 {
-        if let Some(device) = program.device(d) {
-            places[usize::from(d)] = device.place();
-        }
-    }
+fn seen(program: &Alone) -> Seen {
     let registers = program.registers();
+    let nest = &registers.nest;
+    let words = [word_in(nest, 0), word_in(nest, 1), word_in(nest, 2)];
+    let place = match program.device(1) {
+        Some(device) => device.place(),
+        None => 0,
+    };
     (
         registers.ran,
         registers.at,
-        registers.nest.depth(),
+        registers.flags.tr,
+        (nest.depth(), words),
         program.spooled().len(),
-        places,
+        place,
     )
 }
 
-/// Obeys the next order, by a second call where memory is refused to the first, which then changes
-/// nothing.
-fn obey(rt: &impl Abort, program: &mut Alone, answers: &[u64]) -> Result<(), AllocError> {
-    let before = glance(program);
-    assert!(rt; program.registers().state == Life::Live && program.registers().ran < 1_000_000);
-    if let Ok(step) = program.order(answers) {
-        assert!(rt; step == step_to(program.registers().state));
-        return Ok(());
+/// The word at a place of a nest, or 0 where it isn't so deep.
+fn word_in(nest: &Nest, i: usize) -> u64 {
+    if i < nest.depth() {
+        nest.peek(i).bits()
+    } else {
+        0
     }
-    assert!(rt; glance(program) == before);
-    assert!(rt; program.registers().state == Life::Live && program.registers().ran < 1_000_000);
-    program.order(answers)?;
-    Ok(())
 }
 
-/// How an order went, by the state that it left.
-fn step_to(state: Life) -> Step {
-    match state {
-        Life::Live => Step::Done,
-        Life::Ended => Step::Ends,
-        Life::Failed(failure) => Step::Fails(failure),
+/// Obeys orders one by one, each by a second call where memory is refused to the first, which then
+/// changes nothing.
+fn obey(rt: &impl Abort, program: &mut Alone, answers: &[u64], n: u32) -> Result<(), AllocError> {
+    for _ in 0..n {
+        if program.registers().state != Life::Live {
+            return Ok(());
+        }
+        assert!(rt; program.registers().ran < 1000);
+        let before = seen(program);
+        if program.order(answers).is_err() {
+            assert!(rt; seen(program) == before);
+            assert!(rt; program.registers().state == Life::Live && program.registers().ran < 1000);
+            program.order(answers)?;
+        }
     }
+    Ok(())
 }
 
 /// Runs a program in both ways, and compares.
-fn check(rt: &impl Abort, alloc: Global, case: &Case, answers: &[u64]) -> Result<(), AllocError> {
-    let name = case.name;
-    let seen = run(rt, alloc, case, answers)?;
-    assert_eq!(rt; seen.as_str(), case.due, "{name}");
-    let seen = run_by_orders(rt, alloc, case, answers)?;
-    assert_eq!(rt; seen.as_str(), case.due, "{name}");
+fn check(rt: &impl Abort, alloc: Global, case: &Case) -> Result<(), AllocError> {
+    let (deck, _, answers, n, due) = *case;
+    let mut program = load(rt, alloc, case)?;
+    assert!(rt; program.registers().ran == 0);
+    program.orders(answers, n)?;
+    assert!(rt; seen(&program) == due, "{deck}");
+    let mut program = load(rt, alloc, case)?;
+    obey(rt, &mut program, answers, n)?;
+    assert!(rt; seen(&program) == due, "{deck}, one by one");
     Ok(())
 }
 
-/// Checks a program, a second time where memory is refused to the first.
-fn check_again(
-    rt: &impl Abort,
-    alloc: Global,
-    case: &Case,
-    answers: &[u64],
-) -> Result<(), AllocError> {
-    match check(rt, alloc, case, answers) {
-        Ok(()) => Ok(()),
-        Err(_) => check(rt, alloc, case, answers),
-    }
-}
-
-/// So each passes also where memory is refused once.
+/// It passes also where memory is refused once.
 #[test]
-fn programs_come_out_as_due(rt: HostRuntime) -> Result<(), Fail> {
-    for table in TABLES {
-        for case in table {
-            check_again(&rt, rt.alloc(), case, &[])?;
+fn programs_come_to_the_same_in_both_ways(rt: HostRuntime) -> Result<(), Fail> {
+    for case in CASES {
+        if check(&rt, rt.alloc(), case).is_err() {
+            check(&rt, rt.alloc(), case)?;
         }
-    }
-    for (case, answers) in &answers::ANSWERED {
-        check_again(&rt, rt.alloc(), case, answers)?;
     }
     Ok(())
 }

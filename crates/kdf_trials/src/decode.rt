@@ -181,7 +181,7 @@ const LONG: &[([u8; 3], Result<Order, BadCode>)] = &[
 fn orders(rt: HostRuntime) {
     for rows in [SHORT, SHIFTS, LONG] {
         for (bytes, order) in rows {
-            assert!(rt; decode(bytes) == *order, "{bytes:?}");
+            assert!(rt; decode(bytes) == *order);
         }
     }
 }

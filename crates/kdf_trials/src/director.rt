@@ -1,5 +1,5 @@
-//! A machine call by call, and one that is cut anywhere: what happens, and what is seen then.
-ghost use Rattle.std.specs.Prelude.{◌≡◌, ◌≤◌, [], ◌∷◌, IfOk, length, map};
+//! A machine call by call: what each call answers, and what the journal tells then.
+ghost use Rattle.std.specs.Prelude.{◌≤◌, [], ◌∷◌, IfOk, length, map};
 ghost use Rattle.kdf_director.specs.Loading.{HaveImages, slots_of};
 ghost use Rattle.kdf_job.specs.Shows.{shown_job, shown_slot};
 ghost use Rattle.kdf_job.specs.WellFormed.{IsJob};
@@ -10,13 +10,13 @@ use kdf_job::{Job, SlotJob, read_job};
 use kdf_journal::CALL_LIMIT;
 use kdf_place::{Image, assemble};
 use kdf_processor::Need;
-use kdf_report::{journal_text, sections};
+use kdf_report::journal_text;
 use kdf_usercode::read_deck;
 use std::alloc::{AllocError, Global};
 use std::process::Abort;
 use std::test::Fail;
 
-/// A program that reads two words of a tape and fetches both, and three events.
+/// A program that reads two words of a tape and fetches both, and an event.
 const READS_TAPE: &str = "KDF9 JOB 1\n\
     SLOT 0\n\
     STORE 64\n\
@@ -28,20 +28,7 @@ const READS_TAPE: &str = "KDF9 JOB 1\n\
     +ABCDEFGHIJKLMNOP\n\
     SCHEDULE\n\
     END 3\n\
-    END 3\n\
-    END 3\n\
     ENDJOB\n";
-
-/// What is seen of the program at its end.
-const READ: &str = "SLOT 0\n\
-    STATE ENDED\n\
-    ORDERS 12\n\
-    AT 6 0\n\
-    FLAGS 0 0\n\
-    NEST 2 5152535455565760 4142434445464750\n\
-    LINKS 0\n\
-    Q 1 3 32 33\n\
-    DEVICE 3 TR HELD PLACE 16 FLAG 0\n";
 
 /// What each call answers before the transfer ends, and after.
 const BEFORE: [Progress; 12] = [
@@ -111,17 +98,6 @@ fn expect(rt: &impl Abort, machine: &mut Machine, due: &[Progress]) -> Result<()
     Ok(())
 }
 
-/// So many calls.
-fn obey(rt: &impl Abort, machine: &mut Machine, n: u32) -> Result<(), AllocError>
-    ensures { machine.new.slots ≡ machine.old.slots }
-{
-    for _i in 0..n {
-        assert!(rt; machine.journal().calls() < CALL_LIMIT);
-        machine.order()?;
-    }
-    Ok(())
-}
-
 /// Each call of the whole run has its answer, and the journal tells what happened.
 fn answers_each_call(
     rt: &impl Abort,
@@ -137,44 +113,7 @@ fn answers_each_call(
     Ok(())
 }
 
-/// The run is cut after `n` calls, at which `words` words move and the transfer ends.
-fn cut_at(rt: &impl Abort, machine: &mut Machine, n: u32, words: u16) -> Result<(), AllocError>
-    ensures { machine.new.slots ≡ machine.old.slots }
-{
-    obey(rt, machine, n)?;
-    assert!(rt; 0 < words && words <= 4096 && machine.room() > 0);
-    machine.move_words(3, words);
-    assert!(rt; machine.room() > 0);
-    machine.end(3);
-    obey(rt, machine, 20)?;
-    assert!(rt; machine.room() > 0);
-    machine.end(3);
-    obey(rt, machine, 20)
-}
-
-/// What is seen of the programs of a machine that was cut so.
-fn seen_after(
-    rt: &impl Abort,
-    alloc: Global,
-    job: &Job,
-    images: &[Image],
-    n: u32,
-    words: u16,
-) -> Result<Vec<u8>, AllocError>
-    requires job { IsJob (shown_job job.now) }
-    requires images { HaveImages (map shown_slot job.now.slots.items)
-        (map (λ (x : Made). x.words.items) images.now) }
-{
-    let mut machine = Machine::load(alloc, job, images)?;
-    let cut = cut_at(rt, &mut machine, n, words);
-    let _journal = machine.journal();
-    let text = sections(alloc, job, &machine);
-    machine.close();
-    cut?;
-    text
-}
-
-/// The machine of a job goes call by call, and comes to the same at each cut.
+/// The machine of a job goes call by call.
 fn check(rt: &impl Abort, alloc: Global, job: &Job, images: &[Image]) -> Result<(), AllocError>
     requires job { IsJob (shown_job job.now) }
     requires images { HaveImages (map shown_slot job.now.slots.items)
@@ -183,18 +122,11 @@ fn check(rt: &impl Abort, alloc: Global, job: &Job, images: &[Image]) -> Result<
     let mut machine = Machine::load(alloc, job, images)?;
     let answered = answers_each_call(rt, alloc, &mut machine);
     machine.close();
-    answered?;
-    for n in 1..14u32 {
-        for words in 1..4u16 {
-            let seen = seen_after(rt, alloc, job, images, n, words)?;
-            assert_eq!(rt; seen.as_slice(), READ.as_bytes(), "at {n}, {words} words");
-        }
-    }
-    Ok(())
+    answered
 }
 
 #[test]
-fn answers_each_call_and_is_the_same_at_each_cut(rt: HostRuntime) -> Result<(), Fail> {
+fn each_call_has_its_answer(rt: HostRuntime) -> Result<(), Fail> {
     let alloc = rt.alloc();
     let job = job_of(&rt, alloc, READS_TAPE)?;
     if let [slot] = job.slots.as_slice() {

@@ -5,8 +5,6 @@
 #[cfg(test)]
 mod alone;
 #[cfg(test)]
-mod arith;
-#[cfg(test)]
 mod code;
 #[cfg(test)]
 mod decode;

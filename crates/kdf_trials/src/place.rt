@@ -1,6 +1,6 @@
 //! Decks with what becomes of their names.
 
-use kdf_place::{Image, Label, assemble, listing, listing_absent};
+use kdf_place::{Image, Label, assemble};
 use kdf_usercode::{DeckError, read_deck};
 use std::alloc::Global;
 use std::test::Fail;
@@ -193,50 +193,5 @@ fn images(rt: HostRuntime) -> Result<(), Fail> {
         assert!(rt; image.start == *start, "of {deck:?}");
         assert!(rt; has_labels(&image, labels), "of {deck:?}");
     }
-    Ok(())
-}
-
-/// Decks for a store of 32 words, each with the slot and what its listing says after the first
-/// line.
-const LISTINGS: &[(&str, u8, &str)] = &[
-    (
-        "PROGRAM; FINISH;",
-        3,
-        "START 1 0\nWORD 0 5000000100200401\n",
-    ),
-    (
-        "PROGRAM; SET 3; =C1; *; 1; DC1; *; J1C1NZS; ZERO; OUT; FINISH;",
-        0,
-        "START 1 0\nWORD 0 5000000100200401\nWORD 1 7000000325210001\n\
-            WORD 2 3001000100200401\nWORD 3 3361001110200401\nREF 0 1 2 0\n",
-    ),
-    (
-        "PROGRAM; 1; J1; P1; 1; J1; FINISH;",
-        1,
-        "START 1 0\nWORD 0 5000000100200401\nWORD 1 5000000100200401\n\
-            WORD 2 5000000200200401\nREF 0 1 1 0\nREF 1 1 2 0\n",
-    ),
-    (
-        "Y1; YB0; PROGRAM V1; V0=-1; V1=PA;\nV0; =YB0; JS2P3; 7; ZERO; OUT; *; 9;\n\
-            P3 V0; V0=Q1/AV1P0/AY1; 2; SETAV0; =V1P0M3Q; EXIT 2; 4; FINISH;",
-        0,
-        "START 3 0\nWORD 0 5000000300200401\nWORD 1 7777777777777777\n\
-            WORD 2 4100000000000000\nWORD 3 6000000164000012\nWORD 4 5020000602220401\n\
-            WORD 5 0000040000400011\nWORD 6 7000000566300002\nWORD 7 5440000200200401\n\
-            WORD 8 0000000000000000\nWORD 9 0000000000000000\nWORD 10 0000000000000000\n\
-            REF 0 7 4 3\nREF 0 9 5 0\nREF 3 2 6 0\nREF 3 4 7 3\n",
-    ),
-];
-
-#[test]
-fn listings(rt: HostRuntime) -> Result<(), Fail> {
-    for (deck, slot, lines) in LISTINGS {
-        let image = placed(rt.alloc(), deck, 32)?;
-        let bytes = listing(rt.alloc(), &image, *slot)?;
-        let text = format!(in rt.alloc(); "KDF9 LISTING {slot}\n{lines}ENDREPORT\n")?;
-        assert!(rt; bytes.as_slice() == text.as_bytes(), "of {deck:?}");
-    }
-    let absent = listing_absent(rt.alloc(), 2)?;
-    assert!(rt; absent.as_slice() == b"KDF9 LISTING 2\nENDREPORT\n".as_slice());
     Ok(())
 }

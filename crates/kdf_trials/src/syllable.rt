@@ -5,10 +5,7 @@ ghost use Rattle.kdf_syllable.specs.Spelling.{IsAmount, IsOrder};
 mod tables;
 
 use kdf_syllable::{Amount, Order, encode, pack, size, size_of_first, syllable};
-use tables::{
-    CONSTANTS, COPIES, COUNTED_SHIFTS, DEVICES, EXITS, FIXED_SHIFTS, INDIRECT, JUMPS, ONE_SYLLABLE,
-    QUERIES, SINGLE, STORES,
-};
+use tables::{COPIES, DEVICES, INDIRECT, JUMPS, ONE_SYLLABLE, SHIFTS, SINGLE, STORES};
 
 /// Whether each field of the order is in its range.
 fn in_range(order: Order) -> bool
@@ -44,14 +41,10 @@ fn names_and_bytes(rt: HostRuntime) {
         INDIRECT,
         SINGLE,
         COPIES,
-        FIXED_SHIFTS,
-        COUNTED_SHIFTS,
+        SHIFTS,
         DEVICES,
-        QUERIES,
         JUMPS,
-        EXITS,
         STORES,
-        CONSTANTS,
     ] {
         for (name, order, bytes) in rows {
             assert!(rt; in_range(*order), "{name}");

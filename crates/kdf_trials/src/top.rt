@@ -1,7 +1,6 @@
 //! Whole calls over memory: each answer, and what is written at it.
 ghost use Rattle.std.specs.Prelude.{◌≤◌};
 
-mod answers;
 mod commands;
 mod outside;
 

@@ -156,8 +156,8 @@ pub const COPIES: &[(&str, Order, &[u8])] = &[
     ("Q0TOQ15", order!(Copies 0x69, 0, 15), &[0x69, 0x0f]),
 ];
 
-/// Shifts by a number.
-pub const FIXED_SHIFTS: &[(&str, Order, &[u8])] = &[
+/// Shifts by a number, and by a counter.
+pub const SHIFTS: &[(&str, Order, &[u8])] = &[
     ("SHA-64", order!(Fixed 0x6a, -64), &[0x6a, 0x81]),
     ("SHA63", order!(Fixed 0x6a, 63), &[0x6a, 0x7f]),
     ("SHA-1", order!(Fixed 0x6a, -1), &[0x6a, 0xff]),
@@ -179,10 +179,6 @@ pub const FIXED_SHIFTS: &[(&str, Order, &[u8])] = &[
     ("SHLD-64", order!(Fixed 0x6e, -64), &[0x6e, 0x81]),
     ("SHLD63", order!(Fixed 0x6e, 63), &[0x6e, 0x7f]),
     ("SHLD-1", order!(Fixed 0x6e, -1), &[0x6e, 0xff]),
-];
-
-/// Shifts by a counter.
-pub const COUNTED_SHIFTS: &[(&str, Order, &[u8])] = &[
     ("SHAC0", order!(Counted 0x6a, 0), &[0x6a, 0x00]),
     ("SHLC5", order!(Counted 0x6b, 5), &[0x6b, 0x50]),
     ("SHCC15", order!(Counted 0x6c, 15), &[0x6c, 0xf0]),
@@ -190,7 +186,7 @@ pub const COUNTED_SHIFTS: &[(&str, Order, &[u8])] = &[
     ("SHLDC10", order!(Counted 0x6e, 10), &[0x6e, 0xa0]),
 ];
 
-/// Transfers, skips and the rewinding.
+/// Transfers, skips and the rewinding, and tests of devices.
 pub const DEVICES: &[(&str, Order, &[u8])] = &[
     ("PRQ0", order!(Device 0x70, 0), &[0x70, 0x00]),
     ("PREQ1", order!(Device 0x71, 1), &[0x71, 0x10]),
@@ -206,10 +202,6 @@ pub const DEVICES: &[(&str, Order, &[u8])] = &[
     ("MRWDQ1", order!(Device 0x7b, 1), &[0x7b, 0x10]),
     ("MFSKQ9", order!(Device 0x7c, 9), &[0x7c, 0x90]),
     ("MBSKQ15", order!(Device 0x7d, 15), &[0x7d, 0xf0]),
-];
-
-/// Tests of devices.
-pub const QUERIES: &[(&str, Order, &[u8])] = &[
     ("BUSYQ0", order!(Query 0, 0), &[0x7e, 0x00]),
     ("TLOQ4", order!(Query 1, 4), &[0x7e, 0x41]),
     ("PARQ15", order!(Query 2, 15), &[0x7e, 0xf2]),
@@ -218,7 +210,7 @@ pub const QUERIES: &[(&str, Order, &[u8])] = &[
     ("INTQ12", order!(Query 5, 12), &[0x7e, 0xc5]),
 ];
 
-/// Jumps, by their conditions and targets.
+/// Jumps, by their conditions and targets, and returns, by their number of half words.
 pub const JUMPS: &[(&str, Order, &[u8])] = &[
     (
         "JrC0Z",
@@ -442,16 +434,12 @@ pub const JUMPS: &[(&str, Order, &[u8])] = &[
         order!(Jump 0x31, 8192 * 1 + 2),
         &[0xb1, 0x20, 0x02],
     ),
-];
-
-/// Returns, by their number of half words.
-pub const EXITS: &[(&str, Order, &[u8])] = &[
     ("EXIT0", order!(Exit 0), &[0xb2, 0x00, 0x00]),
     ("EXIT3", order!(Exit 3), &[0xb2, 0x00, 0x03]),
     ("EXIT255", order!(Exit 255), &[0xb2, 0x00, 0xff]),
 ];
 
-/// Fetches and stores at an address.
+/// Fetches and stores at an address, and constants.
 pub const STORES: &[(&str, Order, &[u8])] = &[
     ("E0", order!(Direct false, false, 0, 0), &[0xc0, 0x00, 0x00]),
     ("E5", order!(Direct false, false, 0, 5), &[0xc0, 0x00, 0x05]),
@@ -496,10 +484,6 @@ pub const STORES: &[(&str, Order, &[u8])] = &[
         order!(Direct true, true, 15, 32767),
         &[0xdf, 0xff, 0xff],
     ),
-];
-
-/// Constants.
-pub const CONSTANTS: &[(&str, Order, &[u8])] = &[
     ("SET0", order!(Set 0), &[0xe0, 0x00, 0x00]),
     ("SET1", order!(Set 1), &[0xe0, 0x00, 0x01]),
     ("SET32767", order!(Set 32767), &[0xe0, 0x7f, 0xff]),

@@ -1,6 +1,8 @@
 //! A source and a sink that fail, at every call, and a job of too many bytes.
 use super::{JOB, READING, REPORT, USAGE, expect, whole};
+use kdf_job::JobFault;
 use kdf_top::Status;
+use kdf_usercode::DeckFault;
 use std::alloc::{AllocError, Global};
 use std::process::Abort;
 use std::test::Fail;
@@ -14,6 +16,31 @@ const SUMMARY: &[u8] = b"KDF9 MAKE 0\n\
     SLOT 2 ENDED ORDERS 2218 BLOCKS 200 WORD 1303273006323414\n\
     SLOT 3 ENDED ORDERS 2218 BLOCKS 200 WORD 3720220403211326\n\
     ENDREPORT\n";
+
+/// The numbers with which the program ends.
+const CODES: [(Status, u8); 8] = [
+    (Status::Done, 0),
+    (Status::Usage, 1),
+    (
+        Status::Job {
+            fault: JobFault::BadLine,
+            line: 5,
+        },
+        2,
+    ),
+    (
+        Status::Deck {
+            slot: 0,
+            fault: DeckFault::BadByte,
+            place: 5,
+        },
+        3,
+    ),
+    (Status::Large, 4),
+    (Status::ReadFault, 5),
+    (Status::WriteFault, 6),
+    (Status::Memory, 7),
+];
 
 /// Each read of a job by single bytes fails, and the one behind its last byte.
 fn reads_fail(rt: &impl Abort, alloc: Global) -> Result<(), AllocError> {
@@ -84,5 +111,8 @@ fn source_and_sink_may_fail_at_every_call(rt: HostRuntime) -> Result<(), Fail> {
     puts_fail(&rt, alloc)?;
     nothing_is_read(&rt, alloc)?;
     a_job_has_a_limit(&rt, alloc)?;
+    for (status, code) in CODES {
+        assert!(rt; status.code() == code);
+    }
     Ok(())
 }
