@@ -6,16 +6,16 @@ use Rattle.std.proofs.Math.Seq.{map-set_same}
 use Rattle.std.proofs.lemmas.List.{map-set}
 use Rattle.kdf_journal.specs.declared.kind.Kind.{Kind}
 use Rattle.kdf_transfer.specs.AtOnce.{device_after, order_words, stored}
-use Rattle.kdf_transfer.specs.Devices.{fixture_of, progress_of}
+use Rattle.kdf_transfer.specs.Devices.{fixture_of, progress_of, is_kind, new_progress, kind_in}
 use Rattle.kdf_transfer.specs.declared.device.Device.{Device}
 use Rattle.kdf_transfer.specs.declared.order.TransferOrder.{TransferOrder}
 use Rattle.kdf_processor.specs.declared.spooled.Spooled.{Spooled}
-use Rattle.kdf_journal.specs.declared.kind.Kind.TheVariants.{Tr, Tp, Cr, Lp, Mt}
-use Rattle.kdf_processor.specs.Claims.{claim, is_kind, kind_at}
+use Rattle.kdf_transfer.proofs.OfKind.{exact}
+use Rattle.kdf_processor.specs.Claims.{claim, kind_at}
 use Rattle.kdf_processor.specs.Effect.{Starts}
 use Rattle.kdf_processor.specs.Row.{at_once, transferred, moved_by}
-use Rattle.kdf_processor.specs.State.{Claims, Stock, device_in, fixture_at, new_progress}
-use Rattle.kdf_alone.specs.Places.{fixture_in, kind_in, progress_in, IsMoved}
+use Rattle.kdf_processor.specs.State.{Claims, Stock, device_in, fixture_at}
+use Rattle.kdf_alone.specs.Places.{fixture_in, progress_in, IsMoved}
 
 -- what a program with these devices is checked against
 abbrev pub claims : ℕ → List Bool → List (Option Device) → Claims
@@ -62,46 +62,13 @@ stock_moved size claimed ds texts asked words d order first last device place af
     λ i. record { claims = record { size = size; claimed = claimed; fixtures = kept i; pool = [] }; spooled = texts; asked = asked; stints = []; store = wrote i; devices = gone i } in
     done ∙ ap (λ f. transferred d order first last f k) (sym fixture)
 
--- a device of a kind
-kind_exact : (kind : Kind) (o : Option Kind) → is_kind kind o ≡ true → o ≡ Some kind
-kind_exact Tr None e = absurd cc
-kind_exact Tr (Some Tr) e = refl
-kind_exact Tr (Some Tp) e = absurd cc
-kind_exact Tr (Some Cr) e = absurd cc
-kind_exact Tr (Some Lp) e = absurd cc
-kind_exact Tr (Some Mt) e = absurd cc
-kind_exact Tp None e = absurd cc
-kind_exact Tp (Some Tr) e = absurd cc
-kind_exact Tp (Some Tp) e = refl
-kind_exact Tp (Some Cr) e = absurd cc
-kind_exact Tp (Some Lp) e = absurd cc
-kind_exact Tp (Some Mt) e = absurd cc
-kind_exact Cr None e = absurd cc
-kind_exact Cr (Some Tr) e = absurd cc
-kind_exact Cr (Some Tp) e = absurd cc
-kind_exact Cr (Some Cr) e = refl
-kind_exact Cr (Some Lp) e = absurd cc
-kind_exact Cr (Some Mt) e = absurd cc
-kind_exact Lp None e = absurd cc
-kind_exact Lp (Some Tr) e = absurd cc
-kind_exact Lp (Some Tp) e = absurd cc
-kind_exact Lp (Some Cr) e = absurd cc
-kind_exact Lp (Some Lp) e = refl
-kind_exact Lp (Some Mt) e = absurd cc
-kind_exact Mt None e = absurd cc
-kind_exact Mt (Some Tr) e = absurd cc
-kind_exact Mt (Some Tp) e = absurd cc
-kind_exact Mt (Some Cr) e = absurd cc
-kind_exact Mt (Some Lp) e = absurd cc
-kind_exact Mt (Some Mt) e = refl
-
 present : (place : Option Device) (kind : Kind) → kind_in (fixture_in place) ≡ Some kind → (device : Device) × (place ≡ Some device)
 present None kind e = absurd cc
 present (Some device) kind e = (device, refl)
 
 claim_kind : (size : ℕ) (claimed : List Bool) (ds : List (Option Device)) (d : ℕ) (b : Bool) (kind : Kind) → is_kind kind (cond b (kind_at (claims size claimed ds) d) None) ≡ true → kind_at (claims size claimed ds) d ≡ Some kind
-claim_kind size claimed ds d true kind e = kind_exact kind (kind_at (claims size claimed ds) d) e
-claim_kind size claimed ds d false kind e = let h : None ≡ Some kind = kind_exact kind None e in absurd cc
+claim_kind size claimed ds d true kind e = exact kind (kind_at (claims size claimed ds) d) e
+claim_kind size claimed ds d false kind e = let h : None ≡ Some kind = exact kind None e in absurd cc
 
 -- where a device of a kind is claimed, there is one
 pub claimed_device : (size : ℕ) (claimed : List Bool) (ds : List (Option Device)) (d : ℕ) (kind : Kind) → is_kind kind (claim (claims size claimed ds) d) ≡ true → (device : Device) × (get_or ds d None ≡ Some device)

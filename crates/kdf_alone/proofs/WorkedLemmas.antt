@@ -9,7 +9,7 @@ use Rattle.kdf_syllable.specs.Spelling.{spelling}
 use Rattle.kdf_arith.specs.Arith.{arith}
 use Rattle.kdf_arith.specs.Rows.{plain_row as arith_row}
 use Rattle.kdf_processor.specs.declared.registers.Life.TheVariants.{Ended}
-use Rattle.kdf_processor.specs.Claims.{free_kind, free_label}
+use Rattle.kdf_processor.specs.Claims.{free_for}
 use Rattle.kdf_processor.specs.Lone.{lone}
 use Rattle.kdf_processor.specs.State.{begin, unclaimed}
 use Rattle.kdf_processor.specs.Table.{plain_row, out_effect, brought, from_top, changed, single_row, decision, direct_effect, transfer_of, query_effect, guarded}
@@ -43,13 +43,13 @@ writing_image = refl
 -- programs
 
 pub reading_ends : seen 3 32 33 (reads 11) ≡ record { life = Ended; ran = 11; at = 33; tr = false; nest = 0o4142434445464750 ∷ []; words = 0o4142434445464750 ∷ 0o5152535455565760 ∷ []; claimed = true; device = record { place = 16; flag = false; mark = false; blocks = []; recorded = [] } }
-unfolding after_read first_word words_of given offered finished decoded arith arith_row free_kind unclaimed plain_row out_effect brought from_top changed single_row decision direct_effect transfer_of guarded
+unfolding after_read first_word words_of given offered finished decoded arith arith_row free_for unclaimed plain_row out_effect brought from_top changed single_row decision direct_effect transfer_of guarded
 reading_ends = ap (λ (image : List ℕ). seen 3 32 33 (lone (begin (with_reader image)) [] 11)) reading_image
 
 pub printing_ends : seen 5 32 33 (prints 12) ≡ record { life = Ended; ran = 12; at = 42; tr = false; nest = []; words = 0 ∷ 0o0241754200000000 ∷ []; claimed = true; device = record { place = 1; flag = false; mark = false; blocks = (replicate 8 0 ++ 2 ∷ 33 ∷ 61 ∷ []) ∷ []; recorded = [] } }
-unfolding printed first_word words_of given offered finished decoded arith arith_row free_kind unclaimed plain_row out_effect brought from_top changed single_row decision direct_effect transfer_of guarded
+unfolding printed first_word words_of given offered finished decoded arith arith_row free_for unclaimed plain_row out_effect brought from_top changed single_row decision direct_effect transfer_of guarded
 printing_ends = ap (λ (image : List ℕ). seen 5 32 33 (lone (begin (with_printer image)) [] 12)) printing_image
 
 pub writing_ends : seen 6 32 33 (writes 12) ≡ record { life = Ended; ran = 12; at = 40; tr = true; nest = []; words = 0o4141414141414141 ∷ 0o4242424242424242 ∷ []; claimed = true; device = record { place = 2; flag = false; mark = true; blocks = []; recorded = record { words = 0o4141414141414141 ∷ 0o4242424242424242 ∷ 0o4343434343434343 ∷ []; mark = false } ∷ record { words = 0o4141414141414141 ∷ 0o4242424242424242 ∷ []; mark = true } ∷ [] } }
-unfolding after_skip after_write first_word words_of given offered finished decoded arith arith_row free_label unclaimed plain_row out_effect brought from_top changed single_row decision direct_effect transfer_of query_effect guarded
+unfolding after_skip after_write first_word words_of given offered finished decoded arith arith_row free_for unclaimed plain_row out_effect brought from_top changed single_row decision direct_effect transfer_of query_effect guarded
 writing_ends = ap (λ (image : List ℕ). seen 6 32 33 (lone (begin (with_tape image)) [] 12)) writing_image

@@ -1,20 +1,16 @@
 -- What a bench shows, and what an acting call does to it.
-use Rattle.std.specs.Prelude.{◌≡◌, ℕ, ◌+◌, ◌-◌, ◌*◌, ◌^◌, ◌<◌, ◌≤◌, ◌&&◌, not, true, [], map, find, Option, None, slice_index_or, vec_len}
-use Rattle.std.specs.List.{range_with_len}
+use Rattle.std.specs.Prelude.{◌≡◌, ℕ, ◌+◌, ◌-◌, ◌*◌, ◌^◌, ◌<◌, ◌≤◌, true, [], map, None, slice_index_or, vec_len}
 use Rattle.std.specs.Vec.{vec_capacity}
 use Rattle.kdf_transfer.specs.AtOnce.{is_output}
 use Rattle.kdf_transfer.specs.declared.order.TransferOrder.{TransferOrder}
-use Rattle.kdf_processor.specs.declared.look.Ahead.{Ahead}
-use Rattle.kdf_processor.specs.declared.look.Ahead.TheVariants as ahead
-use Rattle.kdf_processor.specs.Effect.{Act, Starts, Asks, Spools}
+use Rattle.kdf_processor.specs.Effect.{Act}
+use Rattle.kdf_processor.specs.Room.{RoomFor}
 use Rattle.kdf_processor.specs.Row.{at_once}
-use Rattle.kdf_processor.specs.Claims.{is_claimed}
-use Rattle.kdf_processor.specs.State.{Claims, State, Stock, device_limit, own_fixture_at}
+use Rattle.kdf_processor.specs.State.{Claims, State, Stock}
 use Rattle.kdf_processor.specs.declared.registers.Registers.{Registers}
 use Rattle.kdf_processor.specs.View.{View, by_itself}
 use Rattle.kdf_alone.specs.declared.bench.Bench.{Bench}
-use Rattle.kdf_alone.specs.declared.places.Wanted.{Wanted}
-use Rattle.kdf_alone.specs.Places.{fixture_in, is_wanted, progress_in, IsReady}
+use Rattle.kdf_alone.specs.Places.{fixture_in, progress_in, IsReady}
 
 -- what its program is checked against: the size of its store, and its devices by number
 abbrev pub claims_of : Bench → Claims
@@ -32,11 +28,6 @@ stock_of b =
       store = b.words.items;
       devices = map progress_in b.devices.items;
     }
-
--- the least device that a claim wants and that isn't claimed
-unfoldable pub first_free : Wanted → Claims → Option ℕ
-first_free wanted c =
-    find (λ d. is_wanted wanted (own_fixture_at c d) && not (is_claimed c d)) (range_with_len 0 device_limit)
 
 -- nothing is locked out or busy, and whatever is asked has the one answer
 abbrev pub shown : Bench → View
@@ -61,19 +52,13 @@ pub record CanSpool (b : Bench) (first last : ℕ) : Type 0 where
   pub text : vec_len b.spooled < vec_capacity b.spooled
   pub block : 8 * (last + 1 - first) ≤ vec_capacity b.block
 
+-- an order may ask: its answer can be counted
+abbrev pub CanAsk : Bench → Type 0
+CanAsk b = b.asked < 2 ^ 32 - 1
+
 -- for what an acting call keeps
 abbrev pub HasRoom : Bench → Act → Type 0
-HasRoom b (Asks question answer) = b.asked < 2 ^ 32 - 1
-HasRoom b (Starts d order first last) = CanStart b d order first last
-HasRoom b (Spools stream first last) = CanSpool b first last
-HasRoom b act = Unit {0}
-
--- there is memory for what is ahead
-abbrev pub HasRoomAhead : Bench → Ahead → Type 0
-HasRoomAhead b (ahead.Starts d order first last) = CanStart b d order first last
-HasRoomAhead b (ahead.Spools stream first last) = CanSpool b first last
-HasRoomAhead b ahead.Takes = Unit {0}
-HasRoomAhead b ahead.Else = Unit {0}
+HasRoom b act = RoomFor (CanStart b) (CanSpool b) (CanAsk b) act
 
 -- a program with these registers
 abbrev pub state_with : Registers → Bench → State

@@ -3,12 +3,13 @@ use Rattle.std.specs.Prelude.{ℕ, ◌+◌, ◌-◌, Bool, true, false, List, []
 use Rattle.std.specs.List.{range_with_len}
 use Rattle.kdf_journal.specs.declared.kind.Kind.TheVariants.{Tr, Lp, Mt}
 use Rattle.kdf_tape.specs.Tape.{Recorded}
-use Rattle.kdf_transfer.specs.Devices.{Fixture, Progress}
+use Rattle.kdf_transfer.specs.Devices.{Fixture, Progress, new_progress}
 use Rattle.kdf_place.specs.Assembled.{image_words}
 use Rattle.kdf_processor.specs.declared.registers.Life.{Life}
 use Rattle.kdf_processor.specs.Claims.{is_claimed}
 use Rattle.kdf_processor.specs.Lone.{lone}
-use Rattle.kdf_processor.specs.State.{Slot, State, begin, device_at, device_limit, new_progress}
+use Rattle.kdf_transfer.specs.Slots.{Slot}
+use Rattle.kdf_processor.specs.State.{State, begin, device_at, device_limit}
 
 -- the decks
 abbrev pub reading : List ℕ

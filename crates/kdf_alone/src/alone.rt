@@ -1,11 +1,12 @@
 //! A program that runs by itself.
 ghost use Rattle.std.specs.Prelude.{◌≡◌, ◌+◌, ◌<◌, ◌≤◌, length, slice_index, true, IfOk, OnOk, OnErr};
 ghost use Rattle.std.specs.Option.{option_copied};
+ghost use Rattle.kdf_job.specs.Shows.{shown_slot};
+ghost use Rattle.kdf_job.specs.Slots.{slot_of};
 ghost use Rattle.kdf_processor.specs.Claims.{is_claimed};
 ghost use Rattle.kdf_processor.specs.Lone.{is_live, lone};
 ghost use Rattle.kdf_processor.specs.Row.{next_of, row};
 ghost use Rattle.kdf_processor.specs.State.{begin, word_at};
-ghost use Rattle.kdf_alone.specs.Loading.{slot_of};
 ghost use Rattle.kdf_alone.specs.Program.{given_by, IsDeviceAt};
 
 use crate::bench::Bench;
@@ -43,7 +44,7 @@ impl Alone {
     /// devices of the slot, none of them claimed.
     pub fn load(alloc: Global, slot: &SlotJob, image: &Image) -> Result<Alone, AllocError>
         requires { length image.now.words.items ≤ slot.now.size }
-        ensures { IfOk result (λ a. a ≡ begin (slot_of slot.now image.now.words.items)) }
+        ensures { IfOk result (λ a. a ≡ begin (slot_of (shown_slot slot.now) image.now.words.items)) }
     {
         let words = store(alloc, slot.size, &image.words)?;
         let devices = places(alloc, slot)?;

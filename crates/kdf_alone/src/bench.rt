@@ -1,11 +1,11 @@
 //! The port of a program by itself.
 ghost use Rattle.std.specs.Prelude.{◌≡◌, [], length};
 
-use crate::places::{Wanted, is_wanted, kind_in, make_ready, test_in, transfer};
-use crate::text::{characters_in, characters_out, text_of};
+use crate::places::{is_wanted, kind_in, make_ready, test_in, transfer};
+use crate::text::{characters_out, text_of};
 use kdf_journal::Kind;
-use kdf_processor::{Ahead, Port, Spooled, Test};
-use kdf_transfer::{Area, Device, TransferOrder};
+use kdf_processor::{Port, Reserve, Spooled, Test, Wanted, least};
+use kdf_transfer::{Area, Device, TransferOrder, characters_in};
 use kdf_word::Word;
 use std::alloc::{AllocError, Global};
 
@@ -31,14 +31,13 @@ pub struct Bench {
 }
 
 impl Bench {
-    ghost use Rattle.std.specs.Prelude.{◌&&◌, ◌+◌, ◌-◌, ◌<◌, map, true, not, slice_index, slice_index_or, Option, None, Some, IfSome, IfNone, OnOk};
+    ghost use Rattle.std.specs.Prelude.{◌+◌, ◌-◌, ◌<◌, map, slice_index, slice_index_or, None, IfSome, IfNone};
     ghost use Rattle.std.specs.Option.{option_copied};
-    ghost use Rattle.kdf_processor.specs.Claims.{claim, is_claimed};
+    ghost use Rattle.kdf_processor.specs.Claims.{free_for, is_free};
     ghost use Rattle.kdf_processor.specs.Effect.{Acquires};
-    ghost use Rattle.kdf_processor.specs.State.{own_fixture_at, unclaimed};
-    ghost use Rattle.kdf_alone.specs.Bench.{claims_of, first_free, stock_of, Acts, CanSpool, CanStart};
-    ghost use Rattle.kdf_alone.specs.Bench.{HasRoomAhead, Stays};
-    ghost use Rattle.kdf_alone.specs.Places.{fixture_in, is_wanted, progress_in};
+    ghost use Rattle.kdf_processor.specs.State.{unclaimed};
+    ghost use Rattle.kdf_alone.specs.Bench.{claims_of, stock_of, Acts};
+    ghost use Rattle.kdf_alone.specs.Places.{fixture_in, progress_in};
 
     /// A store and devices, none of them claimed.
     #[tactic(auto, unfolding(kdf_processor::specs::State::unclaimed))]
@@ -107,52 +106,6 @@ impl Bench {
         self.answer = answer;
     }
 
-    /// Takes the memory that an act wants. Without it nothing else has changed either.
-    pub fn take(&mut self, ahead: Ahead) -> Result<(), AllocError>
-        ensures stays { Stays self.old self.new }
-        ensures room { OnOk result (HasRoomAhead self.new ahead) }
-    {
-        match ahead {
-            Ahead::Starts {
-                device,
-                order,
-                first,
-                last,
-            } => self.take_for_transfer(device, order, first, last),
-            Ahead::Spools { first, last, .. } => self.take_for_text(first, last),
-            Ahead::Takes | Ahead::Else => Ok(()),
-        }
-    }
-
-    /// Takes the memory that a transfer wants.
-    fn take_for_transfer(
-        &mut self,
-        device: u8,
-        order: TransferOrder,
-        first: u16,
-        last: u16,
-    ) -> Result<(), AllocError>
-        ensures stays { Stays self.old self.new }
-        ensures room { OnOk result (CanStart self.new device order first last) }
-    {
-        self.block.reserve(characters_out(order, first, last))?;
-        let place = usize::from(device);
-        if place >= self.devices.len() {
-            return Ok(());
-        }
-        let held = &mut self.devices[place];
-        make_ready(held, order)
-    }
-
-    /// Takes the memory that a text wants.
-    fn take_for_text(&mut self, first: u16, last: u16) -> Result<(), AllocError>
-        ensures stays { Stays self.old self.new }
-        ensures room { OnOk result (CanSpool self.new first last) }
-    {
-        self.spooled.reserve(1)?;
-        self.block.reserve(characters_in(first, last))
-    }
-
     /// Takes the answer.
     fn take_answer(&mut self) -> u64
         requires { self.old.asked < u32.MAX }
@@ -165,22 +118,16 @@ impl Bench {
 
     /// The least device that is wanted and isn't claimed.
     fn first_free(&self, wanted: &Wanted) -> Option<u8>
-        ensures least { result ≡ first_free wanted.now (claims_of self.now) }
+        ensures least { result ≡ free_for wanted.now (claims_of self.now) }
         ensures number { IfSome result (λ d. d < 16) }
     {
-        for d in 0..16u8 {
-            if self.is_free(d, wanted) {
-                return Some(d);
-            }
-        }
-        None
+        least(|d| self.is_free(d, wanted))
     }
 
     /// Whether a device is wanted and isn't claimed.
     fn is_free(&self, d: u8, wanted: &Wanted) -> bool
         requires { d < 16 }
-        ensures { result ≡
-            (is_wanted wanted.now (own_fixture_at (claims_of self.now) d) && not (is_claimed (claims_of self.now) d)) }
+        ensures { result ≡ is_free wanted.now (claims_of self.now) d }
     {
         let place = usize::from(d);
         is_wanted(&self.devices[place], wanted) && !self.claimed[place]
@@ -188,7 +135,7 @@ impl Bench {
 
     /// Claims the least device that is wanted and isn't claimed.
     fn claim(&mut self, wanted: &Wanted) -> Option<u8>
-        ensures least { result ≡ first_free wanted.now (claims_of self.old) }
+        ensures least { result ≡ free_for wanted.now (claims_of self.old) }
         ensures claimed { IfSome result (λ d. Acts self.old (Acquires d) self.new) }
         ensures none { IfNone result (self.new ≡ self.old) }
     {
@@ -268,12 +215,10 @@ impl Port for Bench {
         self.take_answer()
     }
 
-    #[tactic(auto, using(crate::proofs::Claiming::label_free))]
     fn claim_label(&mut self, label: Word) -> Option<u8> {
         self.claim(&Wanted::Labelled(label))
     }
 
-    #[tactic(auto, using(crate::proofs::Claiming::kind_free))]
     fn claim_kind(&mut self, kind: Kind) -> Option<u8> {
         self.claim(&Wanted::Kinded(kind))
     }
@@ -304,4 +249,39 @@ impl Port for Bench {
     }
 
     ghost stays = { λ _. refl };
+}
+
+impl Reserve for Bench {
+    ghost use Rattle.std.specs.Prelude.{refl};
+    ghost use Rattle.kdf_processor.proofs.Rooms.{little_room};
+    ghost use Rattle.kdf_alone.specs.Bench.{CanAsk, CanSpool, CanStart, Stays};
+
+    ghost keeps = { Stays };
+
+    ghost itself = { λ _. record { stock = refl; answer = refl } };
+
+    ghost ready = { CanAsk };
+
+    ghost little = { λ b act can little. little_room (CanStart b) (CanSpool b) (CanAsk b) act can little };
+
+    fn reserve_transfer(
+        &mut self,
+        device: u8,
+        order: TransferOrder,
+        first: u16,
+        last: u16,
+    ) -> Result<(), AllocError> {
+        self.block.reserve(characters_out(order, first, last))?;
+        let place = usize::from(device);
+        if place >= self.devices.len() {
+            return Ok(());
+        }
+        let held = &mut self.devices[place];
+        make_ready(held, order)
+    }
+
+    fn reserve_text(&mut self, first: u16, last: u16) -> Result<(), AllocError> {
+        self.spooled.reserve(1)?;
+        self.block.reserve(characters_in(first, last))
+    }
 }

@@ -4,7 +4,6 @@
 mod alone;
 mod bench;
 mod loading;
-mod memory;
 mod obeying;
 mod places;
 mod text;

@@ -4,8 +4,7 @@ ghost use Rattle.kdf_processor.specs.Row.{next_of, row};
 ghost use Rattle.kdf_alone.specs.Bench.{state_with};
 
 use crate::bench::Bench;
-use crate::memory::make_room;
-use kdf_processor::{Life, Registers, Step, fetch_order, obey_fetched};
+use kdf_processor::{Life, Registers, Step, obey_with_room};
 use std::alloc::AllocError;
 
 /// Obeys the next order of a live program. It is inlined in the loop over the orders, so what it answers goes through no memory.
@@ -27,7 +26,6 @@ pub fn obey_next(
         ≡ state_with registers.old bench.old) }
 {
     bench.prepare(answer);
-    let fetched = fetch_order(bench, registers.at);
-    make_room(registers, bench, fetched)?;
-    Ok(obey_fetched(registers, bench, fetched))
+    let step = obey_with_room(registers, bench)?;
+    Ok(step)
 }

@@ -6,15 +6,15 @@ use Rattle.std.proofs.lemmas.List.{get_or-set_same, get_or-set_other}
 use Rattle.kdf_lockout.specs.Groups.{Cells, group_at, is_out, with_word, without_groups, lent_groups, words_in}
 use Rattle.kdf_lockout.proofs.Ranges.{none_in_range}
 use Rattle.kdf_transfer.specs.declared.order.TransferOrder.{TransferOrder}
-use Rattle.kdf_transfer.specs.Devices.{Fixture, Progress}
+use Rattle.kdf_transfer.specs.Devices.{Fixture, Progress, new_progress}
 use Rattle.kdf_transfer.specs.AtOnce.{has_area}
 use Rattle.kdf_director.specs.Seen.{begun}
 use Rattle.kdf_director.specs.Physical.{own_words, has_group, with_lease}
-use Rattle.kdf_director.specs.ByNumber.{device_count, by_number}
+use Rattle.kdf_transfer.specs.ByNumber.{device_count, by_number}
 use Rattle.kdf_processor.specs.declared.spooled.Spooled.{Spooled}
 use Rattle.kdf_director.specs.Physical as physical
 use Rattle.kdf_director.proofs.PhysicalLemmas as words
-use Rattle.kdf_processor.specs.State.{Stock, Claims, new_progress}
+use Rattle.kdf_processor.specs.State.{Stock, Claims}
 use Rattle.kdf_processor.specs.Effect.{Writes, Starts}
 use Rattle.kdf_director.specs.Spots.{Spot, no_spot, spot_at, lease_held, leases_of, fixture_or}
 use Rattle.kdf_director.specs.Parts.{Shared, Part, has_device, own_fixture, own_progress, own_stock, own_claims}

@@ -13,7 +13,8 @@ use Rattle.kdf_processor.specs.declared.step.Step.TheVariants as ending
 use Rattle.kdf_processor.specs.Effect.{Question, Act, Nothing, Writes, Starts, Asks, Acquires, Releases, Spools, FreeOf}
 use Rattle.kdf_processor.specs.Needs.{needs}
 use Rattle.kdf_processor.specs.Outcome.{Outcome}
-use Rattle.kdf_processor.specs.State.{Slot, State}
+use Rattle.kdf_transfer.specs.Slots.{Slot}
+use Rattle.kdf_processor.specs.State.{State}
 use Rattle.kdf_director.specs.Advance.{Obeyed, note_told, states_after}
 use Rattle.kdf_director.specs.Agrees.{Agrees}
 use Rattle.kdf_director.specs.Following.{asked_at}

@@ -18,7 +18,7 @@ use Rattle.kdf_processor.specs.View.{groups_of, order_groups}
 use Rattle.kdf_processor.proofs.AreaLemmas.{area_apart, written_apart}
 use Rattle.kdf_processor.proofs.FrameLemmas.{perform_leaves, effect_agree}
 use Rattle.kdf_processor.proofs.RowFacts.{transferred_asked}
-use Rattle.kdf_director.specs.ByNumber.{device_count}
+use Rattle.kdf_transfer.specs.ByNumber.{device_count}
 use Rattle.kdf_director.specs.Flights.{Flight, arrivals, beginning, flights_after, with_flight}
 use Rattle.kdf_director.specs.Seen.{covers, word_before, seen_word, seen_device, seen, touched_below, pending, begun_by, begun_row}
 use Rattle.kdf_director.proofs.Completed.{transferred_claims, transferred_spooled, transferred_stints, completed_other, completed_store, arrivals_outside}

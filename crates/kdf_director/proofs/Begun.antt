@@ -5,7 +5,8 @@ use Rattle.std.proofs.lemmas.Bool.{eq-eqb, ne_eqb}
 use Rattle.std.proofs.lemmas.List.Elements.{All-map}
 use Rattle.std.proofs.lemmas.List.{ext_get_or, get_or-map, length-map}
 use Rattle.std.proofs.lemmas.List.FromFn.{length-map-range_with_len, get_or-map-range_with_len}
-use Rattle.kdf_processor.specs.State.{Slot, State, begin}
+use Rattle.kdf_transfer.specs.Slots.{Slot}
+use Rattle.kdf_processor.specs.State.{State, begin}
 use Rattle.kdf_processor.specs.declared.step.Need.{Need}
 use Rattle.kdf_director.specs.declared.load.Parts.{Parts}
 use Rattle.kdf_director.specs.declared.machine.TheConstants.{EVENT_LIMIT}

@@ -11,7 +11,7 @@ use Rattle.kdf_journal.proofs.Added.{calls_by, calls-added, moves-added, clock_b
 use Rattle.kdf_schedule.specs.Calls.{Call, AnOrder}
 use Rattle.kdf_course.specs.Follows.{call_of, Reaches}
 use Rattle.kdf_course.proofs.Reaching.{reach-added, reach-dead, reach-nil}
-use Rattle.kdf_processor.specs.State.{Slot}
+use Rattle.kdf_transfer.specs.Slots.{Slot}
 use Rattle.kdf_director.specs.declared.machine.Progress.{Progress}
 use Rattle.kdf_director.specs.declared.machine.Progress.TheVariants as progress
 use Rattle.kdf_director.specs.Advance.{Advance, Enters}

@@ -10,13 +10,14 @@ use Rattle.kdf_transfer.specs.AtOnce.{IsArea, has_area, kind_of}
 use Rattle.kdf_qstore.specs.Triples.{triple_at}
 use Rattle.kdf_journal.specs.declared.failure.Failure.TheVariants.{Nouv}
 use Rattle.kdf_processor.specs.declared.registers.Registers.{Registers}
-use Rattle.kdf_processor.specs.declared.test.Test.TheVariants.{Flag, Start, Mark}
-use Rattle.kdf_processor.specs.Claims.{claim, is_claimed, is_kind, kind_at}
+use Rattle.kdf_transfer.specs.declared.test.Test.TheVariants.{Flag, Start, Mark}
+use Rattle.kdf_transfer.specs.Devices.{is_kind}
+use Rattle.kdf_processor.specs.Claims.{claim, is_claimed, kind_at}
 use Rattle.kdf_processor.specs.Effect.{Change, Refused, Going, of_change, Effect, Failing, Ending, Changing, Fetching, Keeping, Testing, Starting, Asking, Claiming, Returning, Spooling, IsBusy, IsOut, Time, FreeOf}
 use Rattle.kdf_processor.specs.Needs.{effect_or_liv, order_at, next_effect}
 use Rattle.kdf_processor.specs.State.{Claims, State, device_limit, word_at}
+use Rattle.kdf_transfer.specs.ByNumber.{device_count}
 use Rattle.kdf_processor.specs.Table.{change_of, device_effect, direct_effect, effect, guarded, indirect_effect, is_area, on_top, out_effect, plain_row, query_effect}
-use Rattle.kdf_director.specs.ByNumber.{device_count}
 
 -- its device is claimed and of its kind, and its area is one of the store
 abbrev pub IsChecked : Claims → Effect → Type 0

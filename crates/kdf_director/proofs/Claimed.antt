@@ -6,7 +6,8 @@ use Rattle.std.proofs.lemmas.List.{get_or-set_other}
 use Rattle.kdf_journal.specs.declared.kind.Kind.{Kind}
 use Rattle.kdf_processor.specs.declared.step.Need.{Need}
 use Rattle.kdf_processor.specs.declared.step.Need.TheVariants.{Device}
-use Rattle.kdf_processor.specs.Claims.{claim, is_kind, kind_at, taken}
+use Rattle.kdf_transfer.specs.Devices.{is_kind}
+use Rattle.kdf_processor.specs.Claims.{claim, kind_at, taken}
 use Rattle.kdf_processor.specs.Effect.{Question, FreeOf, Effect, Starting, Asking, Claiming, Returning}
 use Rattle.kdf_processor.specs.Frame.{HidesNone}
 use Rattle.kdf_processor.specs.Needs.{effect_needs}

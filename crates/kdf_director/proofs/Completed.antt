@@ -4,13 +4,13 @@ use Rattle.std.specs.List.{list_any}
 use Rattle.std.proofs.lemmas.Bool.{cases_Bool, cases_lt, and_from, le-leb, ne_eqb, true_from_ne_false, false≢true}
 use Rattle.std.proofs.lemmas.List.{get_or-set_other, length-take}
 use Rattle.kdf_transfer.specs.AtOnce.{is_input, is_output, is_backward, has_area, given, offered, moved_words, at_addresses, down_addresses, moves, written, order_words}
-use Rattle.kdf_transfer.specs.Devices.{Fixture, Progress}
+use Rattle.kdf_transfer.specs.Devices.{Fixture, Progress, new_progress}
 use Rattle.kdf_transfer.specs.declared.order.TransferOrder.{TransferOrder}
 use Rattle.kdf_transfer.proofs.Areas.{input_has}
 use Rattle.kdf_transfer.proofs.Stopping.{stopped-le}
 use Rattle.kdf_processor.specs.Needs.{group_of}
 use Rattle.kdf_processor.specs.Row.{transferred}
-use Rattle.kdf_processor.specs.State.{Stock, device_at, device_in, fixture_at, new_progress}
+use Rattle.kdf_processor.specs.State.{Stock, device_at, device_in, fixture_at}
 use Rattle.kdf_processor.proofs.AreaLemmas.{moves_apart}
 use Rattle.kdf_director.specs.Flights.{Flight, moves_on, all_moves, arrivals, completed, touches}
 

@@ -4,9 +4,9 @@ use Rattle.std.specs.List.{list_any}
 use Rattle.std.proofs.lemmas.Bool.{cases_eq, false≢true}
 use Rattle.std.proofs.lemmas.List.{get_or-set_same, get_or-set_other, length-set, drop_all, take_all, length-drop}
 use Rattle.kdf_transfer.specs.AtOnce.{written}
-use Rattle.kdf_transfer.specs.Devices.{Progress}
-use Rattle.kdf_processor.specs.State.{State, word_at, device_at, device_in, new_progress}
-use Rattle.kdf_director.specs.ByNumber.{device_count}
+use Rattle.kdf_transfer.specs.Devices.{Progress, new_progress}
+use Rattle.kdf_processor.specs.State.{State, word_at, device_at, device_in}
+use Rattle.kdf_transfer.specs.ByNumber.{device_count}
 use Rattle.kdf_director.specs.Flights.{Flight, move_count, arrivals, unmoved, completed, touches, with_flight, moved_to, with_moved}
 use Rattle.kdf_director.specs.Seen.{covers, seen_device, seen, with_store, with_both}
 use Rattle.kdf_director.specs.Flying.{InFlight, IfFlight, AreFlying}

@@ -11,7 +11,8 @@ use Rattle.kdf_journal.specs.Steps.{Step, Moves, Ends, Sets, Swaps, added}
 use Rattle.kdf_journal.proofs.Added.{calls_by, calls-added, hold_by, last_hold-added, moves_by, moves-added}
 use Rattle.kdf_lockout.specs.Groups.{Cells}
 use Rattle.kdf_relocate.specs.declared.window.Window.{Window}
-use Rattle.kdf_processor.specs.State.{Slot, State}
+use Rattle.kdf_transfer.specs.Slots.{Slot}
+use Rattle.kdf_processor.specs.State.{State}
 use Rattle.kdf_processor.specs.declared.step.Need.{Need}
 use Rattle.kdf_director.specs.declared.place.Place.{Place}
 use Rattle.kdf_director.specs.declared.program.Program.{Program}
@@ -19,8 +20,8 @@ use Rattle.kdf_director.specs.declared.slot.Loaded.{Loaded}
 use Rattle.kdf_director.specs.Agrees.{Agrees, HaveHolds, IsReady}
 use Rattle.kdf_director.specs.Following.{AreFollowing, asked_at}
 use Rattle.kdf_director.specs.Legal.{Meets}
+use Rattle.kdf_transfer.specs.ByNumber.{device_count}
 use Rattle.kdf_director.specs.Parts.{Reach, Seat, Shared, shared_in}
-use Rattle.kdf_director.specs.ByNumber.{device_count}
 use Rattle.kdf_director.specs.Running.{no_seat, own_state, reaches_in, seats_in, IsRunning}
 use Rattle.kdf_director.specs.Shared.{after_end, after_move}
 use Rattle.kdf_director.specs.Shown.{entered, states_seen}
@@ -31,7 +32,7 @@ use Rattle.kdf_director.specs.World.{need_of}
 use Rattle.kdf_director.proofs.Flown.{ended_running, flown_running}
 use Rattle.kdf_director.proofs.Lasting.{ended_follows, flown_follows, exchanged_follows, set_follows}
 use Rattle.kdf_director.proofs.Judged.{legal_added, true_added}
-use Rattle.kdf_director.proofs.Tables.{limit_is}
+use Rattle.kdf_transfer.proofs.Numbers.{limit_is}
 
 pub map_twice : {X Y Z : Type 0} (f : Y → Z) (g : X → Y) (xs : List X) → map f (map g xs) ≡ map (λ x. f (g x)) xs
 map_twice f g [] = refl

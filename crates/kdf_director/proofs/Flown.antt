@@ -6,7 +6,7 @@ use Rattle.kdf_transfer.specs.AtOnce.{is_input}
 use Rattle.kdf_transfer.specs.InFlight.{total_of, moves_of, moved_by}
 use Rattle.kdf_transfer.proofs.Moving.{words-moved}
 use Rattle.kdf_transfer.proofs.Words.{some-moved, covers-moved}
-use Rattle.kdf_director.specs.ByNumber.{device_count}
+use Rattle.kdf_transfer.specs.ByNumber.{device_count}
 use Rattle.kdf_processor.specs.declared.registers.Registers.{Registers}
 use Rattle.kdf_processor.specs.State.{State}
 use Rattle.kdf_director.specs.Spots.{Held, Spot, no_spot, spot_at}

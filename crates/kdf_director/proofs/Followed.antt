@@ -18,7 +18,8 @@ use Rattle.kdf_processor.specs.Effect.{Question, Effect, Failing, Ending, Changi
 use Rattle.kdf_processor.specs.Needs.{effect_needs, next_effect}
 use Rattle.kdf_processor.specs.Outcome.{Outcome, held_or}
 use Rattle.kdf_processor.specs.Row.{done_by, next_of}
-use Rattle.kdf_processor.specs.State.{Claims, Slot, State, device_at, fixture_at, word_at}
+use Rattle.kdf_transfer.specs.Slots.{Slot}
+use Rattle.kdf_processor.specs.State.{Claims, State, device_at, fixture_at, word_at}
 use Rattle.kdf_processor.specs.View.{first_pending}
 use Rattle.kdf_director.specs.Flights.{Flight, beginning, flights_after, with_flight}
 use Rattle.kdf_director.specs.Legal.{IsLegal, Meets, note_of, note_of_outcome}
@@ -27,8 +28,8 @@ use Rattle.kdf_director.specs.Slots.{AreSlots}
 use Rattle.kdf_director.specs.Told.{flights_of, lone_world, mine_after, own, seen_of, seen_world}
 use Rattle.kdf_director.specs.True.{truth}
 use Rattle.kdf_director.specs.World.{first_need}
+use Rattle.kdf_transfer.specs.ByNumber.{device_count}
 use Rattle.kdf_director.specs.Physical as physical
-use Rattle.kdf_director.specs.ByNumber.{device_count}
 use Rattle.kdf_director.specs.Spots.{Held, Spot, no_spot, spot_at, fixture_or, leases_of, own_from}
 use Rattle.kdf_director.specs.Parts.{Part, Seat, Reach, Shared, asked_after, has_device, own_progress, own_stock}
 use Rattle.kdf_director.specs.Shared.{view, after_act, start_lease, start_spot}
@@ -51,7 +52,7 @@ use Rattle.kdf_director.proofs.OnCourse.{IsOnCourse, apart-mine, free, legal-cou
 use Rattle.kdf_director.proofs.SeenJournals.{same-need, same-note}
 use Rattle.kdf_director.proofs.SeenStates.{seen_apart, seen_device_at, seen_number, seen_word_at}
 use Rattle.kdf_director.proofs.Showing.{here_word, own_device, own_fixture_at, own_word}
-use Rattle.kdf_director.proofs.Tables.{length-numbers}
+use Rattle.kdf_transfer.proofs.Numbers.{length-numbers}
 use Rattle.kdf_director.proofs.Trying.{IsPart, start_free, start_has, start_idle, start_small}
 use Rattle.kdf_director.proofs.Turning as turn
 

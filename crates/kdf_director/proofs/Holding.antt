@@ -10,20 +10,21 @@ use Rattle.kdf_journal.specs.declared.kind.Kind.{Kind}
 use Rattle.kdf_journal.specs.Counts.{answers, holder, over, ran, taker, unless_over}
 use Rattle.kdf_journal.specs.Steps.{Note, Step, Obeys, Holds, Waits, Moves, Ends, Sets, Swaps, added, journal_of, steps}
 use Rattle.kdf_journal.proofs.Added.{answer_in_note, answers_by, ends_by, over-added, ran_by, taker_by, taker-added}
-use Rattle.kdf_transfer.specs.Devices.{Fixture}
+use Rattle.kdf_transfer.specs.Devices.{Fixture, is_kind}
 use Rattle.kdf_processor.specs.declared.step.Need.TheVariants.{Pool}
 use Rattle.kdf_processor.proofs.Frees.{none_of_kind}
-use Rattle.kdf_processor.specs.Claims.{can_take, is_claimed, is_kind, kind_at, least_pooled, taken}
+use Rattle.kdf_processor.specs.Claims.{can_take, is_claimed, kind_at, least_pooled, taken}
 use Rattle.kdf_processor.specs.Effect.{Question, FreeOf, Effect, Failing, Ending, Starting, Asking, Claiming, Returning}
 use Rattle.kdf_processor.specs.Frame.{HidesNone}
 use Rattle.kdf_processor.specs.Lone.{is_live, lone, lone_step}
 use Rattle.kdf_processor.specs.Needs.{effect_needs, next_effect}
 use Rattle.kdf_processor.specs.Row.{done_by, perform}
-use Rattle.kdf_processor.specs.State.{Claims, Slot, State, device_limit, fixture_at, is_pooled, own_fixture_at, pool_kind_at, unclaimed, word_at}
+use Rattle.kdf_transfer.specs.Slots.{Slot}
+use Rattle.kdf_processor.specs.State.{Claims, State, device_limit, fixture_at, is_pooled, own_fixture_at, pool_kind_at, unclaimed, word_at}
 use Rattle.kdf_processor.proofs.Fit.{IsFit, found, next_fit}
 use Rattle.kdf_processor.proofs.Lending.{IsBegun, mark_claimed, next_begun}
+use Rattle.kdf_transfer.specs.ByNumber.{device_count}
 use Rattle.kdf_processor.proofs.RowFacts.{next_answer}
-use Rattle.kdf_director.specs.ByNumber.{device_count}
 use Rattle.kdf_director.specs.Holders.{has_mark, is_taker}
 use Rattle.kdf_course.specs.Legal as course
 use Rattle.kdf_director.specs.Legal.{EachMeets, IsLegal, IsTrue, Meets, is_true, note_of_outcome}

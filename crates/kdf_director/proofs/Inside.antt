@@ -12,8 +12,9 @@ use Rattle.kdf_journal.specs.declared.kind.Kind.TheVariants.{Mt}
 use Rattle.kdf_processor.specs.declared.registers.Registers.{Registers}
 use Rattle.kdf_processor.specs.declared.step.Need.{Need}
 use Rattle.kdf_processor.specs.declared.step.Need.TheVariants.{Group, Device, Pool}
-use Rattle.kdf_processor.specs.declared.test.Test.TheVariants.{Flag, Start, Mark}
-use Rattle.kdf_processor.specs.Claims.{is_kind, claim, is_claimed}
+use Rattle.kdf_transfer.specs.declared.test.Test.TheVariants.{Flag, Start, Mark}
+use Rattle.kdf_transfer.specs.Devices.{is_kind}
+use Rattle.kdf_processor.specs.Claims.{claim, is_claimed}
 use Rattle.kdf_processor.specs.State.{Claims, State, word_at}
 use Rattle.kdf_processor.specs.Effect.{Change, Refused, Going, of_change, Effect, Failing, Ending, Changing, Fetching, Keeping, Testing, Starting, Asking, IsBusy, IsOut, Time, FreeOf, Claiming, Returning, Spooling}
 use Rattle.kdf_processor.specs.Needs.{count_at, effect_needs, effect_or_liv, fetch_needs, needs, next_effect, order_at, syllable_needs}

@@ -15,9 +15,10 @@ use Rattle.kdf_processor.specs.declared.step.Need.TheVariants.{Group, Device, Po
 use Rattle.kdf_processor.specs.Effect.{Question, IsBusy, IsOut, Time, Effect, Asking, FreeOf}
 use Rattle.kdf_processor.specs.Needs.{needs}
 use Rattle.kdf_processor.specs.Row.{done_by}
-use Rattle.kdf_processor.specs.State.{Slot, State}
+use Rattle.kdf_transfer.specs.Slots.{Slot}
+use Rattle.kdf_processor.specs.State.{State}
+use Rattle.kdf_transfer.specs.ByNumber.{device_count}
 use Rattle.kdf_processor.specs.View.{groups_of, is_pending}
-use Rattle.kdf_director.specs.ByNumber.{device_count}
 use Rattle.kdf_director.specs.Flights.{Flight, touches}
 use Rattle.kdf_director.specs.Seen.{touched_below}
 use Rattle.kdf_director.specs.Told.{flights_of, is_pending_after, mine_after, own, seen_of, seen_world, free_after}

@@ -6,7 +6,7 @@ use Rattle.kdf_lockout.specs.Groups.{Cells, Lent, group_at, is_out, with_word, w
 use Rattle.kdf_transfer.specs.declared.order.TransferOrder.{TransferOrder}
 use Rattle.kdf_transfer.specs.AtOnce.{has_area}
 use Rattle.kdf_director.specs.Physical.{has_group, with_lease}
-use Rattle.kdf_director.specs.ByNumber.{device_count}
+use Rattle.kdf_transfer.specs.ByNumber.{device_count}
 use Rattle.kdf_director.proofs.PhysicalLemmas.{splice_in, splice_out, in_range, with_lease_is, with_lease_other}
 use Rattle.kdf_processor.specs.Effect.{Writes, Starts}
 use Rattle.kdf_director.specs.Spots.{spot_at, lease_held, leases_of}

@@ -10,7 +10,7 @@ use Rattle.kdf_transfer.specs.InFlight.{Motion, Covers, words_of, moves_of, put_
 use Rattle.kdf_transfer.proofs.Areas.{input_has}
 use Rattle.kdf_transfer.proofs.Words.{few_words}
 use Rattle.kdf_director.specs.Physical.{own_words, has_group, with_lease}
-use Rattle.kdf_director.specs.ByNumber.{device_count, by_number}
+use Rattle.kdf_transfer.specs.ByNumber.{device_count, by_number}
 use Rattle.kdf_director.proofs.PhysicalLemmas.{with_lease_is, with_lease_other}
 use Rattle.kdf_transfer.specs.AtOnce.{written}
 use Rattle.kdf_director.specs.declared.place.Place.TheVariants.{Busy}

@@ -8,8 +8,8 @@ use Rattle.kdf_journal.specs.Counts.{Hold, answers, pending}
 use Rattle.kdf_journal.specs.Steps.{Step, Holds, Waits, Moves, Ends, Sets, Swaps, added}
 use Rattle.kdf_journal.proofs.Added.{answers_by, answers-added, pending_by, pending-added, ran_by, moved_by}
 use Rattle.kdf_journal.specs.Counts.{moved_if}
-use Rattle.kdf_processor.specs.State.{Slot}
-use Rattle.kdf_director.specs.ByNumber.{device_count}
+use Rattle.kdf_transfer.specs.Slots.{Slot}
+use Rattle.kdf_transfer.specs.ByNumber.{device_count}
 use Rattle.kdf_director.specs.Legal.{IsLegal}
 use Rattle.kdf_director.specs.Seen.{seen}
 use Rattle.kdf_director.specs.Slots.{AreSlots}

@@ -3,7 +3,7 @@ use Rattle.std.proofs.Common.{◌≡◌, ℕ, List, [], ◌∷◌, Bool, true, f
 use Rattle.std.proofs.lemmas.Bool.{cases_eq, eq-eqb, ne_eqb}
 use Rattle.kdf_processor.specs.Effect.{Question}
 use Rattle.kdf_processor.specs.Lone.{is_live}
-use Rattle.kdf_processor.specs.State.{Slot}
+use Rattle.kdf_transfer.specs.Slots.{Slot}
 use Rattle.kdf_journal.specs.declared.entry.Entry.{Entry}
 use Rattle.kdf_journal.specs.Counts.{answers, over}
 use Rattle.kdf_journal.specs.Steps.{Note, Quiet, Began, Answered, Took, Gave, Failed, Finished, Step, Obeys, Holds, Waits, Moves, Ends, Sets, Swaps, added, journal_of, steps}

@@ -12,11 +12,13 @@ use Rattle.kdf_relocate.specs.Windows.{windows_from}
 use Rattle.kdf_relocate.specs.declared.window.Window.{Window}
 use Rattle.kdf_transfer.specs.AtOnce.{has_area, kind_of}
 use Rattle.kdf_transfer.specs.InFlight.{Covers, Motion, lent_at}
-use Rattle.kdf_processor.specs.Claims.{is_claimed, is_kind}
+use Rattle.kdf_transfer.specs.Devices.{is_kind}
+use Rattle.kdf_processor.specs.Claims.{is_claimed}
 use Rattle.kdf_processor.specs.Effect.{Effect, Failing, Ending, Changing, Fetching, Keeping, Testing, Starting, Asking, Claiming, Returning, Spooling}
+use Rattle.kdf_transfer.specs.Slots.{Slot}
+use Rattle.kdf_transfer.specs.ByNumber.{device_count}
 use Rattle.kdf_processor.specs.Needs.{next_effect}
-use Rattle.kdf_processor.specs.State.{Slot, State, word_at}
-use Rattle.kdf_director.specs.ByNumber.{device_count}
+use Rattle.kdf_processor.specs.State.{State, word_at}
 use Rattle.kdf_director.specs.Agrees.{Agrees}
 use Rattle.kdf_director.specs.Flights.{Flight, touches}
 use Rattle.kdf_director.specs.Flying.{IfFlight}

@@ -27,7 +27,6 @@ pub mod Holding
 pub mod WorkedSlots
 pub mod Acting
 pub mod TurnBeginning
-pub mod Claiming
 pub mod Closing
 pub mod TurnEnding
 pub mod Flown

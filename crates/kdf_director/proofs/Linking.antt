@@ -8,12 +8,13 @@ use Rattle.kdf_journal.specs.Counts.{answers}
 use Rattle.kdf_journal.specs.Steps.{Step, Moves, Ends, added}
 use Rattle.kdf_transfer.specs.declared.order.TransferOrder.{TransferOrder}
 use Rattle.kdf_transfer.specs.AtOnce.{is_input, is_output, has_area, given, offered, stopped, moved_words, finished, area_len, words_out, device_after, addressed, order_words, written}
-use Rattle.kdf_transfer.specs.Devices.{Fixture, Progress}
+use Rattle.kdf_transfer.specs.Devices.{Fixture, Progress, new_progress}
 use Rattle.kdf_transfer.specs.InFlight.{Motion, put_words, moves_of, all_words, area_words, words_of, total_of, moved_by, ended_progress}
 use Rattle.kdf_transfer.proofs.Addresses.{length-addressed}
 use Rattle.kdf_word.specs.Characters.{codes_of_all}
 use Rattle.kdf_processor.specs.Row.{transferred}
-use Rattle.kdf_processor.specs.State.{Slot, State, device_at, device_in, new_progress}
+use Rattle.kdf_transfer.specs.Slots.{Slot}
+use Rattle.kdf_processor.specs.State.{State, device_at, device_in}
 use Rattle.kdf_director.specs.Flights.{Flight, moves_on, all_moves, arrivals, move_count, unmoved, completed, moved_to, with_flight}
 use Rattle.kdf_director.specs.Seen.{seen, with_both, with_store}
 use Rattle.kdf_director.specs.Told.{flights_of, further, own, seen_of}

@@ -11,14 +11,15 @@ use Rattle.std.proofs.lemmas.List.Sums.{sum_by-cons}
 use Rattle.kdf_job.specs.Draft.{numbers_of, words_in}
 use Rattle.kdf_job.specs.Job.{JobDevice, SlotJob}
 use Rattle.kdf_job.specs.WellFormed.{AreRising, AreSlots, IsSlot}
-use Rattle.kdf_director.specs.Loading.{HaveImages, SlotLoad, fixture_on, load_of, loads, numbered, progress_on, slot_of}
+use Rattle.kdf_job.specs.Slots.{fixture_on, numbered, progress_on}
+use Rattle.kdf_director.specs.Loading.{HaveImages, SlotLoad, load_of, loads, slot_of}
 use Rattle.kdf_director.specs.Fields.{AreApart, AreLoads, IsBelow, IsLoad, has, numbers_in}
-use Rattle.kdf_processor.specs.State.{Slot}
+use Rattle.kdf_transfer.specs.Slots.{Slot}
 use Rattle.kdf_director.specs.Parts.{owns}
 use Rattle.kdf_director.specs.Slots as director
 use Rattle.kdf_director.specs.Slots.{HaveOwnDevices}
+use Rattle.kdf_transfer.proofs.Numbers.{length-numbers, limit_is, number_at, number_past}
 use Rattle.kdf_director.proofs.Numbered.{missing}
-use Rattle.kdf_director.proofs.Tables.{length-numbers, limit_is, number_at, number_past}
 
 -- an image for each
 pub one_each : (jobs : List SlotJob) (images : List (List ℕ)) → HaveImages jobs images → length jobs ≡ length images

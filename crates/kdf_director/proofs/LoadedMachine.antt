@@ -9,15 +9,17 @@ use Rattle.kdf_relocate.specs.declared.window.Window.{Window}
 use Rattle.kdf_relocate.specs.Windows.{windows_from, IsBefore, IsInStore}
 use Rattle.kdf_job.specs.Job.{JobDevice}
 use Rattle.kdf_job.specs.Shows.{shown_device}
-use Rattle.kdf_processor.specs.State.{State, Stock, begin, filled, new_progress, new_registers, unclaimed}
+use Rattle.kdf_transfer.specs.Devices.{new_progress}
+use Rattle.kdf_processor.specs.State.{State, Stock, begin, filled, new_registers, unclaimed}
 use Rattle.kdf_director.specs.declared.load.Parts.{Parts}
 use Rattle.kdf_director.specs.declared.program.Program.{Program}
 use Rattle.kdf_director.specs.declared.slot.Loaded.{Loaded}
-use Rattle.kdf_director.specs.Loading.{SlotLoad, fixture_on, numbered, progress_on, slot_of}
+use Rattle.kdf_job.specs.Slots.{fixture_on, numbered, progress_on}
+use Rattle.kdf_director.specs.Loading.{SlotLoad, slot_of}
 use Rattle.kdf_director.specs.Fields.{AreLoads, IsLoad, IsLoaded, first_numbered, first_seat, has, idle_spot, loaded, numbers_in, sizes_of, with_images, with_words, zero_cells}
 use Rattle.kdf_director.specs.Parts.{Part, Reach, Seat, Shared, has_device, own_fixture, own_progress, own_stock, owns, part_in, reach_of, shared_in, window_at}
+use Rattle.kdf_transfer.specs.ByNumber.{by_number, device_count}
 use Rattle.kdf_director.specs.Physical.{has_group, word_at_place, word_where}
-use Rattle.kdf_director.specs.ByNumber.{by_number, device_count}
 use Rattle.kdf_director.specs.Running.{IsRunning, no_seat, own_state, part_at, reach_at, reaches_in, seat_at, seats_in}
 use Rattle.kdf_director.specs.Sound.{IsSound}
 use Rattle.kdf_director.specs.Spots.{AreDry, Spot, lease_held, leases_of, no_spot, spot_at, spot_of}
@@ -25,8 +27,8 @@ use Rattle.kdf_director.proofs.Entering.{map_twice}
 use Rattle.kdf_director.proofs.Filling.{IsStore, none_lent, word_there, words_other, words_store, words_there, zero_store, zero_there, zeros}
 use Rattle.kdf_director.proofs.Loadable.{are_slots, no_load}
 use Rattle.kdf_director.proofs.Numbered.{apart_both, found, missing, picked}
+use Rattle.kdf_transfer.proofs.Numbers.{length-numbers, limit_is, number_at, number_past}
 use Rattle.kdf_director.proofs.Sizes.{IsWindow, size_is, window_of}
-use Rattle.kdf_director.proofs.Tables.{length-numbers, limit_is, number_at, number_past}
 
 abbrev no_reach : Reach
 no_reach = record { base = 0; size = 0; devices = [] }

@@ -1,19 +1,10 @@
 -- Places that are loaded one after the other.
-use Rattle.std.proofs.Common.{◌≡◌, ℕ, zero, suc, ◌+◌, List, [], ◌∷◌, ◌++◌, get_or, map, Option, Some, None, refl, sym, ap, ap₂, ◌∙◌, arith}
+use Rattle.std.proofs.Common.{◌≡◌, ℕ, zero, suc, List, [], ◌∷◌, get_or, map, Option, Some, None, refl, ap, ◌∙◌}
 use Rattle.std.specs.List.{range_with_len}
-use Rattle.std.proofs.lemmas.List.{map_push}
-use Rattle.std.proofs.lemmas.List.FromFn.{map-range_with_len_more}
 use Rattle.kdf_transfer.specs.declared.device.Device.{Device}
 use Rattle.kdf_director.specs.declared.place.Place.TheVariants.{Absent}
 use Rattle.kdf_director.specs.Fields.{idle_place, idle_ring}
-use Rattle.kdf_director.specs.ByNumber.{by_number}
 use Rattle.kdf_director.specs.Spots.{ring_in, AreDry}
-use Rattle.kdf_director.proofs.Tables.{limit_is}
-
--- one more
-pub one_more : {X Y : Type 0} (f : X → Y) (g : ℕ → Y) (xs ys : List X) (x : X) (n : ℕ) → map f xs ≡ map g (range_with_len 0 n) → ys ≡ xs ++ x ∷ [] → f x ≡ g n → map f ys ≡ map g (range_with_len 0 (n + 1))
-one_more f g xs ys x n so more is =
-    ap (map f) more ∙ map_push f xs x ∙ ap₂ (λ a b. a ++ b ∷ []) so is ∙ sym (map-range_with_len_more g 0 n n (omega arith))
 
 abbrev nil : List ℕ
 nil = []
@@ -31,8 +22,3 @@ nil_at (n ∷ ns) (suc d) = nil_at ns d
 
 pub dry_is : (idle : List (Option (Device × List ℕ))) → map idle_ring idle ≡ map (λ _. nil) (range_with_len 0 16) → AreDry (map idle_place idle)
 dry_is idle rings d = ring_at idle d ∙ ap (λ rs. get_or rs d nil) rings ∙ nil_at (range_with_len 0 16) d
-
--- what stands at sixteen numbers
-pub sixteen_numbers : {X : Type 0} (f : ℕ → X) → map f (range_with_len 0 16) ≡ by_number f
-unfolding by_number
-sixteen_numbers f = ap (λ n. map f (range_with_len 0 n)) (sym limit_is)

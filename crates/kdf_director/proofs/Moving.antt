@@ -9,7 +9,7 @@ use Rattle.kdf_transfer.specs.Devices.{Progress}
 use Rattle.kdf_processor.specs.Needs.{group_of}
 use Rattle.kdf_processor.specs.State.{State, word_at, device_at}
 use Rattle.kdf_processor.proofs.AreaLemmas.{written_apart}
-use Rattle.kdf_director.specs.ByNumber.{device_count}
+use Rattle.kdf_transfer.specs.ByNumber.{device_count}
 use Rattle.kdf_director.specs.Flights.{Flight, move_count, arrivals, unmoved, touches, with_flight, moved_to, with_moved}
 use Rattle.kdf_director.specs.Seen.{covers, seen_word, seen_device, seen, with_store}
 use Rattle.kdf_director.specs.Flying.{InFlight, IfFlight, AreFlying}

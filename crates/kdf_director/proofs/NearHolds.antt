@@ -9,7 +9,7 @@ use Rattle.kdf_journal.specs.Steps.{Step, Obeys, Holds, Waits, Moves, Ends, Sets
 use Rattle.kdf_journal.proofs.Added.{last_hold-added}
 use Rattle.kdf_processor.specs.declared.step.Need.{Need}
 use Rattle.kdf_processor.specs.Needs.{needs}
-use Rattle.kdf_processor.specs.State.{Slot}
+use Rattle.kdf_transfer.specs.Slots.{Slot}
 use Rattle.kdf_processor.proofs.RowFacts.{size_lone}
 use Rattle.kdf_director.specs.Going.{IsNearHold}
 use Rattle.kdf_director.specs.Legal.{EachMeets, IsLegal}

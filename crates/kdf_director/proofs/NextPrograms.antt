@@ -12,7 +12,8 @@ use Rattle.kdf_journal.proofs.Bounds.{ran-le-calls}
 use Rattle.kdf_processor.specs.Lone.{is_live}
 use Rattle.kdf_processor.specs.declared.registers.Registers.{Registers}
 use Rattle.kdf_processor.specs.declared.step.Need.{Need}
-use Rattle.kdf_processor.specs.State.{Slot, State}
+use Rattle.kdf_transfer.specs.Slots.{Slot}
+use Rattle.kdf_processor.specs.State.{State}
 use Rattle.kdf_director.specs.Agrees.{Agrees}
 use Rattle.kdf_director.specs.Following.{asked_at}
 use Rattle.kdf_director.specs.Going.{first_going, goes_at, hold_at, if_goes, is_stopped, or_else, place_of, AreNearHolds, IsNearHold}

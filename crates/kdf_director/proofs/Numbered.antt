@@ -3,7 +3,8 @@ use Rattle.std.proofs.Common.{◌≡◌, ◌≢◌, ℕ, zero, suc, ◌<◌, ◌
 use Rattle.std.proofs.lemmas.Bool.{cases_lt}
 use Rattle.std.specs.List.{AllPairs}
 use Rattle.kdf_job.specs.Job.{JobDevice}
-use Rattle.kdf_director.specs.Loading.{SlotLoad, numbered}
+use Rattle.kdf_job.specs.Slots.{numbered}
+use Rattle.kdf_director.specs.Loading.{SlotLoad}
 use Rattle.kdf_director.specs.Fields.{AreApart, first_numbered, has, numbers_in}
 use Rattle.kdf_director.specs.Parts.{owns}
 

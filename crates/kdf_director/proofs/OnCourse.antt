@@ -12,12 +12,13 @@ use Rattle.kdf_processor.specs.Frame.{HidesNone}
 use Rattle.kdf_processor.specs.Lone.{is_live}
 use Rattle.kdf_processor.specs.Needs.{effect_needs, fetch_needs, needs, next_effect}
 use Rattle.kdf_processor.specs.Row.{done_by, perform, row}
-use Rattle.kdf_processor.specs.State.{Slot, State, word_at}
+use Rattle.kdf_transfer.specs.Slots.{Slot}
+use Rattle.kdf_processor.specs.State.{State, word_at}
 use Rattle.kdf_journal.specs.declared.entry.Entry.{Entry}
 use Rattle.kdf_journal.specs.Counts.{ran, answers, pending as pending_in, moved_if}
 use Rattle.kdf_journal.specs.Steps.{Step, Obeys, Holds, Waits, Moves, Ends, Sets, Swaps, added, journal_of, steps}
+use Rattle.kdf_transfer.specs.ByNumber.{device_count}
 use Rattle.kdf_journal.proofs.Added.{ran_by, ran-added, answer_in_note, answers_by, pending_by, pending-added, moved_by}
-use Rattle.kdf_director.specs.ByNumber.{device_count}
 use Rattle.kdf_director.specs.Flights.{Flight, beginning, flights_after, mine_of, move_count, with_flight}
 use Rattle.kdf_director.specs.Flying.{AreFlying}
 use Rattle.kdf_course.specs.Legal as rules

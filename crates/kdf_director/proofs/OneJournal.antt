@@ -1,6 +1,6 @@
 -- Under a schedule, the slots have one journal that is legal, true and whole; and one that is cut.
 use Rattle.std.proofs.Common.{◌≡◌, ℕ, List, ◌++◌, length, refl, sym, ◌∙◌, subst}
-use Rattle.kdf_processor.specs.State.{Slot}
+use Rattle.kdf_transfer.specs.Slots.{Slot}
 use Rattle.kdf_journal.specs.declared.entry.Entry.{Entry}
 use Rattle.kdf_journal.specs.Steps.{Note, Step, steps}
 use Rattle.kdf_schedule.specs.declared.event.Event.{Event}

@@ -5,7 +5,8 @@ use Rattle.std.proofs.lemmas.Bool.{cases_eq, eq-eqb, ne_eqb}
 use Rattle.kdf_journal.specs.Counts.{moved_if, pending}
 use Rattle.kdf_journal.specs.Steps.{Step, Moves, Ends, Sets, Swaps, added}
 use Rattle.kdf_journal.proofs.Added.{answers_by, moved_by, pending_by, ran_by}
-use Rattle.kdf_processor.specs.State.{Slot, State}
+use Rattle.kdf_transfer.specs.Slots.{Slot}
+use Rattle.kdf_processor.specs.State.{State}
 use Rattle.kdf_director.specs.Advance.{OthersStay}
 use Rattle.kdf_director.specs.Flights.{Flight}
 use Rattle.kdf_director.specs.Legal.{IsLegal}

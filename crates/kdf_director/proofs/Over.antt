@@ -11,7 +11,7 @@ use Rattle.kdf_processor.specs.Lone.{is_live}
 use Rattle.kdf_processor.specs.Needs.{effect_needs, needs, next_effect}
 use Rattle.kdf_processor.specs.Row.{perform, row}
 use Rattle.kdf_processor.specs.State.{State}
-use Rattle.kdf_director.specs.ByNumber.{device_count}
+use Rattle.kdf_transfer.specs.ByNumber.{device_count}
 use Rattle.kdf_director.specs.Flights.{Flight, mine_of, touches}
 use Rattle.kdf_director.specs.Flying.{IfFlight, AreFlying}
 use Rattle.kdf_director.specs.Seen.{pending}

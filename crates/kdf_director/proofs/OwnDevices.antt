@@ -8,24 +8,25 @@ use Rattle.std.proofs.lemmas.List.FromFn.{length-map-range_with_len, get_or-map-
 use Rattle.std.proofs.lemmas.List.Sums.{fails_before_first, passes_at_first}
 use Rattle.kdf_journal.specs.declared.entry.Entry.{Entry}
 use Rattle.kdf_relocate.specs.declared.window.Window.{Window}
-use Rattle.kdf_transfer.specs.Devices.{Fixture}
+use Rattle.kdf_transfer.specs.Devices.{Fixture, kind_in}
 use Rattle.kdf_transfer.specs.declared.device.Device.{Device}
 use Rattle.kdf_processor.specs.Claims.{is_claimed}
-use Rattle.kdf_processor.specs.State.{Slot, State, device_at, fixture_at}
+use Rattle.kdf_transfer.specs.Slots.{Slot}
+use Rattle.kdf_processor.specs.State.{State, device_at, fixture_at}
 use Rattle.kdf_director.specs.Agrees.{Agrees}
 use Rattle.kdf_director.specs.Following.{asked_at}
 use Rattle.kdf_director.specs.Owners.{IsDeviceOf, IsDeviceOwned, is_claimed_by, owner_in}
+use Rattle.kdf_transfer.specs.ByNumber.{device_count}
 use Rattle.kdf_director.specs.Parts.{Reach, Seat, Shared, has_device, numbers, own_claims, own_fixture, owns, reach_of}
-use Rattle.kdf_director.specs.ByNumber.{device_count}
 use Rattle.kdf_director.specs.Running.{own_state, part_at, reach_at, reaches_in, seat_at}
 use Rattle.kdf_director.specs.Shown.{IsDeviceAt, Shown, state_of}
 use Rattle.kdf_director.specs.Viewed.{states_in}
 use Rattle.kdf_director.specs.Slots.{start_of}
-use Rattle.kdf_director.specs.Spots.{Spot, kind_in, no_spot, spot_at}
+use Rattle.kdf_director.specs.Spots.{Spot, no_spot, spot_at}
 use Rattle.kdf_director.specs.declared.slot.Loaded.{Loaded}
 use Rattle.kdf_director.proofs.OwnStates.{program_is, state_is}
 use Rattle.kdf_director.proofs.Showing.{own_device, own_fixture_at}
-use Rattle.kdf_director.proofs.Tables.{number_past}
+use Rattle.kdf_transfer.proofs.Numbers.{number_past}
 
 -- ---- which slot has a device
 

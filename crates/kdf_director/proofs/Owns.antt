@@ -5,7 +5,8 @@ use Rattle.std.proofs.lemmas.List.{length-append}
 use Rattle.kdf_processor.specs.Effect.{Question}
 use Rattle.kdf_processor.specs.Lone.{is_live, lone_step}
 use Rattle.kdf_processor.specs.Row.{next_of, row}
-use Rattle.kdf_processor.specs.State.{Slot, State}
+use Rattle.kdf_transfer.specs.Slots.{Slot}
+use Rattle.kdf_processor.specs.State.{State}
 use Rattle.kdf_processor.proofs.ByItself.{row_same}
 use Rattle.kdf_processor.proofs.LoneLemmas.{longer}
 use Rattle.kdf_processor.proofs.RowFacts.{asks, asked_row, live_step, next_answer, ran_live}

@@ -8,7 +8,7 @@ use Rattle.std.proofs.lemmas.List.FromFn.{length-map-range_with_len, get_or-map-
 use Rattle.kdf_lockout.specs.Groups.{Lent, group_at, words_in, with_lent_word}
 use Rattle.kdf_transfer.specs.InFlight.{lent_at}
 use Rattle.kdf_director.specs.Physical.{has_group, word_out, word_where, word_at_place, own_words, with_lease}
-use Rattle.kdf_director.specs.ByNumber.{device_count}
+use Rattle.kdf_transfer.specs.ByNumber.{device_count}
 
 -- the store after a word is written to a group with these words
 abbrev pub put_word : List (Option (List ℕ)) → List ℕ → ℕ → ℕ → List (Option (List ℕ))

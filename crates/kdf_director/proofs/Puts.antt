@@ -8,7 +8,7 @@ use Rattle.kdf_transfer.specs.declared.order.TransferOrder.{TransferOrder}
 use Rattle.kdf_transfer.specs.AtOnce.{is_backward, at_addresses, down_addresses, addressed}
 use Rattle.kdf_transfer.specs.InFlight.{put_words}
 use Rattle.kdf_director.specs.Physical.{own_words, has_group, with_lease}
-use Rattle.kdf_director.specs.ByNumber.{device_count}
+use Rattle.kdf_transfer.specs.ByNumber.{device_count}
 use Rattle.kdf_director.specs.Physical as physical
 use Rattle.kdf_director.proofs.PhysicalLemmas.{with_lease_is, with_lease_other, own_words_changed, own_words_other, word_of-with_lent_word}
 use Rattle.kdf_transfer.specs.AtOnce.{written}

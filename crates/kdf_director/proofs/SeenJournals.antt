@@ -6,7 +6,8 @@ use Rattle.kdf_processor.specs.Effect.{Question, Effect, Failing}
 use Rattle.kdf_processor.specs.Lone.{is_live, lone}
 use Rattle.kdf_processor.specs.Needs.{next_effect}
 use Rattle.kdf_processor.specs.Row.{done_by}
-use Rattle.kdf_processor.specs.State.{Slot, State, device_in}
+use Rattle.kdf_transfer.specs.Slots.{Slot}
+use Rattle.kdf_processor.specs.State.{State, device_in}
 use Rattle.kdf_processor.proofs.FrameLemmas.{agree_under, first_agree}
 use Rattle.kdf_processor.proofs.LoneLemmas.{same_end}
 use Rattle.kdf_schedule.specs.Calls.{Call, AnOrder, AMove, AnEnd, AClock, ASwap}

@@ -4,15 +4,15 @@ use Rattle.std.specs.List.{list_any}
 use Rattle.std.proofs.lemmas.Bool.{or_parts, and_from, cases_Bool, cases_lt, false≢true, le-leb}
 use Rattle.std.proofs.lemmas.List.{ext_get_or, get_or_past}
 use Rattle.std.proofs.lemmas.List.FromFn.{length-map-range_with_len, get_or-map-range_with_len}
-use Rattle.kdf_transfer.specs.Devices.{Progress}
+use Rattle.kdf_transfer.specs.Devices.{Progress, new_progress}
 use Rattle.kdf_processor.specs.declared.step.Need.TheVariants.{Group, Device}
 use Rattle.kdf_processor.specs.Effect.{Question, Effect}
 use Rattle.kdf_processor.specs.Frame.{Agrees, Leaves, HidesNone}
 use Rattle.kdf_processor.specs.Needs.{group_of, effect_needs}
 use Rattle.kdf_processor.specs.Row.{perform}
-use Rattle.kdf_processor.specs.State.{State, word_at, device_at, new_progress}
+use Rattle.kdf_processor.specs.State.{State, word_at, device_at}
 use Rattle.kdf_processor.proofs.FrameLemmas.{perform_agree, perform_leaves}
-use Rattle.kdf_director.specs.ByNumber.{device_count}
+use Rattle.kdf_transfer.specs.ByNumber.{device_count}
 use Rattle.kdf_director.specs.Flights.{Flight, touches}
 use Rattle.kdf_director.specs.Seen.{covers, word_before, seen_word, seen_device, seen, touched_below, pending}
 use Rattle.kdf_director.proofs.Completed.{arrivals_outside}

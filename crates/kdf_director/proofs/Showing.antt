@@ -6,21 +6,21 @@ use Rattle.std.proofs.lemmas.List.{get_or_past, get_or-map, length-map}
 use Rattle.std.proofs.lemmas.List.FromFn.{get_or-map-range_with_len}
 use Rattle.kdf_lockout.specs.Groups.{Cells, Lent, group_at, is_out, word_here}
 use Rattle.kdf_journal.specs.declared.kind.Kind.{Kind}
-use Rattle.kdf_transfer.specs.Devices.{Fixture}
+use Rattle.kdf_transfer.specs.Devices.{Fixture, new_progress, is_kind, kind_in, is_wanted}
 use Rattle.kdf_director.specs.True.{one_if}
 use Rattle.kdf_director.specs.Physical.{own_words}
-use Rattle.kdf_director.specs.ByNumber.{device_count}
+use Rattle.kdf_transfer.specs.ByNumber.{device_count}
 use Rattle.kdf_journal.specs.declared.kind.Kind.TheVariants.{Tr, Tp, Cr, Lp, Mt}
 use Rattle.kdf_director.specs.Physical as physical
-use Rattle.kdf_processor.specs.State.{new_progress, word_in, device_in, fixture_at}
-use Rattle.kdf_processor.specs.Claims.{kind_at, is_kind, claim, is_claimed}
+use Rattle.kdf_processor.specs.State.{word_in, device_in, fixture_at}
+use Rattle.kdf_processor.specs.Claims.{kind_at, claim, is_claimed}
 use Rattle.kdf_director.specs.declared.place.Place.{Place}
 use Rattle.kdf_director.specs.declared.place.Place.TheVariants.{Absent}
-use Rattle.kdf_director.specs.Spots.{spot_at, spot_of, no_spot, leases_of, spot_kind, kind_in, is_wanted}
-use Rattle.kdf_director.specs.declared.place.Wanted.{Wanted}
-use Rattle.kdf_director.specs.declared.place.Wanted.TheVariants.{Kinded, Labelled}
+use Rattle.kdf_director.specs.Spots.{spot_at, spot_of, no_spot, leases_of, spot_kind}
+use Rattle.kdf_transfer.specs.declared.wanted.Wanted.{Wanted}
+use Rattle.kdf_transfer.specs.declared.wanted.Wanted.TheVariants.{Kinded, Labelled}
 use Rattle.kdf_director.specs.Parts.{Shared, Part, owns, fixture_owned, own_stock, own_fixture, own_progress, own_claims, has_device}
-use Rattle.kdf_director.proofs.Tables.{limit_is, number_at}
+use Rattle.kdf_transfer.proofs.Numbers.{limit_is, number_at}
 
 -- a word of the program
 pub own_word : (q : Part) (n : ℕ) (s : Shared) (a : ℕ) → a < q.size → word_in (own_stock q n s) a ≡ physical.word_at_place s.cells (leases_of s.spots) (q.base + a)

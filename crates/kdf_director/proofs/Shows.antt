@@ -14,7 +14,8 @@ use Rattle.kdf_transfer.specs.declared.device.Device.{Device}
 use Rattle.kdf_processor.specs.declared.spooled.Spooled.{Spooled}
 use Rattle.kdf_processor.specs.Claims.{is_claimed}
 use Rattle.kdf_processor.specs.Lone.{is_live}
-use Rattle.kdf_processor.specs.State.{Slot, State, fixture_at, word_at}
+use Rattle.kdf_transfer.specs.Slots.{Slot}
+use Rattle.kdf_processor.specs.State.{State, fixture_at, word_at}
 use Rattle.kdf_director.specs.Agrees.{IsReady}
 use Rattle.kdf_director.specs.Following.{asked_at}
 use Rattle.kdf_director.specs.Going.{any_on}
@@ -37,7 +38,7 @@ use Rattle.kdf_director.proofs.Lending.{below, in_store, lent, stored, windows_s
 use Rattle.kdf_director.proofs.NextPrograms.{any_same}
 use Rattle.kdf_director.proofs.OwnDevices.{claimed_none, claimed_own, device_none, device_own}
 use Rattle.kdf_director.proofs.OwnStates.{told_of}
-use Rattle.kdf_director.proofs.Tables.{limit_is}
+use Rattle.kdf_transfer.proofs.Numbers.{limit_is}
 
 -- what holds of a state that is there
 some_and : (o : Option State) (P Q : State → Type 0) → ((x : State) → o ≡ Some x → P x → Q x) → IsSomeAnd o P → IsSomeAnd o Q

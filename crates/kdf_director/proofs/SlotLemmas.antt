@@ -4,7 +4,8 @@ use Rattle.std.specs.Prelude.{replicate, find}
 use Rattle.std.specs.List.{All}
 use Rattle.std.proofs.lemmas.List.Elements.{All-head, All-tail}
 use Rattle.std.proofs.lemmas.List.{length-append, length-replicate}
-use Rattle.kdf_processor.specs.State.{Slot, filled}
+use Rattle.kdf_transfer.specs.Slots.{Slot}
+use Rattle.kdf_processor.specs.State.{filled}
 use Rattle.kdf_director.specs.Slots.{IsSlot, AreSlots, slot_of, start_of, start}
 
 filled_size : (size : ℕ) (words : List ℕ) → length words ≤ size → length (filled size words) ≡ size

@@ -6,7 +6,8 @@ use Rattle.kdf_transfer.specs.AtOnce.{IsArea, has_area, kind_of}
 use Rattle.kdf_transfer.specs.declared.order.TransferOrder.{TransferOrder}
 use Rattle.kdf_processor.specs.declared.registers.Registers.{Registers}
 use Rattle.kdf_processor.specs.declared.step.Need.TheVariants.{Group}
-use Rattle.kdf_processor.specs.Claims.{claim, is_kind}
+use Rattle.kdf_transfer.specs.Devices.{is_kind}
+use Rattle.kdf_processor.specs.Claims.{claim}
 use Rattle.kdf_processor.specs.Effect.{Question, Effect, Starting}
 use Rattle.kdf_processor.specs.Frame.{Leaves, HidesNone}
 use Rattle.kdf_processor.specs.Needs.{group_of, effect_needs, needs, next_effect}
@@ -14,8 +15,8 @@ use Rattle.kdf_processor.specs.Row.{perform, row}
 use Rattle.kdf_processor.specs.State.{Claims, State, fixture_at}
 use Rattle.kdf_processor.specs.View.{groups_of, order_groups}
 use Rattle.kdf_processor.proofs.AreaLemmas.{area_apart}
+use Rattle.kdf_transfer.specs.ByNumber.{device_count}
 use Rattle.kdf_processor.proofs.FrameLemmas.{perform_leaves}
-use Rattle.kdf_director.specs.ByNumber.{device_count}
 use Rattle.kdf_director.specs.Flights.{Flight, beginning, flights_after, touches, with_flight}
 use Rattle.kdf_director.specs.Flying.{InFlight, IfFlight, AreFlying}
 use Rattle.kdf_director.specs.Seen.{pending, touched_below}

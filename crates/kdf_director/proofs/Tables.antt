@@ -1,27 +1,8 @@
--- Devices by number.
+-- Numbers that are found, as the range is shifted.
 use Rattle.std.specs.Prelude.{find}
 use Rattle.std.specs.Option.{option_map}
-use Rattle.std.proofs.Common.{◌≡◌, ℕ, zero, suc, ◌+◌, ◌-◌, ◌<◌, ◌≤◌, Bool, true, false, get_or, length, Option, Some, None, cond, refl, ap, ◌∙◌, arith}
+use Rattle.std.proofs.Common.{◌≡◌, ℕ, zero, suc, ◌+◌, ◌-◌, ◌≤◌, Bool, true, false, Option, Some, None, cond, refl, ap, ◌∙◌, arith}
 use Rattle.std.specs.List.{range_with_len}
-use Rattle.std.proofs.lemmas.List.{get_or_past}
-use Rattle.std.proofs.lemmas.List.FromFn.{length-map-range_with_len, get_or-map-range_with_len}
-use Rattle.kdf_director.specs.ByNumber.{device_count, by_number}
-
-pub limit_is : device_count ≡ 16
-unfolding device_count
-limit_is = refl
-
--- what stands at a number
-pub number_at : {X : Type 0} (f : ℕ → X) (d : ℕ) (x : X) → d < device_count → get_or (by_number f) d x ≡ f d
-unfolding by_number
-number_at f d x lt = get_or-map-range_with_len f 0 device_count d d x lt (omega arith)
-
-pub length-numbers : {X : Type 0} (f : ℕ → X) → length (by_number f) ≡ device_count
-unfolding by_number
-length-numbers f = length-map-range_with_len f 0 device_count
-
-pub number_past : {X : Type 0} (f : ℕ → X) (d : ℕ) (x : X) → device_count ≤ d → get_or (by_number f) d x ≡ x
-number_past f d x past = get_or_past (by_number f) d x (let e = length-numbers f in omega arith)
 
 -- a range that is shifted
 pub find_shift : (p : ℕ → Bool) (b f n : ℕ) → find p (range_with_len (b + f) n) ≡ option_map (λ g. b + g) (find (λ g. p (b + g)) (range_with_len f n))

@@ -8,10 +8,10 @@ use Rattle.kdf_lockout.specs.Groups.{Cells, Lent, group_at, with_groups, AreFull
 use Rattle.kdf_transfer.specs.AtOnce.{is_input}
 use Rattle.kdf_transfer.specs.InFlight.{total_of, moves_of, put_words, lease_by, moved_by, ended_progress}
 use Rattle.kdf_director.specs.Physical.{own_words, has_group, with_lease}
-use Rattle.kdf_director.specs.ByNumber.{device_count, by_number}
+use Rattle.kdf_transfer.specs.ByNumber.{device_count, by_number}
 use Rattle.kdf_director.specs.Physical as physical
 use Rattle.kdf_director.proofs.PhysicalLemmas.{brought, splice_in, splice_out, in_range, with_lease_is, with_lease_other, own_words_same, word_of-back}
-use Rattle.kdf_processor.specs.State.{new_progress}
+use Rattle.kdf_transfer.specs.Devices.{new_progress}
 use Rattle.kdf_transfer.specs.AtOnce.{written}
 use Rattle.kdf_director.specs.Spots.{Held, Spot, no_spot, spot_at, lease_held, leases_of}
 use Rattle.kdf_director.specs.Parts.{Shared, Part, has_device, own_progress, own_claims, own_stock}
@@ -20,7 +20,7 @@ use Rattle.kdf_director.specs.Sound.{IsSound, IsFlightOf}
 use Rattle.kdf_director.proofs.Acting.{stock, claims, leases-set, fixtures-set, progress-set}
 use Rattle.kdf_director.proofs.Kept.{has_in, in_has}
 use Rattle.kdf_director.proofs.Landing.{has-put, full-put, same-put, leases_later, move_words_own, move_words_other}
-use Rattle.kdf_director.proofs.Tables.{number_at, length-numbers}
+use Rattle.kdf_transfer.proofs.Numbers.{number_at, length-numbers}
 
 abbrev by : Bool → List (ℕ × ℕ) → Option Lent → Option Lent
 by b ms o = cond b (option_map (put_words ms) o) o

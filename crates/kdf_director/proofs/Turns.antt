@@ -1,16 +1,10 @@
 -- A turn over a machine shows what the machine's own definitions say.
-use Rattle.std.proofs.Common.{◌≡◌, ℕ, Bool, List, refl, ap, ap₂, sym, ◌∙◌, subst, map, get_or, set}
-use Rattle.kdf_processor.specs.declared.look.Ahead.{Ahead}
-use Rattle.kdf_processor.specs.declared.look.Ahead.TheVariants as ahead
-use Rattle.kdf_processor.specs.declared.fetch.Fetched.TheVariants.{Bad, Held}
+use Rattle.std.proofs.Common.{◌≡◌, ℕ, Bool, List, refl, ap, ap₂, sym, ◌∙◌, map, get_or, set}
 use Rattle.kdf_processor.specs.declared.registers.Registers.{Registers}
 use Rattle.kdf_processor.specs.declared.step.Step.{Step}
-use Rattle.kdf_processor.specs.Fetch.{IsFetchedAt}
-use Rattle.kdf_processor.proofs.Small.{small_fetched}
 use Rattle.kdf_director.specs.declared.note.Note.{Note}
 use Rattle.kdf_director.specs.declared.note.Note.TheVariants.{Quiet}
-use Rattle.kdf_processor.specs.Ahead.{IsAhead, IsSmall, IsTaking}
-use Rattle.kdf_processor.specs.Effect.{FreeOf, Act, Nothing, Writes, Starts, Asks, Acquires, Releases, Spools}
+use Rattle.kdf_processor.specs.Effect.{Act}
 use Rattle.kdf_processor.specs.Outcome.{Outcome, outcome}
 use Rattle.kdf_processor.specs.declared.spooled.Spooled.{Spooled}
 use Rattle.kdf_lockout.specs.Groups.{Cells}
@@ -24,7 +18,7 @@ use Rattle.std.proofs.lemmas.List.{map-set, set-get_or}
 use Rattle.kdf_director.specs.Notes.{note_after}
 use Rattle.kdf_director.specs.Parts.{Part, Reach, Shared, part_after, part_in, seat, shared_in}
 use Rattle.kdf_director.specs.Shared.{view, after_act}
-use Rattle.kdf_director.specs.Turn.{part_of, shared, shown, SameTurn, Acts, Stays, HasObeyed, HasRoom, HasRoomAhead}
+use Rattle.kdf_director.specs.Turn.{part_of, shared, shown, SameTurn, Acts, Stays, HasObeyed}
 
 -- what is shown, by what it is shown of
 pub shown_of : (t : Turn) (q : Part) (time : ℕ) (s : Shared) → part_of t ≡ q → t.time ≡ time → shared t ≡ s → shown t ≡ view q time s
@@ -34,45 +28,6 @@ shown_of t q time s e f g =
 -- what is shown stays
 pub shown_stays : (old new : Turn) → Stays old new → shown new ≡ shown old
 shown_stays old new stays = shown_of new (part_of old) old.time (shared old) stays.part stays.same.time stays.shared
-
--- a small act wants no memory
-pub small_room : (t : Turn) (act : Act) → IsSmall act → HasRoom t act
-small_room t Nothing small = tt
-small_room t (Writes a w) small = tt
-small_room t (Starts d o first last) small = absurd small
-small_room t (Asks (FreeOf kind) answer) small = absurd small
-small_room t (Asks question answer) small = tt
-small_room t (Acquires d) small = tt
-small_room t (Releases pooled d) small = tt
-small_room t (Spools stream first last) small = absurd small
-
--- nor does one that may take from the pool
-taking_room : (t : Turn) (act : Act) → IsTaking act → HasRoom t act
-taking_room t Nothing small = tt
-taking_room t (Writes a w) small = tt
-taking_room t (Starts d o first last) small = absurd small
-taking_room t (Asks question answer) small = tt
-taking_room t (Acquires d) small = tt
-taking_room t (Releases pooled d) small = tt
-taking_room t (Spools stream first last) small = absurd small
-
--- an act has the memory that was taken for it
-room_ahead : (t : Turn) (act : Act) (a : Ahead) → IsAhead act a → HasRoomAhead t a → HasRoom t act
-room_ahead t act (ahead.Starts d o first last) is room = subst (HasRoom t) (sym is) room
-room_ahead t act (ahead.Spools stream first last) is room = subst (HasRoom t) (sym is) room
-room_ahead t act ahead.Takes is room = taking_room t act is
-room_ahead t act ahead.Else is room = small_room t act is
-
-pub room_taken : (old new : Turn) (r : Registers) (a : Ahead) → IsAhead (outcome (shown old) r).act a → Stays old new → HasRoomAhead new a → HasRoom new (outcome (shown new) r).act
-room_taken old new r a is stays room =
-    subst (λ v. HasRoom new (outcome v r).act) (sym (shown_stays old new stays)) (room_ahead new (outcome (shown old) r).act a is room)
-
--- nor does an order that can't be fetched
-pub bad_room : (t : Turn) (r : Registers) → IsFetchedAt (shown t) r.at Bad → HasRoom t (outcome (shown t) r).act
-bad_room t r is = small_room t (outcome (shown t) r).act (small_fetched (shown t) r Bad tt is refl)
-
-pub held_room : (t : Turn) (r : Registers) (g : ℕ) → IsFetchedAt (shown t) r.at (Held g) → HasRoom t (outcome (shown t) r).act
-held_room t r g is = small_room t (outcome (shown t) r).act (small_fetched (shown t) r (Held g) tt is refl)
 
 pub same_same : (t u w : Turn) → SameTurn t u → SameTurn u w → SameTurn t w
 same_same t u w first second =
@@ -96,16 +51,10 @@ acts_from t u w act stays acted =
     }
 
 -- an order that was obeyed once memory was taken
-pub obeyed_by : (old mid new : Turn) (r left : Registers) (ended : Step) (noted : Note) → Stays old mid → ended ≡ (outcome (shown mid) r).step → left ≡ (outcome (shown mid) r).registers → Acts mid (outcome (shown mid) r).act new → noted ≡ new.note → HasObeyed old r new left ended noted
+pub obeyed_by : (old mid new : Turn) (r left : Registers) (ended : Step) (noted : Note) → Stays old mid → ended ≡ (outcome (shown old) r).step → left ≡ (outcome (shown old) r).registers → Acts mid (outcome (shown old) r).act new → noted ≡ new.note → HasObeyed old r new left ended noted
 obeyed_by old mid new r left ended noted stays step registers acted note =
-    let same : outcome (shown mid) r ≡ outcome (shown old) r = ap (λ v. outcome v r) (shown_stays old mid stays) in
-    let done : Acts old (outcome (shown old) r).act new = acts_from old mid new (outcome (shown old) r).act stays (subst (λ (o : Outcome). Acts mid o.act new) same acted) in
-    record {
-      step = step ∙ ap (λ (o : Outcome). o.step) same;
-      note = note ∙ done.note;
-      registers = registers ∙ ap (λ (o : Outcome). o.registers) same;
-      acted = done;
-    }
+    let done : Acts old (outcome (shown old) r).act new = acts_from old mid new (outcome (shown old) r).act stays acted in
+    record { step = step; note = note ∙ done.note; registers = registers; acted = done }
 
 -- the fields of a program that were lent end as the turn leaves them
 pub seat_back : (t : Turn) (q : Part) (s : Shared) (o : Outcome) (p : ℕ) (r : Registers) (claimed : List Bool) (spooled : List Spooled) → p ≡ q.p → r ≡ o.registers → claimed ≡ t.claimed.now → spooled ≡ t.spooled.now.items → part_of t ≡ part_after q s o.act → seat p r claimed spooled ≡ seat_after q s o

@@ -5,9 +5,9 @@ use Rattle.std.specs.List.{AllPairs}
 use Rattle.std.proofs.lemmas.Bool.{cases_lt}
 use Rattle.std.proofs.lemmas.List.{get_or-replicate, get_or_past, length-replicate, length-set}
 use Rattle.std.proofs.lemmas.List.Elements.{All-cons, All-nil}
-use Rattle.kdf_transfer.specs.Devices.{Fixture}
-use Rattle.kdf_processor.specs.State.{Slot, new_progress}
-use Rattle.kdf_director.specs.ByNumber.{device_count}
+use Rattle.kdf_transfer.specs.Devices.{Fixture, new_progress}
+use Rattle.kdf_transfer.specs.Slots.{Slot}
+use Rattle.kdf_transfer.specs.ByNumber.{device_count}
 use Rattle.kdf_director.specs.Slots.{AreSlots, HaveOwnDevices, IsSlot}
 use Rattle.kdf_director.specs.Worked.{loops, no_devices, reads, tape}
 

@@ -4,7 +4,8 @@ use Rattle.std.specs.Prelude.{find, is_some}
 use Rattle.std.proofs.lemmas.Bool.{and_parts}
 use Rattle.kdf_journal.specs.declared.entry.Entry.{Entry}
 use Rattle.kdf_journal.specs.Counts.{last_hold, over, priorities}
-use Rattle.kdf_processor.specs.State.{Slot, State}
+use Rattle.kdf_transfer.specs.Slots.{Slot}
+use Rattle.kdf_processor.specs.State.{State}
 use Rattle.kdf_director.specs.Slots.{slot_of}
 use Rattle.kdf_director.specs.Told.{world_after}
 use Rattle.kdf_director.specs.World.{World}

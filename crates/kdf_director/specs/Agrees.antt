@@ -6,7 +6,7 @@ use Rattle.kdf_journal.specs.declared.entry.Entry.{Entry}
 use Rattle.kdf_journal.specs.declared.journal.TheConstants.{CALL_LIMIT, MOVE_LIMIT}
 use Rattle.kdf_journal.specs.Counts.{calls, last_hold, moves}
 use Rattle.kdf_lockout.specs.Groups.{Cells}
-use Rattle.kdf_processor.specs.State.{Slot}
+use Rattle.kdf_transfer.specs.Slots.{Slot}
 use Rattle.kdf_relocate.specs.Windows.{windows_from}
 use Rattle.kdf_relocate.specs.declared.window.Window.{Window}
 use Rattle.kdf_director.specs.declared.machine.TheConstants.{EVENT_LIMIT}

@@ -1,6 +1,6 @@
 -- Places that are given up one by one, from the last.
 use Rattle.std.specs.Prelude.{◌-◌, List, ◌++◌, length, map, replicate}
-use Rattle.kdf_director.specs.ByNumber.{device_count}
+use Rattle.kdf_transfer.specs.ByNumber.{device_count}
 use Rattle.kdf_lockout.specs.Groups.{Cells}
 use Rattle.kdf_director.specs.declared.place.Place.{Place}
 use Rattle.kdf_director.specs.Spots.{Spot, no_spot, spot_of}

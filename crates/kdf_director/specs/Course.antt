@@ -1,6 +1,6 @@
 -- The one course that the programs in the slots take under a schedule where they are truly answered, as a function.
 use Rattle.std.specs.Prelude.{List}
-use Rattle.kdf_processor.specs.State.{Slot}
+use Rattle.kdf_transfer.specs.Slots.{Slot}
 use Rattle.kdf_journal.specs.declared.entry.Entry.{Entry}
 use Rattle.kdf_journal.specs.Steps.{Step}
 use Rattle.kdf_schedule.specs.Calls.{Call}

@@ -17,7 +17,8 @@ use Rattle.kdf_director.specs.Parts.{Seat, Reach, Shared, owns, shared_in, windo
 use Rattle.kdf_director.specs.Running.{IsRunning, own_state, reaches_in, seats_in}
 use Rattle.kdf_director.specs.Slots.{AreSlots}
 use Rattle.kdf_director.specs.Spots.{AreDry, Spot, spot_at}
-use Rattle.kdf_director.specs.Loading.{numbered, fixture_on, progress_on, SlotLoad, slot_of}
+use Rattle.kdf_job.specs.Slots.{numbered, fixture_on, progress_on}
+use Rattle.kdf_director.specs.Loading.{SlotLoad, slot_of}
 
 -- the numbers of a slot's devices, and whether one of them has this number
 abbrev pub numbers_in : List JobDevice → List ℕ

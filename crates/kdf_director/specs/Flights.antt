@@ -8,7 +8,7 @@ use Rattle.kdf_processor.specs.Effect.{Effect, Starting}
 use Rattle.kdf_processor.specs.Needs.{group_of}
 use Rattle.kdf_processor.specs.Row.{transferred}
 use Rattle.kdf_processor.specs.State.{State, Stock, device_at, fixture_at}
-use Rattle.kdf_director.specs.ByNumber.{device_count}
+use Rattle.kdf_transfer.specs.ByNumber.{device_count}
 
 -- a transfer: its order and area, the lone state that the order met, and how many words it has moved
 pub record Flight : Type 0 where

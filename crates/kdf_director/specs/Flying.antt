@@ -1,7 +1,8 @@
 -- What holds of the transfers of a program that are in flight.
 use Rattle.std.specs.Prelude.{◌≡◌, ◌≢◌, ◌≤◌, ℕ, length, true, false, Option, Some, None}
 use Rattle.kdf_transfer.specs.AtOnce.{IsArea, has_area, kind_of}
-use Rattle.kdf_processor.specs.Claims.{claim, is_kind}
+use Rattle.kdf_transfer.specs.Devices.{is_kind}
+use Rattle.kdf_processor.specs.Claims.{claim}
 use Rattle.kdf_processor.specs.Needs.{group_of}
 use Rattle.kdf_processor.specs.State.{State, device_at, device_in, fixture_at, word_at, word_in}
 use Rattle.kdf_director.specs.Flights.{Flight, completed, move_count, touches}

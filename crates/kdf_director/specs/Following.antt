@@ -5,7 +5,8 @@ use Rattle.kdf_journal.specs.declared.entry.Entry.{Entry}
 use Rattle.kdf_journal.specs.Counts.{answers, pending}
 use Rattle.kdf_transfer.specs.AtOnce.{is_input, order_words}
 use Rattle.kdf_transfer.specs.InFlight.{area_words}
-use Rattle.kdf_processor.specs.State.{Slot, State, device_at, fixture_at}
+use Rattle.kdf_transfer.specs.Slots.{Slot}
+use Rattle.kdf_processor.specs.State.{State, device_at, fixture_at}
 use Rattle.kdf_director.specs.Flights.{Flight}
 use Rattle.kdf_director.specs.Told.{flights_of, seen_of}
 use Rattle.kdf_director.specs.Spots.{Held, spot_at}

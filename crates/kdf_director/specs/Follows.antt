@@ -1,6 +1,6 @@
 -- What it is for a journal to be that of the slots under a schedule: legal, true and whole.
 use Rattle.std.specs.Prelude.{ℕ, List}
-use Rattle.kdf_processor.specs.State.{Slot}
+use Rattle.kdf_transfer.specs.Slots.{Slot}
 use Rattle.kdf_journal.specs.declared.entry.Entry.{Entry}
 use Rattle.kdf_schedule.specs.declared.event.Event.{Event}
 use Rattle.kdf_schedule.specs.declared.event.Event.TheVariants.{Orders, Move, End, Clock, Swap}

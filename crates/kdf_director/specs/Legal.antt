@@ -5,7 +5,8 @@ use Rattle.kdf_processor.specs.declared.step.Step.TheVariants as ending
 use Rattle.kdf_processor.specs.Effect.{Act, Starts, Asks, Releases, Effect, Asking, Question, FreeOf}
 use Rattle.kdf_processor.specs.Needs.{next_effect}
 use Rattle.kdf_processor.specs.Outcome.{Outcome}
-use Rattle.kdf_processor.specs.State.{Slot, State}
+use Rattle.kdf_transfer.specs.Slots.{Slot}
+use Rattle.kdf_processor.specs.State.{State}
 use Rattle.kdf_processor.specs.Row.{next_of}
 use Rattle.kdf_journal.specs.declared.entry.Entry.{Entry}
 use Rattle.kdf_journal.specs.Steps.{Note, Quiet, Began, Answered, Took, Gave, Failed, Finished, Step, steps}

@@ -9,7 +9,8 @@ use Rattle.kdf_transfer.specs.InFlight.{Motion, Covers, lent_at, total_of}
 use Rattle.kdf_processor.specs.declared.step.Need.TheVariants.{Group}
 use Rattle.kdf_processor.specs.Claims.{is_claimed}
 use Rattle.kdf_processor.specs.Needs.{group_of}
-use Rattle.kdf_processor.specs.State.{Slot, State, device_at, fixture_at, word_at}
+use Rattle.kdf_transfer.specs.Slots.{Slot}
+use Rattle.kdf_processor.specs.State.{State, device_at, fixture_at, word_at}
 use Rattle.kdf_director.specs.Flights.{Flight, move_count, touches}
 use Rattle.kdf_director.specs.Parts.{window_at}
 use Rattle.kdf_director.specs.Shown.{Shown, state_of}

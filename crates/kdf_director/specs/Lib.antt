@@ -13,7 +13,6 @@ pub mod Follows
 pub mod Worked
 pub mod Physical
 pub mod Spots
-pub mod Claiming
 pub mod Parts
 pub mod Shared
 pub mod Notes
@@ -33,5 +32,4 @@ pub mod Going
 pub mod Taken
 pub mod Viewed
 pub mod Fields
-pub mod ByNumber
 pub mod Holders

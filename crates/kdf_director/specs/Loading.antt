@@ -1,22 +1,8 @@
 -- What is loaded: the slots of a job with the words of their images, the store, the programs and the places of the devices.
-use Rattle.std.specs.Prelude.{ℕ, ◌≤◌, ◌==◌, List, [], ◌∷◌, length, map, find, Option, Some, None}
-use Rattle.std.specs.Option.{option_map}
-use Rattle.kdf_transfer.specs.Devices.{Fixture, Progress}
+use Rattle.std.specs.Prelude.{ℕ, ◌≤◌, List, [], ◌∷◌, length, map}
+use Rattle.kdf_transfer.specs.Slots.{Slot}
 use Rattle.kdf_job.specs.Job.{JobDevice, SlotJob}
-use Rattle.kdf_processor.specs.State.{Slot, new_progress}
-use Rattle.kdf_director.specs.ByNumber.{by_number}
-
--- the device of a number, of those that a slot of a job has
-abbrev pub numbered : List JobDevice → ℕ → Option JobDevice
-numbered devices d = find (λ (x : JobDevice). x.d == d) devices
-
--- what it is, and how far it has come, where there is one
-abbrev pub fixture_on : Option JobDevice → Option Fixture
-fixture_on o = option_map (λ (x : JobDevice). x.fixture) o
-
-abbrev pub progress_on : Option JobDevice → Progress
-progress_on None = new_progress
-progress_on (Some x) = x.progress
+use Rattle.kdf_job.specs.Slots.{slot_with}
 
 -- what is loaded as a slot: its number, the size of its store, the words of its image, and its devices in the order of the job
 pub record SlotLoad : Type 0 where
@@ -27,15 +13,7 @@ pub record SlotLoad : Type 0 where
 
 -- the slot: the words at the front of its store, and its devices by number
 abbrev pub slot_of : SlotLoad → Slot
-slot_of l =
-    record {
-      p = l.p;
-      size = l.size;
-      words = l.words;
-      fixtures = by_number (λ d. fixture_on (numbered l.devices d));
-      devices = by_number (λ d. progress_on (numbered l.devices d));
-      pool = [];
-    }
+slot_of l = slot_with l.p l.size l.words l.devices
 
 -- what is loaded of a job: each slot with the words of its image
 abbrev pub load_of : SlotJob → List ℕ → SlotLoad

@@ -5,18 +5,18 @@ use Rattle.kdf_word.specs.Characters.{codes_of_all}
 use Rattle.kdf_media.specs.Media.{through_end}
 use Rattle.kdf_lockout.specs.Groups.{Cells}
 use Rattle.kdf_relocate.specs.declared.window.Window.{Window}
-use Rattle.kdf_transfer.specs.Devices.{Fixture, Progress}
+use Rattle.kdf_transfer.specs.Devices.{Fixture, Progress, new_progress}
 use Rattle.kdf_transfer.specs.declared.device.Device.{Device}
 use Rattle.kdf_processor.specs.declared.registers.Registers.{Registers}
 use Rattle.kdf_processor.specs.declared.spooled.Spooled.{Spooled}
 use Rattle.kdf_processor.specs.Effect.{Act, Nothing, Writes, Starts, Asks, Acquires, Releases, Spools}
 use Rattle.kdf_processor.specs.Row.{area_words}
-use Rattle.kdf_processor.specs.State.{Claims, Stock, new_progress}
+use Rattle.kdf_processor.specs.State.{Claims, Stock}
 use Rattle.kdf_director.specs.declared.place.Place.{Place}
 use Rattle.kdf_director.specs.declared.program.Program.{Program}
 use Rattle.kdf_director.specs.declared.slot.Loaded.{Loaded}
 use Rattle.kdf_director.specs.Physical.{own_words}
-use Rattle.kdf_director.specs.ByNumber.{by_number}
+use Rattle.kdf_transfer.specs.ByNumber.{by_number}
 use Rattle.kdf_director.specs.Spots.{Spot, spot_of, spot_at, leases_of}
 
 -- what all programs share: the groups, and the places of the devices

@@ -4,7 +4,7 @@ use Rattle.std.specs.List.{range_with_len}
 use Rattle.kdf_lockout.specs.Groups.{Cells, Lent, group_at}
 use Rattle.kdf_transfer.specs.InFlight.{lent_at}
 use Rattle.std.proofs.Common.{zero, suc}
-use Rattle.kdf_director.specs.ByNumber.{device_count}
+use Rattle.kdf_transfer.specs.ByNumber.{device_count}
 
 -- a lease has a group
 abbrev pub has_group : Option Lent → ℕ → Bool

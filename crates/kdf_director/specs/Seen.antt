@@ -10,7 +10,7 @@ use Rattle.kdf_processor.specs.Needs.{next_effect}
 use Rattle.kdf_processor.specs.Outcome.{Outcome}
 use Rattle.kdf_processor.specs.Row.{at_once, done_by}
 use Rattle.kdf_processor.specs.State.{State, Stock, word_at, device_at}
-use Rattle.kdf_director.specs.ByNumber.{device_count}
+use Rattle.kdf_transfer.specs.ByNumber.{device_count}
 use Rattle.kdf_director.specs.Flights.{Flight, unmoved, touches}
 
 -- the transfer on d has still to move a word to this address

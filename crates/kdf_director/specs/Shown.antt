@@ -4,7 +4,8 @@ use Rattle.kdf_journal.specs.declared.entry.Entry.{Entry}
 use Rattle.kdf_journal.specs.Steps.{Step, added}
 use Rattle.kdf_transfer.specs.Devices.{fixture_of, progress_of}
 use Rattle.kdf_transfer.specs.declared.device.Device.{Device}
-use Rattle.kdf_processor.specs.State.{Slot, State, device_at, fixture_at}
+use Rattle.kdf_transfer.specs.Slots.{Slot}
+use Rattle.kdf_processor.specs.State.{State, device_at, fixture_at}
 use Rattle.kdf_director.specs.Slots.{start_of}
 use Rattle.kdf_director.specs.Told.{seen_of, world_after}
 use Rattle.kdf_director.specs.World.{World}

@@ -2,8 +2,9 @@
 use Rattle.std.specs.Prelude.{◌≡◌, ◌≢◌, ℕ, ◌<◌, ◌≤◌, ◌==◌, ◌⊎◌, true, List, [], Option, Some, None, is_some, find, length, slice_index_or}
 use Rattle.std.specs.List.{All, AllPairs}
 use Rattle.kdf_transfer.specs.Devices.{Fixture}
-use Rattle.kdf_processor.specs.State.{Slot, State, begin, device_limit}
-use Rattle.kdf_director.specs.ByNumber.{device_count}
+use Rattle.kdf_transfer.specs.Slots.{Slot}
+use Rattle.kdf_transfer.specs.ByNumber.{device_count}
+use Rattle.kdf_processor.specs.State.{State, begin, device_limit}
 
 -- a slot without words and devices
 abbrev pub no_slot : Slot

@@ -4,7 +4,7 @@ use Rattle.kdf_lockout.specs.Groups.{Lent, group_at, AreWhole, AreFull}
 use Rattle.kdf_transfer.specs.AtOnce.{has_area}
 use Rattle.kdf_transfer.specs.InFlight.{Covers, total_of}
 use Rattle.kdf_director.specs.Physical.{has_group}
-use Rattle.kdf_director.specs.ByNumber.{device_count}
+use Rattle.kdf_transfer.specs.ByNumber.{device_count}
 use Rattle.kdf_director.specs.Spots.{Held, Spot, leases_of}
 use Rattle.kdf_director.specs.Parts.{Shared, Part, has_device}
 

@@ -1,20 +1,14 @@
 -- The places of the devices, as contracts see them.
-use Rattle.std.specs.Prelude.{◌≡◌, ℕ, ◌+◌, ◌^◌, ◌<◌, ◌≤◌, ◌==◌, List, [], ◌∷◌, Bool, false, if◌then◌else◌, Option, Some, None, slice_index_or, is_some}
-use Rattle.std.specs.Option.{option_map}
+use Rattle.std.specs.Prelude.{◌≡◌, ℕ, ◌+◌, ◌==◌, List, [], ◌∷◌, Bool, false, if◌then◌else◌, Option, Some, None, slice_index_or, is_some}
 use Rattle.kdf_lockout.specs.Groups.{Lent}
 use Rattle.kdf_journal.specs.declared.kind.Kind.{Kind}
 use Rattle.kdf_journal.specs.declared.kind.Kind.TheVariants.{Tr}
-use Rattle.kdf_transfer.specs.AtOnce.{blocks_out}
-use Rattle.kdf_transfer.specs.Devices.{Fixture, Progress, fixture_of, progress_of, room_of}
+use Rattle.kdf_transfer.specs.Devices.{Fixture, Progress, fixture_of, kind_in, new_progress, progress_of}
 use Rattle.kdf_transfer.specs.InFlight.{Motion}
-use Rattle.kdf_transfer.specs.declared.device.Device.{Device}
+use Rattle.kdf_transfer.specs.Spare.{HasSpare}
 use Rattle.kdf_transfer.specs.declared.order.TransferOrder.{TransferOrder}
-use Rattle.kdf_processor.specs.Claims.{is_kind, has_label}
-use Rattle.kdf_processor.specs.State.{new_progress}
 use Rattle.kdf_director.specs.declared.place.Place.{Place}
 use Rattle.kdf_director.specs.declared.place.Place.TheVariants.{Absent, Idle, Busy}
-use Rattle.kdf_director.specs.declared.place.Wanted.{Wanted}
-use Rattle.kdf_director.specs.declared.place.Wanted.TheVariants.{Kinded, Labelled}
 
 -- a transfer in flight, and whose it is
 pub record Held : Type 0 where
@@ -80,25 +74,12 @@ ring_in (Busy p t) = []
 abbrev pub AreDry : List Place → Type 0
 AreDry places = (d : ℕ) → ring_in (slice_index_or places d Absent) ≡ []
 
--- a device has memory for the blocks that an order adds, and fewer than 2^32 - 1 blocks yet
-pub record HasSpare (order : TransferOrder) (device : Device) : Type 0 where
-  pub spare : blocks_out order ≤ room_of device
-  pub few : (progress_of device).place + blocks_out order < 2 ^ 32
-
 -- the device of a place that has no transfer has memory for the blocks that an order adds, and fewer than 2^32 - 1 blocks yet
 abbrev pub IsReady : TransferOrder → Place → Type 0
 IsReady order Absent = Unit {0}
 IsReady order (Idle device ring) = HasSpare order device
 IsReady order (Busy p t) = Unit {0}
 
--- the kind of a device, if there is one
-abbrev pub kind_in : Option Fixture → Option Kind
-kind_in fixture = option_map (λ (f : Fixture). f.kind) fixture
-
+-- the kind of the device, if there is one
 abbrev pub spot_kind : Spot → Option Kind
 spot_kind s = kind_in s.fixture
-
--- it is what a claim wants
-abbrev pub is_wanted : Wanted → Option Fixture → Bool
-is_wanted (Kinded kind) fixture = is_kind kind (kind_in fixture)
-is_wanted (Labelled label) fixture = has_label label fixture

@@ -7,12 +7,13 @@ use Rattle.kdf_journal.specs.Counts.{ran, answers, pending, moved, holder}
 use Rattle.kdf_processor.specs.declared.step.Need.{Need}
 use Rattle.kdf_processor.specs.declared.step.Need.TheVariants.{Group, Device, Pool}
 use Rattle.kdf_journal.specs.declared.kind.Kind.{Kind}
-use Rattle.kdf_processor.specs.Claims.{is_kind}
+use Rattle.kdf_transfer.specs.Devices.{is_kind}
 use Rattle.kdf_processor.specs.Effect.{Effect, Starting}
 use Rattle.kdf_processor.specs.Lone.{lone}
 use Rattle.kdf_processor.specs.Needs.{next_effect}
-use Rattle.kdf_processor.specs.State.{Slot, State, pool_kind_at}
-use Rattle.kdf_director.specs.ByNumber.{device_count}
+use Rattle.kdf_transfer.specs.Slots.{Slot}
+use Rattle.kdf_transfer.specs.ByNumber.{device_count}
+use Rattle.kdf_processor.specs.State.{State, pool_kind_at}
 use Rattle.kdf_director.specs.Flights.{Flight, beginning, move_count, moved_to}
 use Rattle.kdf_director.specs.Seen.{seen, touched_below}
 use Rattle.kdf_director.specs.Slots.{start}

@@ -3,13 +3,12 @@ use Rattle.std.specs.Prelude.{◌≡◌, ◌+◌, ◌-◌, ◌*◌, ◌<◌, ◌
 use Rattle.std.specs.Vec.{vec_capacity}
 use Rattle.kdf_transfer.specs.AtOnce.{is_output}
 use Rattle.kdf_transfer.specs.declared.order.TransferOrder.{TransferOrder}
-use Rattle.kdf_processor.specs.declared.look.Ahead.{Ahead}
-use Rattle.kdf_processor.specs.declared.look.Ahead.TheVariants as ahead
 use Rattle.kdf_processor.specs.declared.registers.Registers.{Registers}
 use Rattle.kdf_processor.specs.declared.step.Step.{Step}
 use Rattle.kdf_processor.specs.Outcome.{outcome}
 use Rattle.kdf_director.specs.declared.note.Note.{Note}
-use Rattle.kdf_processor.specs.Effect.{Act, Nothing, Writes, Starts, Asks, Acquires, Releases, Spools}
+use Rattle.kdf_processor.specs.Effect.{Act}
+use Rattle.kdf_processor.specs.Room.{RoomFor}
 use Rattle.kdf_processor.specs.View.{View}
 use Rattle.kdf_director.specs.declared.place.Place.TheVariants.{Absent}
 use Rattle.kdf_director.specs.declared.turn.Turn.{Turn}
@@ -79,19 +78,10 @@ pub record CanSpool (t : Turn) (first last : ℕ) : Type 0 where
   pub block : 8 * (last + 1 - first) ≤ vec_capacity t.block.now
   pub text : vec_len t.spooled.now < vec_capacity t.spooled.now
 
--- for what an acting call keeps
+-- for what an acting call keeps; an answer needs none
 abbrev pub HasRoom : Turn → Act → Type 0
-HasRoom t Nothing = Unit {0}
-HasRoom t (Writes a w) = Unit {0}
-HasRoom t (Starts d o first last) = CanStart t d o first last
-HasRoom t (Asks question answer) = Unit {0}
-HasRoom t (Acquires d) = Unit {0}
-HasRoom t (Releases pooled d) = Unit {0}
-HasRoom t (Spools stream first last) = CanSpool t first last
+HasRoom t act = RoomFor (CanStart t) (CanSpool t) (Unit {0}) act
 
--- there is memory for what is ahead
-abbrev pub HasRoomAhead : Turn → Ahead → Type 0
-HasRoomAhead t (ahead.Starts d o first last) = CanStart t d o first last
-HasRoomAhead t (ahead.Spools stream first last) = CanSpool t first last
-HasRoomAhead t ahead.Takes = Unit {0}
-HasRoomAhead t ahead.Else = Unit {0}
+-- no characters are left from an order before
+abbrev pub IsBlank : Turn → Type 0
+IsBlank t = t.block.now.items ≡ []

@@ -7,10 +7,11 @@ use Rattle.kdf_journal.specs.Steps.{journal_of}
 use Rattle.kdf_schedule.specs.declared.event.Event.{Event}
 use Rattle.kdf_schedule.specs.declared.event.Event.TheVariants.{Orders, End}
 use Rattle.kdf_schedule.specs.Calls.{calls_made}
-use Rattle.kdf_transfer.specs.Devices.{Fixture, Progress}
+use Rattle.kdf_transfer.specs.Devices.{Fixture, Progress, new_progress}
 use Rattle.kdf_transfer.specs.Examples.{having, paper, writer}
-use Rattle.kdf_processor.specs.State.{Lending, Slot, device_at, lendings, new_progress, word_at}
-use Rattle.kdf_director.specs.ByNumber.{device_count}
+use Rattle.kdf_transfer.specs.Slots.{Slot}
+use Rattle.kdf_transfer.specs.ByNumber.{device_count}
+use Rattle.kdf_processor.specs.State.{Lending, device_at, lendings, word_at}
 use Rattle.kdf_director.specs.Course.{course}
 use Rattle.kdf_director.specs.Told.{seen_of}
 

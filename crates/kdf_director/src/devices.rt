@@ -4,12 +4,12 @@ ghost use Rattle.std.specs.List.{list_any};
 ghost use Rattle.kdf_transfer.specs.declared.device.Device.{Device};
 ghost use Rattle.kdf_processor.specs.State.{device_limit};
 ghost use Rattle.kdf_director.specs.Parts.{fixture_owned, numbers, owns};
-ghost use Rattle.kdf_director.specs.Spots.{is_wanted, kind_in, spot_of, spot_at};
+ghost use Rattle.kdf_transfer.specs.Devices.{is_wanted, kind_in};
+ghost use Rattle.kdf_director.specs.Spots.{spot_of, spot_at};
 
 use crate::Place;
-use crate::place::Wanted;
 use kdf_journal::Kind;
-use kdf_transfer::Device;
+use kdf_transfer::{Device, Wanted};
 
 /// Whether one of the devices has this number.
 fn have(devices: &[(u8, Device)], d: u8) -> bool

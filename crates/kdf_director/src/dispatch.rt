@@ -7,11 +7,10 @@ ghost use Rattle.kdf_director.specs.Turn.{HasObeyed, SameTurn, Stays};
 ghost use Rattle.kdf_director.specs.Turned.{HasRun, HasTurned};
 ghost use Rattle.kdf_director.specs.Parts.{window_at};
 
-use crate::room::make_room;
 use crate::turn::Turn;
 use crate::{Loaded, Note, Place, Program};
 use kdf_lockout::Store;
-use kdf_processor::{Life, Registers, Spooled, Step, fetch_order, obey_fetched};
+use kdf_processor::{Life, Registers, Spooled, Step, obey_with_room};
 use kdf_relocate::Window;
 use kdf_transfer::Device;
 use std::alloc::{AllocError, Global};
@@ -27,9 +26,7 @@ fn obey_next(registers: &mut Registers, turn: &mut Turn<'_>) -> Result<(Step, No
     ensures err { OnErr result ((registers.new ≡ registers.old) × Stays turn.old turn.new) }
     ensures same { SameTurn turn.old turn.new }
 {
-    let fetched = fetch_order(turn, registers.at);
-    make_room(registers, turn, fetched)?;
-    let step = obey_fetched(registers, turn, fetched);
+    let step = obey_with_room(registers, turn)?;
     Ok((step, turn.note()))
 }
 

@@ -1,10 +1,10 @@
 //! Examples of what is seen while transfers are in flight, computed from the definitions, each as the contract of a
 //! function that does nothing.
-#![tactic(auto, unfolding(crate::specs::ByNumber::device_count, kdf_transfer::specs::AtOnce::given, kdf_transfer::specs::AtOnce::offered, kdf_transfer::specs::AtOnce::finished, kdf_media::specs::Media::after_read, kdf_tape::specs::Tape::after_skip, kdf_word::specs::Characters::first_word, kdf_word::specs::Characters::words_of))]
+#![tactic(auto, unfolding(kdf_transfer::specs::ByNumber::device_count, kdf_transfer::specs::AtOnce::given, kdf_transfer::specs::AtOnce::offered, kdf_transfer::specs::AtOnce::finished, kdf_media::specs::Media::after_read, kdf_tape::specs::Tape::after_skip, kdf_word::specs::Characters::first_word, kdf_word::specs::Characters::words_of))]
 
 ghost use Rattle.std.specs.Prelude.{◌≡◌, [], ◌∷◌, true, false, Some, None, map, replicate};
 ghost use Rattle.kdf_transfer.specs.Examples.{all_a, all_b, having, placed};
-ghost use Rattle.kdf_processor.specs.State.{new_progress};
+ghost use Rattle.kdf_transfer.specs.Devices.{new_progress};
 ghost use Rattle.kdf_processor.specs.declared.step.Need.TheVariants.{Device, Group};
 ghost use Rattle.kdf_director.specs.Examples.{backwards, behind, both, done, reading, ready, sevens, wound};
 ghost use Rattle.kdf_director.specs.Flights.{moved_to, with_flight};

@@ -17,7 +17,6 @@ mod note;
 mod place;
 mod places;
 mod program;
-mod room;
 mod schedule;
 mod shown;
 mod slot;

@@ -1,7 +1,6 @@
 //! Loading: all memory is taken first, in values that may be dropped; the places come last, into room that was reserved.
 ghost use Rattle.std.specs.Prelude.{◌≡◌, ◌≤◌, length, map, All, AllPairs, IfOk, true, None, [], vec_len};
 ghost use Rattle.std.specs.List.{range_with_len};
-ghost use Rattle.std.specs.Option.{option_map};
 ghost use Rattle.std.specs.Vec.{vec_capacity};
 ghost use Rattle.kdf_job.specs.Shows.{shown_device, shown_slot};
 ghost use Rattle.kdf_job.specs.WellFormed.{AreSlots};
@@ -9,16 +8,16 @@ ghost use Rattle.kdf_place.specs.declared.image.Image.{Image};
 ghost use Rattle.kdf_relocate.specs.Windows.{have_windows, windows_from, IsBefore, IsInStore};
 ghost use Rattle.kdf_director.specs.declared.program.Program.{Program};
 ghost use Rattle.kdf_director.specs.declared.slot.Loaded.{Loaded};
-ghost use Rattle.kdf_director.specs.Loading.{HaveImages, load_of, loads, numbered};
+ghost use Rattle.kdf_director.specs.Loading.{HaveImages, load_of, loads};
 ghost use Rattle.kdf_director.specs.Fields.{AreLoads, IsLoaded, first_numbered, first_seat, idle_place, idle_ring, idle_spot, loaded, size_at, sizes_of};
 ghost use Rattle.kdf_director.specs.Parts.{seat_of};
-ghost use Rattle.kdf_director.specs.ByNumber.{by_number};
+ghost use Rattle.kdf_transfer.specs.ByNumber.{by_number};
 ghost use Rattle.kdf_director.specs.Running.{seats_in};
 ghost use Rattle.kdf_director.specs.Spots.{AreDry, spot_of};
 
 use crate::fill::filled_store;
 use crate::{Loaded, Place, Program};
-use kdf_job::SlotJob;
+use kdf_job::{SlotJob, device_numbered};
 use kdf_lockout::Store;
 use kdf_place::Image;
 use kdf_processor::Registers;
@@ -189,25 +188,13 @@ fn places(alloc: Global, slots: &[Loaded]) -> Result<Vec<Place>, AllocError>
     Ok(places)
 }
 
-/// The device of a number.
-fn find(devices: &[(u8, Device)], d: u8) -> Option<&(u8, Device)>
-    ensures { option_map (λ x. shown_device x.now) result ≡ numbered (map shown_device devices.now) d }
-{
-    for device in devices.iter() {
-        if device.0 == d {
-            return Some(device);
-        }
-    }
-    None
-}
-
 /// A copy of the first slot's device of a number, and a ring for it.
 fn idle_of(alloc: Global, slots: &[Loaded], d: u8) -> Result<Option<(Device, Ring)>, AllocError>
     ensures spot { IfOk result (λ o. spot_of (idle_place o) ≡ idle_spot (first_numbered (map loaded slots.now) d)) }
     ensures ring { IfOk result (λ o. idle_ring o ≡ []) }
 {
     for slot in slots.iter() {
-        if let Some(device) = find(&slot.devices, d) {
+        if let Some(device) = device_numbered(&slot.devices, d) {
             let device = device.1.copy(alloc)?;
             let ring = Ring::new(alloc)?;
             return Ok(Some((device, ring)));

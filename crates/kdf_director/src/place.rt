@@ -1,17 +1,13 @@
 //! The place of a device.
 ghost use Rattle.std.specs.Prelude.{◌≡◌, ◌+◌, ◌/◌, None, Some, Option, if◌then◌else◌, OnOk};
 ghost use Rattle.std.specs.Option.{option_map};
-ghost use Rattle.kdf_transfer.specs.Devices.{fixture_of, progress_of};
+ghost use Rattle.kdf_transfer.specs.Devices.{is_wanted, test_of};
 ghost use Rattle.kdf_transfer.specs.InFlight.{lent_at};
-ghost use Rattle.kdf_processor.specs.Claims.{has_label};
-ghost use Rattle.kdf_processor.specs.View.{test_of};
 ghost use Rattle.kdf_director.specs.Physical.{has_group};
-ghost use Rattle.kdf_director.specs.Spots.{is_wanted, HasSpare};
 
 use kdf_journal::Kind;
 use kdf_lockout::Lease;
-use kdf_processor::Test;
-use kdf_transfer::{Device, Ring, Transfer, TransferOrder};
+use kdf_transfer::{Device, Ring, Test, Transfer, TransferOrder, Wanted};
 use kdf_word::Word;
 use std::alloc::AllocError;
 
@@ -23,15 +19,6 @@ pub enum Place {
     Idle { device: Device, ring: Ring },
     /// A device with a transfer of slot `p`.
     Busy { p: u8, transfer: Transfer },
-}
-
-/// What a claim looks for.
-#[derive(Drop)]
-pub enum Wanted {
-    /// A device of this kind.
-    Kinded(Kind),
-    /// A tape with this label.
-    Labelled(Word),
 }
 
 impl Place {
@@ -57,8 +44,8 @@ impl Place {
     {
         match self {
             Place::Absent => false,
-            Place::Idle { device, .. } => is_such(device, wanted),
-            Place::Busy { transfer, .. } => is_such(transfer.device(), wanted),
+            Place::Idle { device, .. } => device.is_wanted(wanted),
+            Place::Busy { transfer, .. } => transfer.device().is_wanted(wanted),
         }
     }
 
@@ -68,8 +55,8 @@ impl Place {
     {
         match self {
             Place::Absent => what == Test::Start,
-            Place::Idle { device, .. } => test(device, what),
-            Place::Busy { transfer, .. } => test(transfer.device(), what),
+            Place::Idle { device, .. } => device.test(what),
+            Place::Busy { transfer, .. } => transfer.device().test(what),
         }
     }
 
@@ -134,7 +121,7 @@ impl Place {
     {
         match self {
             Place::Absent | Place::Busy { .. } => Ok(()),
-            Place::Idle { device, .. } => reserve(device, order),
+            Place::Idle { device, .. } => device.reserve_for(order),
         }
     }
 
@@ -148,63 +135,6 @@ impl Place {
             Place::Busy { transfer, .. } => transfer.move_words(n),
         }
     }
-}
-
-/// Whether a device is what a claim wants.
-fn is_such(device: &Device, wanted: &Wanted) -> bool
-    ensures { result ≡ is_wanted wanted.now (Some (fixture_of device.now)) }
-{
-    match wanted {
-        Wanted::Kinded(kind) => device.kind() == *kind,
-        Wanted::Labelled(label) => has_label(device, *label),
-    }
-}
-
-/// Whether a device is a tape with this label.
-fn has_label(device: &Device, label: Word) -> bool
-    ensures { result ≡ has_label label (Some (fixture_of device.now)) }
-{
-    match device {
-        Device::Mt(tape) => tape.label() == label,
-        _ => false,
-    }
-}
-
-/// What a test of a device tells.
-fn test(device: &Device, what: Test) -> bool
-    ensures { result ≡ test_of what (progress_of device.now) }
-{
-    match what {
-        Test::Flag => device.flag(),
-        Test::Start => device.place() == 0,
-        Test::Mark => mark(device),
-    }
-}
-
-/// The mark of a device, which only a tape may have.
-fn mark(device: &Device) -> bool
-    ensures { result ≡ (progress_of device.now).mark }
-{
-    match device {
-        Device::Mt(tape) => tape.mark(),
-        _ => false,
-    }
-}
-
-/// Takes the memory for the blocks that an order adds to a device.
-fn reserve(device: &mut Device, order: TransferOrder) -> Result<(), AllocError>
-    ensures fixture { fixture_of device.new ≡ fixture_of device.old }
-    ensures progress { progress_of device.new ≡ progress_of device.old }
-    ensures spare { OnOk result (HasSpare order device.new) }
-{
-    let place = device.place();
-    if !order.is_output() {
-        return Ok(());
-    }
-    if place == u32::MAX {
-        return Err(AllocError);
-    }
-    device.reserve()
 }
 
 /// The word at a place of the store, where a lease has it.

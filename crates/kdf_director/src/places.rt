@@ -1,9 +1,10 @@
 //! What is asked of all places.
 ghost use Rattle.std.specs.Prelude.{◌≡◌, ◌<◌, ◌&&◌, length, nat_lt, IfSome, true, false, not, None, Option, map, slice_index_or, OnOk, if◌then◌else◌};
 ghost use Rattle.std.specs.Option.{option_map};
-ghost use Rattle.kdf_processor.specs.View.{head, test_of};
+ghost use Rattle.kdf_transfer.specs.Devices.{test_of};
+ghost use Rattle.kdf_processor.specs.View.{head};
+ghost use Rattle.kdf_transfer.specs.ByNumber.{device_count};
 ghost use Rattle.kdf_director.specs.Physical.{word_out};
-ghost use Rattle.kdf_director.specs.ByNumber.{device_count};
 ghost use Rattle.kdf_director.specs.Spots.{Held, own_from, spot_of, spot_at, spot_kind, is_flying, leases_of, AreDry, IsReady};
 ghost use Rattle.kdf_director.specs.declared.place.Place.TheVariants.{Absent};
 

@@ -2,7 +2,7 @@
 ghost use Rattle.std.specs.Prelude.{◌≡◌, ◌+◌, ◌-◌, ◌*◌, ◌<◌, ◌≤◌, length, true, false, [], map, slice_set, slice_index_or};
 ghost use Rattle.std.specs.Vec.{vec_capacity};
 ghost use Rattle.kdf_transfer.specs.AtOnce.{kind_of, has_area, is_output};
-ghost use Rattle.kdf_processor.specs.Claims.{is_kind};
+ghost use Rattle.kdf_transfer.specs.Devices.{is_kind};
 ghost use Rattle.kdf_lockout.specs.Groups.{is_out};
 ghost use Rattle.kdf_director.specs.Parts.{shared_in};
 ghost use Rattle.kdf_director.specs.Shared.{start_lease, start_cells, start_spot, IsFreeArea, IsBack, back_cells, last_lease, ended_spot, moved_spot};

@@ -4,16 +4,15 @@ ghost use Rattle.kdf_director.specs.True.{one_if};
 ghost use Rattle.kdf_director.specs.Spots.{AreDry};
 
 use crate::devices::{is_free, kind_claimed};
-use crate::place::Wanted;
 use crate::places::{first_of, make_ready_at, test_in};
 use crate::starting::start_at;
-use crate::text::{characters_in, text_of};
+use crate::text::text_of;
 use crate::{Note, Place};
 use kdf_journal::Kind;
 use kdf_lockout::Store;
-use kdf_processor::{Ahead, Port, Spooled, Test};
+use kdf_processor::{Port, Reserve, Spooled, Test, Wanted, least};
 use kdf_relocate::Window;
-use kdf_transfer::{Area, Device, TransferOrder};
+use kdf_transfer::{Area, Device, TransferOrder, characters_in};
 use kdf_word::Word;
 use std::alloc::{AllocError, Global};
 use std::mem;
@@ -41,16 +40,13 @@ pub struct Turn<'a> {
 }
 
 impl<'a> Turn<'a> {
-    ghost use Rattle.std.specs.Prelude.{◌&&◌, not, [], find, IfSome, IfNone, OnOk, ℕ};
-    ghost use Rattle.kdf_processor.specs.Claims.{is_claimed};
+    ghost use Rattle.std.specs.Prelude.{find, IfSome, IfNone};
+    ghost use Rattle.kdf_processor.specs.Claims.{free_for, is_free};
     ghost use Rattle.kdf_processor.specs.Effect.{Acquires, Asks, Question};
-    ghost use Rattle.kdf_processor.specs.State.{own_fixture_at};
     ghost use Rattle.kdf_processor.specs.View.{groups_of};
-    ghost use Rattle.kdf_director.specs.Claiming.{first_free};
     ghost use Rattle.kdf_director.specs.Parts.{numbers, own_claims};
     ghost use Rattle.kdf_director.specs.Shared.{is_busy_in, is_out_of};
-    ghost use Rattle.kdf_director.specs.Spots.{is_wanted};
-    ghost use Rattle.kdf_director.specs.Turn.{part_of, shared, Stays, Acts, CanStart, CanSpool, HasRoomAhead};
+    ghost use Rattle.kdf_director.specs.Turn.{part_of, shared, Acts};
     ghost use Rattle.kdf_director.specs.declared.note.Note.TheVariants.{Quiet, Told};
     ghost use Rattle.kdf_director.specs.Notes.{note_of};
 
@@ -119,50 +115,6 @@ impl<'a> Turn<'a> {
         self.window.base as usize + usize::from(address)
     }
 
-    /// Takes the memory that an act wants. Without it nothing else has changed either.
-    pub fn take(&mut self, ahead: Ahead) -> Result<(), AllocError>
-        requires { self.old.block.now.items ≡ [] }
-        ensures stays { Stays self.old self.new }
-        ensures room { OnOk result (HasRoomAhead self.new ahead) }
-    {
-        match ahead {
-            Ahead::Starts {
-                device,
-                order,
-                first,
-                last,
-            } => self.take_for_transfer(device, order, first, last),
-            Ahead::Spools { first, last, .. } => self.take_for_text(first, last),
-            Ahead::Takes | Ahead::Else => Ok(()),
-        }
-    }
-
-    /// Takes the memory that a transfer wants.
-    fn take_for_transfer(
-        &mut self,
-        device: u8,
-        order: TransferOrder,
-        first: u16,
-        last: u16,
-    ) -> Result<(), AllocError>
-        requires { self.old.block.now.items ≡ [] }
-        ensures stays { Stays self.old self.new }
-        ensures room { OnOk result (CanStart self.new device order first last) }
-    {
-        self.block.reserve(characters_in(first, last))?;
-        make_ready_at(self.places, usize::from(device), order)
-    }
-
-    /// Takes the memory that a text wants.
-    fn take_for_text(&mut self, first: u16, last: u16) -> Result<(), AllocError>
-        requires { self.old.block.now.items ≡ [] }
-        ensures stays { Stays self.old self.new }
-        ensures room { OnOk result (CanSpool self.new first last) }
-    {
-        self.spooled.reserve(1)?;
-        self.block.reserve(characters_in(first, last))
-    }
-
     /// Whether a device has a transfer.
     fn is_busy(&self, device: u8) -> bool
         ensures { result ≡ is_busy_in (shared self.now) device }
@@ -189,8 +141,7 @@ impl<'a> Turn<'a> {
     /// Whether a device of the slot is wanted and isn't claimed.
     fn is_free(&self, d: u8, wanted: &Wanted) -> bool
         requires { d < 16 }
-        ensures { result ≡ (is_wanted wanted.now (own_fixture_at (own_claims (part_of self.now) (shared self.now)) d)
-            && not (is_claimed (own_claims (part_of self.now) (shared self.now)) d)) }
+        ensures { result ≡ is_free wanted.now (own_claims (part_of self.now) (shared self.now)) d }
     {
         is_free(self.devices, self.claimed, self.places, d, wanted)
     }
@@ -198,21 +149,16 @@ impl<'a> Turn<'a> {
     /// The least device of the slot that is wanted and isn't claimed.
     fn first_free(&self, wanted: &Wanted) -> Option<u8>
         ensures least { result
-            ≡ first_free wanted.now (own_claims (part_of self.now) (shared self.now)) }
+            ≡ free_for wanted.now (own_claims (part_of self.now) (shared self.now)) }
         ensures number { IfSome result (λ d. d < 16) }
     {
-        for d in 0..16u8 {
-            if self.is_free(d, wanted) {
-                return Some(d);
-            }
-        }
-        None
+        least(|d| self.is_free(d, wanted))
     }
 
     /// Claims the least device of the slot that is wanted and isn't claimed.
     fn claim(&mut self, wanted: &Wanted) -> Option<u8>
         ensures least { result
-            ≡ first_free wanted.now (own_claims (part_of self.old) (shared self.old)) }
+            ≡ free_for wanted.now (own_claims (part_of self.old) (shared self.old)) }
         ensures claimed { IfSome result (λ d. Acts self.old (Acquires d) self.new) }
         ensures none { IfNone result (self.new ≡ self.old) }
     {
@@ -325,12 +271,10 @@ impl Port for Turn<'_> {
         time
     }
 
-    #[tactic(auto, using(crate::proofs::Claiming::label_free))]
     fn claim_label(&mut self, label: Word) -> Option<u8> {
         self.claim(&Wanted::Labelled(label))
     }
 
-    #[tactic(auto, using(crate::proofs::Claiming::kind_free))]
     fn claim_kind(&mut self, kind: Kind) -> Option<u8> {
         self.claim(&Wanted::Kinded(kind))
     }
@@ -365,4 +309,39 @@ impl Port for Turn<'_> {
       shared = refl;
       note = refl;
     } };
+}
+
+impl Reserve for Turn<'_> {
+    ghost use Rattle.std.specs.Prelude.{refl};
+    ghost use Rattle.kdf_processor.proofs.Rooms.{little_room};
+    ghost use Rattle.kdf_director.specs.Turn.{CanSpool, CanStart, IsBlank, Stays};
+
+    ghost keeps = { Stays };
+
+    ghost itself = { λ _. record {
+      same = record { time = refl; claimed = refl; spooled = refl; store = refl; places = refl; block = refl };
+      part = refl;
+      shared = refl;
+      note = refl;
+    } };
+
+    ghost ready = { IsBlank };
+
+    ghost little = { λ t act blank little. little_room (CanStart t) (CanSpool t) (Unit {0}) act tt little };
+
+    fn reserve_transfer(
+        &mut self,
+        device: u8,
+        order: TransferOrder,
+        first: u16,
+        last: u16,
+    ) -> Result<(), AllocError> {
+        self.block.reserve(characters_in(first, last))?;
+        make_ready_at(self.places, usize::from(device), order)
+    }
+
+    fn reserve_text(&mut self, first: u16, last: u16) -> Result<(), AllocError> {
+        self.spooled.reserve(1)?;
+        self.block.reserve(characters_in(first, last))
+    }
 }

@@ -1,6 +1,6 @@
 pub mod Limits
 pub mod Job
-pub mod Numbered
+pub mod Slots
 pub mod Made
 pub mod Faults
 pub mod Media

@@ -1,7 +1,10 @@
 //! A job, as it was read.
-ghost use Rattle.std.specs.Prelude.{◌≡◌};
-ghost use Rattle.std.specs.Option.{option_copied};
-ghost use Rattle.kdf_job.specs.Numbered.{device_numbered};
+ghost use Rattle.std.specs.Prelude.{◌≡◌, map};
+ghost use Rattle.std.specs.Option.{option_map};
+ghost use Rattle.kdf_transfer.specs.Devices.{fixture_of, progress_of};
+ghost use Rattle.kdf_job.specs.Job.{JobDevice};
+ghost use Rattle.kdf_job.specs.Shows.{shown_device};
+ghost use Rattle.kdf_job.specs.Slots.{fixture_on, numbered};
 
 use kdf_schedule::Event;
 use kdf_transfer::Device;
@@ -36,9 +39,26 @@ pub struct SlotJob {
 impl SlotJob {
     /// The device of this number, the first where several have it; None where none has it.
     pub fn device(&self, d: u8) -> Option<&Device>
-        ensures { option_copied result ≡ device_numbered self.now.devices.items d }
+        ensures fixture { option_map (λ x. fixture_of x.now) result
+            ≡ fixture_on (numbered (map shown_device self.now.devices.items) d) }
+        ensures progress { option_map (λ x. progress_of x.now) result
+            ≡ option_map (λ (x : JobDevice). x.progress) (numbered (map shown_device self.now.devices.items) d) }
     {
-        let (_, device) = self.devices.iter().find(|device| device.0 == d)?;
-        Some(device)
+        match device_numbered(&self.devices, d) {
+            Some(device) => Some(&device.1),
+            None => None,
+        }
     }
+}
+
+/// The device of this number with its number, the first where several have it; None where none has it.
+pub fn device_numbered(devices: &[(u8, Device)], d: u8) -> Option<&(u8, Device)>
+    ensures { option_map (λ x. shown_device x.now) result ≡ numbered (map shown_device devices.now) d }
+{
+    for device in devices.iter() {
+        if device.0 == d {
+            return Some(device);
+        }
+    }
+    None
 }

@@ -2,8 +2,7 @@
 -- kind isn't claimed; and a device goes back to the pool exactly where it is of the pool.
 use Rattle.std.specs.Prelude.{find}
 use Rattle.std.specs.List.{range_with_len}
-use Rattle.std.specs.Option.{option_map}
-use Rattle.std.proofs.Common.{◌≡◌, ℕ, ◌+◌, ◌%◌, ◌^◌, ltb, eqb, Bool, true, false, cond, not, ◌&&◌, List, [], ◌∷◌, length, Option, Some, None, is_some, refl, sym, ap, ◌∙◌, subst, ⊎_elim}
+use Rattle.std.proofs.Common.{◌≡◌, ℕ, ◌+◌, ◌%◌, ◌^◌, ltb, eqb, Bool, true, false, cond, not, List, [], ◌∷◌, length, Option, Some, None, is_some, refl, sym, ap, ◌∙◌, subst, ⊎_elim}
 use Rattle.std.proofs.lemmas.Bool.{and_parts, cases_Bool, false≢true}
 use Rattle.kdf_journal.specs.declared.failure.Failure.TheVariants.{Liv, Nouv, Out, Claim}
 use Rattle.kdf_journal.specs.declared.kind.Kind.{Kind}
@@ -15,10 +14,12 @@ use Rattle.kdf_qstore.specs.Triples.{triple_at, triple_of}
 use Rattle.kdf_transfer.specs.AtOnce.{kind_of, has_area}
 use Rattle.kdf_transfer.specs.declared.order.TransferOrder.{TransferOrder}
 use Rattle.kdf_processor.specs.declared.registers.Registers.{Registers}
-use Rattle.kdf_processor.specs.declared.test.Test.TheVariants.{Flag, Start, Mark}
-use Rattle.kdf_processor.specs.Claims.{claim, free_kind, free_label, has_label, is_claimed, is_kind, kind_numbered, may_take, own_kind_at, taken}
+use Rattle.kdf_transfer.specs.declared.test.Test.TheVariants.{Flag, Start, Mark}
+use Rattle.kdf_transfer.specs.declared.wanted.Wanted.TheVariants.{Kinded, Labelled}
+use Rattle.kdf_processor.specs.Claims.{claim, free_for, is_claimed, is_free, kind_numbered, may_take, taken}
 use Rattle.kdf_processor.proofs.Frees.{none_of_kind}
-use Rattle.kdf_transfer.specs.Devices.{Fixture}
+use Rattle.kdf_transfer.specs.Devices.{Fixture, is_kind, is_wanted}
+use Rattle.kdf_transfer.specs.declared.wanted.Wanted.{Wanted}
 use Rattle.kdf_processor.specs.State.{Claims, device_limit, is_pooled, own_fixture_at}
 use Rattle.kdf_processor.specs.Effect.{Change, Refused, Going, of_change, Effect, Failing, Ending, Changing, Fetching, Keeping, Testing, Starting, Asking, IsBusy, IsOut, Time, FreeOf, Claiming, Returning, Spooling}
 use Rattle.kdf_processor.specs.Needs.{effect_at, effect_or_liv, order_at}
@@ -111,26 +112,18 @@ found f (y ∷ xs) x e =
     some_same : Some y ≡ Some x → y ≡ x
     some_same e = cc
 
--- a tape that is found, and a device of a kind, is the program's own
-labelled_own : (label : ℕ) (o : Option Fixture) → has_label label o ≡ true → is_some o ≡ true
-labelled_own label None is = cc
-labelled_own label (Some f) is = refl
+-- a device that a claim finds is the program's own
+wanted_own : (wanted : Wanted) (o : Option Fixture) → is_wanted wanted o ≡ true → is_some o ≡ true
+wanted_own (Kinded k) None is = absurd (false≢true (sym (none_of_kind k) ∙ is))
+wanted_own (Kinded k) (Some f) is = refl
+wanted_own (Labelled label) None is = cc
+wanted_own (Labelled label) (Some f) is = refl
 
-kind_own : (k : Kind) (o : Option Fixture) → is_kind k (option_map (λ (f : Fixture). f.kind) o) ≡ true → is_some o ≡ true
-kind_own k None is = absurd (false≢true (sym (none_of_kind k) ∙ is))
-kind_own k (Some f) is = refl
-
-label_found : (c : Claims) (label d : ℕ) → free_label c label ≡ Some d → is_some (own_fixture_at c d) ≡ true
-unfolding free_label
-label_found c label d e =
-    labelled_own label (own_fixture_at c d)
-    (and_parts (has_label label (own_fixture_at c d)) (not (is_claimed c d)) (found (λ x. has_label label (own_fixture_at c x) && not (is_claimed c x)) (range_with_len 0 device_limit) d e)).0
-
-kind_found : (c : Claims) (k : Kind) (d : ℕ) → free_kind c k ≡ Some d → is_some (own_fixture_at c d) ≡ true
-unfolding free_kind
-kind_found c k d e =
-    kind_own k (own_fixture_at c d)
-    (and_parts (is_kind k (own_kind_at c d)) (not (is_claimed c d)) (found (λ x. is_kind k (own_kind_at c x) && not (is_claimed c x)) (range_with_len 0 device_limit) d e)).0
+free_own : (c : Claims) (wanted : Wanted) (d : ℕ) → free_for wanted c ≡ Some d → is_some (own_fixture_at c d) ≡ true
+unfolding free_for
+free_own c wanted d e =
+    wanted_own wanted (own_fixture_at c d)
+    (and_parts (is_wanted wanted (own_fixture_at c d)) (not (is_claimed c d)) (found (is_free wanted c) (range_with_len 0 device_limit) d e)).0
 
 found_fit : (c : Claims) (r : Registers) (rest : List ℕ) (o : Option ℕ) → ((d : ℕ) → o ≡ Some d → is_some (own_fixture_at c d) ≡ true) → IsFit c (claims_found r rest o)
 found_fit c r rest None own = tt
@@ -142,7 +135,7 @@ takes_fit c r rest kind None own = either_fit c (may_take c kind) (Asking (FreeO
 
 kind_fit : (c : Claims) (r : Registers) (rest : List ℕ) (o : Option Kind) → IsFit c (claims_kind c r rest o)
 kind_fit c r rest None = tt
-kind_fit c r rest (Some kind) = takes_fit c r rest kind (free_kind c kind) (kind_found c kind)
+kind_fit c r rest (Some kind) = takes_fit c r rest kind (free_for (Kinded kind) c) (free_own c (Kinded kind))
 
 spools_fit : (c : Claims) (r : Registers) (rest : List ℕ) (t : Triple) → IsFit c (spools r rest t)
 spools_fit c r rest t = either_fit c (ltb 7 t.c) (Failing Out) (Spooling t.c t.i t.m (with_nest 1 rest r)) (λ _. tt) tt
@@ -152,7 +145,7 @@ unfolding out_effect
 out_fit c r number below =
     either_fit c (eqb number 0) _ _ (λ _. tt)
     (either_fit c (eqb number 3) _ _ (λ _. tt)
-    (either_fit c (eqb number 4) _ _ (λ _. top_fit c below _ (λ n2 rest. found_fit c r rest (free_label c n2) (label_found c n2)))
+    (either_fit c (eqb number 4) _ _ (λ _. top_fit c below _ (λ n2 rest. found_fit c r rest (free_for (Labelled n2) c) (free_own c (Labelled n2))))
     (either_fit c (eqb number 5) _ _ (λ _. top_fit c below _ (λ n2 rest. kind_fit c r rest (kind_numbered n2)))
     (either_fit c (eqb number 6) _ _ (λ _. top_fit c below (λ n2 rest. Returning (is_pooled c n2) n2 (with_nest 1 rest r)) (λ n2 rest. refl))
     (either_fit c (eqb number 8) _ _ (λ _. top_fit c below _ (λ n2 rest. spools_fit c r rest (triple_of n2)))

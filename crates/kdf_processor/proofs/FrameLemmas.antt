@@ -11,21 +11,21 @@ use Rattle.kdf_syllable.specs.Spelling.{size_of_first}
 use Rattle.kdf_word.specs.Characters.{codes_of_all}
 use Rattle.kdf_media.specs.Media.{through_end}
 use Rattle.kdf_transfer.specs.AtOnce.{order_words, device_after}
-use Rattle.kdf_transfer.specs.Devices.{Fixture}
+use Rattle.kdf_transfer.specs.Devices.{Fixture, new_progress, test_of}
 use Rattle.kdf_transfer.specs.declared.order.TransferOrder.{TransferOrder}
 use Rattle.kdf_processor.specs.declared.registers.Life.TheVariants.{Ended, Failed}
 use Rattle.kdf_processor.specs.declared.step.Need.{Need}
 use Rattle.kdf_processor.specs.declared.step.Need.TheVariants.{Group, Device}
 use Rattle.kdf_processor.specs.declared.registers.Registers.{Registers}
 use Rattle.kdf_processor.specs.declared.spooled.Spooled.{Spooled}
-use Rattle.kdf_processor.specs.State.{State, Claims, Stint, word_at, device_at, fixture_at, new_progress}
+use Rattle.kdf_processor.specs.State.{State, Claims, Stint, word_at, device_at, fixture_at}
 use Rattle.kdf_processor.specs.Claims.{taken}
 use Rattle.kdf_processor.specs.Effect.{Question, FreeOf, Effect, Failing, Ending, Changing, Fetching, Keeping, Testing, Starting, Asking, Claiming, Returning, Spooling}
 use Rattle.kdf_processor.specs.Table.{on}
 use Rattle.kdf_processor.specs.Needs.{group_of, decoded_or_none, effect_or_liv, syllable_at, syllables, syllable_needs, count_at, fetch_needs, effect_at, effect_needs, next_effect, needs}
 use Rattle.kdf_processor.specs.Outcome.{counted}
 use Rattle.kdf_processor.specs.Row.{answered, handed, released, transferred, area_words, perform, row}
-use Rattle.kdf_processor.specs.View.{order_groups, test_of}
+use Rattle.kdf_processor.specs.View.{order_groups}
 use Rattle.kdf_processor.specs.Frame.{Agrees, Leaves, HidesNone}
 use Rattle.kdf_processor.proofs.AreaLemmas.{WordsAgree, set_agree, area_agree, order_words_agree, length-stored, stored_agree, stored_apart}
 

@@ -4,7 +4,8 @@ use Rattle.std.specs.Prelude.{find, not, ◌&&◌}
 use Rattle.std.specs.List.{range_with_len}
 use Rattle.kdf_journal.specs.declared.kind.Kind.{Kind}
 use Rattle.kdf_journal.specs.declared.kind.Kind.TheVariants.{Tr, Tp, Cr, Lp, Mt}
-use Rattle.kdf_processor.specs.Claims.{least_pooled, is_claimed, is_kind, may_take}
+use Rattle.kdf_transfer.specs.Devices.{is_kind}
+use Rattle.kdf_processor.specs.Claims.{least_pooled, is_claimed, may_take}
 use Rattle.kdf_processor.specs.State.{Claims}
 
 -- a pool without devices has none of a kind

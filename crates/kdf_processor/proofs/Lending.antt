@@ -11,20 +11,22 @@ use Rattle.kdf_syllable.specs.declared.order.Order.{Order}
 use Rattle.kdf_syllable.specs.declared.order.Order.TheVariants as order
 use Rattle.kdf_qstore.specs.Triples.{triple_at}
 use Rattle.kdf_transfer.specs.AtOnce.{kind_of, has_area}
-use Rattle.kdf_transfer.specs.Devices.{Fixture, Progress}
+use Rattle.kdf_transfer.specs.Devices.{Fixture, Progress, is_kind, new_progress}
 use Rattle.kdf_transfer.specs.declared.order.TransferOrder.{TransferOrder}
 use Rattle.kdf_processor.specs.declared.registers.Registers.{Registers}
-use Rattle.kdf_processor.specs.declared.test.Test.TheVariants.{Flag, Start, Mark}
-use Rattle.kdf_processor.specs.Claims.{can_take, claim, is_claimed, is_kind, kind_at, taken}
+use Rattle.kdf_transfer.specs.declared.test.Test.TheVariants.{Flag, Start, Mark}
+use Rattle.kdf_processor.specs.Claims.{can_take, claim, is_claimed, kind_at, taken}
 use Rattle.kdf_processor.specs.Effect.{Question, FreeOf, Change, Refused, Going, of_change, Effect, Failing, Ending, Changing, Fetching, Keeping, Testing, Starting, Asking, IsBusy, IsOut, Time, Claiming, Returning, Spooling}
 use Rattle.kdf_processor.specs.Needs.{effect_at, effect_or_liv, next_effect, order_at}
 use Rattle.kdf_processor.specs.Row.{answered, handed, perform, released, row, transferred}
-use Rattle.kdf_processor.specs.State.{Claims, Slot, State, Stint, Stock, begin, stocked, unclaimed, device_in, device_limit, fixture_at, is_pooled, new_progress, pool_kind_at, word_at}
+use Rattle.kdf_transfer.specs.Slots.{Slot}
+use Rattle.kdf_processor.specs.State.{Claims, State, Stint, Stock, begin, stocked, unclaimed, device_in, device_limit, fixture_at, is_pooled, pool_kind_at, word_at}
 use Rattle.kdf_processor.specs.Stints.{HasPool, IsLent}
 use Rattle.kdf_processor.specs.Table.{change_of, device_effect, direct_effect, effect, guarded, indirect_effect, is_area, on_top, out_effect, plain_row, query_effect}
 use Rattle.kdf_processor.proofs.Fit.{IsFit, next_fit}
+use Rattle.kdf_transfer.proofs.OfKind.{exact}
 use Rattle.kdf_processor.proofs.Frees.{none_of_kind}
-use Rattle.kdf_processor.proofs.Stinting.{exact, not_true, taken_can, unmarked}
+use Rattle.kdf_processor.proofs.Stinting.{not_true, taken_can, unmarked}
 
 -- ---- a transfer begins on a device that is claimed alone, and only such a one is given back
 

@@ -11,3 +11,4 @@ pub mod Small
 pub mod Fit
 pub mod Stinting
 pub mod Lending
+pub mod Rooms

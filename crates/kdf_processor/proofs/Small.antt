@@ -17,7 +17,7 @@ use Rattle.kdf_journal.specs.declared.failure.Failure.TheVariants.{Liv, Nouv, Cl
 use Rattle.kdf_processor.specs.declared.step.Need.{Need}
 use Rattle.kdf_processor.specs.declared.step.Need.TheVariants.{Group}
 use Rattle.std.specs.Prelude.{find}
-use Rattle.kdf_processor.specs.declared.test.Test.TheVariants.{Flag, Start, Mark}
+use Rattle.kdf_transfer.specs.declared.test.Test.TheVariants.{Flag, Start, Mark}
 use Rattle.kdf_processor.specs.declared.registers.Registers.{Registers}
 use Rattle.kdf_processor.specs.Ahead.{IsSmall, may_want}
 use Rattle.kdf_processor.specs.Fetch.{IsFetchedAt}

@@ -6,15 +6,17 @@ use Rattle.std.proofs.lemmas.Bool.{and_parts, cases_Bool, cases_eq, eq-eqb, fals
 use Rattle.std.proofs.lemmas.List.{get_or-set_other, get_or-set_same, map-append}
 use Rattle.std.proofs.lemmas.List.Elements.{All-head, All-tail}
 use Rattle.kdf_journal.specs.declared.kind.Kind.{Kind}
-use Rattle.kdf_journal.specs.declared.kind.Kind.TheVariants.{Tr, Tp, Cr, Lp, Mt}
+use Rattle.kdf_journal.specs.declared.kind.Kind.TheVariants.{Tp}
 use Rattle.kdf_transfer.specs.AtOnce.{device_after, order_words}
-use Rattle.kdf_transfer.specs.Devices.{Fixture, Progress}
+use Rattle.kdf_transfer.specs.Devices.{Fixture, Progress, is_kind, new_progress}
 use Rattle.kdf_transfer.specs.declared.order.TransferOrder.{TransferOrder}
-use Rattle.kdf_processor.specs.Claims.{can_take, is_claimed, is_kind, least_pooled, may_take, taken}
+use Rattle.kdf_transfer.proofs.OfKind.{exact}
+use Rattle.kdf_processor.specs.Claims.{can_take, is_claimed, least_pooled, may_take, taken}
 use Rattle.kdf_processor.specs.Effect.{Question, FreeOf, Effect, Starting, Asking, Returning}
 use Rattle.kdf_processor.specs.Needs.{next_effect}
 use Rattle.kdf_processor.specs.Row.{answered, handed, perform, released, row, transferred}
-use Rattle.kdf_processor.specs.State.{Claims, Lending, Slot, State, Stock, device_in, device_limit, fixture_at, is_pooled, lending_of, lendings, new_progress, pool_fixture, pool_kind_at, stocked, word_at}
+use Rattle.kdf_transfer.specs.Slots.{Slot}
+use Rattle.kdf_processor.specs.State.{Claims, Lending, State, Stock, device_in, device_limit, fixture_at, is_pooled, lending_of, lendings, pool_fixture, pool_kind_at, stocked, word_at}
 use Rattle.kdf_processor.specs.Stints.{IsLent, lendings_after, moved_on, on_stint}
 use Rattle.kdf_processor.proofs.Fit.{IsFit, found, next_fit}
 
@@ -29,38 +31,6 @@ map_map g f [] = refl
 map_map g f (x ∷ xs) = ap (λ ys. g (f x) ∷ ys) (map_map g f xs)
 
 -- ---- a device that is taken
-
-pub exact : (kind : Kind) (o : Option Kind) → is_kind kind o ≡ true → o ≡ Some kind
-exact Tr None e = absurd cc
-exact Tr (Some Tr) e = refl
-exact Tr (Some Tp) e = absurd cc
-exact Tr (Some Cr) e = absurd cc
-exact Tr (Some Lp) e = absurd cc
-exact Tr (Some Mt) e = absurd cc
-exact Tp None e = absurd cc
-exact Tp (Some Tr) e = absurd cc
-exact Tp (Some Tp) e = refl
-exact Tp (Some Cr) e = absurd cc
-exact Tp (Some Lp) e = absurd cc
-exact Tp (Some Mt) e = absurd cc
-exact Cr None e = absurd cc
-exact Cr (Some Tr) e = absurd cc
-exact Cr (Some Tp) e = absurd cc
-exact Cr (Some Cr) e = refl
-exact Cr (Some Lp) e = absurd cc
-exact Cr (Some Mt) e = absurd cc
-exact Lp None e = absurd cc
-exact Lp (Some Tr) e = absurd cc
-exact Lp (Some Tp) e = absurd cc
-exact Lp (Some Cr) e = absurd cc
-exact Lp (Some Lp) e = refl
-exact Lp (Some Mt) e = absurd cc
-exact Mt None e = absurd cc
-exact Mt (Some Tr) e = absurd cc
-exact Mt (Some Tp) e = absurd cc
-exact Mt (Some Cr) e = absurd cc
-exact Mt (Some Lp) e = absurd cc
-exact Mt (Some Mt) e = refl
 
 least_can : (c : Claims) (kind : Kind) (o : Option ℕ) → find (can_take c kind) (range_with_len 0 device_limit) ≡ o → is_some o ≡ true → can_take c kind (unwrap_or o 0) ≡ true
 least_can c kind None e is = cc

@@ -1,24 +1,15 @@
 -- Which devices a program has claimed, and which it may claim.
-use Rattle.std.specs.Prelude.{ℕ, ◌==◌, Bool, true, false, not, ◌&&◌, nat_lt, Option, Some, None, is_some, if◌then◌else◌, find, slice_index_or, unwrap_or}
+use Rattle.std.specs.Prelude.{ℕ, ◌==◌, Bool, false, not, ◌&&◌, nat_lt, Option, Some, None, is_some, if◌then◌else◌, find, slice_index_or, unwrap_or}
 use Rattle.std.specs.List.{range_with_len}
-use Rattle.std.specs.Option.{option_map}
 use Rattle.kdf_journal.specs.declared.kind.Kind.{Kind}
-use Rattle.kdf_journal.specs.declared.kind.Kind.TheVariants.{Tr, Tp, Cr, Lp, Mt}
-use Rattle.kdf_transfer.specs.Devices.{Fixture}
+use Rattle.kdf_journal.specs.declared.kind.Kind.TheVariants.{Tr, Tp, Cr, Lp}
+use Rattle.kdf_transfer.specs.Devices.{is_kind, is_wanted, kind_in}
+use Rattle.kdf_transfer.specs.declared.wanted.Wanted.{Wanted}
 use Rattle.kdf_processor.specs.State.{Claims, fixture_at, own_fixture_at, pool_kind_at, device_limit}
-
--- there is a kind, and it is this one
-abbrev pub is_kind : Kind → Option Kind → Bool
-is_kind Tr (Some Tr) = true
-is_kind Tp (Some Tp) = true
-is_kind Cr (Some Cr) = true
-is_kind Lp (Some Lp) = true
-is_kind Mt (Some Mt) = true
-is_kind _ _ = false
 
 -- the kind of a device of the program or of the pool
 abbrev pub kind_at : Claims → ℕ → Option Kind
-kind_at c d = option_map (λ (f : Fixture). f.kind) (fixture_at c d)
+kind_at c d = kind_in (fixture_at c d)
 
 -- the kind of a device that the program has claimed
 abbrev pub claim : Claims → ℕ → Option Kind
@@ -29,25 +20,13 @@ claim c d =
 abbrev pub is_claimed : Claims → ℕ → Bool
 is_claimed c d = is_some (claim c d)
 
--- a device of the program is a tape with this label
-abbrev pub has_label : ℕ → Option Fixture → Bool
-has_label label None = false
-has_label label (Some f) = is_kind Mt (Some f.kind) && f.label == label
+-- a device of the program's own is what a claim wants, and isn't claimed
+abbrev pub is_free : Wanted → Claims → ℕ → Bool
+is_free wanted c d = is_wanted wanted (own_fixture_at c d) && not (is_claimed c d)
 
--- the kind of a device of the program's own
-abbrev pub own_kind_at : Claims → ℕ → Option Kind
-own_kind_at c d = option_map (λ (f : Fixture). f.kind) (own_fixture_at c d)
-
--- the least device of this kind, of the program's own, that isn't claimed
-unfoldable pub free_kind : Claims → Kind → Option ℕ
-free_kind c k =
-    find (λ d. is_kind k (own_kind_at c d) && not (is_claimed c d)) (range_with_len 0 device_limit)
-
--- the least tape with this label that isn't claimed
-unfoldable pub free_label : Claims → ℕ → Option ℕ
-free_label c label =
-    find (λ d. has_label label (own_fixture_at c d) && not (is_claimed c d))
-    (range_with_len 0 device_limit)
+-- the least such device
+unfoldable pub free_for : Wanted → Claims → Option ℕ
+free_for wanted c = find (is_free wanted c) (range_with_len 0 device_limit)
 
 -- the kinds that a program may claim by number
 abbrev pub kind_numbered : ℕ → Option Kind

@@ -4,7 +4,7 @@ use Rattle.kdf_journal.specs.declared.failure.Failure.{Failure}
 use Rattle.kdf_journal.specs.declared.kind.Kind.{Kind}
 use Rattle.kdf_transfer.specs.declared.order.TransferOrder.{TransferOrder}
 use Rattle.kdf_processor.specs.declared.registers.Registers.{Registers}
-use Rattle.kdf_processor.specs.declared.test.Test.{Test}
+use Rattle.kdf_transfer.specs.declared.test.Test.{Test}
 
 -- What an order asks the machine: whether a device has a transfer, whether a group of an area is locked out, the time, and
 -- which device of a kind in the pool it may take.

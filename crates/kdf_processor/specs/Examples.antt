@@ -7,7 +7,7 @@ use Rattle.kdf_syllable.specs.declared.order.Order.TheVariants as order
 use Rattle.kdf_journal.specs.declared.failure.Failure.{Failure}
 use Rattle.kdf_journal.specs.declared.kind.Kind.{Kind}
 use Rattle.kdf_journal.specs.declared.kind.Kind.TheVariants.{Tr, Tp, Cr, Lp, Mt}
-use Rattle.kdf_transfer.specs.Devices.{Fixture, Progress}
+use Rattle.kdf_transfer.specs.Devices.{Fixture, Progress, new_progress, test_of}
 use Rattle.kdf_transfer.specs.Examples.{ab, paper}
 use Rattle.kdf_transfer.specs.declared.order.TransferOrder.{TransferOrder}
 use Rattle.kdf_processor.specs.declared.spooled.Spooled.{Spooled}
@@ -18,9 +18,9 @@ use Rattle.kdf_processor.specs.declared.step.Step.TheVariants.{Done, Ends, Fails
 use Rattle.kdf_processor.specs.Effect.{Change, Going, Act, Nothing, Starts}
 use Rattle.kdf_processor.specs.Needs.{effect_needs}
 use Rattle.kdf_processor.specs.Outcome.{Outcome, done}
-use Rattle.kdf_processor.specs.State.{Claims, Stock, new_progress, new_registers, unclaimed}
+use Rattle.kdf_processor.specs.State.{Claims, Stock, new_registers, unclaimed}
 use Rattle.kdf_processor.specs.Table.{change_of, effect, with_tr}
-use Rattle.kdf_processor.specs.View.{View, test_of}
+use Rattle.kdf_processor.specs.View.{View}
 
 -- a triple by its parts
 abbrev pub parts : ℕ → ℕ → ℕ → Triple

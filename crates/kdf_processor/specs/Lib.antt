@@ -5,6 +5,7 @@ pub mod Table
 pub mod Needs
 pub mod View
 pub mod Outcome
+pub mod Room
 pub mod Row
 pub mod Lone
 pub mod Frame

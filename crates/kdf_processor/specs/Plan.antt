@@ -8,10 +8,12 @@ use Rattle.kdf_processor.specs.declared.plan.Plan.{Plan}
 use Rattle.kdf_processor.specs.declared.plan.Plan.TheVariants.{Fail, End, Fetch, Keep, Count, Begin, Examine, Await, AskBusy, AskArea, AskTime, ClaimLabel, ClaimKind, GiveBack, Spool}
 use Rattle.kdf_processor.specs.declared.plan.Beginning.{Beginning}
 use Rattle.kdf_processor.specs.declared.registers.Registers.{Registers}
-use Rattle.kdf_processor.specs.declared.test.Test.TheVariants.{Flag}
+use Rattle.kdf_transfer.specs.declared.test.Test.TheVariants.{Flag}
 use Rattle.kdf_transfer.specs.AtOnce.{kind_of, has_area, IsArea}
 use Rattle.kdf_processor.specs.State.{Claims, device_limit, is_pooled}
-use Rattle.kdf_processor.specs.Claims.{claim, is_kind, is_claimed, free_kind, free_label}
+use Rattle.kdf_transfer.specs.Devices.{is_kind}
+use Rattle.kdf_transfer.specs.declared.wanted.Wanted.TheVariants.{Kinded, Labelled}
+use Rattle.kdf_processor.specs.Claims.{claim, is_claimed, free_for}
 use Rattle.kdf_processor.specs.Effect.{Act, Nothing, Acquires, of_change}
 use Rattle.kdf_processor.specs.Effect.{Effect, Failing, Ending, Changing, Fetching, Keeping, Testing, Starting, Asking, IsBusy, IsOut, Time, Returning, Spooling}
 use Rattle.kdf_processor.specs.Needs.{effect_or_liv}
@@ -49,8 +51,8 @@ planned c (Await d) r = Testing d Flag (λ is. with_nest 2 r.nest r)
 planned c (AskBusy d) r = Asking (IsBusy d) (answered_in_tr r)
 planned c (AskArea first last) r = Asking (IsOut first last) (answered_in_tr r)
 planned c AskTime r = Asking Time (λ t. with_nest 1 (t % 2 ^ 48 ∷ below_top r.nest) r)
-planned c (ClaimLabel label) r = claims_found r (below_two r.nest) (free_label c label)
-planned c (ClaimKind kind) r = claims_or_takes c r (below_two r.nest) kind (free_kind c kind)
+planned c (ClaimLabel label) r = claims_found r (below_two r.nest) (free_for (Labelled label) c)
+planned c (ClaimKind kind) r = claims_or_takes c r (below_two r.nest) kind (free_for (Kinded kind) c)
 planned c (GiveBack d) r = Returning (is_pooled c d) d (with_nest 1 (below_two r.nest) r)
 planned c (Spool stream first last) r =
     Spooling stream first last (with_nest 1 (below_two r.nest) r)

@@ -5,7 +5,7 @@ use Rattle.kdf_qstore.specs.declared.triple.Triple.{Triple}
 use Rattle.kdf_qstore.specs.Triples.{triple_at}
 use Rattle.kdf_journal.specs.declared.kind.Kind.{Kind}
 use Rattle.kdf_journal.specs.declared.kind.Kind.TheVariants.{Tp, Lp}
-use Rattle.kdf_transfer.specs.Devices.{Progress}
+use Rattle.kdf_transfer.specs.Devices.{Progress, new_progress}
 use Rattle.kdf_transfer.specs.Examples.{all_a, all_b, having}
 use Rattle.kdf_processor.specs.declared.registers.Life.{Life}
 use Rattle.kdf_processor.specs.declared.step.Need.{Need}
@@ -16,7 +16,8 @@ use Rattle.kdf_processor.specs.Lone.{lone}
 use Rattle.kdf_processor.specs.Needs.{effect_needs}
 use Rattle.kdf_processor.specs.Outcome.{Outcome}
 use Rattle.kdf_processor.specs.Plan.{try_order}
-use Rattle.kdf_processor.specs.State.{Claims, Lending, Slot, State, Stint, Stock, begin, device_limit, lendings, new_progress}
+use Rattle.kdf_transfer.specs.Slots.{Slot}
+use Rattle.kdf_processor.specs.State.{Claims, Lending, State, Stint, Stock, begin, device_limit, lendings}
 use Rattle.kdf_processor.specs.Table.{effect}
 use Rattle.kdf_processor.specs.View.{View}
 

@@ -3,9 +3,9 @@ use Rattle.std.specs.Prelude.{ℕ, ◌+◌, ◌-◌, ◌==◌, ◌&&◌, not, Bo
 use Rattle.kdf_word.specs.Characters.{codes_of_all}
 use Rattle.kdf_media.specs.Media.{through_end}
 use Rattle.kdf_transfer.specs.AtOnce.{device_after, order_words, stored}
-use Rattle.kdf_transfer.specs.Devices.{Fixture, Progress}
+use Rattle.kdf_transfer.specs.Devices.{Fixture, Progress, new_progress}
 use Rattle.kdf_transfer.specs.declared.order.TransferOrder.{TransferOrder}
-use Rattle.kdf_processor.specs.State.{State, Stint, Stock, device_in, fixture_at, new_progress}
+use Rattle.kdf_processor.specs.State.{State, Stint, Stock, device_in, fixture_at}
 use Rattle.kdf_processor.specs.Effect.{Question, FreeOf, Act, Nothing, Writes, Starts, Asks, Acquires, Releases, Spools, Effect}
 use Rattle.kdf_processor.specs.Claims.{taken as taken_device}
 use Rattle.kdf_processor.specs.Needs.{next_effect}

@@ -3,7 +3,8 @@ use Rattle.std.specs.Prelude.{ℕ, ◌-◌, List, [], ◌++◌, Bool, false, Opt
 use Rattle.kdf_qstore.specs.Triples.{zero_triples}
 use Rattle.kdf_journal.specs.declared.kind.Kind.{Kind}
 use Rattle.kdf_journal.specs.declared.kind.Kind.TheVariants.{Tp}
-use Rattle.kdf_transfer.specs.Devices.{Fixture, Progress}
+use Rattle.kdf_transfer.specs.Devices.{Fixture, Progress, new_progress}
+use Rattle.kdf_transfer.specs.Slots.{Slot}
 use Rattle.kdf_processor.specs.declared.registers.Life.TheVariants.{Live}
 use Rattle.kdf_processor.specs.declared.registers.Registers.{Registers}
 use Rattle.kdf_processor.specs.declared.spooled.Spooled.{Spooled}
@@ -49,10 +50,6 @@ word_in k a = slice_index k.store a
 
 abbrev pub word_at : State → ℕ → ℕ
 word_at s a = word_in s.stock a
-
--- a device that has moved nothing
-abbrev pub new_progress : Progress
-new_progress = record { place = 0; flag = false; mark = false; blocks = []; recorded = [] }
 
 -- how far a device has come
 abbrev pub device_in : Stock → ℕ → Progress
@@ -125,16 +122,6 @@ filled size image = image ++ replicate (size - length image) 0
 -- no device is claimed
 unfoldable pub unclaimed : List Bool
 unclaimed = replicate device_limit false
-
--- a slot as it is loaded: its number, the size of its store, the words of its image, its devices by number, and by number the
--- kinds of those in the pool
-pub record Slot : Type 0 where
-  pub p : ℕ
-  pub size : ℕ
-  pub words : List ℕ
-  pub fixtures : List (Option Fixture)
-  pub devices : List Progress
-  pub pool : List (Option Kind)
 
 -- what a program has at first: its store, with the image at its front, and its devices and those of the pool, none of them
 -- claimed

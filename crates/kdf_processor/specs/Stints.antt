@@ -5,7 +5,9 @@ use Rattle.kdf_transfer.specs.AtOnce.{device_after, order_words}
 use Rattle.kdf_transfer.specs.declared.order.TransferOrder.{TransferOrder}
 use Rattle.kdf_processor.specs.Claims.{taken}
 use Rattle.kdf_processor.specs.Effect.{Question, FreeOf, Effect, Starting, Asking, Returning}
-use Rattle.kdf_processor.specs.State.{Lending, Slot, State, Stint, device_at, device_limit, is_pooled, new_progress, pool_fixture, stocked}
+use Rattle.kdf_transfer.specs.Devices.{new_progress}
+use Rattle.kdf_transfer.specs.Slots.{Slot}
+use Rattle.kdf_processor.specs.State.{Lending, State, Stint, device_at, device_limit, is_pooled, pool_fixture, stocked}
 
 -- what is done to the stint of a device that isn't given back
 abbrev pub on_stint : ℕ → (Lending → Lending) → Lending → Lending

@@ -17,9 +17,11 @@ use Rattle.kdf_transfer.specs.AtOnce.{kind_of, has_area}
 use Rattle.kdf_transfer.specs.declared.order.TransferOrder.{TransferOrder}
 use Rattle.kdf_transfer.specs.declared.order.TransferOrder.TheVariants.{Prq, Preq, Pwq, Pweq, Crq, Lpq, Lpeq, Mfrq, Mbrq, Mwq, Mlwq, Mrwdq, Mfskq, Mbskq}
 use Rattle.kdf_processor.specs.declared.registers.Registers.{Registers}
-use Rattle.kdf_processor.specs.declared.test.Test.TheVariants.{Flag, Start, Mark}
+use Rattle.kdf_transfer.specs.declared.test.Test.TheVariants.{Flag, Start, Mark}
 use Rattle.kdf_processor.specs.State.{Claims, is_pooled}
-use Rattle.kdf_processor.specs.Claims.{is_kind, claim, is_claimed, free_kind, free_label, kind_numbered, may_take, taken}
+use Rattle.kdf_transfer.specs.Devices.{is_kind}
+use Rattle.kdf_transfer.specs.declared.wanted.Wanted.TheVariants.{Kinded, Labelled}
+use Rattle.kdf_processor.specs.Claims.{claim, is_claimed, free_for, kind_numbered, may_take, taken}
 use Rattle.kdf_processor.specs.Effect.{Change, Refused, Going, Decision, Undecided, Decided, of_change}
 use Rattle.kdf_processor.specs.Effect.{Effect, Failing, Ending, Changing, Fetching, Keeping, Testing, Starting, Asking, IsBusy, IsOut, Time, FreeOf, Claiming, Returning, Spooling}
 
@@ -113,7 +115,7 @@ claims_or_takes c r rest kind None =
 -- where there is such a kind
 abbrev pub claims_kind : Claims → Registers → List ℕ → Option Kind → Effect
 claims_kind c r rest None = Failing Out
-claims_kind c r rest (Some kind) = claims_or_takes c r rest kind (free_kind c kind)
+claims_kind c r rest (Some kind) = claims_or_takes c r rest kind (free_for (Kinded kind) c)
 
 -- to one of eight streams, the characters of the area that a word names as a Q-store
 abbrev pub spools : Registers → List ℕ → Triple → Effect
@@ -126,7 +128,7 @@ out_effect c r number below =
     if number == 0 then Ending (with_nest 1 below r)  -- the end of the program
     else (if number == 3 then Changing (with_nest 1 (r.ran ∷ below) r)  -- how many orders were obeyed
     -- claim a tape by its label
-    else (if number == 4 then on_top (Failing Nouv) below (λ n2 rest. claims_found r rest (free_label c n2))
+    else (if number == 4 then on_top (Failing Nouv) below (λ n2 rest. claims_found r rest (free_for (Labelled n2) c))
     -- claim a device of a kind
     else (if number == 5 then on_top (Failing Nouv) below (λ n2 rest. claims_kind c r rest (kind_numbered n2))
     -- give a device back

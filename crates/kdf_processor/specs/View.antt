@@ -1,14 +1,13 @@
 -- What a port shows of one program.
-use Rattle.std.specs.Prelude.{ℕ, ◌+◌, ◌-◌, ◌/◌, ◌==◌, Bool, false, Option, Some, None, List, [], ◌∷◌, find, if◌then◌else◌}
+use Rattle.std.specs.Prelude.{ℕ, ◌+◌, ◌-◌, ◌/◌, Bool, false, Option, Some, None, List, [], ◌∷◌, find, if◌then◌else◌}
 use Rattle.std.specs.List.{range_with_len}
 use Rattle.kdf_journal.specs.declared.kind.Kind.{Kind}
 use Rattle.kdf_transfer.specs.AtOnce.{has_area}
-use Rattle.kdf_transfer.specs.Devices.{Progress}
+use Rattle.kdf_transfer.specs.Devices.{test_of}
 use Rattle.kdf_transfer.specs.declared.order.TransferOrder.{TransferOrder}
 use Rattle.kdf_processor.specs.declared.step.Need.{Need}
 use Rattle.kdf_processor.specs.declared.step.Need.TheVariants.{Group, Device, Pool}
-use Rattle.kdf_processor.specs.declared.test.Test.{Test}
-use Rattle.kdf_processor.specs.declared.test.Test.TheVariants.{Flag, Start, Mark}
+use Rattle.kdf_transfer.specs.declared.test.Test.{Test}
 use Rattle.kdf_processor.specs.State.{Claims, Stock, word_in, device_in}
 use Rattle.kdf_processor.specs.Effect.{Question}
 
@@ -52,12 +51,6 @@ first_pending v ns = find (is_pending v) ns
 abbrev pub head : List ℕ → Option ℕ
 head [] = None
 head (n ∷ ns) = Some n
-
--- a device's flag, whether it stands at its start, and its mark
-abbrev pub test_of : Test → Progress → Bool
-test_of Flag p = p.flag
-test_of Start p = p.place == 0
-test_of Mark p = p.mark
 
 -- a program by itself, which is answered so: nothing is out, busy or taken
 abbrev pub by_itself : (Question → ℕ) → Stock → View

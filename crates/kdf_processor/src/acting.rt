@@ -1,7 +1,8 @@
 //! The plans that act on devices, that ask and that spool, none of whose needs is pending.
 ghost use Rattle.std.specs.Prelude.{◌≡◌, ◌∷◌, ◌+◌, ◌<◌, ◌≤◌, ◌%◌, ◌^◌, None, length, false, true, find};
 ghost use Rattle.kdf_transfer.specs.AtOnce.{IsArea};
-ghost use Rattle.kdf_processor.specs.Claims.{free_kind, is_claimed, may_take};
+ghost use Rattle.kdf_transfer.specs.declared.wanted.Wanted.TheVariants.{Kinded};
+ghost use Rattle.kdf_processor.specs.Claims.{free_for, is_claimed, may_take};
 ghost use Rattle.kdf_processor.specs.Effect.{Act};
 ghost use Rattle.kdf_processor.specs.Outcome.{Obeyed, counted};
 ghost use Rattle.kdf_processor.specs.Plan.{done_plan, IsBeginning, below_top, below_two};
@@ -167,7 +168,7 @@ pub fn ask_time<P: Port>(registers: &mut Registers, port: &mut P) -> Step
 pub fn take_pool<P: Port>(registers: &mut Registers, port: &mut P, kind: Kind) -> Step
     requires ran { registers.old.ran < u32.MAX }
     requires operands { 1 < length registers.old.nest }
-    requires none { free_kind (P.shows port.old).claims kind ≡ None }
+    requires none { free_for (Kinded kind) (P.shows port.old).claims ≡ None }
     requires may { may_take (P.shows port.old).claims kind ≡ true }
     requires free { (P.shows port.old).is_taken kind ≡ false }
     requires room { P.room port.old

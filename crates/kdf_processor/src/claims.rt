@@ -1,6 +1,6 @@
 //! The checks that orders of devices share.
 ghost use Rattle.std.specs.Prelude.{◌≡◌};
-ghost use Rattle.kdf_processor.specs.Claims.{is_kind};
+ghost use Rattle.kdf_transfer.specs.Devices.{is_kind};
 ghost use Rattle.kdf_processor.specs.Table.{is_area};
 
 use kdf_journal::Kind;

@@ -6,7 +6,8 @@ ghost use Rattle.kdf_processor.specs.Frame.{Agrees, Leaves, HidesNone};
 ghost use Rattle.kdf_processor.specs.Lone.{lone};
 ghost use Rattle.kdf_processor.specs.Needs.{needs, next_effect};
 ghost use Rattle.kdf_processor.specs.Row.{row};
-ghost use Rattle.kdf_processor.specs.State.{Slot, State, begin, lendings, stocked};
+ghost use Rattle.kdf_transfer.specs.Slots.{Slot};
+ghost use Rattle.kdf_processor.specs.State.{State, begin, lendings, stocked};
 ghost use Rattle.kdf_processor.specs.Stints.{HasPool, IsLent, lendings_after};
 
 /// The store of a program has as many words as its size says, at its start and after each order.

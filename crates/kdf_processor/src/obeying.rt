@@ -3,7 +3,8 @@ ghost use Rattle.std.specs.Prelude.{◌≡◌, ◌<◌, [], ◌∷◌, None, IfO
 ghost use Rattle.std.specs.Result.{result_ok};
 ghost use Rattle.kdf_decode.specs.Decoding.{first_decoded};
 ghost use Rattle.kdf_syllable.specs.Spelling.{IsOrder};
-ghost use Rattle.kdf_processor.specs.Claims.{free_kind};
+ghost use Rattle.kdf_transfer.specs.declared.wanted.Wanted.TheVariants.{Kinded};
+ghost use Rattle.kdf_processor.specs.Claims.{free_for};
 ghost use Rattle.kdf_processor.specs.Effect.{Nothing};
 ghost use Rattle.kdf_processor.specs.Fetch.{IsFetchedAt};
 ghost use Rattle.kdf_processor.specs.Needs.{effect_needs, group_of};
@@ -169,7 +170,7 @@ fn obey_label<P: Port>(registers: &mut Registers, port: &mut P, label: Word) -> 
 fn obey_pool<P: Port>(registers: &mut Registers, port: &mut P, kind: Kind) -> Step
     requires ran { registers.old.ran < u32.MAX }
     requires operands { 1 < length registers.old.nest }
-    requires none { free_kind (P.shows port.old).claims kind ≡ None }
+    requires none { free_for (Kinded kind) (P.shows port.old).claims ≡ None }
     requires room { P.room port.old
         (try_plan (P.shows port.old) registers.old (Plan.ClaimKind kind)).act }
     ensures { Obeyed P.acts (try_plan (P.shows port.old) registers.old (Plan.ClaimKind kind))

@@ -1,7 +1,9 @@
 //! The view of one program that an order is obeyed over.
 ghost use Rattle.std.specs.Prelude.{◌≡◌, ◌<◌, ◌≤◌, nat_lt, not, find, true, false, None, OnOk, OnErr, IfSome, IfNone, if◌then◌else◌};
 ghost use Rattle.kdf_transfer.specs.AtOnce.{has_area, kind_of, IsArea};
-ghost use Rattle.kdf_processor.specs.Claims.{can_take, claim, is_claimed, is_kind, free_kind, free_label, may_take};
+ghost use Rattle.kdf_transfer.specs.Devices.{is_kind};
+ghost use Rattle.kdf_transfer.specs.declared.wanted.Wanted.TheVariants.{Kinded, Labelled};
+ghost use Rattle.kdf_processor.specs.Claims.{can_take, claim, is_claimed, free_for, may_take};
 ghost use Rattle.kdf_processor.specs.Effect.{Act, Nothing, Writes, Starts, Asks, IsBusy, IsOut, Time, FreeOf, Acquires, Releases, Spools};
 ghost use Rattle.kdf_processor.specs.Needs.{group_of};
 ghost use Rattle.kdf_processor.specs.Plan.{claim_act};
@@ -106,15 +108,15 @@ pub trait Port {
 
     /// Claims the least tape with this label that isn't claimed. Where there is none, nothing changes.
     fn claim_label(&mut self, label: Word) -> Option<u8>
-        requires room { room self.old (claim_act (free_label (shows self.old).claims label)) }
-        ensures least { result ≡ free_label (shows self.old).claims label }
+        requires room { room self.old (claim_act (free_for (Labelled label) (shows self.old).claims)) }
+        ensures least { result ≡ free_for (Labelled label) (shows self.old).claims }
         ensures claimed { IfSome result (λ d. acts self.old (Acquires d) self.new) }
         ensures none { IfNone result (self.new ≡ self.old) };
 
     /// Claims the least device of this kind, of the program's own, that isn't claimed. Where there is none, nothing changes.
     fn claim_kind(&mut self, kind: Kind) -> Option<u8>
-        requires room { IfSome (free_kind (shows self.old).claims kind) (λ d. room self.old (Acquires d)) }
-        ensures least { result ≡ free_kind (shows self.old).claims kind }
+        requires room { IfSome (free_for (Kinded kind) (shows self.old).claims) (λ d. room self.old (Acquires d)) }
+        ensures least { result ≡ free_for (Kinded kind) (shows self.old).claims }
         ensures claimed { IfSome result (λ d. acts self.old (Acquires d) self.new) }
         ensures none { IfNone result (self.new ≡ self.old) };
 

@@ -1,12 +1,10 @@
 -- A program that was loaded from a slot is one of that slot.
-use Rattle.std.proofs.Common.{◌≡◌, ℕ, zero, suc, ◌+◌, ◌<◌, ◌==◌, ◌||◌, Bool, true, false, cond, List, [], ◌∷◌, map, find, Option, Some, None, is_some, ⊎_elim, refl, sym, subst, ◌∙◌, ap, ap₂, arith}
+use Rattle.std.proofs.Common.{◌≡◌, ℕ, zero, suc, ◌+◌, ◌<◌, ◌==◌, ◌||◌, Bool, true, false, cond, List, [], ◌∷◌, Option, Some, None, is_some, ⊎_elim, refl, sym, subst, ◌∙◌, ap, ap₂, arith}
 use Rattle.std.specs.List.{filter, list_any, range_with_len}
-use Rattle.std.specs.Option.{option_map}
 use Rattle.std.specs.Prelude.{slice_index_or}
 use Rattle.std.proofs.lemmas.Bool.{cases_Bool}
-use Rattle.std.proofs.lemmas.List.FromFn.{get_or-map-range_with_len}
 use Rattle.kdf_transfer.specs.Devices.{Fixture}
-use Rattle.kdf_transfer.specs.declared.device.Device.{Device}
+use Rattle.kdf_transfer.proofs.Numbers.{limit_is, number_at}
 use Rattle.kdf_transfer.specs.declared.order.TransferOrder.{TransferOrder}
 use Rattle.kdf_journal.specs.declared.kind.Kind.{Kind}
 use Rattle.kdf_processor.specs.Effect.{Question, FreeOf, Effect, Starting, Asking, Returning}
@@ -15,12 +13,9 @@ use Rattle.kdf_processor.specs.Needs.{next_effect}
 use Rattle.kdf_processor.specs.Row.{transferred, perform}
 use Rattle.kdf_processor.specs.State.{Claims, State, Stock, begin, device_limit, fixture_at, pooled_or}
 use Rattle.kdf_processor.proofs.RowFacts.{next_answer}
-use Rattle.kdf_job.specs.declared.job.SlotJob.{SlotJob as ReadSlot}
-use Rattle.kdf_job.specs.Job.{JobDevice}
-use Rattle.kdf_job.specs.Shows.{shown_device, shown_slot}
+use Rattle.kdf_job.specs.Job.{JobDevice, SlotJob}
+use Rattle.kdf_job.specs.Slots.{fixture_on, numbered, slot_of}
 use Rattle.kdf_job.specs.WellFormed.{IsSlot}
-use Rattle.kdf_alone.specs.Loading.{fixture_numbered, slot_of}
-use Rattle.kdf_alone.specs.Places.{fixture_in}
 use Rattle.kdf_report.specs.Devices.{device_numbers, has_device}
 use Rattle.kdf_report.specs.MadeFrom.{IsProgramOf, own_numbers}
 
@@ -67,21 +62,19 @@ filter_same p q a (suc n) same =
     let others = filter_same p q (a + 1) n (λ k h. same k (omega arith)) in
     cc
 
-numbered_there : (devices : List (ℕ × Device)) (d : ℕ) → is_some (fixture_numbered devices d) ≡ list_any (λ (x : JobDevice). x.d == d) (map shown_device devices)
-numbered_there [] d = refl
-numbered_there (x ∷ devices) d = go (x.0 == d) (numbered_there devices d)
-  where
-    go : (b : Bool) → is_some (fixture_numbered devices d) ≡ list_any (λ (x : JobDevice). x.d == d) (map shown_device devices)
-        → is_some (fixture_in (option_map (λ (y : ℕ × Device). y.1) (cond b (Some x) (find (λ (y : ℕ × Device). y.0 == d) devices))))
-        ≡ (b || list_any (λ (x : JobDevice). x.d == d) (map shown_device devices))
-    go true later = refl
-    go false later = later
+some_found : (b : Bool) (x : JobDevice) (o : Option JobDevice) → is_some (fixture_on (cond b (Some x) o)) ≡ (b || is_some (fixture_on o))
+some_found true x o = refl
+some_found false x o = refl
 
-own_at_start : (slot : ReadSlot) (words : List ℕ) → own_numbers (begin (slot_of slot words)) ≡ device_numbers (shown_slot slot)
+found_there : (devices : List JobDevice) (d : ℕ) → is_some (fixture_on (numbered devices d)) ≡ list_any (λ (x : JobDevice). x.d == d) devices
+found_there [] d = refl
+found_there (x ∷ devices) d = some_found (x.d == d) x (numbered devices d) ∙ ap (λ b. x.d == d || b) (found_there devices d)
+
+own_at_start : (slot : SlotJob) (words : List ℕ) → own_numbers (begin (slot_of slot words)) ≡ device_numbers slot
 unfolding own_numbers device_numbers
 own_at_start slot words =
-    filter_same (λ d. is_some (fixture_at (begin (slot_of slot words)).stock.claims d)) (has_device (shown_slot slot)) 0 device_limit
-    (λ k h. ap is_some (get_or-map-range_with_len (fixture_numbered slot.devices.items) 0 device_limit k k None (omega arith) (omega arith)) ∙ numbered_there slot.devices.items k)
+    filter_same (λ d. is_some (fixture_at (begin (slot_of slot words)).stock.claims d)) (has_device slot) 0 device_limit
+    (λ k h. ap is_some (number_at (λ d. fixture_on (numbered slot.devices d)) k None (let e = limit_is in omega arith)) ∙ found_there slot.devices k)
 
 pub own_same : (s t : State) → s.stock.claims.fixtures ≡ t.stock.claims.fixtures → s.stock.claims.pool ≡ t.stock.claims.pool → own_numbers s ≡ own_numbers t
 unfolding own_numbers
@@ -89,8 +82,8 @@ own_same s t fixtures pool =
     ap₂ (λ (fs : List (Option Fixture)) (ks : List (Option Kind)).
     filter (λ d. is_some (pooled_or (slice_index_or ks d None) (slice_index_or fs d None))) (range_with_len 0 device_limit)) fixtures pool
 
-pub loaded : (slot : ReadSlot) (words answers : List ℕ) (n : ℕ) → IsSlot (shown_slot slot) → IsProgramOf (shown_slot slot) (lone (begin (slot_of slot words)) answers n)
-loaded slot words answers n is =
+pub program_of : (slot : SlotJob) (words answers : List ℕ) (n : ℕ) → IsSlot slot → IsProgramOf slot (lone (begin (slot_of slot words)) answers n)
+program_of slot words answers n is =
     let same = same_lone (begin (slot_of slot words)) answers n in
     record {
       size = same.size;
@@ -99,6 +92,6 @@ loaded slot words answers n is =
     }
 
 -- and so is what it comes to, step by step
-pub ran_from : (slot : ReadSlot) (words answers : List ℕ) (n : ℕ) (t s : State) → IsSlot (shown_slot slot) → t ≡ begin (slot_of slot words) → s ≡ lone t answers n → IsProgramOf (shown_slot slot) s
+pub ran_from : (slot : SlotJob) (words answers : List ℕ) (n : ℕ) (t s : State) → IsSlot slot → t ≡ begin (slot_of slot words) → s ≡ lone t answers n → IsProgramOf slot s
 ran_from slot words answers n t s is at_start after =
-    subst (IsProgramOf (shown_slot slot)) (sym (after ∙ ap (λ (x : State). lone x answers n) at_start)) (loaded slot words answers n is)
+    subst (IsProgramOf slot) (sym (after ∙ ap (λ (x : State). lone x answers n) at_start)) (program_of slot words answers n is)

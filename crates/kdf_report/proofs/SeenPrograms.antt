@@ -1,64 +1,38 @@
 -- What is seen of a program that was loaded from a slot of a job is one of that slot.
-use Rattle.std.proofs.Common.{◌≡◌, ℕ, zero, suc, ◌<◌, ◌||◌, Bool, true, false, cond, eqb, List, [], ◌∷◌, ◌++◌, length, map, get_or, All, Option, Some, None, is_some, IsSomeAnd, refl, sym, subst, ◌∙◌, ap, arith}
+use Rattle.std.proofs.Common.{◌≡◌, ℕ, zero, suc, ◌<◌, Bool, true, false, cond, eqb, List, [], ◌∷◌, ◌++◌, length, map, get_or, All, Option, Some, None, IsSomeAnd, refl, sym, subst, ◌∙◌, ap, arith}
 use Rattle.std.specs.Prelude.{unwrap_or}
-use Rattle.std.specs.List.{flat_map, list_any}
+use Rattle.std.specs.List.{flat_map}
 use Rattle.std.specs.Option.{option_map}
 use Rattle.std.proofs.lemmas.Bool.{eq-eqb, eqb-true, ne_eqb}
 use Rattle.kdf_journal.specs.Counts.{answers, ran}
 use Rattle.kdf_journal.specs.declared.entry.Entry.{Entry}
 use Rattle.kdf_processor.specs.Lone.{lone}
-use Rattle.kdf_processor.specs.State.{Slot, State, begin, device_limit, fixture_at}
-use Rattle.kdf_job.specs.Job.{Job, JobDevice, SlotJob}
+use Rattle.kdf_transfer.specs.Slots.{Slot}
+use Rattle.kdf_processor.specs.State.{State}
+use Rattle.kdf_job.specs.Job.{Job, SlotJob}
 use Rattle.kdf_job.specs.WellFormed.{AreRising, AreSlots, IsSlot}
 use Rattle.kdf_director.specs.Flights.{Flight}
 use Rattle.kdf_director.specs.Loading as loading
-use Rattle.kdf_director.specs.Loading.{HaveImages, fixture_on, load_of, numbered, slots_of}
+use Rattle.kdf_director.specs.Loading.{HaveImages, load_of, slots_of}
 use Rattle.kdf_director.specs.Seen.{seen}
 use Rattle.kdf_director.specs.Shown.{Shown, ShowsSeen, state_at, state_in, state_of}
 use Rattle.kdf_director.specs.Slots.{slot_of, start_of}
 use Rattle.kdf_director.specs.Told.{flights_of, own, seen_of}
-use Rattle.kdf_director.proofs.Tables.{limit_is, number_at}
 use Rattle.kdf_text.specs.Text.{text}
-use Rattle.kdf_report.specs.Devices.{device_numbers, has_device}
-use Rattle.kdf_report.specs.MadeFrom.{HasProgram, IsProgramOf, own_numbers}
+use Rattle.kdf_report.specs.MadeFrom.{HasProgram, IsProgramOf}
 use Rattle.kdf_report.specs.Text.{end_line, entry_line, head_line, report_lines, report_text, section}
-use Rattle.kdf_report.proofs.Loaded.{filter_same, own_same, same_lone}
-
--- ---- the devices at the start are those of the slot
-
-some_found : (b : Bool) (x : JobDevice) (o : Option JobDevice) → is_some (fixture_on (cond b (Some x) o)) ≡ (b || is_some (fixture_on o))
-some_found true x o = refl
-some_found false x o = refl
-
-found_there : (devices : List JobDevice) (d : ℕ) → is_some (fixture_on (numbered devices d)) ≡ list_any (λ (x : JobDevice). eqb x.d d) devices
-found_there [] d = refl
-found_there (x ∷ devices) d = some_found (eqb x.d d) x (numbered devices d) ∙ ap (λ b. eqb x.d d || b) (found_there devices d)
+use Rattle.kdf_report.proofs.Loaded.{own_same, program_of}
 
 -- a slot as it is loaded
 abbrev loaded : SlotJob → List ℕ → Slot
 loaded slot words = loading.slot_of (load_of slot words)
 
-own_at_start : (slot : SlotJob) (words : List ℕ) → own_numbers (begin (loaded slot words)) ≡ device_numbers slot
-unfolding own_numbers device_numbers
-own_at_start slot words =
-    filter_same (λ d. is_some (fixture_at (begin (loaded slot words)).stock.claims d)) (has_device slot) 0 device_limit
-    (λ k h. ap is_some (number_at (λ d. fixture_on (numbered slot.devices d)) k None (let e = limit_is in omega arith)) ∙ found_there slot.devices k)
-
 -- ---- a program of the slot by itself, and what is seen of it
-
-alone_of_slot : (slot : SlotJob) (words given : List ℕ) (n : ℕ) → IsSlot slot → IsProgramOf slot (lone (begin (loaded slot words)) given n)
-alone_of_slot slot words given n is =
-    let same = same_lone (begin (loaded slot words)) given n in
-    record {
-      size = same.size;
-      shows = λ k d h. (is.shows k d h).1;
-      devices = own_same (lone (begin (loaded slot words)) given n) (begin (loaded slot words)) same.fixtures same.pool ∙ own_at_start slot words;
-    }
 
 own_of_slot : (slots : List Slot) (J : List Entry) (p : ℕ) (slot : SlotJob) (words : List ℕ) → IsSlot slot → slot_of slots p ≡ Some (loaded slot words) → IsProgramOf slot (own slots J p)
 unfolding own
 own_of_slot slots J p slot words is at =
-    subst (λ o. IsProgramOf slot (lone (start_of o) (answers p J) (ran p J))) (sym at) (alone_of_slot slot words (answers p J) (ran p J) is)
+    subst (λ o. IsProgramOf slot (lone (start_of o) (answers p J) (ran p J))) (sym at) (program_of slot words (answers p J) (ran p J) is)
 
 seen_like : (flights : ℕ → Option Flight) (slot : SlotJob) (s : State) → IsProgramOf slot s → IsProgramOf slot (seen flights s)
 seen_like flights slot s is = record { size = is.size; shows = is.shows; devices = own_same (seen flights s) s refl refl ∙ is.devices }

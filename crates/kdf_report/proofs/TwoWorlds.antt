@@ -7,7 +7,8 @@ use Rattle.std.proofs.lemmas.Bool.{eqb-true}
 use Rattle.kdf_journal.specs.declared.entry.Entry.{Entry}
 use Rattle.kdf_journal.specs.Counts.{answers}
 use Rattle.kdf_processor.specs.Lone.{is_live}
-use Rattle.kdf_processor.specs.State.{Slot, State}
+use Rattle.kdf_transfer.specs.Slots.{Slot}
+use Rattle.kdf_processor.specs.State.{State}
 use Rattle.kdf_place.specs.Assembled.{image_words}
 use Rattle.kdf_job.specs.Job.{Job, SlotJob}
 use Rattle.kdf_job.specs.Reading.{job, job_fault}

@@ -29,10 +29,10 @@ use Rattle.kdf_job.specs.Job.{SlotJob}
 use Rattle.kdf_job.specs.Media.{codes_in, new_device}
 use Rattle.kdf_job.specs.Reading.{job, read_line}
 use Rattle.kdf_processor.specs.declared.registers.Life.TheVariants.{Ended}
-use Rattle.kdf_processor.specs.Claims.{free_kind, free_label}
+use Rattle.kdf_processor.specs.Claims.{free_for}
 use Rattle.kdf_processor.specs.State.{unclaimed}
 use Rattle.kdf_processor.specs.Table.{plain_row, out_effect, brought, from_top, changed, single_row, decision, direct_effect, transfer_of, query_effect, guarded}
-use Rattle.kdf_director.specs.ByNumber.{by_number, device_count}
+use Rattle.kdf_transfer.specs.ByNumber.{by_number, device_count}
 use Rattle.kdf_report.specs.Devices.{device_numbers}
 use Rattle.kdf_report.specs.Worked.{a_slot, alone, card_reader, job_lines, seen_after, shown}
 
@@ -57,7 +57,7 @@ pub adds_cards : alone 49 (job_lines (codes "STORE 128") (codes "Y0; PROGRAM V4;
   spooled = [];
   devices = shown 4 true 2 true ([]) ([]) ∷ shown 5 true 1 false ((16 ∷ 16 ∷ 16 ∷ 16 ∷ 16 ∷ 19 ∷ 23 ∷ 21 ∷ []) ∷ []) ([]) ∷ [];
 } ∷ []
-unfolding after_read after_card rewound after_skip after_write printed first_word words_of given offered finished decoded arith arith_row free_kind free_label unclaimed plain_row out_effect brought from_top changed single_row decision direct_effect transfer_of query_effect guarded device_numbers by_number device_count to_binary from_binary text
+unfolding after_read after_card rewound after_skip after_write printed first_word words_of given offered finished decoded arith arith_row free_for unclaimed plain_row out_effect brought from_top changed single_row decision direct_effect transfer_of query_effect guarded device_numbers by_number device_count to_binary from_binary text
 adds_cards =
     ap (λ (slots : List SlotJob). map (λ (s : SlotJob). seen_after 49 s (image_words s.size s.deck)) slots) adds_cards_slot
     ∙ ap (λ (image : List ℕ). seen_after 49 (a_slot 128 (text (codes "Y0; PROGRAM V4; V0=Q0/64/73; V1=B1212121212121212; V2=Q0/96/96;" ∷ codes "V3=B1717171717171717; V4=B2020202020202020;" ∷ codes "SET 4; SET 5; OUT; V0; =Q1; =C1; SET 3; SET 5; OUT; V2; =Q2; =C2;" ∷ codes "1; CRQ1; PARQ1; J2TR; E64; V3; AND; V1; TOB; Y0; +; =Y0; J1;" ∷ codes "2; Y0; V1; FRB; V4; OR; =E96; LPQ2; ZERO; OUT; FINISH;" ∷ [])) (card_reader 4 (((16 ∷ 16 ∷ 16 ∷ 16 ∷ 16 ∷ 17 ∷ 18 ∷ 21 ∷ []) ++ replicate 72 0) ∷ ((16 ∷ 16 ∷ 16 ∷ 16 ∷ 16 ∷ 18 ∷ 21 ∷ 16 ∷ []) ++ replicate 72 0) ∷ []) ∷ new_device 5 Lp 0 ∷ []) ([])) image ∷ []) adds_cards_image
@@ -83,7 +83,7 @@ pub cards_into_a_long_area : alone 14 (job_lines (codes "STORE 128") (codes "PRO
   spooled = [];
   devices = shown 4 true 1 false ([]) ([]) ∷ [];
 } ∷ []
-unfolding after_read after_card rewound after_skip after_write printed first_word words_of given offered finished decoded arith arith_row free_kind free_label unclaimed plain_row out_effect brought from_top changed single_row decision direct_effect transfer_of query_effect guarded device_numbers by_number device_count to_binary from_binary text
+unfolding after_read after_card rewound after_skip after_write printed first_word words_of given offered finished decoded arith arith_row free_for unclaimed plain_row out_effect brought from_top changed single_row decision direct_effect transfer_of query_effect guarded device_numbers by_number device_count to_binary from_binary text
 cards_into_a_long_area =
     ap (λ (slots : List SlotJob). map (λ (s : SlotJob). seen_after 14 s (image_words s.size s.deck)) slots) cards_into_a_long_area_slot
     ∙ ap (λ (image : List ℕ). seen_after 14 (a_slot 128 (text (codes "PROGRAM V1; V0=Q0/32/42; V1=B1; SET 4; SET 5; OUT; V0; =Q1; =C1; V1; =E33; V1; =E42; CRQ1; ZERO; OUT; FINISH;" ∷ [])) (card_reader 4 (((33 ∷ 34 ∷ 35 ∷ 36 ∷ 37 ∷ 38 ∷ 39 ∷ 40 ∷ 33 ∷ 34 ∷ 35 ∷ 36 ∷ 37 ∷ 38 ∷ 39 ∷ 40 ∷ []) ++ replicate 64 0) ∷ ((17 ∷ 18 ∷ 19 ∷ 20 ∷ 21 ∷ 22 ∷ 23 ∷ 24 ∷ []) ++ replicate 72 0) ∷ []) ∷ []) ((32, 34) ∷ (41, 42) ∷ [])) image ∷ []) cards_into_a_long_area_image
@@ -109,7 +109,7 @@ pub cards_into_a_short_area : alone 12 (job_lines (codes "STORE 128") (codes "PR
   spooled = [];
   devices = shown 4 true 2 false ([]) ([]) ∷ [];
 } ∷ []
-unfolding after_read after_card rewound after_skip after_write printed first_word words_of given offered finished decoded arith arith_row free_kind free_label unclaimed plain_row out_effect brought from_top changed single_row decision direct_effect transfer_of query_effect guarded device_numbers by_number device_count to_binary from_binary text
+unfolding after_read after_card rewound after_skip after_write printed first_word words_of given offered finished decoded arith arith_row free_for unclaimed plain_row out_effect brought from_top changed single_row decision direct_effect transfer_of query_effect guarded device_numbers by_number device_count to_binary from_binary text
 cards_into_a_short_area =
     ap (λ (slots : List SlotJob). map (λ (s : SlotJob). seen_after 12 s (image_words s.size s.deck)) slots) cards_into_a_short_area_slot
     ∙ ap (λ (image : List ℕ). seen_after 12 (a_slot 128 (text (codes "PROGRAM V0; V0=Q0/32/32; SET 4; SET 5; OUT; V0; =Q1; =C1; CRQ1; CRQ1; PARQ1; ZERO; OUT; FINISH;" ∷ [])) (card_reader 4 (((33 ∷ 34 ∷ 35 ∷ 36 ∷ 37 ∷ 38 ∷ 39 ∷ 40 ∷ 33 ∷ 34 ∷ 35 ∷ 36 ∷ 37 ∷ 38 ∷ 39 ∷ 40 ∷ []) ++ replicate 64 0) ∷ ((17 ∷ 18 ∷ 19 ∷ 20 ∷ 21 ∷ 22 ∷ 23 ∷ 24 ∷ []) ++ replicate 72 0) ∷ []) ∷ []) ((32, 33) ∷ [])) image ∷ []) cards_into_a_short_area_image
@@ -135,7 +135,7 @@ pub no_more_cards : alone 13 (job_lines (codes "STORE 128") (codes "PROGRAM V0; 
   spooled = [];
   devices = shown 4 true 2 true ([]) ([]) ∷ [];
 } ∷ []
-unfolding after_read after_card rewound after_skip after_write printed first_word words_of given offered finished decoded arith arith_row free_kind free_label unclaimed plain_row out_effect brought from_top changed single_row decision direct_effect transfer_of query_effect guarded device_numbers by_number device_count to_binary from_binary text
+unfolding after_read after_card rewound after_skip after_write printed first_word words_of given offered finished decoded arith arith_row free_for unclaimed plain_row out_effect brought from_top changed single_row decision direct_effect transfer_of query_effect guarded device_numbers by_number device_count to_binary from_binary text
 no_more_cards =
     ap (λ (slots : List SlotJob). map (λ (s : SlotJob). seen_after 13 s (image_words s.size s.deck)) slots) no_more_cards_slot
     ∙ ap (λ (image : List ℕ). seen_after 13 (a_slot 128 (text (codes "PROGRAM V0; V0=Q0/32/32; SET 4; SET 5; OUT; V0; =Q1; =C1; CRQ1; CRQ1; CRQ1; PARQ1; ZERO; OUT; FINISH;" ∷ [])) (card_reader 4 (((33 ∷ 34 ∷ 35 ∷ 36 ∷ 37 ∷ 38 ∷ 39 ∷ 40 ∷ 33 ∷ 34 ∷ 35 ∷ 36 ∷ 37 ∷ 38 ∷ 39 ∷ 40 ∷ []) ++ replicate 64 0) ∷ ((17 ∷ 18 ∷ 19 ∷ 20 ∷ 21 ∷ 22 ∷ 23 ∷ 24 ∷ []) ++ replicate 72 0) ∷ []) ∷ []) ((32, 32) ∷ [])) image ∷ []) no_more_cards_image

@@ -29,10 +29,10 @@ use Rattle.kdf_job.specs.Media.{codes_in}
 use Rattle.kdf_job.specs.Reading.{job, read_line}
 use Rattle.kdf_journal.specs.declared.failure.Failure.TheVariants.{Claim, Liv}
 use Rattle.kdf_processor.specs.declared.registers.Life.TheVariants.{Ended, Failed}
-use Rattle.kdf_processor.specs.Claims.{free_kind, free_label}
+use Rattle.kdf_processor.specs.Claims.{free_for}
 use Rattle.kdf_processor.specs.State.{unclaimed}
 use Rattle.kdf_processor.specs.Table.{plain_row, out_effect, brought, from_top, changed, single_row, decision, direct_effect, transfer_of, query_effect, guarded}
-use Rattle.kdf_director.specs.ByNumber.{by_number, device_count}
+use Rattle.kdf_transfer.specs.ByNumber.{by_number, device_count}
 use Rattle.kdf_report.specs.Devices.{device_numbers}
 use Rattle.kdf_report.specs.Worked.{a_slot, alone, job_lines, reader, seen_after, shown}
 
@@ -57,7 +57,7 @@ pub reads_tape : alone 11 (job_lines (codes "STORE 64") (codes "PROGRAM V0; V0=Q
   spooled = [];
   devices = shown 3 true 16 false ([]) ([]) ∷ [];
 } ∷ []
-unfolding after_read after_card rewound after_skip after_write printed first_word words_of given offered finished decoded arith arith_row free_kind free_label unclaimed plain_row out_effect brought from_top changed single_row decision direct_effect transfer_of query_effect guarded device_numbers by_number device_count to_binary from_binary text
+unfolding after_read after_card rewound after_skip after_write printed first_word words_of given offered finished decoded arith arith_row free_for unclaimed plain_row out_effect brought from_top changed single_row decision direct_effect transfer_of query_effect guarded device_numbers by_number device_count to_binary from_binary text
 reads_tape =
     ap (λ (slots : List SlotJob). map (λ (s : SlotJob). seen_after 11 s (image_words s.size s.deck)) slots) reads_tape_slot
     ∙ ap (λ (image : List ℕ). seen_after 11 (a_slot 64 (text (codes "PROGRAM V0; V0=Q0/32/33; SET 2; SET 5; OUT; V0; =Q1; =C1; PRQ1; E32; ZERO; OUT; FINISH;" ∷ [])) (reader 3 ((33 ∷ 34 ∷ 35 ∷ 36 ∷ 37 ∷ 38 ∷ 39 ∷ 40 ∷ 41 ∷ 42 ∷ 43 ∷ 44 ∷ 45 ∷ 46 ∷ 47 ∷ 48 ∷ [])) ∷ []) ((32, 33) ∷ [])) image ∷ []) reads_tape_image
@@ -83,7 +83,7 @@ pub reader_flag_when_the_tape_ends : alone 13 (job_lines (codes "STORE 128") (co
   spooled = [];
   devices = shown 3 true 10 true ([]) ([]) ∷ [];
 } ∷ []
-unfolding after_read after_card rewound after_skip after_write printed first_word words_of given offered finished decoded arith arith_row free_kind free_label unclaimed plain_row out_effect brought from_top changed single_row decision direct_effect transfer_of query_effect guarded device_numbers by_number device_count to_binary from_binary text
+unfolding after_read after_card rewound after_skip after_write printed first_word words_of given offered finished decoded arith arith_row free_for unclaimed plain_row out_effect brought from_top changed single_row decision direct_effect transfer_of query_effect guarded device_numbers by_number device_count to_binary from_binary text
 reader_flag_when_the_tape_ends =
     ap (λ (slots : List SlotJob). map (λ (s : SlotJob). seen_after 13 s (image_words s.size s.deck)) slots) reader_flag_when_the_tape_ends_slot
     ∙ ap (λ (image : List ℕ). seen_after 13 (a_slot 128 (text (codes "PROGRAM V1; V0=Q0/32/34; V1=B1; SET 2; SET 5; OUT; V0; =Q1; =C1; V1; =E34; PRQ1; PARQ1; ZERO; OUT; FINISH;" ∷ [])) (reader 3 (33 ∷ 34 ∷ 35 ∷ 36 ∷ 37 ∷ 38 ∷ 39 ∷ 40 ∷ 41 ∷ 42 ∷ []) ∷ []) ((32, 34) ∷ [])) image ∷ []) reader_flag_when_the_tape_ends_image
@@ -109,7 +109,7 @@ pub reader_just_to_the_end : alone 11 (job_lines (codes "STORE 128") (codes "PRO
   spooled = [];
   devices = shown 3 true 16 false ([]) ([]) ∷ [];
 } ∷ []
-unfolding after_read after_card rewound after_skip after_write printed first_word words_of given offered finished decoded arith arith_row free_kind free_label unclaimed plain_row out_effect brought from_top changed single_row decision direct_effect transfer_of query_effect guarded device_numbers by_number device_count to_binary from_binary text
+unfolding after_read after_card rewound after_skip after_write printed first_word words_of given offered finished decoded arith arith_row free_for unclaimed plain_row out_effect brought from_top changed single_row decision direct_effect transfer_of query_effect guarded device_numbers by_number device_count to_binary from_binary text
 reader_just_to_the_end =
     ap (λ (slots : List SlotJob). map (λ (s : SlotJob). seen_after 11 s (image_words s.size s.deck)) slots) reader_just_to_the_end_slot
     ∙ ap (λ (image : List ℕ). seen_after 11 (a_slot 128 (text (codes "PROGRAM V0; V0=Q0/32/33; SET 2; SET 5; OUT; V0; =Q1; =C1; PRQ1; PARQ1; ZERO; OUT; FINISH;" ∷ [])) (reader 3 ((33 ∷ 34 ∷ 35 ∷ 36 ∷ 37 ∷ 38 ∷ 39 ∷ 40 ∷ 41 ∷ 42 ∷ 43 ∷ 44 ∷ 45 ∷ 46 ∷ 47 ∷ 48 ∷ [])) ∷ []) ((32, 33) ∷ [])) image ∷ []) reader_just_to_the_end_image
@@ -135,7 +135,7 @@ pub fetches_what_was_read : alone 11 (job_lines (codes "STORE 96") (codes "PROGR
   spooled = [];
   devices = shown 3 true 8 false ([]) ([]) ∷ [];
 } ∷ []
-unfolding after_read after_card rewound after_skip after_write printed first_word words_of given offered finished decoded arith arith_row free_kind free_label unclaimed plain_row out_effect brought from_top changed single_row decision direct_effect transfer_of query_effect guarded device_numbers by_number device_count to_binary from_binary text
+unfolding after_read after_card rewound after_skip after_write printed first_word words_of given offered finished decoded arith arith_row free_for unclaimed plain_row out_effect brought from_top changed single_row decision direct_effect transfer_of query_effect guarded device_numbers by_number device_count to_binary from_binary text
 fetches_what_was_read =
     ap (λ (slots : List SlotJob). map (λ (s : SlotJob). seen_after 11 s (image_words s.size s.deck)) slots) fetches_what_was_read_slot
     ∙ ap (λ (image : List ℕ). seen_after 11 (a_slot 96 (text (codes "PROGRAM V59; V0=Q0/95/95; SET 2; SET 5; OUT; V0; =Q1; =C1; PRQ1; E0; ZERO; OUT; FINISH;" ∷ [])) (reader 3 ((33 ∷ 34 ∷ 35 ∷ 36 ∷ 37 ∷ 38 ∷ 39 ∷ 40 ∷ 41 ∷ 42 ∷ 43 ∷ 44 ∷ 45 ∷ 46 ∷ 47 ∷ 48 ∷ [])) ∷ []) ((95, 95) ∷ [])) image ∷ []) fetches_what_was_read_image
@@ -161,7 +161,7 @@ pub reads_into_its_own_group : alone 12 (job_lines (codes "STORE 64") (codes "PR
   spooled = [];
   devices = shown 3 true 16 false ([]) ([]) ∷ [];
 } ∷ []
-unfolding after_read after_card rewound after_skip after_write printed first_word words_of given offered finished decoded arith arith_row free_kind free_label unclaimed plain_row out_effect brought from_top changed single_row decision direct_effect transfer_of query_effect guarded device_numbers by_number device_count to_binary from_binary text
+unfolding after_read after_card rewound after_skip after_write printed first_word words_of given offered finished decoded arith arith_row free_for unclaimed plain_row out_effect brought from_top changed single_row decision direct_effect transfer_of query_effect guarded device_numbers by_number device_count to_binary from_binary text
 reads_into_its_own_group =
     ap (λ (slots : List SlotJob). map (λ (s : SlotJob). seen_after 12 s (image_words s.size s.deck)) slots) reads_into_its_own_group_slot
     ∙ ap (λ (image : List ℕ). seen_after 12 (a_slot 64 (text (codes "PROGRAM V0; V0=Q0/32/33; SET 2; SET 5; OUT; V0; =Q1; =C1; PRQ1; ZERO; =E40; ZERO; OUT; FINISH;" ∷ [])) (reader 3 ((33 ∷ 34 ∷ 35 ∷ 36 ∷ 37 ∷ 38 ∷ 39 ∷ 40 ∷ 41 ∷ 42 ∷ 43 ∷ 44 ∷ 45 ∷ 46 ∷ 47 ∷ 48 ∷ [])) ∷ []) ((32, 33) ∷ [])) image ∷ []) reads_into_its_own_group_image
@@ -187,7 +187,7 @@ pub reads_nothing_behind_the_end_of_tape : alone 13 (job_lines (codes "STORE 64"
   spooled = [];
   devices = shown 3 true 4 true ([]) ([]) ∷ [];
 } ∷ []
-unfolding after_read after_card rewound after_skip after_write printed first_word words_of given offered finished decoded arith arith_row free_kind free_label unclaimed plain_row out_effect brought from_top changed single_row decision direct_effect transfer_of query_effect guarded device_numbers by_number device_count to_binary from_binary text
+unfolding after_read after_card rewound after_skip after_write printed first_word words_of given offered finished decoded arith arith_row free_for unclaimed plain_row out_effect brought from_top changed single_row decision direct_effect transfer_of query_effect guarded device_numbers by_number device_count to_binary from_binary text
 reads_nothing_behind_the_end_of_tape =
     ap (λ (slots : List SlotJob). map (λ (s : SlotJob). seen_after 13 s (image_words s.size s.deck)) slots) reads_nothing_behind_the_end_of_tape_slot
     ∙ ap (λ (image : List ℕ). seen_after 13 (a_slot 64 (text (codes "PROGRAM V0; V0=Q0/32/33; SET 2; SET 5; OUT; V0; =Q1; =C1; PREQ1; PREQ1; PREQ1; E32; ZERO; OUT; FINISH;" ∷ [])) (reader 3 (61 ∷ 33 ∷ 34 ∷ 35 ∷ []) ∷ []) ((32, 33) ∷ [])) image ∷ []) reads_nothing_behind_the_end_of_tape_image
@@ -213,7 +213,7 @@ pub reads_past_the_end_message_to_the_end_of_tape : alone 12 (job_lines (codes "
   spooled = [];
   devices = shown 3 true 4 true ([]) ([]) ∷ [];
 } ∷ []
-unfolding after_read after_card rewound after_skip after_write printed first_word words_of given offered finished decoded arith arith_row free_kind free_label unclaimed plain_row out_effect brought from_top changed single_row decision direct_effect transfer_of query_effect guarded device_numbers by_number device_count to_binary from_binary text
+unfolding after_read after_card rewound after_skip after_write printed first_word words_of given offered finished decoded arith arith_row free_for unclaimed plain_row out_effect brought from_top changed single_row decision direct_effect transfer_of query_effect guarded device_numbers by_number device_count to_binary from_binary text
 reads_past_the_end_message_to_the_end_of_tape =
     ap (λ (slots : List SlotJob). map (λ (s : SlotJob). seen_after 12 s (image_words s.size s.deck)) slots) reads_past_the_end_message_to_the_end_of_tape_slot
     ∙ ap (λ (image : List ℕ). seen_after 12 (a_slot 64 (text (codes "PROGRAM V0; V0=Q0/32/33; SET 2; SET 5; OUT; V0; =Q1; =C1; PREQ1; PREQ1; E32; ZERO; OUT; FINISH;" ∷ [])) (reader 3 (61 ∷ 33 ∷ 34 ∷ 35 ∷ []) ∷ []) ((32, 33) ∷ [])) image ∷ []) reads_past_the_end_message_to_the_end_of_tape_image
@@ -239,7 +239,7 @@ pub reads_tape_that_ends_within_the_area : alone 11 (job_lines (codes "STORE 64"
   spooled = [];
   devices = shown 3 true 10 true ([]) ([]) ∷ [];
 } ∷ []
-unfolding after_read after_card rewound after_skip after_write printed first_word words_of given offered finished decoded arith arith_row free_kind free_label unclaimed plain_row out_effect brought from_top changed single_row decision direct_effect transfer_of query_effect guarded device_numbers by_number device_count to_binary from_binary text
+unfolding after_read after_card rewound after_skip after_write printed first_word words_of given offered finished decoded arith arith_row free_for unclaimed plain_row out_effect brought from_top changed single_row decision direct_effect transfer_of query_effect guarded device_numbers by_number device_count to_binary from_binary text
 reads_tape_that_ends_within_the_area =
     ap (λ (slots : List SlotJob). map (λ (s : SlotJob). seen_after 11 s (image_words s.size s.deck)) slots) reads_tape_that_ends_within_the_area_slot
     ∙ ap (λ (image : List ℕ). seen_after 11 (a_slot 64 (text (codes "PROGRAM V0; V0=Q0/32/33; SET 2; SET 5; OUT; V0; =Q1; =C1; PRQ1; E32; ZERO; OUT; FINISH;" ∷ [])) (reader 3 (33 ∷ 34 ∷ 35 ∷ 36 ∷ 37 ∷ 38 ∷ 39 ∷ 40 ∷ 41 ∷ 42 ∷ []) ∷ []) ((32, 33) ∷ [])) image ∷ []) reads_tape_that_ends_within_the_area_image
@@ -265,7 +265,7 @@ pub reads_up_to_the_end_message : alone 11 (job_lines (codes "STORE 64") (codes 
   spooled = [];
   devices = shown 3 true 1 false ([]) ([]) ∷ [];
 } ∷ []
-unfolding after_read after_card rewound after_skip after_write printed first_word words_of given offered finished decoded arith arith_row free_kind free_label unclaimed plain_row out_effect brought from_top changed single_row decision direct_effect transfer_of query_effect guarded device_numbers by_number device_count to_binary from_binary text
+unfolding after_read after_card rewound after_skip after_write printed first_word words_of given offered finished decoded arith arith_row free_for unclaimed plain_row out_effect brought from_top changed single_row decision direct_effect transfer_of query_effect guarded device_numbers by_number device_count to_binary from_binary text
 reads_up_to_the_end_message =
     ap (λ (slots : List SlotJob). map (λ (s : SlotJob). seen_after 11 s (image_words s.size s.deck)) slots) reads_up_to_the_end_message_slot
     ∙ ap (λ (image : List ℕ). seen_after 11 (a_slot 64 (text (codes "PROGRAM V0; V0=Q0/32/33; SET 2; SET 5; OUT; V0; =Q1; =C1; PREQ1; E32; ZERO; OUT; FINISH;" ∷ [])) (reader 3 (61 ∷ 33 ∷ 34 ∷ 35 ∷ []) ∷ []) ((32, 33) ∷ [])) image ∷ []) reads_up_to_the_end_message_image
@@ -291,7 +291,7 @@ pub tape_is_read_over_the_orders : alone 9 (job_lines (codes "STORE 64") (codes 
   spooled = [];
   devices = shown 3 true 8 false ([]) ([]) ∷ [];
 } ∷ []
-unfolding after_read after_card rewound after_skip after_write printed first_word words_of given offered finished decoded arith arith_row free_kind free_label unclaimed plain_row out_effect brought from_top changed single_row decision direct_effect transfer_of query_effect guarded device_numbers by_number device_count to_binary from_binary text
+unfolding after_read after_card rewound after_skip after_write printed first_word words_of given offered finished decoded arith arith_row free_for unclaimed plain_row out_effect brought from_top changed single_row decision direct_effect transfer_of query_effect guarded device_numbers by_number device_count to_binary from_binary text
 tape_is_read_over_the_orders =
     ap (λ (slots : List SlotJob). map (λ (s : SlotJob). seen_after 9 s (image_words s.size s.deck)) slots) tape_is_read_over_the_orders_slot
     ∙ ap (λ (image : List ℕ). seen_after 9 (a_slot 64 (text (codes "PROGRAM V0; V0=Q0/4/4; SET 2; SET 5; OUT; V0; =Q1; =C1; PRQ1; ZERO; OUT; FINISH;" ∷ [])) (reader 3 (0 ∷ 0 ∷ 0 ∷ 0 ∷ 0 ∷ 0 ∷ 0 ∷ 0 ∷ []) ∷ []) ((4, 4) ∷ [])) image ∷ []) tape_is_read_over_the_orders_image
@@ -317,7 +317,7 @@ pub one_that_isnt_claimed : alone 4 (job_lines (codes "STORE 32") (codes "PROGRA
   spooled = [];
   devices = shown 3 false 0 false ([]) ([]) ∷ [];
 } ∷ []
-unfolding after_read after_card rewound after_skip after_write printed first_word words_of given offered finished decoded arith arith_row free_kind free_label unclaimed plain_row out_effect brought from_top changed single_row decision direct_effect transfer_of query_effect guarded device_numbers by_number device_count to_binary from_binary text
+unfolding after_read after_card rewound after_skip after_write printed first_word words_of given offered finished decoded arith arith_row free_for unclaimed plain_row out_effect brought from_top changed single_row decision direct_effect transfer_of query_effect guarded device_numbers by_number device_count to_binary from_binary text
 one_that_isnt_claimed =
     ap (λ (slots : List SlotJob). map (λ (s : SlotJob). seen_after 4 s (image_words s.size s.deck)) slots) one_that_isnt_claimed_slot
     ∙ ap (λ (image : List ℕ). seen_after 4 (a_slot 32 (text (codes "PROGRAM; SET 3; SET 6; OUT; FINISH;" ∷ [])) (reader 3 ([]) ∷ []) ([])) image ∷ []) one_that_isnt_claimed_image
@@ -343,7 +343,7 @@ pub is_answered_nought : alone 17 (job_lines (codes "STORE 64") (codes "PROGRAM 
   spooled = [];
   devices = shown 3 true 16 false ([]) ([]) ∷ [];
 } ∷ []
-unfolding after_read after_card rewound after_skip after_write printed first_word words_of given offered finished decoded arith arith_row free_kind free_label unclaimed plain_row out_effect brought from_top changed single_row decision direct_effect transfer_of query_effect guarded device_numbers by_number device_count to_binary from_binary text
+unfolding after_read after_card rewound after_skip after_write printed first_word words_of given offered finished decoded arith arith_row free_for unclaimed plain_row out_effect brought from_top changed single_row decision direct_effect transfer_of query_effect guarded device_numbers by_number device_count to_binary from_binary text
 is_answered_nought =
     ap (λ (slots : List SlotJob). map (λ (s : SlotJob). seen_after 17 s (image_words s.size s.deck)) slots) is_answered_nought_slot
     ∙ ap (λ (image : List ℕ). seen_after 17 (a_slot 64 (text (codes "PROGRAM V0; V0=Q0/32/33; SET 2; SET 5; OUT; V0; =Q1; =C1; PRQ1; BUSYQ1; SET 9; OUT; INTQ1; BUSYQ1; SET 9; OUT; ZERO; OUT; FINISH;" ∷ [])) (reader 3 ((33 ∷ 34 ∷ 35 ∷ 36 ∷ 37 ∷ 38 ∷ 39 ∷ 40 ∷ 41 ∷ 42 ∷ 43 ∷ 44 ∷ 45 ∷ 46 ∷ 47 ∷ 48 ∷ [])) ∷ []) ((32, 33) ∷ [])) image ∷ []) is_answered_nought_image

@@ -29,10 +29,10 @@ use Rattle.kdf_job.specs.Job.{SlotJob}
 use Rattle.kdf_job.specs.Media.{codes_in, new_device}
 use Rattle.kdf_job.specs.Reading.{job, read_line}
 use Rattle.kdf_processor.specs.declared.registers.Life.TheVariants.{Ended}
-use Rattle.kdf_processor.specs.Claims.{free_kind, free_label}
+use Rattle.kdf_processor.specs.Claims.{free_for}
 use Rattle.kdf_processor.specs.State.{unclaimed}
 use Rattle.kdf_processor.specs.Table.{plain_row, out_effect, brought, from_top, changed, single_row, decision, direct_effect, transfer_of, query_effect, guarded}
-use Rattle.kdf_director.specs.ByNumber.{by_number, device_count}
+use Rattle.kdf_transfer.specs.ByNumber.{by_number, device_count}
 use Rattle.kdf_report.specs.Devices.{device_numbers}
 use Rattle.kdf_report.specs.Worked.{a_slot, alone, job_lines, seen_after, shown}
 
@@ -57,7 +57,7 @@ pub printer_keeps_just_160 : alone 12 (job_lines (codes "STORE 128") (codes "PRO
   spooled = [];
   devices = shown 5 true 1 false ((replicate 160 0 ++ (2 ∷ 33 ∷ 34 ∷ 35 ∷ 36 ∷ 37 ∷ 38 ∷ 39 ∷ [])) ∷ []) ([]) ∷ [];
 } ∷ []
-unfolding after_read after_card rewound after_skip after_write printed first_word words_of given offered finished decoded arith arith_row free_kind free_label unclaimed plain_row out_effect brought from_top changed single_row decision direct_effect transfer_of query_effect guarded device_numbers by_number device_count to_binary from_binary text
+unfolding after_read after_card rewound after_skip after_write printed first_word words_of given offered finished decoded arith arith_row free_for unclaimed plain_row out_effect brought from_top changed single_row decision direct_effect transfer_of query_effect guarded device_numbers by_number device_count to_binary from_binary text
 printer_keeps_just_160 =
     ap (λ (slots : List SlotJob). map (λ (s : SlotJob). seen_after 12 s (image_words s.size s.deck)) slots) printer_keeps_just_160_slot
     ∙ ap (λ (image : List ℕ). seen_after 12 (a_slot 128 (text (codes "PROGRAM V1; V0=Q0/32/52; V1=P~ABCDEFG; SET 3; SET 5; OUT; V0; =Q1; =C1; V1; =E52; LPQ1; ZERO; OUT; FINISH;" ∷ [])) (new_device 5 Lp 0 ∷ []) ([])) image ∷ []) printer_keeps_just_160_image
@@ -83,7 +83,7 @@ pub printer_up_to_the_end_message : alone 12 (job_lines (codes "STORE 128") (cod
   spooled = [];
   devices = shown 5 true 1 false ((0 ∷ 0 ∷ 0 ∷ 0 ∷ 0 ∷ 0 ∷ 0 ∷ 0 ∷ 2 ∷ 33 ∷ 61 ∷ []) ∷ []) ([]) ∷ [];
 } ∷ []
-unfolding after_read after_card rewound after_skip after_write printed first_word words_of given offered finished decoded arith arith_row free_kind free_label unclaimed plain_row out_effect brought from_top changed single_row decision direct_effect transfer_of query_effect guarded device_numbers by_number device_count to_binary from_binary text
+unfolding after_read after_card rewound after_skip after_write printed first_word words_of given offered finished decoded arith arith_row free_for unclaimed plain_row out_effect brought from_top changed single_row decision direct_effect transfer_of query_effect guarded device_numbers by_number device_count to_binary from_binary text
 printer_up_to_the_end_message =
     ap (λ (slots : List SlotJob). map (λ (s : SlotJob). seen_after 12 s (image_words s.size s.deck)) slots) printer_up_to_the_end_message_slot
     ∙ ap (λ (image : List ℕ). seen_after 12 (a_slot 128 (text (codes "PROGRAM V1; V0=Q0/32/62; V1=P~A|B; SET 3; SET 5; OUT; V0; =Q1; =C1; V1; =E33; LPEQ1; ZERO; OUT; FINISH;" ∷ [])) (new_device 5 Lp 0 ∷ []) ([])) image ∷ []) printer_up_to_the_end_message_image
@@ -109,7 +109,7 @@ pub prints_a_line_before_it_changes : alone 14 (job_lines (codes "STORE 64") (co
   spooled = [];
   devices = shown 2 true 1 false ((40 ∷ 37 ∷ 44 ∷ 44 ∷ 47 ∷ 0 ∷ 0 ∷ 0 ∷ []) ∷ []) ([]) ∷ [];
 } ∷ []
-unfolding after_read after_card rewound after_skip after_write printed first_word words_of given offered finished decoded arith arith_row free_kind free_label unclaimed plain_row out_effect brought from_top changed single_row decision direct_effect transfer_of query_effect guarded device_numbers by_number device_count to_binary from_binary text
+unfolding after_read after_card rewound after_skip after_write printed first_word words_of given offered finished decoded arith arith_row free_for unclaimed plain_row out_effect brought from_top changed single_row decision direct_effect transfer_of query_effect guarded device_numbers by_number device_count to_binary from_binary text
 prints_a_line_before_it_changes =
     ap (λ (slots : List SlotJob). map (λ (s : SlotJob). seen_after 14 s (image_words s.size s.deck)) slots) prints_a_line_before_it_changes_slot
     ∙ ap (λ (image : List ℕ). seen_after 14 (a_slot 64 (text (codes "PROGRAM V1; V0=Q0/32/32; V1=PHELLO; V1; =E32; SET 3; SET 5; OUT; V0; =Q1; =C1; LPQ1; ZERO; =E32; ZERO; OUT; FINISH;" ∷ [])) (new_device 2 Lp 0 ∷ []) ((32, 32) ∷ [])) image ∷ []) prints_a_line_before_it_changes_image

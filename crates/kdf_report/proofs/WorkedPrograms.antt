@@ -29,10 +29,10 @@ use Rattle.kdf_job.specs.Media.{codes_in}
 use Rattle.kdf_job.specs.Reading.{job, read_line}
 use Rattle.kdf_journal.specs.declared.failure.Failure.TheVariants.{Claim, Liv, Nouv, Out}
 use Rattle.kdf_processor.specs.declared.registers.Life.TheVariants.{Live, Ended, Failed}
-use Rattle.kdf_processor.specs.Claims.{free_kind, free_label, least_pooled}
+use Rattle.kdf_processor.specs.Claims.{free_for, least_pooled}
 use Rattle.kdf_processor.specs.State.{unclaimed}
 use Rattle.kdf_processor.specs.Table.{plain_row, out_effect, brought, from_top, changed, single_row, decision, direct_effect, transfer_of, query_effect, guarded}
-use Rattle.kdf_director.specs.ByNumber.{by_number, device_count}
+use Rattle.kdf_transfer.specs.ByNumber.{by_number, device_count}
 use Rattle.kdf_report.specs.Devices.{device_numbers}
 use Rattle.kdf_report.specs.Worked.{a_slot, alone, job_lines, seen_after, spoken}
 
@@ -57,7 +57,7 @@ pub adds_5_and_7 : alone 7 (job_lines (codes "STORE 32") (codes "Y0; PROGRAM; SE
   spooled = [];
   devices = [];
 } ∷ []
-unfolding after_read after_card rewound after_skip after_write printed first_word words_of given offered finished decoded arith arith_row free_kind free_label unclaimed plain_row out_effect brought from_top changed single_row decision direct_effect transfer_of query_effect guarded device_numbers by_number device_count to_binary from_binary text
+unfolding after_read after_card rewound after_skip after_write printed first_word words_of given offered finished decoded arith arith_row free_for unclaimed plain_row out_effect brought from_top changed single_row decision direct_effect transfer_of query_effect guarded device_numbers by_number device_count to_binary from_binary text
 adds_5_and_7 =
     ap (λ (slots : List SlotJob). map (λ (s : SlotJob). seen_after 7 s (image_words s.size s.deck)) slots) adds_5_and_7_slot
     ∙ ap (λ (image : List ℕ). seen_after 7 (a_slot 32 (text (codes "Y0; PROGRAM; SET 5; SET 7; +; =Y0; ZERO; OUT; FINISH;" ∷ [])) ([]) ((3, 3) ∷ [])) image ∷ []) adds_5_and_7_image
@@ -83,7 +83,7 @@ pub stops_after_four_orders : alone 4 (job_lines (codes "STORE 32") (codes "Y0; 
   spooled = [];
   devices = [];
 } ∷ []
-unfolding after_read after_card rewound after_skip after_write printed first_word words_of given offered finished decoded arith arith_row free_kind free_label unclaimed plain_row out_effect brought from_top changed single_row decision direct_effect transfer_of query_effect guarded device_numbers by_number device_count to_binary from_binary text
+unfolding after_read after_card rewound after_skip after_write printed first_word words_of given offered finished decoded arith arith_row free_for unclaimed plain_row out_effect brought from_top changed single_row decision direct_effect transfer_of query_effect guarded device_numbers by_number device_count to_binary from_binary text
 stops_after_four_orders =
     ap (λ (slots : List SlotJob). map (λ (s : SlotJob). seen_after 4 s (image_words s.size s.deck)) slots) stops_after_four_orders_slot
     ∙ ap (λ (image : List ℕ). seen_after 4 (a_slot 32 (text (codes "Y0; PROGRAM; SET 5; SET 7; +; =Y0; ZERO; OUT; FINISH;" ∷ [])) ([]) ((3, 3) ∷ [])) image ∷ []) stops_after_four_orders_image
@@ -109,7 +109,7 @@ pub spool_up_to_the_end_message : alone 11 (job_lines (codes "STORE 128") (codes
   spooled = spoken 7 (33 ∷ 34 ∷ 61 ∷ []) ∷ spoken 7 (33 ∷ 34 ∷ 61 ∷ []) ∷ [];
   devices = [];
 } ∷ []
-unfolding after_read after_card rewound after_skip after_write printed first_word words_of given offered finished decoded arith arith_row free_kind free_label unclaimed plain_row out_effect brought from_top changed single_row decision direct_effect transfer_of query_effect guarded device_numbers by_number device_count to_binary from_binary text
+unfolding after_read after_card rewound after_skip after_write printed first_word words_of given offered finished decoded arith arith_row free_for unclaimed plain_row out_effect brought from_top changed single_row decision direct_effect transfer_of query_effect guarded device_numbers by_number device_count to_binary from_binary text
 spool_up_to_the_end_message =
     ap (λ (slots : List SlotJob). map (λ (s : SlotJob). seen_after 11 s (image_words s.size s.deck)) slots) spool_up_to_the_end_message_slot
     ∙ ap (λ (image : List ℕ). seen_after 11 (a_slot 128 (text (codes "PROGRAM V1; V0=Q7/32/33; V1=PAB|CD; V1; =E32; V0; SET 8; OUT; V0; SET 8; OUT; ZERO; OUT; FINISH;" ∷ [])) ([]) ([])) image ∷ []) spool_up_to_the_end_message_image
@@ -135,7 +135,7 @@ pub spool_without_an_end_message : alone 8 (job_lines (codes "STORE 128") (codes
   spooled = spoken 0 ((33 ∷ 34 ∷ []) ++ replicate 14 0) ∷ [];
   devices = [];
 } ∷ []
-unfolding after_read after_card rewound after_skip after_write printed first_word words_of given offered finished decoded arith arith_row free_kind free_label unclaimed plain_row out_effect brought from_top changed single_row decision direct_effect transfer_of query_effect guarded device_numbers by_number device_count to_binary from_binary text
+unfolding after_read after_card rewound after_skip after_write printed first_word words_of given offered finished decoded arith arith_row free_for unclaimed plain_row out_effect brought from_top changed single_row decision direct_effect transfer_of query_effect guarded device_numbers by_number device_count to_binary from_binary text
 spool_without_an_end_message =
     ap (λ (slots : List SlotJob). map (λ (s : SlotJob). seen_after 8 s (image_words s.size s.deck)) slots) spool_without_an_end_message_slot
     ∙ ap (λ (image : List ℕ). seen_after 8 (a_slot 128 (text (codes "PROGRAM V1; V0=Q0/32/33; V1=PAB; V1; =E32; V0; SET 8; OUT; ZERO; OUT; FINISH;" ∷ [])) ([]) ([])) image ∷ []) spool_without_an_end_message_image
@@ -161,7 +161,7 @@ pub out_3 : alone 5 (job_lines (codes "STORE 32") (codes "PROGRAM; SET 3; OUT; Z
   spooled = [];
   devices = [];
 } ∷ []
-unfolding after_read after_card rewound after_skip after_write printed first_word words_of given offered finished decoded arith arith_row free_kind free_label unclaimed plain_row out_effect brought from_top changed single_row decision direct_effect transfer_of query_effect guarded device_numbers by_number device_count to_binary from_binary text
+unfolding after_read after_card rewound after_skip after_write printed first_word words_of given offered finished decoded arith arith_row free_for unclaimed plain_row out_effect brought from_top changed single_row decision direct_effect transfer_of query_effect guarded device_numbers by_number device_count to_binary from_binary text
 out_3 =
     ap (λ (slots : List SlotJob). map (λ (s : SlotJob). seen_after 5 s (image_words s.size s.deck)) slots) out_3_slot
     ∙ ap (λ (image : List ℕ). seen_after 5 (a_slot 32 (text (codes "PROGRAM; SET 3; OUT; ZERO; OUT; FINISH;" ∷ [])) ([]) ([])) image ∷ []) out_3_image
@@ -187,7 +187,7 @@ pub out_4_without_tape : alone 4 (job_lines (codes "STORE 32") (codes "PROGRAM; 
   spooled = [];
   devices = [];
 } ∷ []
-unfolding after_read after_card rewound after_skip after_write printed first_word words_of given offered finished decoded arith arith_row free_kind free_label unclaimed plain_row out_effect brought from_top changed single_row decision direct_effect transfer_of query_effect guarded device_numbers by_number device_count to_binary from_binary text
+unfolding after_read after_card rewound after_skip after_write printed first_word words_of given offered finished decoded arith arith_row free_for unclaimed plain_row out_effect brought from_top changed single_row decision direct_effect transfer_of query_effect guarded device_numbers by_number device_count to_binary from_binary text
 out_4_without_tape =
     ap (λ (slots : List SlotJob). map (λ (s : SlotJob). seen_after 4 s (image_words s.size s.deck)) slots) out_4_without_tape_slot
     ∙ ap (λ (image : List ℕ). seen_after 4 (a_slot 32 (text (codes "PROGRAM; SET 1; SET 4; OUT; FINISH;" ∷ [])) ([]) ([])) image ∷ []) out_4_without_tape_image
@@ -213,7 +213,7 @@ pub out_5_of_kind_5 : alone 4 (job_lines (codes "STORE 32") (codes "PROGRAM; SET
   spooled = [];
   devices = [];
 } ∷ []
-unfolding after_read after_card rewound after_skip after_write printed first_word words_of given offered finished decoded arith arith_row free_kind free_label unclaimed plain_row out_effect brought from_top changed single_row decision direct_effect transfer_of query_effect guarded device_numbers by_number device_count to_binary from_binary text
+unfolding after_read after_card rewound after_skip after_write printed first_word words_of given offered finished decoded arith arith_row free_for unclaimed plain_row out_effect brought from_top changed single_row decision direct_effect transfer_of query_effect guarded device_numbers by_number device_count to_binary from_binary text
 out_5_of_kind_5 =
     ap (λ (slots : List SlotJob). map (λ (s : SlotJob). seen_after 4 s (image_words s.size s.deck)) slots) out_5_of_kind_5_slot
     ∙ ap (λ (image : List ℕ). seen_after 4 (a_slot 32 (text (codes "PROGRAM; SET 5; SET 5; OUT; FINISH;" ∷ [])) ([]) ([])) image ∷ []) out_5_of_kind_5_image
@@ -239,7 +239,7 @@ pub out_5_without_tr : alone 4 (job_lines (codes "STORE 32") (codes "PROGRAM; SE
   spooled = [];
   devices = [];
 } ∷ []
-unfolding after_read after_card rewound after_skip after_write printed first_word words_of given offered finished decoded arith arith_row free_kind free_label least_pooled unclaimed plain_row out_effect brought from_top changed single_row decision direct_effect transfer_of query_effect guarded device_numbers by_number device_count to_binary from_binary text
+unfolding after_read after_card rewound after_skip after_write printed first_word words_of given offered finished decoded arith arith_row free_for least_pooled unclaimed plain_row out_effect brought from_top changed single_row decision direct_effect transfer_of query_effect guarded device_numbers by_number device_count to_binary from_binary text
 out_5_without_tr =
     ap (λ (slots : List SlotJob). map (λ (s : SlotJob). seen_after 4 s (image_words s.size s.deck)) slots) out_5_without_tr_slot
     ∙ ap (λ (image : List ℕ). seen_after 4 (a_slot 32 (text (codes "PROGRAM; SET 2; SET 5; OUT; FINISH;" ∷ [])) ([]) ([])) image ∷ []) out_5_without_tr_image
@@ -265,7 +265,7 @@ pub out_8_of_stream_8 : alone 4 (job_lines (codes "STORE 32") (codes "PROGRAM V0
   spooled = [];
   devices = [];
 } ∷ []
-unfolding after_read after_card rewound after_skip after_write printed first_word words_of given offered finished decoded arith arith_row free_kind free_label unclaimed plain_row out_effect brought from_top changed single_row decision direct_effect transfer_of query_effect guarded device_numbers by_number device_count to_binary from_binary text
+unfolding after_read after_card rewound after_skip after_write printed first_word words_of given offered finished decoded arith arith_row free_for unclaimed plain_row out_effect brought from_top changed single_row decision direct_effect transfer_of query_effect guarded device_numbers by_number device_count to_binary from_binary text
 out_8_of_stream_8 =
     ap (λ (slots : List SlotJob). map (λ (s : SlotJob). seen_after 4 s (image_words s.size s.deck)) slots) out_8_of_stream_8_slot
     ∙ ap (λ (image : List ℕ). seen_after 4 (a_slot 32 (text (codes "PROGRAM V0; V0=Q8/1/1; V0; SET 8; OUT; FINISH;" ∷ [])) ([]) ([])) image ∷ []) out_8_of_stream_8_image
@@ -291,7 +291,7 @@ pub out_8_of_an_area_outside : alone 4 (job_lines (codes "STORE 32") (codes "PRO
   spooled = [];
   devices = [];
 } ∷ []
-unfolding after_read after_card rewound after_skip after_write printed first_word words_of given offered finished decoded arith arith_row free_kind free_label unclaimed plain_row out_effect brought from_top changed single_row decision direct_effect transfer_of query_effect guarded device_numbers by_number device_count to_binary from_binary text
+unfolding after_read after_card rewound after_skip after_write printed first_word words_of given offered finished decoded arith arith_row free_for unclaimed plain_row out_effect brought from_top changed single_row decision direct_effect transfer_of query_effect guarded device_numbers by_number device_count to_binary from_binary text
 out_8_of_an_area_outside =
     ap (λ (slots : List SlotJob). map (λ (s : SlotJob). seen_after 4 s (image_words s.size s.deck)) slots) out_8_of_an_area_outside_slot
     ∙ ap (λ (image : List ℕ). seen_after 4 (a_slot 32 (text (codes "PROGRAM V0; V0=Q0/31/32; V0; SET 8; OUT; FINISH;" ∷ [])) ([]) ([])) image ∷ []) out_8_of_an_area_outside_image
@@ -317,7 +317,7 @@ pub out_8_of_a_falling_area : alone 4 (job_lines (codes "STORE 32") (codes "PROG
   spooled = [];
   devices = [];
 } ∷ []
-unfolding after_read after_card rewound after_skip after_write printed first_word words_of given offered finished decoded arith arith_row free_kind free_label unclaimed plain_row out_effect brought from_top changed single_row decision direct_effect transfer_of query_effect guarded device_numbers by_number device_count to_binary from_binary text
+unfolding after_read after_card rewound after_skip after_write printed first_word words_of given offered finished decoded arith arith_row free_for unclaimed plain_row out_effect brought from_top changed single_row decision direct_effect transfer_of query_effect guarded device_numbers by_number device_count to_binary from_binary text
 out_8_of_a_falling_area =
     ap (λ (slots : List SlotJob). map (λ (s : SlotJob). seen_after 4 s (image_words s.size s.deck)) slots) out_8_of_a_falling_area_slot
     ∙ ap (λ (image : List ℕ). seen_after 4 (a_slot 32 (text (codes "PROGRAM V0; V0=Q0/1/0; V0; SET 8; OUT; FINISH;" ∷ [])) ([]) ([])) image ∷ []) out_8_of_a_falling_area_image
@@ -343,7 +343,7 @@ pub out_negative : alone 3 (job_lines (codes "STORE 32") (codes "PROGRAM; SET -1
   spooled = [];
   devices = [];
 } ∷ []
-unfolding after_read after_card rewound after_skip after_write printed first_word words_of given offered finished decoded arith arith_row free_kind free_label unclaimed plain_row out_effect brought from_top changed single_row decision direct_effect transfer_of query_effect guarded device_numbers by_number device_count to_binary from_binary text
+unfolding after_read after_card rewound after_skip after_write printed first_word words_of given offered finished decoded arith arith_row free_for unclaimed plain_row out_effect brought from_top changed single_row decision direct_effect transfer_of query_effect guarded device_numbers by_number device_count to_binary from_binary text
 out_negative =
     ap (λ (slots : List SlotJob). map (λ (s : SlotJob). seen_after 3 s (image_words s.size s.deck)) slots) out_negative_slot
     ∙ ap (λ (image : List ℕ). seen_after 3 (a_slot 32 (text (codes "PROGRAM; SET -1; OUT; FINISH;" ∷ [])) ([]) ([])) image ∷ []) out_negative_image
@@ -369,7 +369,7 @@ pub out_of_none : alone 2 (job_lines (codes "STORE 32") (codes "PROGRAM; OUT; FI
   spooled = [];
   devices = [];
 } ∷ []
-unfolding after_read after_card rewound after_skip after_write printed first_word words_of given offered finished decoded arith arith_row free_kind free_label unclaimed plain_row out_effect brought from_top changed single_row decision direct_effect transfer_of query_effect guarded device_numbers by_number device_count to_binary from_binary text
+unfolding after_read after_card rewound after_skip after_write printed first_word words_of given offered finished decoded arith arith_row free_for unclaimed plain_row out_effect brought from_top changed single_row decision direct_effect transfer_of query_effect guarded device_numbers by_number device_count to_binary from_binary text
 out_of_none =
     ap (λ (slots : List SlotJob). map (λ (s : SlotJob). seen_after 2 s (image_words s.size s.deck)) slots) out_of_none_slot
     ∙ ap (λ (image : List ℕ). seen_after 2 (a_slot 32 (text (codes "PROGRAM; OUT; FINISH;" ∷ [])) ([]) ([])) image ∷ []) out_of_none_image
@@ -395,7 +395,7 @@ pub out_4_of_one_word : alone 3 (job_lines (codes "STORE 32") (codes "PROGRAM; S
   spooled = [];
   devices = [];
 } ∷ []
-unfolding after_read after_card rewound after_skip after_write printed first_word words_of given offered finished decoded arith arith_row free_kind free_label unclaimed plain_row out_effect brought from_top changed single_row decision direct_effect transfer_of query_effect guarded device_numbers by_number device_count to_binary from_binary text
+unfolding after_read after_card rewound after_skip after_write printed first_word words_of given offered finished decoded arith arith_row free_for unclaimed plain_row out_effect brought from_top changed single_row decision direct_effect transfer_of query_effect guarded device_numbers by_number device_count to_binary from_binary text
 out_4_of_one_word =
     ap (λ (slots : List SlotJob). map (λ (s : SlotJob). seen_after 3 s (image_words s.size s.deck)) slots) out_4_of_one_word_slot
     ∙ ap (λ (image : List ℕ). seen_after 3 (a_slot 32 (text (codes "PROGRAM; SET 4; OUT; FINISH;" ∷ [])) ([]) ([])) image ∷ []) out_4_of_one_word_image
@@ -421,7 +421,7 @@ pub rewind_without_a_claim : alone 2 (job_lines (codes "STORE 32") (codes "PROGR
   spooled = [];
   devices = [];
 } ∷ []
-unfolding after_read after_card rewound after_skip after_write printed first_word words_of given offered finished decoded arith arith_row free_kind free_label unclaimed plain_row out_effect brought from_top changed single_row decision direct_effect transfer_of query_effect guarded device_numbers by_number device_count to_binary from_binary text
+unfolding after_read after_card rewound after_skip after_write printed first_word words_of given offered finished decoded arith arith_row free_for unclaimed plain_row out_effect brought from_top changed single_row decision direct_effect transfer_of query_effect guarded device_numbers by_number device_count to_binary from_binary text
 rewind_without_a_claim =
     ap (λ (slots : List SlotJob). map (λ (s : SlotJob). seen_after 2 s (image_words s.size s.deck)) slots) rewind_without_a_claim_slot
     ∙ ap (λ (image : List ℕ). seen_after 2 (a_slot 32 (text (codes "PROGRAM; MRWDQ1; FINISH;" ∷ [])) ([]) ([])) image ∷ []) rewind_without_a_claim_image
@@ -447,7 +447,7 @@ pub pushes_17_zeros : alone 18 (job_lines (codes "STORE 32") (codes "PROGRAM;ZER
   spooled = [];
   devices = [];
 } ∷ []
-unfolding after_read after_card rewound after_skip after_write printed first_word words_of given offered finished decoded arith arith_row free_kind free_label unclaimed plain_row out_effect brought from_top changed single_row decision direct_effect transfer_of query_effect guarded device_numbers by_number device_count to_binary from_binary text
+unfolding after_read after_card rewound after_skip after_write printed first_word words_of given offered finished decoded arith arith_row free_for unclaimed plain_row out_effect brought from_top changed single_row decision direct_effect transfer_of query_effect guarded device_numbers by_number device_count to_binary from_binary text
 pushes_17_zeros =
     ap (λ (slots : List SlotJob). map (λ (s : SlotJob). seen_after 18 s (image_words s.size s.deck)) slots) pushes_17_zeros_slot
     ∙ ap (λ (image : List ℕ). seen_after 18 (a_slot 32 (text (codes "PROGRAM;ZERO;ZERO;ZERO;ZERO;ZERO;ZERO;ZERO;ZERO;ZERO;ZERO;ZERO;ZERO;ZERO;ZERO;ZERO;ZERO;ZERO;FINISH;" ∷ [])) ([]) ([])) image ∷ []) pushes_17_zeros_image
@@ -473,7 +473,7 @@ pub ends_nowhere : alone 2 (job_lines (codes "STORE 32") (codes "PROGRAM; FINISH
   spooled = [];
   devices = [];
 } ∷ []
-unfolding after_read after_card rewound after_skip after_write printed first_word words_of given offered finished decoded arith arith_row free_kind free_label unclaimed plain_row out_effect brought from_top changed single_row decision direct_effect transfer_of query_effect guarded device_numbers by_number device_count to_binary from_binary text
+unfolding after_read after_card rewound after_skip after_write printed first_word words_of given offered finished decoded arith arith_row free_for unclaimed plain_row out_effect brought from_top changed single_row decision direct_effect transfer_of query_effect guarded device_numbers by_number device_count to_binary from_binary text
 ends_nowhere =
     ap (λ (slots : List SlotJob). map (λ (s : SlotJob). seen_after 2 s (image_words s.size s.deck)) slots) ends_nowhere_slot
     ∙ ap (λ (image : List ℕ). seen_after 2 (a_slot 32 (text (codes "PROGRAM; FINISH;" ∷ [])) ([]) ([])) image ∷ []) ends_nowhere_image
@@ -499,7 +499,7 @@ pub adds_in_part_1 : alone 9 (job_lines (codes "STORE 32") (codes "Y0; PROGRAM V
   spooled = [];
   devices = [];
 } ∷ []
-unfolding after_read after_card rewound after_skip after_write printed first_word words_of given offered finished decoded arith arith_row free_kind free_label unclaimed plain_row out_effect brought from_top changed single_row decision direct_effect transfer_of query_effect guarded device_numbers by_number device_count to_binary from_binary text
+unfolding after_read after_card rewound after_skip after_write printed first_word words_of given offered finished decoded arith arith_row free_for unclaimed plain_row out_effect brought from_top changed single_row decision direct_effect transfer_of query_effect guarded device_numbers by_number device_count to_binary from_binary text
 adds_in_part_1 =
     ap (λ (slots : List SlotJob). map (λ (s : SlotJob). seen_after 9 s (image_words s.size s.deck)) slots) adds_in_part_1_slot
     ∙ ap (λ (image : List ℕ). seen_after 9 (a_slot 32 (text (codes "Y0; PROGRAM V0; (37 and 5)" ∷ codes "V0=37; V0; SET 5; J1P1; 2; ZERO; OUT;" ∷ codes "P1; ZERO; 1; +; =Y0; J2P0; FINISH;" ∷ [])) ([]) ((6, 6) ∷ [])) image ∷ []) adds_in_part_1_image

@@ -30,10 +30,10 @@ use Rattle.kdf_job.specs.Media.{codes_in, new_device}
 use Rattle.kdf_job.specs.Reading.{job, read_line}
 use Rattle.kdf_journal.specs.declared.failure.Failure.TheVariants.{Claim, Liv}
 use Rattle.kdf_processor.specs.declared.registers.Life.TheVariants.{Ended, Failed}
-use Rattle.kdf_processor.specs.Claims.{free_kind, free_label, least_pooled}
+use Rattle.kdf_processor.specs.Claims.{free_for, least_pooled}
 use Rattle.kdf_processor.specs.State.{unclaimed}
 use Rattle.kdf_processor.specs.Table.{plain_row, out_effect, brought, from_top, changed, single_row, decision, direct_effect, transfer_of, query_effect, guarded}
-use Rattle.kdf_director.specs.ByNumber.{by_number, device_count}
+use Rattle.kdf_transfer.specs.ByNumber.{by_number, device_count}
 use Rattle.kdf_report.specs.Devices.{device_numbers}
 use Rattle.kdf_report.specs.Worked.{a_slot, alone, job_lines, reader, seen_after, shown}
 
@@ -58,7 +58,7 @@ pub punch_of_a_whole_word : alone 12 (job_lines (codes "STORE 128") (codes "PROG
   spooled = [];
   devices = shown 1 true 1 false ((33 ∷ 34 ∷ 61 ∷ 35 ∷ 36 ∷ 0 ∷ 0 ∷ 0 ∷ []) ∷ []) ([]) ∷ [];
 } ∷ []
-unfolding after_read after_card rewound after_skip after_write printed first_word words_of given offered finished decoded arith arith_row free_kind free_label unclaimed plain_row out_effect brought from_top changed single_row decision direct_effect transfer_of query_effect guarded device_numbers by_number device_count to_binary from_binary text
+unfolding after_read after_card rewound after_skip after_write printed first_word words_of given offered finished decoded arith arith_row free_for unclaimed plain_row out_effect brought from_top changed single_row decision direct_effect transfer_of query_effect guarded device_numbers by_number device_count to_binary from_binary text
 punch_of_a_whole_word =
     ap (λ (slots : List SlotJob). map (λ (s : SlotJob). seen_after 12 s (image_words s.size s.deck)) slots) punch_of_a_whole_word_slot
     ∙ ap (λ (image : List ℕ). seen_after 12 (a_slot 128 (text (codes "PROGRAM V1; V0=Q0/32/32; V1=PAB|CD; SET 1; SET 5; OUT; V0; =Q1; =C1; V1; =E32; PWQ1; ZERO; OUT; FINISH;" ∷ [])) (new_device 1 Tp 0 ∷ []) ([])) image ∷ []) punch_of_a_whole_word_image
@@ -84,7 +84,7 @@ pub punch_without_an_end_message : alone 13 (job_lines (codes "STORE 128") (code
   spooled = [];
   devices = shown 1 true 2 false (((33 ∷ 34 ∷ []) ++ replicate 14 0) ∷ ((33 ∷ 34 ∷ []) ++ replicate 14 0) ∷ []) ([]) ∷ [];
 } ∷ []
-unfolding after_read after_card rewound after_skip after_write printed first_word words_of given offered finished decoded arith arith_row free_kind free_label unclaimed plain_row out_effect brought from_top changed single_row decision direct_effect transfer_of query_effect guarded device_numbers by_number device_count to_binary from_binary text
+unfolding after_read after_card rewound after_skip after_write printed first_word words_of given offered finished decoded arith arith_row free_for unclaimed plain_row out_effect brought from_top changed single_row decision direct_effect transfer_of query_effect guarded device_numbers by_number device_count to_binary from_binary text
 punch_without_an_end_message =
     ap (λ (slots : List SlotJob). map (λ (s : SlotJob). seen_after 13 s (image_words s.size s.deck)) slots) punch_without_an_end_message_slot
     ∙ ap (λ (image : List ℕ). seen_after 13 (a_slot 128 (text (codes "PROGRAM V1; V0=Q0/32/33; V1=PAB; SET 1; SET 5; OUT; V0; =Q1; =C1; V1; =E32; PWEQ1; PWEQ1; ZERO; OUT; FINISH;" ∷ [])) (new_device 1 Tp 0 ∷ []) ([])) image ∷ []) punch_without_an_end_message_image
@@ -110,7 +110,7 @@ pub least_number_of_the_kind : alone 13 (job_lines (codes "STORE 128") (codes "P
   spooled = [];
   devices = shown 2 true 1 false ((0 ∷ 0 ∷ 0 ∷ 0 ∷ 0 ∷ 0 ∷ 0 ∷ 0 ∷ []) ∷ []) ([]) ∷ shown 7 true 0 false ([]) ([]) ∷ shown 9 false 0 false ([]) ([]) ∷ [];
 } ∷ []
-unfolding after_read after_card rewound after_skip after_write printed first_word words_of given offered finished decoded arith arith_row free_kind free_label unclaimed plain_row out_effect brought from_top changed single_row decision direct_effect transfer_of query_effect guarded device_numbers by_number device_count to_binary from_binary text
+unfolding after_read after_card rewound after_skip after_write printed first_word words_of given offered finished decoded arith arith_row free_for unclaimed plain_row out_effect brought from_top changed single_row decision direct_effect transfer_of query_effect guarded device_numbers by_number device_count to_binary from_binary text
 least_number_of_the_kind =
     ap (λ (slots : List SlotJob). map (λ (s : SlotJob). seen_after 13 s (image_words s.size s.deck)) slots) least_number_of_the_kind_slot
     ∙ ap (λ (image : List ℕ). seen_after 13 (a_slot 128 (text (codes "PROGRAM V0; V0=Q0/32/32; SET 1; SET 5; OUT; V0; =Q1; =C1; PWQ1; SET 1; SET 5; OUT; ZERO; OUT; FINISH;" ∷ [])) (new_device 7 Tp 0 ∷ new_device 2 Tp 0 ∷ new_device 9 Tp 0 ∷ []) ([])) image ∷ []) least_number_of_the_kind_image
@@ -136,7 +136,7 @@ pub ends_behind_its_punch : alone 10 (job_lines (codes "STORE 64") (codes "PROGR
   spooled = [];
   devices = shown 1 true 1 false ((0 ∷ 0 ∷ 0 ∷ 0 ∷ 0 ∷ 0 ∷ 0 ∷ 0 ∷ []) ∷ []) ([]) ∷ [];
 } ∷ []
-unfolding after_read after_card rewound after_skip after_write printed first_word words_of given offered finished decoded arith arith_row free_kind free_label unclaimed plain_row out_effect brought from_top changed single_row decision direct_effect transfer_of query_effect guarded device_numbers by_number device_count to_binary from_binary text
+unfolding after_read after_card rewound after_skip after_write printed first_word words_of given offered finished decoded arith arith_row free_for unclaimed plain_row out_effect brought from_top changed single_row decision direct_effect transfer_of query_effect guarded device_numbers by_number device_count to_binary from_binary text
 ends_behind_its_punch =
     ap (λ (slots : List SlotJob). map (λ (s : SlotJob). seen_after 10 s (image_words s.size s.deck)) slots) ends_behind_its_punch_slot
     ∙ ap (λ (image : List ℕ). seen_after 10 (a_slot 64 (text (codes "PROGRAM V0; V0=Q0/32/32; SET 1; SET 5; OUT; V0; =Q1; =C1; PWQ1; ZERO; OUT; FINISH;" ∷ [])) (new_device 1 Tp 0 ∷ []) ([])) image ∷ []) ends_behind_its_punch_image
@@ -162,7 +162,7 @@ pub fails_behind_two_punches : alone 16 (job_lines (codes "STORE 96") (codes "PR
   spooled = [];
   devices = shown 1 true 1 false ((0 ∷ 0 ∷ 0 ∷ 0 ∷ 0 ∷ 0 ∷ 0 ∷ 0 ∷ []) ∷ []) ([]) ∷ shown 4 true 1 false ((0 ∷ 0 ∷ 0 ∷ 0 ∷ 0 ∷ 0 ∷ 0 ∷ 0 ∷ []) ∷ []) ([]) ∷ [];
 } ∷ []
-unfolding after_read after_card rewound after_skip after_write printed first_word words_of given offered finished decoded arith arith_row free_kind free_label unclaimed plain_row out_effect brought from_top changed single_row decision direct_effect transfer_of query_effect guarded device_numbers by_number device_count to_binary from_binary text
+unfolding after_read after_card rewound after_skip after_write printed first_word words_of given offered finished decoded arith arith_row free_for unclaimed plain_row out_effect brought from_top changed single_row decision direct_effect transfer_of query_effect guarded device_numbers by_number device_count to_binary from_binary text
 fails_behind_two_punches =
     ap (λ (slots : List SlotJob). map (λ (s : SlotJob). seen_after 16 s (image_words s.size s.deck)) slots) fails_behind_two_punches_slot
     ∙ ap (λ (image : List ℕ). seen_after 16 (a_slot 96 (text (codes "PROGRAM V1; V0=Q0/32/32; V1=Q0/64/64; SET 1; SET 5; OUT; V0; =Q1; =C1; SET 1; SET 5; OUT; V1; =Q2; =C2; PWQ2; PWQ1; E96; FINISH;" ∷ [])) (new_device 1 Tp 0 ∷ new_device 4 Tp 0 ∷ []) ([])) image ∷ []) fails_behind_two_punches_image
@@ -188,7 +188,7 @@ pub fails_behind_its_punch : alone 9 (job_lines (codes "STORE 64") (codes "PROGR
   spooled = [];
   devices = shown 1 true 1 false ((0 ∷ 0 ∷ 0 ∷ 0 ∷ 0 ∷ 0 ∷ 0 ∷ 0 ∷ []) ∷ []) ([]) ∷ [];
 } ∷ []
-unfolding after_read after_card rewound after_skip after_write printed first_word words_of given offered finished decoded arith arith_row free_kind free_label unclaimed plain_row out_effect brought from_top changed single_row decision direct_effect transfer_of query_effect guarded device_numbers by_number device_count to_binary from_binary text
+unfolding after_read after_card rewound after_skip after_write printed first_word words_of given offered finished decoded arith arith_row free_for unclaimed plain_row out_effect brought from_top changed single_row decision direct_effect transfer_of query_effect guarded device_numbers by_number device_count to_binary from_binary text
 fails_behind_its_punch =
     ap (λ (slots : List SlotJob). map (λ (s : SlotJob). seen_after 9 s (image_words s.size s.deck)) slots) fails_behind_its_punch_slot
     ∙ ap (λ (image : List ℕ). seen_after 9 (a_slot 64 (text (codes "PROGRAM V0; V0=Q0/32/32; SET 1; SET 5; OUT; V0; =Q1; =C1; PWQ1; E64; FINISH;" ∷ [])) (new_device 1 Tp 0 ∷ []) ([])) image ∷ []) fails_behind_its_punch_image
@@ -214,7 +214,7 @@ pub punches_the_last_word_of_the_store : alone 10 (job_lines (codes "STORE 64") 
   spooled = [];
   devices = shown 1 true 1 false ((0 ∷ 0 ∷ 0 ∷ 0 ∷ 0 ∷ 0 ∷ 0 ∷ 0 ∷ []) ∷ []) ([]) ∷ [];
 } ∷ []
-unfolding after_read after_card rewound after_skip after_write printed first_word words_of given offered finished decoded arith arith_row free_kind free_label unclaimed plain_row out_effect brought from_top changed single_row decision direct_effect transfer_of query_effect guarded device_numbers by_number device_count to_binary from_binary text
+unfolding after_read after_card rewound after_skip after_write printed first_word words_of given offered finished decoded arith arith_row free_for unclaimed plain_row out_effect brought from_top changed single_row decision direct_effect transfer_of query_effect guarded device_numbers by_number device_count to_binary from_binary text
 punches_the_last_word_of_the_store =
     ap (λ (slots : List SlotJob). map (λ (s : SlotJob). seen_after 10 s (image_words s.size s.deck)) slots) punches_the_last_word_of_the_store_slot
     ∙ ap (λ (image : List ℕ). seen_after 10 (a_slot 64 (text (codes "PROGRAM V0; V0=Q0/63/63; SET 1; SET 5; OUT; V0; =Q1; =C1; PWQ1; ZERO; OUT; FINISH;" ∷ [])) (new_device 1 Tp 0 ∷ []) ([])) image ∷ []) punches_the_last_word_of_the_store_image
@@ -240,7 +240,7 @@ pub ten_words_moved_to_the_punch : alone 10 (job_lines (codes "STORE 64") (codes
   spooled = [];
   devices = shown 1 true 1 false ((replicate 80 0) ∷ []) ([]) ∷ [];
 } ∷ []
-unfolding after_read after_card rewound after_skip after_write printed first_word words_of given offered finished decoded arith arith_row free_kind free_label unclaimed plain_row out_effect brought from_top changed single_row decision direct_effect transfer_of query_effect guarded device_numbers by_number device_count to_binary from_binary text
+unfolding after_read after_card rewound after_skip after_write printed first_word words_of given offered finished decoded arith arith_row free_for unclaimed plain_row out_effect brought from_top changed single_row decision direct_effect transfer_of query_effect guarded device_numbers by_number device_count to_binary from_binary text
 ten_words_moved_to_the_punch =
     ap (λ (slots : List SlotJob). map (λ (s : SlotJob). seen_after 10 s (image_words s.size s.deck)) slots) ten_words_moved_to_the_punch_slot
     ∙ ap (λ (image : List ℕ). seen_after 10 (a_slot 64 (text (codes "PROGRAM V0; V0=Q0/32/41; SET 1; SET 5; OUT; V0; =Q1; =C1; PWQ1; ZERO; OUT; FINISH;" ∷ [])) (new_device 1 Tp 0 ∷ []) ([])) image ∷ []) ten_words_moved_to_the_punch_image
@@ -266,7 +266,7 @@ pub area_behind_the_store_fails : alone 8 (job_lines (codes "STORE 64") (codes "
   spooled = [];
   devices = shown 1 true 0 false ([]) ([]) ∷ [];
 } ∷ []
-unfolding after_read after_card rewound after_skip after_write printed first_word words_of given offered finished decoded arith arith_row free_kind free_label unclaimed plain_row out_effect brought from_top changed single_row decision direct_effect transfer_of query_effect guarded device_numbers by_number device_count to_binary from_binary text
+unfolding after_read after_card rewound after_skip after_write printed first_word words_of given offered finished decoded arith arith_row free_for unclaimed plain_row out_effect brought from_top changed single_row decision direct_effect transfer_of query_effect guarded device_numbers by_number device_count to_binary from_binary text
 area_behind_the_store_fails =
     ap (λ (slots : List SlotJob). map (λ (s : SlotJob). seen_after 8 s (image_words s.size s.deck)) slots) area_behind_the_store_fails_slot
     ∙ ap (λ (image : List ℕ). seen_after 8 (a_slot 64 (text (codes "PROGRAM V0; V0=Q0/64/64; SET 1; SET 5; OUT; V0; =Q1; =C1; PWQ1; ZERO; OUT; FINISH;" ∷ [])) (new_device 1 Tp 0 ∷ []) ([])) image ∷ []) area_behind_the_store_fails_image
@@ -292,7 +292,7 @@ pub area_of_4097_words_fails : alone 8 (job_lines (codes "STORE 8192") (codes "P
   spooled = [];
   devices = shown 1 true 0 false ([]) ([]) ∷ [];
 } ∷ []
-unfolding after_read after_card rewound after_skip after_write printed first_word words_of given offered finished decoded arith arith_row free_kind free_label unclaimed plain_row out_effect brought from_top changed single_row decision direct_effect transfer_of query_effect guarded device_numbers by_number device_count to_binary from_binary text
+unfolding after_read after_card rewound after_skip after_write printed first_word words_of given offered finished decoded arith arith_row free_for unclaimed plain_row out_effect brought from_top changed single_row decision direct_effect transfer_of query_effect guarded device_numbers by_number device_count to_binary from_binary text
 area_of_4097_words_fails =
     ap (λ (slots : List SlotJob). map (λ (s : SlotJob). seen_after 8 s (image_words s.size s.deck)) slots) area_of_4097_words_fails_slot
     ∙ ap (λ (image : List ℕ). seen_after 8 (a_slot 8192 (text (codes "PROGRAM V0; V0=Q0/1/4097; SET 1; SET 5; OUT; V0; =Q1; =C1; PWQ1; ZERO; OUT; FINISH;" ∷ [])) (new_device 1 Tp 0 ∷ []) ([])) image ∷ []) area_of_4097_words_fails_image
@@ -318,7 +318,7 @@ pub area_that_falls_fails : alone 8 (job_lines (codes "STORE 8192") (codes "PROG
   spooled = [];
   devices = shown 1 true 0 false ([]) ([]) ∷ [];
 } ∷ []
-unfolding after_read after_card rewound after_skip after_write printed first_word words_of given offered finished decoded arith arith_row free_kind free_label unclaimed plain_row out_effect brought from_top changed single_row decision direct_effect transfer_of query_effect guarded device_numbers by_number device_count to_binary from_binary text
+unfolding after_read after_card rewound after_skip after_write printed first_word words_of given offered finished decoded arith arith_row free_for unclaimed plain_row out_effect brought from_top changed single_row decision direct_effect transfer_of query_effect guarded device_numbers by_number device_count to_binary from_binary text
 area_that_falls_fails =
     ap (λ (slots : List SlotJob). map (λ (s : SlotJob). seen_after 8 s (image_words s.size s.deck)) slots) area_that_falls_fails_slot
     ∙ ap (λ (image : List ℕ). seen_after 8 (a_slot 8192 (text (codes "PROGRAM V0; V0=Q0/5/4; SET 1; SET 5; OUT; V0; =Q1; =C1; PWQ1; ZERO; OUT; FINISH;" ∷ [])) (new_device 1 Tp 0 ∷ []) ([])) image ∷ []) area_that_falls_fails_image
@@ -344,7 +344,7 @@ pub the_least_that_is_free_is_claimed_device_15_last : alone 10 (job_lines (code
   spooled = [];
   devices = shown 0 true 0 false ([]) ([]) ∷ shown 7 false 0 false ([]) ([]) ∷ shown 15 true 0 false ([]) ([]) ∷ [];
 } ∷ []
-unfolding after_read after_card rewound after_skip after_write printed first_word words_of given offered finished decoded arith arith_row free_kind free_label least_pooled unclaimed plain_row out_effect brought from_top changed single_row decision direct_effect transfer_of query_effect guarded device_numbers by_number device_count to_binary from_binary text
+unfolding after_read after_card rewound after_skip after_write printed first_word words_of given offered finished decoded arith arith_row free_for least_pooled unclaimed plain_row out_effect brought from_top changed single_row decision direct_effect transfer_of query_effect guarded device_numbers by_number device_count to_binary from_binary text
 the_least_that_is_free_is_claimed_device_15_last =
     ap (λ (slots : List SlotJob). map (λ (s : SlotJob). seen_after 10 s (image_words s.size s.deck)) slots) the_least_that_is_free_is_claimed_device_15_last_slot
     ∙ ap (λ (image : List ℕ). seen_after 10 (a_slot 32 (text (codes "PROGRAM; SET 2; SET 5; OUT; SET 2; SET 5; OUT; SET 2; SET 5; OUT; FINISH;" ∷ [])) (reader 15 ([]) ∷ reader 0 ([]) ∷ new_device 7 Tp 0 ∷ []) ([])) image ∷ []) the_least_that_is_free_is_claimed_device_15_last_image

@@ -28,10 +28,10 @@ use Rattle.kdf_job.specs.Job.{SlotJob}
 use Rattle.kdf_job.specs.Media.{codes_in}
 use Rattle.kdf_job.specs.Reading.{job, read_line}
 use Rattle.kdf_processor.specs.declared.registers.Life.TheVariants.{Ended}
-use Rattle.kdf_processor.specs.Claims.{free_kind, free_label}
+use Rattle.kdf_processor.specs.Claims.{free_for}
 use Rattle.kdf_processor.specs.State.{unclaimed}
 use Rattle.kdf_processor.specs.Table.{plain_row, out_effect, brought, from_top, changed, single_row, decision, direct_effect, transfer_of, query_effect, guarded}
-use Rattle.kdf_director.specs.ByNumber.{by_number, device_count}
+use Rattle.kdf_transfer.specs.ByNumber.{by_number, device_count}
 use Rattle.kdf_report.specs.Devices.{device_numbers}
 use Rattle.kdf_report.specs.Worked.{a_slot, alone, block, job_lines, seen_after, shown, tape}
 
@@ -56,7 +56,7 @@ pub tape_at_the_beginning : alone 10 (job_lines (codes "STORE 128") (codes "PROG
   spooled = [];
   devices = shown 6 true 0 false ([]) (block false (0o4141414141414141 ∷ 0o4242424242424242 ∷ 0o4343434343434343 ∷ []) ∷ block false (0o4444444444444444 ∷ []) ∷ block true (0o4545454545454545 ∷ 0o4646464646464646 ∷ []) ∷ []) ∷ [];
 } ∷ []
-unfolding after_read after_card rewound after_skip after_write printed first_word words_of given offered finished decoded arith arith_row free_kind free_label unclaimed plain_row out_effect brought from_top changed single_row decision direct_effect transfer_of query_effect guarded device_numbers by_number device_count to_binary from_binary text
+unfolding after_read after_card rewound after_skip after_write printed first_word words_of given offered finished decoded arith arith_row free_for unclaimed plain_row out_effect brought from_top changed single_row decision direct_effect transfer_of query_effect guarded device_numbers by_number device_count to_binary from_binary text
 tape_at_the_beginning =
     ap (λ (slots : List SlotJob). map (λ (s : SlotJob). seen_after 10 s (image_words s.size s.deck)) slots) tape_at_the_beginning_slot
     ∙ ap (λ (image : List ℕ). seen_after 10 (a_slot 128 (text (codes "PROGRAM V1; V0=Q0/32/33; V1=PT; V1; SET 4; OUT; V0; =Q1; =C1; MBTQ1; ZERO; OUT; FINISH;" ∷ [])) (tape 6 0o6400000000000000 (block false (0o4141414141414141 ∷ 0o4242424242424242 ∷ 0o4343434343434343 ∷ []) ∷ block false (0o4444444444444444 ∷ []) ∷ block true (0o4545454545454545 ∷ 0o4646464646464646 ∷ []) ∷ []) ∷ []) ((32, 33) ∷ [])) image ∷ []) tape_at_the_beginning_image
@@ -82,7 +82,7 @@ pub tape_last_block_mark : alone 13 (job_lines (codes "STORE 128") (codes "PROGR
   spooled = [];
   devices = shown 6 true 3 false ([]) (block false (0o4141414141414141 ∷ 0o4242424242424242 ∷ 0o4343434343434343 ∷ []) ∷ block false (0o4444444444444444 ∷ []) ∷ block true (0o4545454545454545 ∷ 0o4646464646464646 ∷ []) ∷ []) ∷ [];
 } ∷ []
-unfolding after_read after_card rewound after_skip after_write printed first_word words_of given offered finished decoded arith arith_row free_kind free_label unclaimed plain_row out_effect brought from_top changed single_row decision direct_effect transfer_of query_effect guarded device_numbers by_number device_count to_binary from_binary text
+unfolding after_read after_card rewound after_skip after_write printed first_word words_of given offered finished decoded arith arith_row free_for unclaimed plain_row out_effect brought from_top changed single_row decision direct_effect transfer_of query_effect guarded device_numbers by_number device_count to_binary from_binary text
 tape_last_block_mark =
     ap (λ (slots : List SlotJob). map (λ (s : SlotJob). seen_after 13 s (image_words s.size s.deck)) slots) tape_last_block_mark_slot
     ∙ ap (λ (image : List ℕ). seen_after 13 (a_slot 128 (text (codes "PROGRAM V1; V0=Q0/32/33; V1=PT; V1; SET 4; OUT; V0; =Q1; =C1; MFRQ1; MFRQ1; MFRQ1; MLBQ1; ZERO; OUT; FINISH;" ∷ [])) (tape 6 0o6400000000000000 (block false (0o4141414141414141 ∷ 0o4242424242424242 ∷ 0o4343434343434343 ∷ []) ∷ block false (0o4444444444444444 ∷ []) ∷ block true (0o4545454545454545 ∷ 0o4646464646464646 ∷ []) ∷ []) ∷ []) ((32, 33) ∷ [])) image ∷ []) tape_last_block_mark_image
@@ -108,7 +108,7 @@ pub tape_no_last_block_mark : alone 12 (job_lines (codes "STORE 128") (codes "PR
   spooled = [];
   devices = shown 6 true 2 false ([]) (block false (0o4141414141414141 ∷ 0o4242424242424242 ∷ 0o4343434343434343 ∷ []) ∷ block false (0o4444444444444444 ∷ []) ∷ block true (0o4545454545454545 ∷ 0o4646464646464646 ∷ []) ∷ []) ∷ [];
 } ∷ []
-unfolding after_read after_card rewound after_skip after_write printed first_word words_of given offered finished decoded arith arith_row free_kind free_label unclaimed plain_row out_effect brought from_top changed single_row decision direct_effect transfer_of query_effect guarded device_numbers by_number device_count to_binary from_binary text
+unfolding after_read after_card rewound after_skip after_write printed first_word words_of given offered finished decoded arith arith_row free_for unclaimed plain_row out_effect brought from_top changed single_row decision direct_effect transfer_of query_effect guarded device_numbers by_number device_count to_binary from_binary text
 tape_no_last_block_mark =
     ap (λ (slots : List SlotJob). map (λ (s : SlotJob). seen_after 12 s (image_words s.size s.deck)) slots) tape_no_last_block_mark_slot
     ∙ ap (λ (image : List ℕ). seen_after 12 (a_slot 128 (text (codes "PROGRAM V1; V0=Q0/32/33; V1=PT; V1; SET 4; OUT; V0; =Q1; =C1; MFRQ1; MFRQ1; MLBQ1; ZERO; OUT; FINISH;" ∷ [])) (tape 6 0o6400000000000000 (block false (0o4141414141414141 ∷ 0o4242424242424242 ∷ 0o4343434343434343 ∷ []) ∷ block false (0o4444444444444444 ∷ []) ∷ block true (0o4545454545454545 ∷ 0o4646464646464646 ∷ []) ∷ []) ∷ []) ((32, 33) ∷ [])) image ∷ []) tape_no_last_block_mark_image
@@ -134,7 +134,7 @@ pub tape_not_at_the_beginning : alone 11 (job_lines (codes "STORE 128") (codes "
   spooled = [];
   devices = shown 6 true 1 false ([]) (block false (0o4141414141414141 ∷ 0o4242424242424242 ∷ 0o4343434343434343 ∷ []) ∷ block false (0o4444444444444444 ∷ []) ∷ block true (0o4545454545454545 ∷ 0o4646464646464646 ∷ []) ∷ []) ∷ [];
 } ∷ []
-unfolding after_read after_card rewound after_skip after_write printed first_word words_of given offered finished decoded arith arith_row free_kind free_label unclaimed plain_row out_effect brought from_top changed single_row decision direct_effect transfer_of query_effect guarded device_numbers by_number device_count to_binary from_binary text
+unfolding after_read after_card rewound after_skip after_write printed first_word words_of given offered finished decoded arith arith_row free_for unclaimed plain_row out_effect brought from_top changed single_row decision direct_effect transfer_of query_effect guarded device_numbers by_number device_count to_binary from_binary text
 tape_not_at_the_beginning =
     ap (λ (slots : List SlotJob). map (λ (s : SlotJob). seen_after 11 s (image_words s.size s.deck)) slots) tape_not_at_the_beginning_slot
     ∙ ap (λ (image : List ℕ). seen_after 11 (a_slot 128 (text (codes "PROGRAM V1; V0=Q0/32/33; V1=PT; V1; SET 4; OUT; V0; =Q1; =C1; MFRQ1; MBTQ1; ZERO; OUT; FINISH;" ∷ [])) (tape 6 0o6400000000000000 (block false (0o4141414141414141 ∷ 0o4242424242424242 ∷ 0o4343434343434343 ∷ []) ∷ block false (0o4444444444444444 ∷ []) ∷ block true (0o4545454545454545 ∷ 0o4646464646464646 ∷ []) ∷ []) ∷ []) ((32, 33) ∷ [])) image ∷ []) tape_not_at_the_beginning_image
@@ -160,7 +160,7 @@ pub tape_read_backward_a_short_block : alone 12 (job_lines (codes "STORE 128") (
   spooled = [];
   devices = shown 6 true 1 false ([]) (block false (0o4141414141414141 ∷ 0o4242424242424242 ∷ 0o4343434343434343 ∷ []) ∷ block false (0o4444444444444444 ∷ []) ∷ block true (0o4545454545454545 ∷ 0o4646464646464646 ∷ []) ∷ []) ∷ [];
 } ∷ []
-unfolding after_read after_card rewound after_skip after_write printed first_word words_of given offered finished decoded arith arith_row free_kind free_label unclaimed plain_row out_effect brought from_top changed single_row decision direct_effect transfer_of query_effect guarded device_numbers by_number device_count to_binary from_binary text
+unfolding after_read after_card rewound after_skip after_write printed first_word words_of given offered finished decoded arith arith_row free_for unclaimed plain_row out_effect brought from_top changed single_row decision direct_effect transfer_of query_effect guarded device_numbers by_number device_count to_binary from_binary text
 tape_read_backward_a_short_block =
     ap (λ (slots : List SlotJob). map (λ (s : SlotJob). seen_after 12 s (image_words s.size s.deck)) slots) tape_read_backward_a_short_block_slot
     ∙ ap (λ (image : List ℕ). seen_after 12 (a_slot 128 (text (codes "PROGRAM V1; V0=Q0/32/33; V1=PT; V1; SET 4; OUT; V0; =Q1; =C1; MFRQ1; MFRQ1; MBRQ1; ZERO; OUT; FINISH;" ∷ [])) (tape 6 0o6400000000000000 (block false (0o4141414141414141 ∷ 0o4242424242424242 ∷ 0o4343434343434343 ∷ []) ∷ block false (0o4444444444444444 ∷ []) ∷ block true (0o4545454545454545 ∷ 0o4646464646464646 ∷ []) ∷ []) ∷ []) ((32, 33) ∷ [])) image ∷ []) tape_read_backward_a_short_block_image
@@ -186,7 +186,7 @@ pub tape_read_backward_at_the_beginning : alone 11 (job_lines (codes "STORE 128"
   spooled = [];
   devices = shown 6 true 0 true ([]) (block false (0o4141414141414141 ∷ 0o4242424242424242 ∷ 0o4343434343434343 ∷ []) ∷ block false (0o4444444444444444 ∷ []) ∷ block true (0o4545454545454545 ∷ 0o4646464646464646 ∷ []) ∷ []) ∷ [];
 } ∷ []
-unfolding after_read after_card rewound after_skip after_write printed first_word words_of given offered finished decoded arith arith_row free_kind free_label unclaimed plain_row out_effect brought from_top changed single_row decision direct_effect transfer_of query_effect guarded device_numbers by_number device_count to_binary from_binary text
+unfolding after_read after_card rewound after_skip after_write printed first_word words_of given offered finished decoded arith arith_row free_for unclaimed plain_row out_effect brought from_top changed single_row decision direct_effect transfer_of query_effect guarded device_numbers by_number device_count to_binary from_binary text
 tape_read_backward_at_the_beginning =
     ap (λ (slots : List SlotJob). map (λ (s : SlotJob). seen_after 11 s (image_words s.size s.deck)) slots) tape_read_backward_at_the_beginning_slot
     ∙ ap (λ (image : List ℕ). seen_after 11 (a_slot 128 (text (codes "PROGRAM V1; V0=Q0/32/33; V1=PT; V1; SET 4; OUT; V0; =Q1; =C1; MBRQ1; PARQ1; ZERO; OUT; FINISH;" ∷ [])) (tape 6 0o6400000000000000 (block false (0o4141414141414141 ∷ 0o4242424242424242 ∷ 0o4343434343434343 ∷ []) ∷ block false (0o4444444444444444 ∷ []) ∷ block true (0o4545454545454545 ∷ 0o4646464646464646 ∷ []) ∷ []) ∷ []) ((32, 33) ∷ [])) image ∷ []) tape_read_backward_at_the_beginning_image
@@ -212,7 +212,7 @@ pub tape_read_behind_the_last_block : alone 14 (job_lines (codes "STORE 128") (c
   spooled = [];
   devices = shown 6 true 3 true ([]) (block false (0o4141414141414141 ∷ 0o4242424242424242 ∷ 0o4343434343434343 ∷ []) ∷ block false (0o4444444444444444 ∷ []) ∷ block true (0o4545454545454545 ∷ 0o4646464646464646 ∷ []) ∷ []) ∷ [];
 } ∷ []
-unfolding after_read after_card rewound after_skip after_write printed first_word words_of given offered finished decoded arith arith_row free_kind free_label unclaimed plain_row out_effect brought from_top changed single_row decision direct_effect transfer_of query_effect guarded device_numbers by_number device_count to_binary from_binary text
+unfolding after_read after_card rewound after_skip after_write printed first_word words_of given offered finished decoded arith arith_row free_for unclaimed plain_row out_effect brought from_top changed single_row decision direct_effect transfer_of query_effect guarded device_numbers by_number device_count to_binary from_binary text
 tape_read_behind_the_last_block =
     ap (λ (slots : List SlotJob). map (λ (s : SlotJob). seen_after 14 s (image_words s.size s.deck)) slots) tape_read_behind_the_last_block_slot
     ∙ ap (λ (image : List ℕ). seen_after 14 (a_slot 128 (text (codes "PROGRAM V1; V0=Q0/32/33; V1=PT; V1; SET 4; OUT; V0; =Q1; =C1; MFRQ1; MFRQ1; MFRQ1; MFRQ1; PARQ1; ZERO; OUT; FINISH;" ∷ [])) (tape 6 0o6400000000000000 (block false (0o4141414141414141 ∷ 0o4242424242424242 ∷ 0o4343434343434343 ∷ []) ∷ block false (0o4444444444444444 ∷ []) ∷ block true (0o4545454545454545 ∷ 0o4646464646464646 ∷ []) ∷ []) ∷ []) ((32, 33) ∷ [])) image ∷ []) tape_read_behind_the_last_block_image
@@ -238,7 +238,7 @@ pub tape_read_forward_into_a_short_area : alone 10 (job_lines (codes "STORE 128"
   spooled = [];
   devices = shown 6 true 1 false ([]) (block false (0o4141414141414141 ∷ 0o4242424242424242 ∷ 0o4343434343434343 ∷ []) ∷ block false (0o4444444444444444 ∷ []) ∷ block true (0o4545454545454545 ∷ 0o4646464646464646 ∷ []) ∷ []) ∷ [];
 } ∷ []
-unfolding after_read after_card rewound after_skip after_write printed first_word words_of given offered finished decoded arith arith_row free_kind free_label unclaimed plain_row out_effect brought from_top changed single_row decision direct_effect transfer_of query_effect guarded device_numbers by_number device_count to_binary from_binary text
+unfolding after_read after_card rewound after_skip after_write printed first_word words_of given offered finished decoded arith arith_row free_for unclaimed plain_row out_effect brought from_top changed single_row decision direct_effect transfer_of query_effect guarded device_numbers by_number device_count to_binary from_binary text
 tape_read_forward_into_a_short_area =
     ap (λ (slots : List SlotJob). map (λ (s : SlotJob). seen_after 10 s (image_words s.size s.deck)) slots) tape_read_forward_into_a_short_area_slot
     ∙ ap (λ (image : List ℕ). seen_after 10 (a_slot 128 (text (codes "PROGRAM V1; V0=Q0/32/33; V1=PT; V1; SET 4; OUT; V0; =Q1; =C1; MFRQ1; ZERO; OUT; FINISH;" ∷ [])) (tape 6 0o6400000000000000 (block false (0o4141414141414141 ∷ 0o4242424242424242 ∷ 0o4343434343434343 ∷ []) ∷ block false (0o4444444444444444 ∷ []) ∷ block true (0o4545454545454545 ∷ 0o4646464646464646 ∷ []) ∷ []) ∷ []) ((32, 33) ∷ [])) image ∷ []) tape_read_forward_into_a_short_area_image
@@ -264,7 +264,7 @@ pub tape_read_forward_two_blocks : alone 11 (job_lines (codes "STORE 128") (code
   spooled = [];
   devices = shown 6 true 2 false ([]) (block false (0o4141414141414141 ∷ 0o4242424242424242 ∷ 0o4343434343434343 ∷ []) ∷ block false (0o4444444444444444 ∷ []) ∷ block true (0o4545454545454545 ∷ 0o4646464646464646 ∷ []) ∷ []) ∷ [];
 } ∷ []
-unfolding after_read after_card rewound after_skip after_write printed first_word words_of given offered finished decoded arith arith_row free_kind free_label unclaimed plain_row out_effect brought from_top changed single_row decision direct_effect transfer_of query_effect guarded device_numbers by_number device_count to_binary from_binary text
+unfolding after_read after_card rewound after_skip after_write printed first_word words_of given offered finished decoded arith arith_row free_for unclaimed plain_row out_effect brought from_top changed single_row decision direct_effect transfer_of query_effect guarded device_numbers by_number device_count to_binary from_binary text
 tape_read_forward_two_blocks =
     ap (λ (slots : List SlotJob). map (λ (s : SlotJob). seen_after 11 s (image_words s.size s.deck)) slots) tape_read_forward_two_blocks_slot
     ∙ ap (λ (image : List ℕ). seen_after 11 (a_slot 128 (text (codes "PROGRAM V1; V0=Q0/32/33; V1=PT; V1; SET 4; OUT; V0; =Q1; =C1; MFRQ1; MFRQ1; ZERO; OUT; FINISH;" ∷ [])) (tape 6 0o6400000000000000 (block false (0o4141414141414141 ∷ 0o4242424242424242 ∷ 0o4343434343434343 ∷ []) ∷ block false (0o4444444444444444 ∷ []) ∷ block true (0o4545454545454545 ∷ 0o4646464646464646 ∷ []) ∷ []) ∷ []) ((32, 33) ∷ [])) image ∷ []) tape_read_forward_two_blocks_image
@@ -290,7 +290,7 @@ pub tape_rewound : alone 13 (job_lines (codes "STORE 128") (codes "PROGRAM V1; V
   spooled = [];
   devices = shown 6 true 0 false ([]) (block false (0o4141414141414141 ∷ 0o4242424242424242 ∷ 0o4343434343434343 ∷ []) ∷ block false (0o4444444444444444 ∷ []) ∷ block true (0o4545454545454545 ∷ 0o4646464646464646 ∷ []) ∷ []) ∷ [];
 } ∷ []
-unfolding after_read after_card rewound after_skip after_write printed first_word words_of given offered finished decoded arith arith_row free_kind free_label unclaimed plain_row out_effect brought from_top changed single_row decision direct_effect transfer_of query_effect guarded device_numbers by_number device_count to_binary from_binary text
+unfolding after_read after_card rewound after_skip after_write printed first_word words_of given offered finished decoded arith arith_row free_for unclaimed plain_row out_effect brought from_top changed single_row decision direct_effect transfer_of query_effect guarded device_numbers by_number device_count to_binary from_binary text
 tape_rewound =
     ap (λ (slots : List SlotJob). map (λ (s : SlotJob). seen_after 13 s (image_words s.size s.deck)) slots) tape_rewound_slot
     ∙ ap (λ (image : List ℕ). seen_after 13 (a_slot 128 (text (codes "PROGRAM V1; V0=Q0/32/33; V1=PT; V1; SET 4; OUT; V0; =Q1; =C1; MFRQ1; MFRQ1; MRWDQ1; MBTQ1; ZERO; OUT; FINISH;" ∷ [])) (tape 6 0o6400000000000000 (block false (0o4141414141414141 ∷ 0o4242424242424242 ∷ 0o4343434343434343 ∷ []) ∷ block false (0o4444444444444444 ∷ []) ∷ block true (0o4545454545454545 ∷ 0o4646464646464646 ∷ []) ∷ []) ∷ []) ((32, 33) ∷ [])) image ∷ []) tape_rewound_image
@@ -316,7 +316,7 @@ pub tape_skip_back_sees_the_first_block : alone 12 (job_lines (codes "STORE 128"
   spooled = [];
   devices = shown 6 true 0 true ([]) (block false (0o4141414141414141 ∷ 0o4242424242424242 ∷ 0o4343434343434343 ∷ []) ∷ block false (0o4444444444444444 ∷ []) ∷ block true (0o4545454545454545 ∷ 0o4646464646464646 ∷ []) ∷ []) ∷ [];
 } ∷ []
-unfolding after_read after_card rewound after_skip after_write printed first_word words_of given offered finished decoded arith arith_row free_kind free_label unclaimed plain_row out_effect brought from_top changed single_row decision direct_effect transfer_of query_effect guarded device_numbers by_number device_count to_binary from_binary text
+unfolding after_read after_card rewound after_skip after_write printed first_word words_of given offered finished decoded arith arith_row free_for unclaimed plain_row out_effect brought from_top changed single_row decision direct_effect transfer_of query_effect guarded device_numbers by_number device_count to_binary from_binary text
 tape_skip_back_sees_the_first_block =
     ap (λ (slots : List SlotJob). map (λ (s : SlotJob). seen_after 12 s (image_words s.size s.deck)) slots) tape_skip_back_sees_the_first_block_slot
     ∙ ap (λ (image : List ℕ). seen_after 12 (a_slot 128 (text (codes "PROGRAM V1; V0=Q0/32/33; V1=PT; V1; SET 4; OUT; V0; =Q1; =C1; MFSKQ1; MBSKQ1; MLBQ1; ZERO; OUT; FINISH;" ∷ [])) (tape 6 0o6400000000000000 (block false (0o4141414141414141 ∷ 0o4242424242424242 ∷ 0o4343434343434343 ∷ []) ∷ block false (0o4444444444444444 ∷ []) ∷ block true (0o4545454545454545 ∷ 0o4646464646464646 ∷ []) ∷ []) ∷ []) ((32, 33) ∷ [])) image ∷ []) tape_skip_back_sees_the_first_block_image
@@ -342,7 +342,7 @@ pub tape_skip_sees_the_mark : alone 11 (job_lines (codes "STORE 128") (codes "PR
   spooled = [];
   devices = shown 6 true 3 true ([]) (block false (0o4141414141414141 ∷ 0o4242424242424242 ∷ 0o4343434343434343 ∷ []) ∷ block false (0o4444444444444444 ∷ []) ∷ block true (0o4545454545454545 ∷ 0o4646464646464646 ∷ []) ∷ []) ∷ [];
 } ∷ []
-unfolding after_read after_card rewound after_skip after_write printed first_word words_of given offered finished decoded arith arith_row free_kind free_label unclaimed plain_row out_effect brought from_top changed single_row decision direct_effect transfer_of query_effect guarded device_numbers by_number device_count to_binary from_binary text
+unfolding after_read after_card rewound after_skip after_write printed first_word words_of given offered finished decoded arith arith_row free_for unclaimed plain_row out_effect brought from_top changed single_row decision direct_effect transfer_of query_effect guarded device_numbers by_number device_count to_binary from_binary text
 tape_skip_sees_the_mark =
     ap (λ (slots : List SlotJob). map (λ (s : SlotJob). seen_after 11 s (image_words s.size s.deck)) slots) tape_skip_sees_the_mark_slot
     ∙ ap (λ (image : List ℕ). seen_after 11 (a_slot 128 (text (codes "PROGRAM V1; V0=Q0/32/33; V1=PT; V1; SET 4; OUT; V0; =Q1; =C1; MFSKQ1; MLBQ1; ZERO; OUT; FINISH;" ∷ [])) (tape 6 0o6400000000000000 (block false (0o4141414141414141 ∷ 0o4242424242424242 ∷ 0o4343434343434343 ∷ []) ∷ block false (0o4444444444444444 ∷ []) ∷ block true (0o4545454545454545 ∷ 0o4646464646464646 ∷ []) ∷ []) ∷ []) ((32, 33) ∷ [])) image ∷ []) tape_skip_sees_the_mark_image
@@ -368,7 +368,7 @@ pub tape_skipped_back_to_the_beginning : alone 12 (job_lines (codes "STORE 128")
   spooled = [];
   devices = shown 6 true 0 true ([]) (block false (0o4141414141414141 ∷ 0o4242424242424242 ∷ 0o4343434343434343 ∷ []) ∷ block false (0o4444444444444444 ∷ []) ∷ block true (0o4545454545454545 ∷ 0o4646464646464646 ∷ []) ∷ []) ∷ [];
 } ∷ []
-unfolding after_read after_card rewound after_skip after_write printed first_word words_of given offered finished decoded arith arith_row free_kind free_label unclaimed plain_row out_effect brought from_top changed single_row decision direct_effect transfer_of query_effect guarded device_numbers by_number device_count to_binary from_binary text
+unfolding after_read after_card rewound after_skip after_write printed first_word words_of given offered finished decoded arith arith_row free_for unclaimed plain_row out_effect brought from_top changed single_row decision direct_effect transfer_of query_effect guarded device_numbers by_number device_count to_binary from_binary text
 tape_skipped_back_to_the_beginning =
     ap (λ (slots : List SlotJob). map (λ (s : SlotJob). seen_after 12 s (image_words s.size s.deck)) slots) tape_skipped_back_to_the_beginning_slot
     ∙ ap (λ (image : List ℕ). seen_after 12 (a_slot 128 (text (codes "PROGRAM V1; V0=Q0/32/33; V1=PT; V1; SET 4; OUT; V0; =Q1; =C1; MFSKQ1; MBSKQ1; PARQ1; ZERO; OUT; FINISH;" ∷ [])) (tape 6 0o6400000000000000 (block false (0o4141414141414141 ∷ 0o4242424242424242 ∷ 0o4343434343434343 ∷ []) ∷ block false (0o4444444444444444 ∷ []) ∷ block true (0o4545454545454545 ∷ 0o4646464646464646 ∷ []) ∷ []) ∷ []) ((32, 33) ∷ [])) image ∷ []) tape_skipped_back_to_the_beginning_image
@@ -394,7 +394,7 @@ pub tape_skipped_by_two : alone 16 (job_lines (codes "STORE 128") (codes "PROGRA
   spooled = [];
   devices = shown 6 true 1 false ([]) (block false (0o4141414141414141 ∷ 0o4242424242424242 ∷ 0o4343434343434343 ∷ []) ∷ block false (0o4444444444444444 ∷ []) ∷ block true (0o4545454545454545 ∷ 0o4646464646464646 ∷ []) ∷ []) ∷ [];
 } ∷ []
-unfolding after_read after_card rewound after_skip after_write printed first_word words_of given offered finished decoded arith arith_row free_kind free_label unclaimed plain_row out_effect brought from_top changed single_row decision direct_effect transfer_of query_effect guarded device_numbers by_number device_count to_binary from_binary text
+unfolding after_read after_card rewound after_skip after_write printed first_word words_of given offered finished decoded arith arith_row free_for unclaimed plain_row out_effect brought from_top changed single_row decision direct_effect transfer_of query_effect guarded device_numbers by_number device_count to_binary from_binary text
 tape_skipped_by_two =
     ap (λ (slots : List SlotJob). map (λ (s : SlotJob). seen_after 16 s (image_words s.size s.deck)) slots) tape_skipped_by_two_slot
     ∙ ap (λ (image : List ℕ). seen_after 16 (a_slot 128 (text (codes "PROGRAM V1; V0=Q0/32/33; V1=PT; V1; SET 4; OUT; V0; =Q1; =C1; SET 2; =M1; MFSKQ1; PARQ1; SET 1; =M1; MBSKQ1; ZERO; OUT; FINISH;" ∷ [])) (tape 6 0o6400000000000000 (block false (0o4141414141414141 ∷ 0o4242424242424242 ∷ 0o4343434343434343 ∷ []) ∷ block false (0o4444444444444444 ∷ []) ∷ block true (0o4545454545454545 ∷ 0o4646464646464646 ∷ []) ∷ []) ∷ []) ([])) image ∷ []) tape_skipped_by_two_image
@@ -420,7 +420,7 @@ pub tape_skipped_to_the_end : alone 11 (job_lines (codes "STORE 128") (codes "PR
   spooled = [];
   devices = shown 6 true 3 true ([]) (block false (0o4141414141414141 ∷ 0o4242424242424242 ∷ 0o4343434343434343 ∷ []) ∷ block false (0o4444444444444444 ∷ []) ∷ block true (0o4545454545454545 ∷ 0o4646464646464646 ∷ []) ∷ []) ∷ [];
 } ∷ []
-unfolding after_read after_card rewound after_skip after_write printed first_word words_of given offered finished decoded arith arith_row free_kind free_label unclaimed plain_row out_effect brought from_top changed single_row decision direct_effect transfer_of query_effect guarded device_numbers by_number device_count to_binary from_binary text
+unfolding after_read after_card rewound after_skip after_write printed first_word words_of given offered finished decoded arith arith_row free_for unclaimed plain_row out_effect brought from_top changed single_row decision direct_effect transfer_of query_effect guarded device_numbers by_number device_count to_binary from_binary text
 tape_skipped_to_the_end =
     ap (λ (slots : List SlotJob). map (λ (s : SlotJob). seen_after 11 s (image_words s.size s.deck)) slots) tape_skipped_to_the_end_slot
     ∙ ap (λ (image : List ℕ). seen_after 11 (a_slot 128 (text (codes "PROGRAM V1; V0=Q0/32/33; V1=PT; V1; SET 4; OUT; V0; =Q1; =C1; MFSKQ1; PARQ1; ZERO; OUT; FINISH;" ∷ [])) (tape 6 0o6400000000000000 (block false (0o4141414141414141 ∷ 0o4242424242424242 ∷ 0o4343434343434343 ∷ []) ∷ block false (0o4444444444444444 ∷ []) ∷ block true (0o4545454545454545 ∷ 0o4646464646464646 ∷ []) ∷ []) ∷ []) ((32, 33) ∷ [])) image ∷ []) tape_skipped_to_the_end_image
@@ -446,7 +446,7 @@ pub claims_the_tape_of_label_abcdefgh : alone 6 (job_lines (codes "STORE 32") (c
   spooled = [];
   devices = shown 2 false 0 false ([]) ([]) ∷ shown 6 true 0 false ([]) ([]) ∷ [];
 } ∷ []
-unfolding after_read after_card rewound after_skip after_write printed first_word words_of given offered finished decoded arith arith_row free_kind free_label unclaimed plain_row out_effect brought from_top changed single_row decision direct_effect transfer_of query_effect guarded device_numbers by_number device_count to_binary from_binary text
+unfolding after_read after_card rewound after_skip after_write printed first_word words_of given offered finished decoded arith arith_row free_for unclaimed plain_row out_effect brought from_top changed single_row decision direct_effect transfer_of query_effect guarded device_numbers by_number device_count to_binary from_binary text
 claims_the_tape_of_label_abcdefgh =
     ap (λ (slots : List SlotJob). map (λ (s : SlotJob). seen_after 6 s (image_words s.size s.deck)) slots) claims_the_tape_of_label_abcdefgh_slot
     ∙ ap (λ (image : List ℕ). seen_after 6 (a_slot 32 (text (codes "PROGRAM V0; V0=PABCDEFGH; V0; SET 4; OUT; ZERO; OUT; FINISH;" ∷ [])) (tape 6 0o4142434445464750 ([]) ∷ tape 2 0o4222000000000000 ([]) ∷ []) ([])) image ∷ []) claims_the_tape_of_label_abcdefgh_image
@@ -472,7 +472,7 @@ pub skips_and_reads_a_tape_backward : alone 11 (job_lines (codes "STORE 64") (co
   spooled = [];
   devices = shown 6 true 1 false ([]) (block false (0o4141414141414141 ∷ 0o4242424242424242 ∷ []) ∷ block true (0o4343000000000000 ∷ []) ∷ []) ∷ [];
 } ∷ []
-unfolding after_read after_card rewound after_skip after_write printed first_word words_of given offered finished decoded arith arith_row free_kind free_label unclaimed plain_row out_effect brought from_top changed single_row decision direct_effect transfer_of query_effect guarded device_numbers by_number device_count to_binary from_binary text
+unfolding after_read after_card rewound after_skip after_write printed first_word words_of given offered finished decoded arith arith_row free_for unclaimed plain_row out_effect brought from_top changed single_row decision direct_effect transfer_of query_effect guarded device_numbers by_number device_count to_binary from_binary text
 skips_and_reads_a_tape_backward =
     ap (λ (slots : List SlotJob). map (λ (s : SlotJob). seen_after 11 s (image_words s.size s.deck)) slots) skips_and_reads_a_tape_backward_slot
     ∙ ap (λ (image : List ℕ). seen_after 11 (a_slot 64 (text (codes "PROGRAM V1; V0=PIN; V1=Q0/32/33; V0; SET 4; OUT; V1; =Q1; =C1; MFSKQ1; MBRQ1; ZERO; OUT; FINISH;" ∷ [])) (tape 6 0o5156000000000000 (block false (0o4141414141414141 ∷ 0o4242424242424242 ∷ []) ∷ block true (0o4343000000000000 ∷ []) ∷ []) ∷ []) ((32, 33) ∷ [])) image ∷ []) skips_and_reads_a_tape_backward_image
@@ -498,7 +498,7 @@ pub tape_mark_goes_behind_the_last_block : alone 14 (job_lines (codes "STORE 128
   spooled = [];
   devices = shown 6 true 3 true ([]) (block false (0o4141414141414141 ∷ 0o4242424242424242 ∷ 0o4343434343434343 ∷ []) ∷ block false (0o4444444444444444 ∷ []) ∷ block true (0o4545454545454545 ∷ 0o4646464646464646 ∷ []) ∷ []) ∷ [];
 } ∷ []
-unfolding after_read after_card rewound after_skip after_write printed first_word words_of given offered finished decoded arith arith_row free_kind free_label unclaimed plain_row out_effect brought from_top changed single_row decision direct_effect transfer_of query_effect guarded device_numbers by_number device_count to_binary from_binary text
+unfolding after_read after_card rewound after_skip after_write printed first_word words_of given offered finished decoded arith arith_row free_for unclaimed plain_row out_effect brought from_top changed single_row decision direct_effect transfer_of query_effect guarded device_numbers by_number device_count to_binary from_binary text
 tape_mark_goes_behind_the_last_block =
     ap (λ (slots : List SlotJob). map (λ (s : SlotJob). seen_after 14 s (image_words s.size s.deck)) slots) tape_mark_goes_behind_the_last_block_slot
     ∙ ap (λ (image : List ℕ). seen_after 14 (a_slot 128 (text (codes "PROGRAM V1; V0=Q0/32/33; V1=PT; V1; SET 4; OUT; V0; =Q1; =C1; MFRQ1; MFRQ1; MFRQ1; MFRQ1; MLBQ1; ZERO; OUT; FINISH;" ∷ [])) (tape 6 0o6400000000000000 (block false (0o4141414141414141 ∷ 0o4242424242424242 ∷ 0o4343434343434343 ∷ []) ∷ block false (0o4444444444444444 ∷ []) ∷ block true (0o4545454545454545 ∷ 0o4646464646464646 ∷ []) ∷ []) ∷ []) ((32, 33) ∷ [])) image ∷ []) tape_mark_goes_behind_the_last_block_image
@@ -524,7 +524,7 @@ pub tape_written_in_the_middle : alone 12 (job_lines (codes "STORE 128") (codes 
   spooled = [];
   devices = shown 6 true 2 false ([]) (block false (0o4141414141414141 ∷ 0o4242424242424242 ∷ 0o4343434343434343 ∷ []) ∷ block false (0o4141414141414141 ∷ 0o4242424242424242 ∷ []) ∷ []) ∷ [];
 } ∷ []
-unfolding after_read after_card rewound after_skip after_write printed first_word words_of given offered finished decoded arith arith_row free_kind free_label unclaimed plain_row out_effect brought from_top changed single_row decision direct_effect transfer_of query_effect guarded device_numbers by_number device_count to_binary from_binary text
+unfolding after_read after_card rewound after_skip after_write printed first_word words_of given offered finished decoded arith arith_row free_for unclaimed plain_row out_effect brought from_top changed single_row decision direct_effect transfer_of query_effect guarded device_numbers by_number device_count to_binary from_binary text
 tape_written_in_the_middle =
     ap (λ (slots : List SlotJob). map (λ (s : SlotJob). seen_after 12 s (image_words s.size s.deck)) slots) tape_written_in_the_middle_slot
     ∙ ap (λ (image : List ℕ). seen_after 12 (a_slot 128 (text (codes "PROGRAM V1; V0=Q0/32/33; V1=PT; V1; SET 4; OUT; V0; =Q1; =C1; MFRQ1; MWQ1; MLBQ1; ZERO; OUT; FINISH;" ∷ [])) (tape 6 0o6400000000000000 (block false (0o4141414141414141 ∷ 0o4242424242424242 ∷ 0o4343434343434343 ∷ []) ∷ block false (0o4444444444444444 ∷ []) ∷ block true (0o4545454545454545 ∷ 0o4646464646464646 ∷ []) ∷ []) ∷ []) ((32, 33) ∷ [])) image ∷ []) tape_written_in_the_middle_image
@@ -550,7 +550,7 @@ pub tape_written_with_the_mark : alone 12 (job_lines (codes "STORE 128") (codes 
   spooled = [];
   devices = shown 6 true 2 false ([]) (block false (0o4141414141414141 ∷ 0o4242424242424242 ∷ 0o4343434343434343 ∷ []) ∷ block true (0o4141414141414141 ∷ 0o4242424242424242 ∷ []) ∷ []) ∷ [];
 } ∷ []
-unfolding after_read after_card rewound after_skip after_write printed first_word words_of given offered finished decoded arith arith_row free_kind free_label unclaimed plain_row out_effect brought from_top changed single_row decision direct_effect transfer_of query_effect guarded device_numbers by_number device_count to_binary from_binary text
+unfolding after_read after_card rewound after_skip after_write printed first_word words_of given offered finished decoded arith arith_row free_for unclaimed plain_row out_effect brought from_top changed single_row decision direct_effect transfer_of query_effect guarded device_numbers by_number device_count to_binary from_binary text
 tape_written_with_the_mark =
     ap (λ (slots : List SlotJob). map (λ (s : SlotJob). seen_after 12 s (image_words s.size s.deck)) slots) tape_written_with_the_mark_slot
     ∙ ap (λ (image : List ℕ). seen_after 12 (a_slot 128 (text (codes "PROGRAM V1; V0=Q0/32/33; V1=PT; V1; SET 4; OUT; V0; =Q1; =C1; MFRQ1; MLWQ1; MLBQ1; ZERO; OUT; FINISH;" ∷ [])) (tape 6 0o6400000000000000 (block false (0o4141414141414141 ∷ 0o4242424242424242 ∷ 0o4343434343434343 ∷ []) ∷ block false (0o4444444444444444 ∷ []) ∷ block true (0o4545454545454545 ∷ 0o4646464646464646 ∷ []) ∷ []) ∷ []) ((32, 33) ∷ [])) image ∷ []) tape_written_with_the_mark_image
@@ -576,7 +576,7 @@ pub copies_a_tape : alone 28 (job_lines (codes "STORE 96") (codes "PROGRAM V2; V
   spooled = [];
   devices = shown 6 true 2 true ([]) (block false (0o4651626364004254 ∷ 0o5743530020202021 ∷ []) ∷ block true (0o4651564154004254 ∷ 0o5743530020202022 ∷ []) ∷ []) ∷ shown 8 true 2 false ([]) (block false (0o4651626364004254 ∷ 0o5743530020202021 ∷ []) ∷ block false (0o4651564154004254 ∷ 0o5743530020202022 ∷ []) ∷ []) ∷ [];
 } ∷ []
-unfolding after_read after_card rewound after_skip after_write printed first_word words_of given offered finished decoded arith arith_row free_kind free_label unclaimed plain_row out_effect brought from_top changed single_row decision direct_effect transfer_of query_effect guarded device_numbers by_number device_count to_binary from_binary text
+unfolding after_read after_card rewound after_skip after_write printed first_word words_of given offered finished decoded arith arith_row free_for unclaimed plain_row out_effect brought from_top changed single_row decision direct_effect transfer_of query_effect guarded device_numbers by_number device_count to_binary from_binary text
 copies_a_tape =
     ap (λ (slots : List SlotJob). map (λ (s : SlotJob). seen_after 28 s (image_words s.size s.deck)) slots) copies_a_tape_slot
     ∙ ap (λ (image : List ℕ). seen_after 28 (a_slot 96 (text (codes "PROGRAM V2; V0=PIN; V1=POUT; V2=Q0/64/65;" ∷ codes "V0; SET 4; OUT; V2; =Q1; =C1; V1; SET 4; OUT; V2; =Q2; =C2;" ∷ codes "1; MFRQ1; PARQ1; J2TR; MWQ2; J1; 2; ZERO; OUT; FINISH;" ∷ [])) (tape 6 0o5156000000000000 (block false (0o4651626364004254 ∷ 0o5743530020202021 ∷ []) ∷ block true (0o4651564154004254 ∷ 0o5743530020202022 ∷ []) ∷ []) ∷ tape 8 0o5765640000000000 ([]) ∷ []) ([])) image ∷ []) copies_a_tape_image

@@ -3,8 +3,8 @@ use Rattle.std.specs.Prelude.{ℕ, Bool, true, false, List, [], ◌∷◌, Some}
 use Rattle.kdf_journal.specs.declared.kind.Kind.{Kind}
 use Rattle.kdf_journal.specs.declared.kind.Kind.TheVariants.{Tr, Tp, Cr, Mt}
 use Rattle.kdf_tape.specs.Tape.{Recorded}
-use Rattle.kdf_transfer.specs.Devices.{Fixture, Progress}
-use Rattle.kdf_processor.specs.State.{State, new_progress, new_registers}
+use Rattle.kdf_transfer.specs.Devices.{Fixture, Progress, new_progress}
+use Rattle.kdf_processor.specs.State.{State, new_registers}
 use Rattle.kdf_job.specs.Job.{JobDevice, SlotJob}
 
 -- a device of a kind

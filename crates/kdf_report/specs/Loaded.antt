@@ -1,7 +1,7 @@
 -- The slots of a job, as they are loaded.
 use Rattle.std.specs.Prelude.{ℕ, ◌==◌, List, find, map, Option}
 use Rattle.kdf_place.specs.Assembled.{image_words}
-use Rattle.kdf_processor.specs.State.{Slot}
+use Rattle.kdf_transfer.specs.Slots.{Slot}
 use Rattle.kdf_job.specs.Job.{Job, SlotJob}
 use Rattle.kdf_director.specs.Loading as loading
 

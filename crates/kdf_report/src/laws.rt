@@ -4,13 +4,11 @@ ghost use Rattle.kdf_journal.specs.declared.entry.Entry.{Entry};
 ghost use Rattle.kdf_journal.specs.Counts.{answers};
 ghost use Rattle.kdf_processor.specs.Lone.{is_live, lone};
 ghost use Rattle.kdf_processor.specs.State.{State, begin};
-ghost use Rattle.kdf_job.specs.declared.job.SlotJob.{SlotJob};
-ghost use Rattle.kdf_job.specs.Job.{Job, SlotJob as JobSlot};
+ghost use Rattle.kdf_job.specs.Job.{Job, SlotJob};
 ghost use Rattle.kdf_job.specs.Reading.{job, job_fault};
-ghost use Rattle.kdf_job.specs.Shows.{shown_slot};
 ghost use Rattle.kdf_job.specs.SlotLines.{slot_lines};
+ghost use Rattle.kdf_job.specs.Slots.{slot_of};
 ghost use Rattle.kdf_job.specs.WellFormed.{AreSlots, IsSlot};
-ghost use Rattle.kdf_alone.specs.Loading.{slot_of};
 ghost use Rattle.kdf_director.specs.Legal.{IsLegal};
 ghost use Rattle.kdf_director.specs.Loading as loading;
 ghost use Rattle.kdf_director.specs.Loading.{HaveImages};
@@ -24,14 +22,14 @@ ghost use Rattle.kdf_report.specs.Worlds.{section_of};
 
 /// A program that was loaded from a slot of a job is one of that slot, whatever it is answered and however many orders it obeys.
 pub fn program_of_slot()
-    ensures { (slot : SlotJob) (words answers : List ℕ) (n : ℕ) → IsSlot (shown_slot slot) →
-        IsProgramOf (shown_slot slot) (lone (begin (slot_of slot words)) answers n) }
+    ensures { (slot : SlotJob) (words answers : List ℕ) (n : ℕ) → IsSlot slot →
+        IsProgramOf slot (lone (begin (slot_of slot words)) answers n) }
 {}
 
 /// A machine that was loaded from the slots of a job, and in which each program's own state is what is seen of its lone run, has the
 /// program of each of these slots, whatever its journal.
 pub fn programs_of_slots()
-    ensures { (m : Shown) (slots : List JobSlot) (images : List (List ℕ)) → AreSlots slots →
+    ensures { (m : Shown) (slots : List SlotJob) (images : List (List ℕ)) → AreSlots slots →
         HaveImages slots images → m.slots ≡ loading.slots_of slots images → ShowsSeen m → All (HasProgram m) slots }
 {}
 

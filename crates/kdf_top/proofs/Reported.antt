@@ -1,6 +1,6 @@
 -- What is written of a machine that was loaded from a job and shows what is seen of the lone runs is what is due of the job.
 use Rattle.std.proofs.Common.{◌≡◌, ℕ, List, length, sym, ◌∙◌, ap, subst, All}
-use Rattle.kdf_processor.specs.State.{Slot}
+use Rattle.kdf_transfer.specs.Slots.{Slot}
 use Rattle.kdf_job.specs.Job.{Job}
 use Rattle.kdf_job.specs.Reading.{job}
 use Rattle.kdf_job.specs.WellFormed.{AreSlots}

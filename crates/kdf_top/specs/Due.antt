@@ -9,10 +9,10 @@ use Rattle.kdf_place.specs.Listing.{absent_listing, listing_text}
 use Rattle.kdf_place.specs.Placement.{Picture}
 use Rattle.kdf_job.specs.Job.{Job, SlotJob}
 use Rattle.kdf_job.specs.Reading.{job}
+use Rattle.kdf_job.specs.Slots.{slot_of}
 use Rattle.kdf_processor.specs.Lone.{is_live, lone}
 use Rattle.kdf_processor.specs.State.{State, begin}
 use Rattle.kdf_director.specs.Follows.{IsJournal}
-use Rattle.kdf_director.specs.Loading as loading
 use Rattle.kdf_director.specs.Shown.{Shown, ShowsSeen}
 use Rattle.kdf_director.specs.Told.{flights_of, own, seen_of}
 use Rattle.kdf_report.specs.Text.{absent_text, alone_text, report_text}
@@ -28,7 +28,7 @@ use Rattle.kdf_top.specs.declared.command.Command.TheVariants.{Run, Alone, Asm, 
 -- as the schedule has
 abbrev pub alone_state : List Event → SlotJob → State
 alone_state events slot =
-    lone (begin (loading.slot_of (loading.load_of slot (image_words slot.size slot.deck)))) [] (order_count events)
+    lone (begin (slot_of slot (image_words slot.size slot.deck))) [] (order_count events)
 
 abbrev pub alone_by : List Event → ℕ → Option SlotJob → List ℕ
 alone_by events p None = absent_text p

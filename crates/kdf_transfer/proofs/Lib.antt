@@ -7,3 +7,5 @@ pub mod Stopping
 pub mod OneStep
 pub mod Moving
 pub mod Words
+pub mod OfKind
+pub mod Numbers

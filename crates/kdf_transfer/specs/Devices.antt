@@ -1,11 +1,16 @@
 -- A device as what it is, and how far it has come.
-use Rattle.std.specs.Prelude.{ℕ, Bool, false, List, [], length}
+use Rattle.std.specs.Prelude.{ℕ, ◌&&◌, ◌==◌, Bool, true, false, List, [], length, Option, Some, None}
+use Rattle.std.specs.Option.{option_map}
 use Rattle.kdf_journal.specs.declared.kind.Kind.{Kind}
 use Rattle.kdf_journal.specs.declared.kind.Kind.TheVariants as kind
 use Rattle.kdf_media.specs.Media.{ReaderState, CardsState, BlocksState}
 use Rattle.kdf_tape.specs.Tape.{Recorded, TapeState}
 use Rattle.kdf_transfer.specs.declared.device.Device.{Device}
 use Rattle.kdf_transfer.specs.declared.device.Device.TheVariants.{Tr, Tp, Cr, Lp, Mt}
+use Rattle.kdf_transfer.specs.declared.test.Test.{Test}
+use Rattle.kdf_transfer.specs.declared.test.Test.TheVariants.{Flag, Start, Mark}
+use Rattle.kdf_transfer.specs.declared.wanted.Wanted.{Wanted}
+use Rattle.kdf_transfer.specs.declared.wanted.Wanted.TheVariants.{Kinded, Labelled}
 
 -- what a device is, which no order changes: its kind, a tape's label, a reader's characters and the characters of cards
 pub record Fixture : Type 0 where
@@ -21,6 +26,10 @@ pub record Progress : Type 0 where
   pub mark : Bool
   pub blocks : List (List ℕ)
   pub recorded : List Recorded
+
+-- a device that has moved nothing
+abbrev pub new_progress : Progress
+new_progress = record { place = 0; flag = false; mark = false; blocks = []; recorded = [] }
 
 -- devices of each kind
 abbrev pub reader : ReaderState → Device
@@ -59,3 +68,32 @@ room_of (Tp d) = d.room
 room_of (Cr c) = 1
 room_of (Lp d) = d.room
 room_of (Mt t) = t.room
+
+-- the kind of a device, where there is one
+abbrev pub kind_in : Option Fixture → Option Kind
+kind_in fixture = option_map (λ (f : Fixture). f.kind) fixture
+
+-- there is a kind, and it is this one
+abbrev pub is_kind : Kind → Option Kind → Bool
+is_kind kind.Tr (Some kind.Tr) = true
+is_kind kind.Tp (Some kind.Tp) = true
+is_kind kind.Cr (Some kind.Cr) = true
+is_kind kind.Lp (Some kind.Lp) = true
+is_kind kind.Mt (Some kind.Mt) = true
+is_kind _ _ = false
+
+-- there is a device, and it is a tape with this label
+abbrev pub has_label : ℕ → Option Fixture → Bool
+has_label label None = false
+has_label label (Some f) = is_kind kind.Mt (Some f.kind) && f.label == label
+
+-- there is a device, and it is what a claim wants
+abbrev pub is_wanted : Wanted → Option Fixture → Bool
+is_wanted (Kinded k) fixture = is_kind k (kind_in fixture)
+is_wanted (Labelled label) fixture = has_label label fixture
+
+-- a device's flag, whether it stands at its start, and its mark
+abbrev pub test_of : Test → Progress → Bool
+test_of Flag p = p.flag
+test_of Start p = p.place == 0
+test_of Mark p = p.mark

@@ -1,11 +1,12 @@
 //! Devices of any kind.
-ghost use Rattle.std.specs.Prelude.{◌≡◌, ◌+◌, ◌%◌, ◌^◌, ◌<◌, ◌≤◌, true, All, length, reverse, slice_get, IfOk, OnOk};
+ghost use Rattle.std.specs.Prelude.{◌≡◌, ◌+◌, ◌%◌, ◌^◌, ◌<◌, ◌≤◌, true, All, length, reverse, slice_get, IfOk, OnOk, Some};
 ghost use Rattle.std.specs.Option.{option_copied};
 ghost use Rattle.kdf_transfer.specs.AtOnce.{blocks_out, finished, given, is_input, kind_of, words_in};
-ghost use Rattle.kdf_transfer.specs.Devices.{fixture_of, progress_of, room_of};
+ghost use Rattle.kdf_transfer.specs.Devices.{fixture_of, has_label, is_wanted, progress_of, room_of, test_of};
+ghost use Rattle.kdf_transfer.specs.Spare.{HasSpare};
 
-use crate::TransferOrder;
 use crate::finished::{finish_cards, finish_printer, finish_punch, finish_reader, finish_tape};
+use crate::{Test, TransferOrder, Wanted};
 use kdf_journal::Kind;
 use kdf_media::{Cards, Printer, Punch, Reader};
 use kdf_tape::{MagTape, TapeBlock};
@@ -67,6 +68,47 @@ impl Device {
         }
     }
 
+    /// Its mark, which only a tape may have.
+    pub fn mark(&self) -> bool
+        ensures { result ≡ (progress_of self.now).mark }
+    {
+        match self {
+            Device::Mt(tape) => tape.mark(),
+            _ => false,
+        }
+    }
+
+    /// What a test of it tells.
+    pub fn test(&self, what: Test) -> bool
+        ensures { result ≡ test_of what (progress_of self.now) }
+    {
+        match what {
+            Test::Flag => self.flag(),
+            Test::Start => self.place() == 0,
+            Test::Mark => self.mark(),
+        }
+    }
+
+    /// Whether it is a tape with this label.
+    pub fn has_label(&self, label: Word) -> bool
+        ensures { result ≡ has_label label (Some (fixture_of self.now)) }
+    {
+        match self {
+            Device::Mt(tape) => tape.label() == label,
+            _ => false,
+        }
+    }
+
+    /// Whether it is what a claim wants.
+    pub fn is_wanted(&self, wanted: &Wanted) -> bool
+        ensures { result ≡ is_wanted wanted.now (Some (fixture_of self.now)) }
+    {
+        match wanted {
+            Wanted::Kinded(kind) => self.kind() == *kind,
+            Wanted::Labelled(label) => self.has_label(*label),
+        }
+    }
+
     /// Another device in the same state.
     pub fn copy(&self, alloc: Global) -> Result<Device, AllocError>
         ensures fixture { IfOk result (λ d. fixture_of d ≡ fixture_of self.now) }
@@ -93,6 +135,22 @@ impl Device {
             Device::Lp(printer) => printer.reserve(),
             Device::Mt(tape) => tape.reserve(),
         }
+    }
+
+    /// Makes room for the blocks that an order adds. A device that has 2^32 - 1 blocks gets no more. Its state stays as it was.
+    pub fn reserve_for(&mut self, order: TransferOrder) -> Result<(), AllocError>
+        ensures fixture { fixture_of self.new ≡ fixture_of self.old }
+        ensures progress { progress_of self.new ≡ progress_of self.old }
+        ensures spare { OnOk result (HasSpare order self.new) }
+    {
+        let place = self.place();
+        if !order.is_output() {
+            return Ok(());
+        }
+        if place == u32::MAX {
+            return Err(AllocError);
+        }
+        self.reserve()
     }
 
     /// Word `i` of those that an input order gives to an area without bound; None behind them.

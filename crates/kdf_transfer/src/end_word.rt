@@ -63,7 +63,7 @@ pub(crate) fn fill_up(order: TransferOrder, word: Word) -> Word
 }
 
 /// Appends the characters of a word, for which there is room.
-pub(crate) fn push_codes(block: &mut Vec<u8>, word: Word)
+pub fn push_codes(block: &mut Vec<u8>, word: Word)
     requires { vec_len block.old + 8 ≤ vec_capacity block.old }
     ensures items { block.new.items ≡ block.old.items ++ codes_of word }
     ensures len { vec_len block.new ≡ vec_len block.old + 8 }

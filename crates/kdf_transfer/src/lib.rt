@@ -12,11 +12,18 @@ pub mod laws;
 mod one_step;
 mod order;
 mod ring;
+mod test;
+mod text;
 mod transfer;
+mod wanted;
 
 pub use area::Area;
 pub use device::Device;
+pub use end_word::push_codes;
 pub use one_step::at_once;
 pub use order::TransferOrder;
 pub use ring::Ring;
+pub use test::Test;
+pub use text::{characters_in, up_to_end};
 pub use transfer::Transfer;
+pub use wanted::Wanted;

@@ -1,6 +1,6 @@
 //! Examples of OUT. Devices 4 and 6 are tapes with the label A, and 5 is one with AB; 1 and 8 are punches, 0 and 7
 //! readers, 3 and 10 printers, and 2 and 9 cards. So many of them are claimed, from device 0 on.
-#![tactic(auto, unfolding(crate::specs::Table::out_effect, crate::specs::Table::guarded, crate::specs::Claims::free_kind, crate::specs::Claims::free_label, crate::specs::Claims::least_pooled))]
+#![tactic(auto, unfolding(crate::specs::Table::out_effect, crate::specs::Table::guarded, crate::specs::Claims::free_for, crate::specs::Claims::least_pooled))]
 
 ghost use Rattle.std.specs.Prelude.{◌≡◌, ◌+◌, ◌-◌, ◌^◌, [], ◌∷◌, false};
 ghost use Rattle.kdf_journal.specs.declared.failure.Failure.TheVariants.{Liv, Nouv, Out, Claim};

@@ -129,12 +129,12 @@ impl Port for Bench {
         2
     }
 
-    #[tactic(auto, unfolding(kdf_processor::specs::Claims::free_label))]
+    #[tactic(auto, unfolding(kdf_processor::specs::Claims::free_for))]
     fn claim_label(&mut self, _label: Word) -> Option<u8> {
         None
     }
 
-    #[tactic(auto, unfolding(kdf_processor::specs::Claims::free_kind))]
+    #[tactic(auto, unfolding(kdf_processor::specs::Claims::free_for))]
     fn claim_kind(&mut self, kind: Kind) -> Option<u8> {
         match kind {
             Kind::Lp => {

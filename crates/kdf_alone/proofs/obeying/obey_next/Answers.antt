@@ -1,18 +1,19 @@
 use Rattle.std.proofs.Common.{ap, ◌∙◌}
-use Rattle.kdf_processor.specs.Outcome.{Outcome}
+use Rattle.kdf_processor.specs.Outcome.{Outcome, outcome}
+use Rattle.kdf_processor.specs.Row.{at_once}
+use Rattle.kdf_alone.specs.Bench.{shown}
 use Rattle.kdf_alone.proofs.Rows.{next_over, row_over}
 use Rattle.kdf_alone.proofs.obeying.obey_next.Goals as goal
 
 pub returns-clause-state : goal.returns-clause-state
 returns-clause-state c =
-    row_over c.args.bench.now c.make_room.new.bench c.obey_fetched.new.port c.args.answer c.args.registers.now c.obey_fetched.new.registers
-    (c.in_ok-make_room.ensures.stays.stock ∙ c.prepare.ensures.stock)
-    (c.in_ok-make_room.ensures.stays.answer ∙ c.prepare.ensures.answer)
-    c.obey_fetched.ensures.registers c.obey_fetched.ensures.acted
+    let done = c.in_ok-step.ensures.obeyed in
+    let act = (outcome (shown c.prepare.new.self) c.args.registers.now).act in
+    row_over c.args.bench.now c.prepare.new.self c.obey_with_room.new.port c.args.answer c.args.registers.now c.obey_with_room.new.registers
+    c.prepare.ensures.stock c.prepare.ensures.answer
+    done.obeyed.registers (done.obeyed.acted ∙ ap (at_once act) done.stays.stock)
 
 pub returns-clause-step : goal.returns-clause-step
 returns-clause-step c =
-    c.obey_fetched.ensures.step
-    ∙ ap (λ (o : Outcome). o.step) (next_over c.args.bench.now c.make_room.new.bench c.args.answer c.args.registers.now
-    (c.in_ok-make_room.ensures.stays.stock ∙ c.prepare.ensures.stock)
-    (c.in_ok-make_room.ensures.stays.answer ∙ c.prepare.ensures.answer))
+    c.in_ok-step.ensures.obeyed.obeyed.step
+    ∙ ap (λ (o : Outcome). o.step) (next_over c.args.bench.now c.prepare.new.self c.args.answer c.args.registers.now c.prepare.ensures.stock c.prepare.ensures.answer)

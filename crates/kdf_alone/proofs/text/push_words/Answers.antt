@@ -6,8 +6,8 @@ use Rattle.kdf_transfer.proofs.Codes.{codes_more}
 use Rattle.kdf_transfer.proofs.OneStep.{room_for}
 use Rattle.kdf_alone.proofs.text.push_words.Goals as goal
 
-pub push_word-requires : goal.push_word-requires
-push_word-requires c =
+pub push_codes-requires : goal.push_codes-requires
+push_codes-requires c =
     let ws = c.args.words.now in
     let fits : 8 * length ws ≤ vec_capacity c.loop-word.block = omega (arith, c.requires.room, c.loop-word.invariant.room) in
     let h = room_for c.loop-word.block.items ws c.loop-word.word-index (vec_capacity c.loop-word.block) c.loop-word.invariant.block c.loop-word-test.true fits in
@@ -21,9 +21,9 @@ loop-word-preserved c =
     let is : w ≡ get_or ws i 0 = c.word-item.is ∙ get_or_default ws i w 0 c.loop-word-test.true in
     record {
       block =
-          c.push_word.ensures.items ∙ ap (λ xs. xs ++ codes_of w) c.loop-word.invariant.block
+          c.push_codes.ensures.items ∙ ap (λ xs. xs ++ codes_of w) c.loop-word.invariant.block
           ∙ codes_more ws i w c.loop-word-test.true is;
-      room = c.push_word.ensures.capacity ∙ c.loop-word.invariant.room;
+      room = c.push_codes.ensures.capacity ∙ c.loop-word.invariant.room;
     }
 
 pub returns : goal.returns

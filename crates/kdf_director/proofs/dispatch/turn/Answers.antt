@@ -4,7 +4,7 @@ use Rattle.kdf_director.specs.Parts.{Reach, Shared, reach_of, shared_in}
 use Rattle.kdf_director.specs.Running.{reach_at, reaches_in, seats_in, IsRunning}
 use Rattle.kdf_director.specs.Spots.{spot_of}
 use Rattle.kdf_director.proofs.Programs.{reach_is, within, turned_all, running_all, unturned_all, holds_all}
-use Rattle.kdf_director.proofs.Tables.{limit_is}
+use Rattle.kdf_transfer.proofs.Numbers.{limit_is}
 use Rattle.kdf_director.proofs.Turned.{if_ok, on_err, on_either}
 use Rattle.kdf_director.proofs.dispatch.turn.Goals as goal
 use Rattle.kdf_director.proofs.dispatch.turn.Goals.{After-index_mut}

@@ -5,7 +5,7 @@ use Rattle.kdf_processor.specs.declared.step.Need.{Need}
 use Rattle.kdf_director.specs.declared.slot.Loaded.{Loaded}
 use Rattle.kdf_director.specs.Fields.{first_numbered, first_seat, idle_spot, loaded, sizes_of, with_images, zero_cells}
 use Rattle.kdf_director.specs.Parts.{window_at}
-use Rattle.kdf_director.specs.ByNumber.{by_number}
+use Rattle.kdf_transfer.specs.ByNumber.{by_number}
 use Rattle.kdf_director.proofs.LoadedMachine.{all_within, is_loaded}
 use Rattle.kdf_director.proofs.Sizes.{sizes_fit}
 use Rattle.kdf_director.proofs.load.equip.Goals as goal

@@ -1,7 +1,7 @@
 use Rattle.std.proofs.Common.{[], map}
 use Rattle.kdf_director.specs.Fields.{first_numbered, idle_place, idle_ring, idle_spot, loaded}
 use Rattle.kdf_director.specs.Spots.{spot_of}
-use Rattle.kdf_director.proofs.Loads.{one_more}
+use Rattle.kdf_transfer.proofs.Numbers.{one_more}
 use Rattle.kdf_director.proofs.load.idle_all.Goals as goal
 
 pub loop-d-preserved : goal.loop-d-preserved

@@ -3,7 +3,7 @@ use Rattle.std.proofs.lemmas.List.{get_or_default}
 use Rattle.kdf_director.specs.declared.place.Place.TheVariants.{Absent}
 use Rattle.kdf_director.specs.Physical.{word_out}
 use Rattle.kdf_director.specs.Spots.{spot_of, leases_of}
-use Rattle.kdf_director.proofs.Tables.{limit_is}
+use Rattle.kdf_transfer.proofs.Numbers.{limit_is}
 use Rattle.kdf_director.proofs.Closing.{lent_is, out_here, out_below}
 use Rattle.kdf_director.proofs.places.word_lent.Goals as goal
 

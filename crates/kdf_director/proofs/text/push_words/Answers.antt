@@ -9,8 +9,8 @@ pub word_there-word-requires : goal.word_there-word-requires
 word_there-word-requires c =
     here_at c.args.store.now c.args.first c.args.last (c.args.first + c.loop-i.i) c.requires.area (omega arith) (omega arith)
 
-pub push_word-requires : goal.push_word-requires
-push_word-requires c =
+pub push_codes-requires : goal.push_codes-requires
+push_codes-requires c =
     let counted : length c.loop-i.block.items ≡ 8 * c.loop-i.i = ap length c.loop-i.invariant.block ∙ length-text (word_here c.args.store.now) c.args.first c.loop-i.i in
     omega (arith, counted, c.requires.room, c.loop-i.invariant.room, c.loop-i.block.ok.0)
 
@@ -20,11 +20,11 @@ loop-i-preserved c =
     let i = c.loop-i.i in
     record {
       block =
-          c.push_word.ensures.items
+          c.push_codes.ensures.items
           ∙ ap (λ xs. xs ++ codes_of c.word_there-word.result) c.loop-i.invariant.block
           ∙ ap (λ w. codes_of_all (map f (range_with_len c.args.first i)) ++ codes_of w) c.word_there-word.ensures
           ∙ text_more f c.args.first i;
-      room = c.push_word.ensures.capacity ∙ c.loop-i.invariant.room;
+      room = c.push_codes.ensures.capacity ∙ c.loop-i.invariant.room;
     }
 
 pub returns : goal.returns

@@ -1,5 +1,4 @@
-use Rattle.std.proofs.Common.{◌-◌, ◌∙◌, sym, true}
-use Rattle.kdf_transfer.specs.AtOnce.{is_input}
+use Rattle.std.proofs.Common.{◌∙◌, sym}
 use Rattle.kdf_transfer.specs.Devices.{fixture_of, progress_of}
 use Rattle.kdf_transfer.proofs.OneStep.{stored_input}
 use Rattle.kdf_transfer.proofs.one_step.move_all.Goals as goal

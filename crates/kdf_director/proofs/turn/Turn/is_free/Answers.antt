@@ -1,6 +1,7 @@
 use Rattle.std.proofs.Common.{get_or, map, false, ap, ◌∙◌}
 use Rattle.std.specs.Prelude.{◌&&◌, not}
-use Rattle.kdf_director.specs.Spots.{is_wanted, spot_at, spot_of}
+use Rattle.kdf_transfer.specs.Devices.{is_wanted}
+use Rattle.kdf_director.specs.Spots.{spot_at, spot_of}
 use Rattle.kdf_director.specs.Parts.{numbers, owns}
 use Rattle.kdf_director.specs.Turn.{part_of, shared}
 use Rattle.kdf_director.proofs.Showing.{free_shown}

@@ -1,7 +1,8 @@
 use Rattle.std.proofs.Common.{ltb, get_or, map, cond, false, None, ap, ◌∙◌, sym}
 use Rattle.std.specs.Prelude.{◌&&◌}
 use Rattle.kdf_director.specs.Parts.{fixture_owned, numbers}
-use Rattle.kdf_director.specs.Spots.{kind_in, spot_of}
+use Rattle.kdf_transfer.specs.Devices.{kind_in}
+use Rattle.kdf_director.specs.Spots.{spot_of}
 use Rattle.kdf_director.specs.Turn.{part_of, shared}
 use Rattle.kdf_director.proofs.Showing.{claim_is}
 use Rattle.kdf_director.proofs.turn.TurnPort.held.Goals as goal

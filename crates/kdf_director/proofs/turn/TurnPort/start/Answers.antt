@@ -1,6 +1,6 @@
 use Rattle.std.proofs.Common.{◌≡◌, ◌+◌, true, length, ap, ◌∙◌, sym, subst, arith}
 use Rattle.kdf_transfer.specs.AtOnce.{kind_of, has_area}
-use Rattle.kdf_processor.specs.Claims.{is_kind}
+use Rattle.kdf_transfer.specs.Devices.{is_kind}
 use Rattle.kdf_director.specs.Spots.{spot_at, spot_kind}
 use Rattle.kdf_director.specs.Shared.{is_out_of, IsFreeArea}
 use Rattle.kdf_director.specs.Turn.{part_of, shared}

@@ -1,8 +1,8 @@
 use Rattle.std.proofs.Common.{map, ap, ◌∙◌, sym, arith}
-use Rattle.kdf_processor.specs.View.{test_of}
+use Rattle.kdf_transfer.specs.Devices.{test_of}
 use Rattle.kdf_director.specs.Spots.{spot_at, spot_of}
 use Rattle.kdf_director.specs.Turn.{part_of, shared}
-use Rattle.kdf_director.proofs.Tables.{limit_is}
+use Rattle.kdf_transfer.proofs.Numbers.{limit_is}
 use Rattle.kdf_director.proofs.Showing.{claimed_has, claimed_small, own_device}
 use Rattle.kdf_director.proofs.turn.TurnPort.test.Goals as goal
 

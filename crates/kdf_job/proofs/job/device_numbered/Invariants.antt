@@ -1,7 +1,7 @@
 use Rattle.std.proofs.Common.{◌≡◌, map, drop}
 use Rattle.kdf_job.specs.Shows.{shown_device}
-use Rattle.kdf_director.specs.Loading.{numbered}
-use Rattle.kdf_director.proofs.load.find.Given as goal
+use Rattle.kdf_job.specs.Slots.{numbered}
+use Rattle.kdf_job.proofs.job.device_numbered.Given as goal
 
 abbrev pub invariant-loop-device : goal.invariant-loop-device
 invariant-loop-device l =

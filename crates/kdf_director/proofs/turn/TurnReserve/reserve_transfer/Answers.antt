@@ -1,0 +1,10 @@
+use Rattle.std.proofs.Common.{ap}
+use Rattle.kdf_director.specs.Shared.{view}
+use Rattle.kdf_director.specs.Turn.{part_of}
+use Rattle.kdf_director.proofs.Turns.{share}
+use Rattle.kdf_director.proofs.turn.TurnReserve.reserve_transfer.Goals as goal
+
+pub returns-clause-shows : goal.returns-clause-shows
+returns-clause-shows c =
+    let t = c.args.self.now in
+    ap (λ spots. view (part_of t) t.time (share t.store.now spots)) c.make_ready_at.ensures.spots

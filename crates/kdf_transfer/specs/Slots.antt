@@ -1,0 +1,14 @@
+-- A slot.
+use Rattle.std.specs.Prelude.{ℕ, List, Option}
+use Rattle.kdf_journal.specs.declared.kind.Kind.{Kind}
+use Rattle.kdf_transfer.specs.Devices.{Fixture, Progress}
+
+-- a slot as it is loaded: its number, the size of its store, the words of its image, its devices by number, and by number the
+-- kinds of those in the pool
+pub record Slot : Type 0 where
+  pub p : ℕ
+  pub size : ℕ
+  pub words : List ℕ
+  pub fixtures : List (Option Fixture)
+  pub devices : List Progress
+  pub pool : List (Option Kind)
