@@ -93,8 +93,7 @@ fn goes(
     ensures { result ≡ goes (seat_of program.now) (reach_of windows.now slot.now)
         (shared_in store.now places.now) program.now.hold }
 {
-    is_on(program.registers.state)
-        && !is_stopped(windows, slot.p, store, places, program.hold)
+    is_on(program.registers.state) && !is_stopped(windows, slot.p, store, places, program.hold)
 }
 
 /// Which of the programs is in this slot.
