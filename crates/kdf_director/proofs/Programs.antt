@@ -1,9 +1,8 @@
 -- One program of all, and its slot.
 use Rattle.std.specs.Prelude.{find}
 use Rattle.std.specs.List.{range_with_len}
-use Rattle.std.proofs.Common.{◌≡◌, refl, ℕ, zero, suc, ◌+◌, ◌-◌, ◌<◌, Bool, true, false, eqb, Some, List, [], ◌∷◌, cond, length, map, get_or, set, Option, None, sym, ap, ap₂, ◌∙◌, subst, arith}
+use Rattle.std.proofs.Common.{◌≡◌, ℕ, ◌-◌, ◌<◌, eqb, List, [], length, map, get_or, set, Option, None, sym, ap, ap₂, ◌∙◌, subst, arith}
 use Rattle.std.proofs.Math.Seq.{map-set_same}
-use Rattle.std.proofs.lemmas.Bool.{eq-eqb, ne_eqb}
 use Rattle.std.proofs.lemmas.List.{map-set, get_or-map, length-map}
 use Rattle.kdf_relocate.specs.declared.window.Window.{Window}
 use Rattle.kdf_journal.specs.declared.entry.Entry.{Entry}
@@ -15,13 +14,11 @@ use Rattle.kdf_director.specs.declared.machine.Progress.{Progress}
 use Rattle.kdf_director.specs.declared.note.Note.{Note}
 use Rattle.kdf_director.specs.declared.program.Program.{Program}
 use Rattle.kdf_director.specs.declared.slot.Loaded.{Loaded}
-use Rattle.kdf_director.specs.Going.{place_of, first_going, goes, goes_at, hold_at, if_goes, or_else, AreNearHolds, IsNearHold}
+use Rattle.kdf_director.specs.Going.{place_of, goes, goes_at, hold_at, AreNearHolds, IsNearHold}
 use Rattle.kdf_director.specs.Parts.{Reach, Seat, Shared, reach_of, seat_of, window_at}
-use Rattle.kdf_director.specs.Running.{no_seat, seat_at, reach_at, reaches_in, seats_in, AreNumbered, IsRunning}
+use Rattle.kdf_director.specs.Running.{no_seat, seat_at, reach_at, reaches_in, seats_in, IsRunning}
 use Rattle.kdf_director.specs.Taken.{HasTaken, hold_left, progress_of, step_told}
 use Rattle.kdf_director.specs.Turned.{HasRun, HasTurned}
-use Rattle.kdf_processor.proofs.Finding.{found_behind, found_here}
-use Rattle.kdf_director.proofs.Firsts.{found_first}
 use Rattle.kdf_director.proofs.Turned.{turned, turned_running}
 
 abbrev no_reach : Reach

@@ -61,24 +61,8 @@ fn write(journal: &mut Journal, p: u8, k: u32, step: Step, note: Note)
     }
 }
 
-/// Enters what was noted of the order just counted. Of most orders that is nothing.
-#[inline(always)]
+/// Enters what was noted of the order just counted.
 fn write_note(journal: &mut Journal, p: u8, k: u32, note: Note)
-    requires room { 1 ≤ journal.old.spare }
-    requires few_calls { calls journal.old.entries ≤ CALL_LIMIT }
-    requires few_moves { moves journal.old.entries ≤ MOVE_LIMIT }
-    ensures entries { journal.new.entries ≡ noted journal.old.entries p (note_beside k note) }
-    ensures spare { journal.old.spare ≤ journal.new.spare + 1 }
-{
-    if let Note::Quiet = note {
-        return;
-    }
-    write_told(journal, p, k, note);
-}
-
-/// Enters what was noted of the order just counted, if anything was. It stays apart, so that what most orders do stays short.
-#[inline(never)]
-fn write_told(journal: &mut Journal, p: u8, k: u32, note: Note)
     requires room { 1 ≤ journal.old.spare }
     requires few_calls { calls journal.old.entries ≤ CALL_LIMIT }
     requires few_moves { moves journal.old.entries ≤ MOVE_LIMIT }
