@@ -74,3 +74,5 @@ pub mod NextPrograms
 pub mod Taking
 pub mod Calling
 pub mod Calls
+pub mod Living
+pub mod InOrder

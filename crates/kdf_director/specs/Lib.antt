@@ -33,3 +33,4 @@ pub mod Taken
 pub mod Viewed
 pub mod Fields
 pub mod Holders
+pub mod Progressed
