@@ -19,43 +19,43 @@ from toolkit import ENVIRONMENT, HEAD, PLAIN, ROOT, TAIL, document, examples, jo
 # A deck's name of a fault, its lines, the line and the column in the deck, and how the sentence on it begins. The store has 32 words.
 DECK_FAULTS = [
     ("BadByte", "PROGRAM;\n  ZERO;\t OUT;\nFINISH;", 2, 8, "This byte can't occur in a deck"),
-    ("CommentOpen", "PROGRAM;\n ZERO; (adds\nFINISH;", 2, 8, "A `(` without a later `)`."),
+    ("CommentOpen", "PROGRAM;\n ZERO; (adds\nFINISH;", 2, 8, "A `(` has no `)` after it."),
     ("NoSemicolon", "PROGRAM;\n  ZERO;\nFINISH", 3, 1, "There is text after the last `;`."),
     ("UnknownOrder", "PROGRAM; SET 5;\n(add) ADD; FINISH;", 2, 7, "This isn't a Usercode statement."),
-    ("Floating", "PROGRAM;\n ZERO;\n +F; FINISH;", 3, 2, "The statement is a floating-point order of the KDF9"),
-    ("BadNumber", "PROGRAM;\nSET 5; SET 40000;\nFINISH;", 2, 8, "A number outside its range, other than in the next two."),
+    ("Floating", "PROGRAM;\n ZERO;\n +F; FINISH;", 3, 2, "This is a floating-point order of the KDF9"),
+    ("BadNumber", "PROGRAM;\nSET 5; SET 40000;\nFINISH;", 2, 8, "A number is out of range, other than those of faults 7 and 8."),
     ("QRange", "PROGRAM;\n\n   Q16; FINISH;", 3, 4, "The number of a Q-store is above 15."),
-    ("ConstantRange", "PROGRAM V1; V0 = 1;\nV1 = 140737488355328; FINISH;", 2, 1, "A constant outside its range, or with more than 8 characters."),
-    ("BadHeading", "PROGRAM V0;\nZERO;\n V0=1; FINISH;", 3, 2, "The statement isn't in its place in the sequence."),
+    ("ConstantRange", "PROGRAM V1; V0 = 1;\nV1 = 140737488355328; FINISH;", 2, 1, "A constant is out of range, or has more than 8 characters."),
+    ("BadHeading", "PROGRAM V0;\nZERO;\n V0=1; FINISH;", 3, 2, "The statement isn't allowed here: it is out of sequence"),
     ("NoFinish", "PROGRAM;\nZERO;", 3, 1, "There is no `FINISH`."),
     ("AfterFinish", "PROGRAM; ZERO;\nFINISH; ZERO;", 2, 9, "There is text after `FINISH`."),
-    ("ReferenceTwice", "PROGRAM; 1; J1;\n  1; FINISH;", 2, 3, "The reference stood before in this part."),
-    ("ReferenceMissing", "PROGRAM; 1;\n    J2; FINISH;", 2, 5, "The target's part is there and hasn't that reference."),
-    ("PartTwice", "PROGRAM;\nP1; ZERO;\nP1; ZERO; FINISH;", 3, 1, "The part's number stood before."),
-    ("PartMissing", "PROGRAM;\n ZERO; JSP3; FINISH;", 2, 8, "A jump or a store names a part that isn't there."),
-    ("VRange", "PROGRAM V1;\n  V2; FINISH;", 2, 3, "N is above the part's last V-store"),
-    ("YRange", "Y1; PROGRAM;\nY0; YB0; FINISH;", 2, 5, "N is above the group's last store"),
-    ("ShortLoopFar", "PROGRAM; 1;\nDC1; J1C1NZS; FINISH;", 2, 6, "Reference r of `JrCqNZS` isn't at the beginning of the word before."),
+    ("ReferenceTwice", "PROGRAM; 1; J1;\n  1; FINISH;", 2, 3, "This part already has this reference."),
+    ("ReferenceMissing", "PROGRAM; 1;\n    J2; FINISH;", 2, 5, "The part that the target names doesn't have this reference."),
+    ("PartTwice", "PROGRAM;\nP1; ZERO;\nP1; ZERO; FINISH;", 3, 1, "An earlier part has this number."),
+    ("PartMissing", "PROGRAM;\n ZERO; JSP3; FINISH;", 2, 8, "A jump or a store names a part that the deck doesn't have."),
+    ("VRange", "PROGRAM V1;\n  V2; FINISH;", 2, 3, "The part doesn't declare this V-store"),
+    ("YRange", "Y1; PROGRAM;\nY0; YB0; FINISH;", 2, 5, "The deck doesn't declare this Y-store."),
+    ("ShortLoopFar", "PROGRAM; 1;\nDC1; J1C1NZS; FINISH;", 2, 6, "Reference r of `JrCqNZS` isn't at the beginning of the word before its own."),
     ("TooLarge", "Y99;\nPROGRAM; FINISH;", 3, 1, "The image has more words than the store."),
 ]
 
 # A job's name of a fault, its text, the line and the column, and how the sentence on it begins.
 JOB_FAULTS = [
     ("BadLine", HEAD + "PRINT 3\n" + TAIL, 7, 1, "this line isn't allowed here"),
-    ("BadNumber", HEAD + "SCHEDULE\nMOVE 3 4097\nENDJOB\n", 8, 8, "a word that has to be a number isn't one, or is out of its range"),
-    ("SlotOrder", HEAD + HEAD[11:] + TAIL, 7, 6, "the slot isn't above the slot before"),
+    ("BadNumber", HEAD + "SCHEDULE\nMOVE 3 4097\nENDJOB\n", 8, 8, "a field that should be a number isn't one, or is out of range"),
+    ("SlotOrder", HEAD + HEAD[11:] + TAIL, 7, 6, "the slot isn't higher than the slot before it"),
     ("SizeNotGroups", HEAD.replace("64", "65") + TAIL, 3, 7, "the store isn't a multiple of 32"),
     (
         "StoreFull", "KDF9 JOB 1\n" + "".join(HEAD[11:].replace("SLOT 0", f"SLOT {slot}").replace("64", "8192") for slot in range(4)) + TAIL,
-        18, 7, "the stores so far have more than 31744 words together",
+        18, 7, "the stores so far add up to more than 31744 words",
     ),
     ("DeviceTwice", HEAD + "DEVICE 3 TR\nDEVICE 3 TP\n" + TAIL, 8, 8, "an earlier device of the job has this number"),
     ("BadLabel", HEAD + "DEVICE 3 MT a\n" + TAIL, 7, 13, "the label isn't 1 to 8 characters of A to Z and 0 to 9"),
-    ("LabelTwice", HEAD + "DEVICE 3 MT A\nDEVICE 4 MT A\n" + TAIL, 8, 13, "the slot has a tape of this label already"),
-    ("BadMedium", HEAD + "DEVICE 3 TR\n+AB&D\n" + TAIL, 8, 4, "a byte is no character, the line is too long for its kind"),
+    ("LabelTwice", HEAD + "DEVICE 3 MT A\nDEVICE 4 MT A\n" + TAIL, 8, 13, "the slot already has a tape with this label"),
+    ("BadMedium", HEAD + "DEVICE 3 TR\n+AB&D\n" + TAIL, 8, 4, "a byte isn't a character, the line is too long for its kind"),
     ("ShowRange", HEAD + "SHOW 3 2\n" + TAIL, 7, 6, "the first address is above the last"),
-    ("ClockFalls", HEAD + "SCHEDULE\nCLOCK 10\nCLOCK 9\nENDJOB\n", 9, 7, "the time is below the one before"),
-    ("TooManyOrders", HEAD + "SCHEDULE\nORDERS 20000000\nORDERS 1\nENDJOB\n", 9, 8, "the `ORDERS` lines so far have more than 20000000 together"),
+    ("ClockFalls", HEAD + "SCHEDULE\nCLOCK 10\nCLOCK 9\nENDJOB\n", 9, 7, "the time is earlier than the one before it"),
+    ("TooManyOrders", HEAD + "SCHEDULE\nORDERS 20000000\nORDERS 1\nENDJOB\n", 9, 8, "the `ORDERS` lines so far add up to more than 20000000"),
     ("TooManyEvents", HEAD + "SCHEDULE\n" + "END 1\n" * 500001 + "ENDJOB\n", 500008, 1, "this is line 500,001 of the schedule"),
 ]
 
@@ -201,7 +201,7 @@ def faults_are_found():
         parts = [pointed(text, line, column), f"\n  {sentence}", "(docs/JOB.md)"]
         yield f"fault {name} of a job", explained(text, f"-:{line}:{column}: {name}", parts)
     for text, place, subject, rest in NO_JOBS:
-        due = f"-:{place}: Header: {subject}: line 1 isn't there, or isn't `KDF9 JOB 1` (docs/JOB.md){rest}"
+        due = f"-:{place}: Header: {subject}: line 1 is missing, or isn't `KDF9 JOB 1` (docs/JOB.md){rest}"
         for tool in ("explain", "listing", "steps"):
             run = kdf9([tool, "-"], text)
             yield f"{tool} of {text[:24]!r}", None if refused(run) and run.err.startswith(due) else f"{run} in place of {due}"

@@ -145,7 +145,7 @@ def sentence(fault):
         return found[1], "(docs/JOB.md)"
     found = re.search(rf"^### (\d+) {fault.name}\n\n(.*?)\n\n", page("USERCODE.md"), re.MULTILINE | re.DOTALL)
     said = " ".join(found[2].split())
-    return said.partition(" Its place is")[0], f"(docs/USERCODE.md, fault {found[1]})"
+    return said.partition(" The offset is")[0], f"(docs/USERCODE.md, fault {found[1]})"
 
 
 def lines_of_job(source, text):
