@@ -32,7 +32,7 @@ ENDREPORT
 # The titles and the rows that its pictures have to have.
 MOVES_TITLES = [
     "device 3 TR, call 29: up to 2 words moved by 1 MOVE", "device 3 TR, call 38: up to 4103 words moved by 2 MOVEs",
-    "call 38: the clock was set to 5 and so on up to 6", "slot 0, calls 9 to 46: held up for 38 calls by device 3 TR, which has a transfer",
+    "call 38: the clock was set to 5, and then up to 6", "slot 0, calls 9 to 46: held up for 38 calls by device 3 TR, which has a transfer",
 ]
 MOVES_ROWS = [
     ("device 3 TR", "        " + "0" * 20 + "m" + "0" * 8 + "m" + "0" * 8 + " " * 14, "1 transfer, 3 MOVEs"),
@@ -63,9 +63,9 @@ ORDERS 29
 ENDREPORT
 """
 EXCHANGES_TITLES = [
-    "call 11: SWAP 0 1; priorities, the highest first: 1, 0",
-    "call 31: SWAP 1 0 and so on up to SWAP 0 3; priorities, the highest first: 1, 0",
-    "call 60: SWAP 2 2; priorities, the highest first: 1, 0",
+    "call 11: SWAP 0 1; priorities, highest first: 1, 0",
+    "call 31: SWAP 1 0 to SWAP 0 3; priorities, highest first: 1, 0",
+    "call 60: SWAP 2 2; priorities, highest first: 1, 0",
     "slot 1, calls 40 to 60: held up for 21 calls by the pool, whose devices of kind TP all have holders",
 ]
 EXCHANGES_ROW = f"\npriorities  |{'x':>11}{'x':>20}{'x':>29}| 4 exchanges, at the end 1, 0\n"
@@ -75,8 +75,8 @@ COUNTS = [
     ("orders", r"^RAN (?P<key>\d) (?P<number>\d+)$", r"^slot (?P<key>\d),.*obeyed (?P<number>\d+) order"),
     ("transfers", r"^START \d (?P<key>\d+) \d+$", r"^device (?P<key>\d+) .*?(?P<number>\d+) transfers? begun"),
     ("idle calls", r"^IDLE (?P<number>\d+)$", r": (?P<number>\d+) calls? idle"),
-    ("failures", r"^FAIL (?P<key>\d) \w+$", r"^slot (?P<key>\d) failed with call \d+: \w+$"),
-    ("ends", r"^ENDED (?P<key>\d)$", r"^slot (?P<key>\d) ended with call \d+$"),
+    ("failures", r"^FAIL (?P<key>\d) \w+$", r"^slot (?P<key>\d) failed at call \d+: \w+$"),
+    ("ends", r"^ENDED (?P<key>\d)$", r"^slot (?P<key>\d) ended at call \d+$"),
 ]
 
 

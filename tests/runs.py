@@ -34,7 +34,7 @@ SCHEDULES = [
 # The schedule of ASKS in one job and in another, and what same says.
 SAME = [
     (["--after", "0"], None, "slot 2: the same\n"),
-    (["--after", "7"], None, "slot 2: the same after 8 orders, but for the transfer in flight of device 3; order 9 asked, and was answered 1 in {} and 0 alone\n"),
+    (["--after", "7"], None, "slot 2: the same after 8 orders, except for the transfer in flight of device 3; order 9 asked, and was answered 1 in {} and 0 alone\n"),
     (["--after", "99"], ["--after", "80"], "slot 2: the same after 10 orders\n"),
     (["--after", "7"], ["--after", "9"], "slot 2: the same\n"),
     (["--after", "7"], ["--after", "0"], "slot 2: the same after 8 orders; order 9 asked, and was answered 1 in {} and 0 in {}\n"),
@@ -51,10 +51,10 @@ BAD_INPUT = [
     (["same"], "", "usage: ./kdf9 same JOB"),
     (["same", "-", "no/such/file"], ASKS, "no/such/file: No such file"),
     (["same", "-"], HEAD, "-:7:1: BadLine: the job ends here"),
-    (["same", "-", "examples/adds-cards.job"], ASKS, "examples/adds-cards.job: no slot has the lines of a slot of -"),
+    (["same", "-", "examples/adds-cards.job"], ASKS, "examples/adds-cards.job: no slot has the same program as a slot of -"),
     (["steps", "-", "--run", "--watch"], ASKS, "-: slot 2 has no word "),
     (["steps", "-", "2", "--watch", "V1"], ASKS, "-: slot 2 has no word V1"),
-    (["steps", "-", "2", "12", "--run"], ASKS, "-: in this run the program obeys 10 orders: there is no order 12"),
+    (["steps", "-", "2", "12", "--run"], ASKS, "-: the program obeys only 10 orders in this run, so there is no order 12"),
 ]
 
 

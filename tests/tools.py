@@ -86,8 +86,8 @@ HINTS = [
     ("PROGRAM; SET 1; SET 1; DIV; FINISH;", "DIVI divides"),
     ("PROGRAM V1; V0 = PDIVIDEND V1 = 17; FINISH;", "a ; is missing at 5:27, after V0 = PDIVIDEND"),
     ("PROGRAM V0 SET 5; FINISH;", "a ; is missing at 5:11, after PROGRAM V0"),
-    ("PROGRAM; SET 5; =K1; FINISH;", "it is Director's"),
-    ("PROGRAM; W0; FINISH;", "there are V-stores and Y-stores"),
+    ("PROGRAM; SET 5; =K1; FINISH;", "it belongs to Director"),
+    ("PROGRAM; W0; FINISH;", "use V-stores and Y-stores"),
     ("PROGRAM; ZERO; FINISH", "a ; is missing at 5:22"),
 ]
 
@@ -99,10 +99,10 @@ JOB_HINTS = [
     (HEAD + "Device 3 " + "tr" * 9999 + TAIL, "write DEVICE 3 " + "TR" * 24 + "...\n"),
     ((HEAD + TAIL).replace("ORDERS 10", "swap 0 1"), "write SWAP 0 1\n"),
     ((HEAD + TAIL).replace("ORDERS 10", "ORDERS  10"), "exactly one space"),
-    ((HEAD + TAIL).replace("ORDERS 10", "ORDERS 010"), "no zeros in front"),
-    ((HEAD + TAIL).replace("ENDDECK\n", ""), "ENDDECK hasn't come"),
-    ((HEAD + TAIL).replace("ENDJOB\n", ""), "ENDJOB hasn't come"),
-    (HEAD + "DEVICE 3 TR\n+ab\n" + TAIL, "small letters are no characters"),
+    ((HEAD + TAIL).replace("ORDERS 10", "ORDERS 010"), "no leading zeros"),
+    ((HEAD + TAIL).replace("ENDDECK\n", ""), "ENDDECK is missing"),
+    ((HEAD + TAIL).replace("ENDJOB\n", ""), "ENDJOB is missing"),
+    (HEAD + "DEVICE 3 TR\n+ab\n" + TAIL, "lowercase letters aren't characters"),
 ]
 
 # How a program fails, its deck, the line and the column in the deck at which it stands, and a part of what is said of it.
@@ -110,7 +110,7 @@ FAILURES = [
     ("LIV", "PROGRAM;\n ZERO; (to nowhere)\n =E9999; FINISH;", 3, 2, "LIV: its address is 9999; the store has words 0 to 31"),
     ("NOUV", "PROGRAM; SET 5;\n   +; FINISH;", 2, 4, "the nest has 1 word, which is too few for +"),
     ("OUT", "PROGRAM;\nSET 7; OUT;\nFINISH;", 2, 8, "OUT 7 isn't one of 0, 3, 4, 5, 6, 8 and 9"),
-    ("RESET", "PROGRAM; SET -1;\n=LINK; EXIT; FINISH;", 2, 8, "the link is 8191/7, and a word has the syllables 0 to 5"),
+    ("RESET", "PROGRAM; SET -1;\n=LINK; EXIT; FINISH;", 2, 8, "the link is 8191/7, but a word has syllables 0 to 5"),
     ("CLAIM", "PROGRAM;\nZERO; =Q1;\n    PRQ1; FINISH;", 3, 5, "Q1 is 0/0/0, and its counter names device 0: is =C1 forgotten?; the slot has no devices"),
     ("LIVE", "PROGRAM; 1;\n  J1; FINISH;", 2, 3, "was live when the schedule ended, after 10 orders"),
 ]
@@ -122,7 +122,7 @@ BAD_INPUT = [
     (["steps", "-", "0", "0"], HEAD + TAIL, "usage: ./kdf9 steps JOB"),
     (["steps", "-", "0", "5", "4"], HEAD + TAIL, "usage: ./kdf9 steps JOB"),
     (["steps", "-", "1"], HEAD + TAIL, "-: the job has no slot 1"),
-    (["steps", "-", "0", "9"], HEAD.replace(PLAIN, "PROGRAM; ZERO; OUT; FINISH;") + TAIL, "-: the program obeys 3 orders"),
+    (["steps", "-", "0", "9"], HEAD.replace(PLAIN, "PROGRAM; ZERO; OUT; FINISH;") + TAIL, "-: the program obeys only 3 orders, so there is no order 9"),
     (["steps", "-"], HEAD.replace("J1", "ADD") + TAIL, "-:5:13: UnknownOrder: ADD"),
     (["listing", "-"], HEAD, "-:7:1: BadLine: the job ends here"),
     (["listing", "-", "x"], HEAD + TAIL, "usage: ./kdf9 listing JOB"),
@@ -134,41 +134,41 @@ BAD_INPUT = [
     (["listing", "-"], "KDF9 JOB 1\n" + " " * 4194304, "-: the job has more than 4194304 bytes"),
     (["picture", "--svg"], "", "usage: ./kdf9 picture"),
     (["json", "-"], "", "usage: ./kdf9 json"),
-    (["json"], "", "-:1: this is no report"),
+    (["json"], "", "-:1: this isn't a report"),
     (["json"], "KDF9 REPORT 1\nRAN 0 01\nENDREPORT\n", "-:2: this line isn't allowed here: RAN 0 01"),
     (["json"], "KDF9 REPORT 1\nSLOT 0\nSTATE LIVE\nORDERS x\n", "-:4: this line isn't allowed here: ORDERS x"),
     (["json"], "KDF9 REPORT 1\nRAN 0 1\n", "-:3: this line isn't allowed here: the report ends here"),
     (["json"], "KDF9 REPORT 1\nENDREPORT\n\n", "-:3: this line isn't allowed here: "),
     (["report", "-"], "", "usage: ./kdf9 report"),
-    (["report"], '{"text":', "-:1:9: this is no JSON"),
-    (["report"], "[]", "-: this JSON is no report"),
-    (["report"], '{"text": "KDF9 REPORT 1", "journal": [{"entry": "RAN", "slot": 0}], "slots": []}', "-: this JSON is no report: 'orders'"),
-    (["report"], '{"text": "KDF9 REPORT 1", "journal": [{"entry": "IDLE", "calls": 1, "more": 2}], "slots": []}', "-: this JSON is no report"),
-    (["picture"], "", "-:1: this is no report"),
-    (["picture", "--text"], HEAD + TAIL, "-:1: this is no report"),
-    (["picture"], "KDF9 REPORT 1\nRAN 0 1\nSLEPT 0\nENDREPORT\n", "-:3: this is no entry of a journal: SLEPT 0"),
-    (["picture"], "KDF9 REPORT 1\nRAN 0 one\nENDREPORT\n", "-:2: this is no entry of a journal: RAN 0 one"),
-    (["picture"], f"KDF9 REPORT 1\nRAN 0 {'9' * 5000}\nENDREPORT\n", "-:2: this is no entry of a journal: RAN 0 999"),
-    (["picture"], "KDF9 REPORT 1\nRAN 0 -1\nENDREPORT\n", "-:2: this is no entry of a journal: RAN 0 -1"),
+    (["report"], '{"text":', "-:1:9: this isn't JSON"),
+    (["report"], "[]", "-: this JSON isn't a report"),
+    (["report"], '{"text": "KDF9 REPORT 1", "journal": [{"entry": "RAN", "slot": 0}], "slots": []}', "-: this JSON isn't a report: 'orders' is missing"),
+    (["report"], '{"text": "KDF9 REPORT 1", "journal": [{"entry": "IDLE", "calls": 1, "more": 2}], "slots": []}', "-: this JSON isn't a report"),
+    (["picture"], "", "-:1: this isn't a report"),
+    (["picture", "--text"], HEAD + TAIL, "-:1: this isn't a report"),
+    (["picture"], "KDF9 REPORT 1\nRAN 0 1\nSLEPT 0\nENDREPORT\n", "-:3: this isn't an entry of a journal: SLEPT 0"),
+    (["picture"], "KDF9 REPORT 1\nRAN 0 one\nENDREPORT\n", "-:2: this isn't an entry of a journal: RAN 0 one"),
+    (["picture"], f"KDF9 REPORT 1\nRAN 0 {'9' * 5000}\nENDREPORT\n", "-:2: this isn't an entry of a journal: RAN 0 999"),
+    (["picture"], "KDF9 REPORT 1\nRAN 0 -1\nENDREPORT\n", "-:2: this isn't an entry of a journal: RAN 0 -1"),
     (["picture"], "KDF9 REPORT 1\nRAN 1 1\nSLOT 0\nSTATE LIVE\nENDREPORT\n", "-:2: the report has no slot or device 1"),
     (["picture"], "KDF9 REPORT 1\nRAN 0 1\nSLOT 0\nSTATE LIVE\n", "-:4: the report ends without ENDREPORT"),
-    (["picture"], "KDF9 REPORT 1\nSLOT 0\nSTATE LIVE\nCOLOUR blue\nENDREPORT\n", "-:4: this is no line of a report: COLOUR blue"),
-    (["picture"], "KDF9 REPORT 1\nSLOT 4\nSTATE LIVE\nENDREPORT\n", "-:2: this is no line of a report: SLOT 4"),
+    (["picture"], "KDF9 REPORT 1\nSLOT 0\nSTATE LIVE\nCOLOUR blue\nENDREPORT\n", "-:4: this isn't a line of a report: COLOUR blue"),
+    (["picture"], "KDF9 REPORT 1\nSLOT 4\nSTATE LIVE\nENDREPORT\n", "-:2: this isn't a line of a report: SLOT 4"),
     (["picture"], "KDF9 REPORT 1\nSTART 1 3 1\nSLOT 0\nSTATE LIVE\nDEVICE 3 TR FREE PLACE 0 FLAG 0\nENDREPORT\n", "-:2: the report has no slot"),
     (["picture"], "KDF9 REPORT 1\nBUSY 0 9\nSLOT 0\nSTATE LIVE\nENDREPORT\n", "-:2: the report has no slot or device 9"),
     (["picture"], "KDF9 REPORT 1\nSLOT 0\nENDREPORT\n", "-:3: slot 0 has no line STATE"),
     (["picture"], "KDF9 REPORT 1\nSWAP 0 4\nSLOT 0\nSTATE LIVE\nENDREPORT\n", "-:2: the report has no slot or device 4"),
-    (["picture"], "KDF9 REPORT 1\nSWAP 0\nENDREPORT\n", "-:2: this is no entry of a journal: SWAP 0"),
+    (["picture"], "KDF9 REPORT 1\nSWAP 0\nENDREPORT\n", "-:2: this isn't an entry of a journal: SWAP 0"),
 ]
 
 # Two programs, of which the second fails, with what explain says of their priorities after the schedule.
 TWO_LOOPS = HEAD + HEAD[11:].replace("SLOT 0", "SLOT 1")
 FAILS_SECOND = TWO_LOOPS[::-1].replace("J1"[::-1], "+"[::-1], 1)[::-1]
 TURNS = [
-    (TWO_LOOPS, "ORDERS 5\nSWAP 0 1\n", ["  priorities at the end, the highest first: 1, 0; it is the turn of slot 1\n"]),
-    (TWO_LOOPS, "ORDERS 5\nSWAP 0 0\n", ["  priorities at the end, the highest first: 0, 1; it is the turn of slot 0\n"]),
-    (TWO_LOOPS, "ORDERS 19999999\nSWAP 0 2\nORDERS 1\n", ["  priorities at the end, the highest first: 1, 0\n"]),
-    (FAILS_SECOND, "SWAP 0 1\nORDERS 5\nSWAP 0 1\n", ["order 2; its nest, the top first: empty\n  priorities then, the highest first: 1, 0\n"]),
+    (TWO_LOOPS, "ORDERS 5\nSWAP 0 1\n", ["  priorities at the end, highest first: 1, 0; the next turn is slot 1's\n"]),
+    (TWO_LOOPS, "ORDERS 5\nSWAP 0 0\n", ["  priorities at the end, highest first: 0, 1; the next turn is slot 0's\n"]),
+    (TWO_LOOPS, "ORDERS 19999999\nSWAP 0 2\nORDERS 1\n", ["  priorities at the end, highest first: 1, 0\n"]),
+    (FAILS_SECOND, "SWAP 0 1\nORDERS 5\nSWAP 0 1\n", ["order 2; nest, top first: empty\n  priorities at that point, highest first: 1, 0\n"]),
 ]
 
 
@@ -227,7 +227,7 @@ def hints_are_given():
     for text, part in JOB_HINTS:
         yield f"a hint on a job: {part}", explained(text, "", ["  hint: ", part])
     for order in re.search(r"^for name in (.*); do$", document("DIFFERENCES.md"), re.MULTILINE)[1].split():
-        yield f"a hint on {order}", explained(job_of_deck(f"PROGRAM; {order}; FINISH;"), "", ["hint: the KDF9 has this order, and this machine leaves"])
+        yield f"a hint on {order}", explained(job_of_deck(f"PROGRAM; {order}; FINISH;"), "", ["hint: the KDF9 has this order, but this machine leaves"])
     for deck in ("PROGRAM; NOSUCHORDER; FINISH;", "PROGRAM V0; V0 = PABCDEFGHIJ; FINISH;", "PROGRAM V1; V1 = 140737488355328; FINISH;"):
         yield f"no hint on {deck!r}", None if "hint" not in kdf9(["explain", "-"], job_of_deck(deck)).err else "a hint"
 
@@ -240,7 +240,7 @@ def failures_are_found():
         deck = f"PROGRAM V0; V0=Q{area}; SET 2; SET 5; OUT; V0; =Q1; =C1; 1; PRQ1; J1; FINISH;"
         text = HEAD.replace(PLAIN, deck) + "DEVICE 3 TR\n+ABCDEFGHIJKLMNOPQ\nSCHEDULE\nORDERS 20\nENDJOB\n"
         yield f"a program that is held up by {hold}", explained(text, f"-:5:{column}: LIVE: {statement}", [f"held up by {hold}"])
-    nowhere = explained(job_of_deck("PROGRAM; J1P1; P1; 1; FINISH;"), "", ["-: LIV: the next order of slot 0 is syllable 0 of word 2"])
+    nowhere = explained(job_of_deck("PROGRAM; J1P1; P1; 1; FINISH;"), "", ["-: LIV: the next order of slot 0 is at syllable 0 of word 2"])
     yield "a program that stands at no statement", nowhere
 
 

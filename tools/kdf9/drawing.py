@@ -15,7 +15,7 @@ LEFT, WIDTH, RIGHT, TOP = 170, 880, 420, 46
 SLOT_HEIGHT, DEVICE_HEIGHT, GAP, LINE = 30, 18, 8, 18
 
 # How many pixels a character takes of the slots that stand after the sign of an exchange, and how many the sign itself.
-CHARACTER, SIGN = 7.5, 12
+CHARACTER, SIGN = 9, 12
 
 # How wide a bar is at least that has the digit of its slot in it, and the colours of digits by slot.
 BAR_OF_DIGIT = 14
@@ -89,7 +89,7 @@ class Drawing:
             self.titled(f"slot {number}, {self.when(first, end)}: {said_of_slot(self.chart, calls)}", boxes)
         for stretch, (at, failure) in lane.happened():
             sign = self.failure_sign if failure else self.end_sign
-            said = f"failed with call {at}: {failure}" if failure else f"ended with call {at}"
+            said = f"failed at call {at}: {failure}" if failure else f"ended at call {at}"
             self.titled(f"slot {number} {said}", [sign(self.x(stretch + 1))])
         self.y += SLOT_HEIGHT + GAP
 
@@ -148,7 +148,7 @@ class Drawing:
         self.label(DEVICE_HEIGHT, "idle", count(lane.total()["idle"], "call"))
         for first, end, calls, _ in groups(lane):
             boxes = self.stack(first, end, DEVICE_HEIGHT, [(calls["idle"], IDLE)])
-            self.titled(f"{self.when(first, end)}: {count(calls['idle'], 'call')} idle, every live program being held up", boxes)
+            self.titled(f"{self.when(first, end)}: {count(calls['idle'], 'call')} idle: every live program is held up", boxes)
         self.y += DEVICE_HEIGHT + GAP
 
     def clock(self):
@@ -171,7 +171,7 @@ class Drawing:
             x, slots = self.x(first), ", ".join(f"{p} {q}" for (p, q), _ in exchanges)
             shapes = [exchange_sign(x, self.y + 2)]
             if x + SIGN + CHARACTER * len(slots) + SIGN <= following:
-                shapes.append(f'<text x="{x + SIGN:.1f}" y="{self.y + 12}" font-size="11">{slots}</text>')
+                shapes.append(f'<text x="{x + SIGN:.1f}" y="{self.y + 12}">{slots}</text>')
             self.titled(f"{self.when(first, first + 1)}: {said_of_exchanges(self.chart, exchanges)}", shapes)
         self.y += DEVICE_HEIGHT + GAP
 
@@ -215,7 +215,7 @@ class Drawing:
         for index, (fill, words) in enumerate(shades):
             self.key(index, self.box(0, 0, 22, 12, fill), words)
         signs = [
-            (f'<rect width="22" height="1.5" y="9" fill="{READY_LINE}"/>', "could go on; another runs"),
+            (f'<rect width="22" height="1.5" y="9" fill="{READY_LINE}"/>', "ready, while another runs"),
             (f'<path d="M11 0v13" stroke="#000"/>', "a transfer begins"),
             (f'<path d="M8 4h6l-3 6z" fill="#fff" stroke="#000" stroke-width="0.7"/>', "words are moved by MOVE"),
             (f'<rect x="6" y="1" width="10" height="10"/>', "ended"),
@@ -228,10 +228,10 @@ class Drawing:
             self.key(index, shape, words)
         self.y = y + LINE * -(-(len(shades) + len(signs)) // 3)
         if self.columns.length > 1:
-            self.text(8, self.y + 12, f"Each column stands for {self.columns.length} calls; its heights are shares of them.")
+            self.text(8, self.y + 12, f"Each column is {self.columns.length} calls; heights are shares of them.")
             self.y += LINE
         if self.columns.folds:
-            self.text(8, self.y + 12, "A broken line stands for a long idle stretch, which is folded.")
+            self.text(8, self.y + 12, "A broken line marks a long idle stretch that is folded.")
             self.y += LINE
 
     def key(self, index, shape, words):
@@ -248,7 +248,7 @@ def exchange_sign(x, y):
 
 def span(events):
     """The first and the last of some times, in words."""
-    return str(events[0]) if len(events) == 1 else f"{events[0]} and so on up to {events[-1]}"
+    return str(events[0]) if len(events) == 1 else f"{events[0]}, and then up to {events[-1]}"
 
 
 def step_of_axis(total):

@@ -33,7 +33,7 @@ LONGEST = {"CR": 80, "MT": 32768}
 
 LONGEST_SUBJECT = 60
 
-BYTE_13 = "the line has a byte 13, as files of some other systems have before each line end; take them out: tr -d '\\r'"
+BYTE_13 = "the line has a byte 13, as Windows writes before each newline; remove them with tr -d '\\r'"
 
 
 class Fault(NamedTuple):
@@ -166,9 +166,9 @@ def hint_of_header(lines):
     if first.startswith(BYTE_ORDER_MARK):
         return "; the text begins with a byte-order mark; save it without one"
     if first.upper() == HEADER:
-        return f"; small letters mean nothing here; write {HEADER}"
+        return f"; lowercase letters aren't allowed here; write {HEADER}"
     if not first.strip() and HEADER in lines[:BLANK_LINES]:
-        return "; nothing, not even a blank line, stands before it"
+        return "; nothing may come before it, not even a blank line"
     return ""
 
 

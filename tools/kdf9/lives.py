@@ -77,7 +77,7 @@ def story_of_no_turn(stopped, number):
         yield f"slot {number} never had a turn: the schedule has no ORDERS"
     else:
         above = [other for other in stopped.report.sections if other < number]
-        yield f"slot {number} never had a turn: {slots(above) if above else 'another slot'} could go on at each call"
+        yield f"slot {number} never had a turn: {slots(above) if above else 'another slot'} could run at every call"
 
 
 def slots(numbers):
@@ -96,7 +96,7 @@ def story_of_hold(stopped, case, hold):
         own = " hold this order, and" if hold.number in groups_of_order(case) else ""
         yield f"it needs group {hold.number}: {words}{own} are locked out by a transfer"
     for device, call in flights.items():
-        yield f"the transfer of device {device} began with call {call}, and the schedule has no END {device} after it"
+        yield f"the transfer of device {device} began at call {call}, and the schedule has no END {device} after it"
 
 
 def groups_of_order(case):
@@ -133,7 +133,7 @@ def story_of_loop(stopped, case):
     else:
         return
     rounds = section.orders - earlier.orders
-    yield f"it goes round in a loop: it was here {count(rounds, 'order')} before{''.join(counters(case, earlier, places))}"
+    yield f"it is in a loop: it was here {count(rounds, 'order')} earlier{''.join(counters(case, earlier, places))}"
 
 
 def counters(case, earlier, places):

@@ -175,7 +175,7 @@ def read_report(text, name):
     """The record of a report of which `name` says whose text it is."""
     reader = Reader(read_lines(text))
     if not HEADERS.match("".join(reader.lines[:1])):
-        raise BadInput(f"{name}:1: this is no report: its first line isn't KDF9 REPORT 1 or KDF9 ALONE K")
+        raise BadInput(f"{name}:1: this isn't a report: its first line isn't KDF9 REPORT 1 or KDF9 ALONE K")
     try:
         record = record_of_report(reader)
         fault = first_difference(reader.lines, lines_of_report(record))
@@ -198,12 +198,12 @@ def read_json(text, name):
         record = json.loads(text)
     except (ValueError, RecursionError) as why:
         place = f"{name}:{why.lineno}:{why.colno}" if isinstance(why, json.JSONDecodeError) else name
-        raise BadInput(f"{place}: this is no JSON") from why
+        raise BadInput(f"{place}: this isn't JSON") from why
     try:
         lines = list(lines_of_report(record))
         same = all("\n" not in line for line in lines) and record_of_report(Reader(lines)) == record
     except (AttributeError, IndexError, KeyError, TypeError, ValueError) as why:
-        raise BadInput(f"{name}: this JSON is no report: {why if isinstance(why, KeyError) else 'a part has another form'}") from why
+        raise BadInput(f"{name}: this JSON isn't a report: {f'{why} is missing' if isinstance(why, KeyError) else 'a part has the wrong form'}") from why
     if not same or not HEADERS.match(lines[0]):
-        raise BadInput(f"{name}: this JSON is no report: a part has another value than a report can have")
+        raise BadInput(f"{name}: this JSON isn't a report: a part has a value that a report can't have")
     return lines

@@ -128,7 +128,7 @@ def read(text, name, header):
     """The report, or a text of its form, which begins with the line `header`."""
     lines = read_lines(text)
     if lines[:1] != [header]:
-        raise BadInput(f"{name}:1: this is no report: its first line isn't {header}")
+        raise BadInput(f"{name}:1: this isn't a report: its first line isn't {header}")
     sections_from = next((at for at, line in enumerate(lines) if line.startswith(("SLOT ", "ENDREPORT"))), len(lines))
     return Report(read_entries(lines[1:sections_from], name), read_sections(lines, sections_from, name))
 
@@ -152,7 +152,7 @@ def read_entry(line, at, name):
             return (word, *map(int, rest))
         if word in NAMING and rest[0].isdecimal():
             return word, int(rest[0]), rest[1]
-    raise BadInput(f"{name}:{at}: this is no entry of a journal: {line[:60]}")
+    raise BadInput(f"{name}:{at}: this isn't an entry of a journal: {line[:60]}")
 
 
 def read_sections(lines, start, name):
@@ -170,7 +170,7 @@ def read_sections(lines, start, name):
             else:
                 section.add(word, rest)
         except (AttributeError, IndexError, KeyError, ValueError) as why:
-            raise BadInput(f"{name}:{at + 1}: this is no line of a report: {line[:60]}") from why
+            raise BadInput(f"{name}:{at + 1}: this isn't a line of a report: {line[:60]}") from why
     raise BadInput(f"{name}:{len(lines)}: the report ends without ENDREPORT")
 
 

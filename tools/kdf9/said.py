@@ -37,7 +37,7 @@ def said_of_slot(chart, calls):
     said = [f"obeyed {count(calls[RAN], 'order')}"] if calls[RAN] else []
     said += reasons(chart, calls)
     if calls[READY]:
-        said.append(f"could go on for {count(calls[READY], 'call')}, while another ran")
+        said.append(f"ready for {count(calls[READY], 'call')} while another ran")
     return "; ".join(said)
 
 
@@ -60,8 +60,8 @@ def said_of_exchanges(chart, exchanges):
     first, last = exchanges[0], exchanges[-1]
     said = f"SWAP {first.slots[0]} {first.slots[1]}"
     if len(exchanges) > 1:
-        said += f" and so on up to SWAP {last.slots[0]} {last.slots[1]}"
-    return f"{said}; priorities, the highest first: {in_order(last.after, chart.sections)}"
+        said += f" to SWAP {last.slots[0]} {last.slots[1]}"
+    return f"{said}; priorities, highest first: {in_order(last.after, chart.sections)}"
 
 
 def exchanges_in_all(chart):
@@ -90,4 +90,4 @@ def state_of(section):
 def title_of(chart):
     """The run in one line."""
     transfers = sum(chart.transfers.values())
-    return f"{count(chart.total, 'call')}, {count(chart.idle.total()['idle'], 'call')} of them idle; {count(transfers, 'transfer')}"
+    return f"{count(chart.total, 'call')}, {chart.idle.total()['idle']} of them idle; {count(transfers, 'transfer')}"
