@@ -111,7 +111,7 @@ FAILURES = [
     ("NOUV", "PROGRAM; SET 5;\n   +; FINISH;", 2, 4, "the nest has 1 word, which is too few for +"),
     ("OUT", "PROGRAM;\nSET 7; OUT;\nFINISH;", 2, 8, "OUT 7 isn't one of 0, 3, 4, 5, 6, 8 and 9"),
     ("RESET", "PROGRAM; SET -1;\n=LINK; EXIT; FINISH;", 2, 8, "the link is 8191/7, but a word has syllables 0 to 5"),
-    ("CLAIM", "PROGRAM;\nZERO; =Q1;\n    PRQ1; FINISH;", 3, 5, "Q1 is 0/0/0, and its counter names device 0: is =C1 forgotten?; the slot has no devices"),
+    ("CLAIM", "PROGRAM;\nZERO; =Q1;\n    PRQ1; FINISH;", 3, 5, "Q1 is 0/0/0, and its counter names device 0; the slot has no devices; did you forget =C1?"),
     ("LIVE", "PROGRAM; 1;\n  J1; FINISH;", 2, 3, "was live when the schedule ended, after 10 orders"),
 ]
 
