@@ -96,7 +96,7 @@ class Drawing:
     def digit(self, number, first, end, height):
         """The digit of a slot in a bar, where there is room for it."""
         if self.x(end) - self.x(first) >= BAR_OF_DIGIT:
-            yield f'<text x="{(self.x(first) + self.x(end)) / 2:.1f}" y="{self.y + height - 4}" text-anchor="middle" fill="{DIGITS[number]}">{number}</text>'
+            yield f'<text x="{(self.x(first) + self.x(end)) / 2:.1f}" y="{self.y + height / 2 + 5:g}" text-anchor="middle" fill="{DIGITS[number]}">{number}</text>'
 
     def label(self, height, before, behind):
         """What stands before a lane and after it."""
