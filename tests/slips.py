@@ -67,6 +67,11 @@ SLIPS = [
         "a slot that never had its turn", job("PROGRAM; 1; J1; FINISH;").replace("SCHEDULE", "SLOT 3\nSTORE 32\nDECK\nPROGRAM; ZERO; OUT; FINISH;\nENDDECK\nSCHEDULE"),
         ["-: LIVE: slot 3 is at its first order", "slot 3 never had a turn: slot 0 could run at every call"],
     ),
+    (
+        "a slot that an exchange starves",
+        job("PROGRAM; 1; J1; FINISH;", schedule="SWAP 0 3\nORDERS 40\n").replace("SCHEDULE", "SLOT 3\nSTORE 32\nDECK\nPROGRAM; 1; J1; FINISH;\nENDDECK\nSCHEDULE"),
+        ["-: LIVE: slot 0 is at its first order", "slot 0 never had a turn: slot 3 could run at every call"],
+    ),
     ("a Q-store that was never set", job("PROGRAM; 1; M0M2; J1; FINISH;"), ["NOUV: M0M2", "no statement sets Q2, which is used at 5:13: it is 0/0/0"]),
     ("CARD without +", job("PROGRAM; ZERO; OUT; FINISH;", "DEVICE 4 CR\n12345\n"), ["-:8:1: BadLine: 12345", "hint: expected +, DEVICE, SHOW, SLOT or SCHEDULE"]),
     ("DEVICE 16", job("PROGRAM; FINISH;", "DEVICE 16 CR\n"), ["-:7:8: BadNumber", "hint: this has to be a number from 0 to 15"]),

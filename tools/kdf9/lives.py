@@ -76,13 +76,13 @@ def story_of_no_turn(stopped, number):
     if not any(line.startswith("ORDERS ") for line in stopped.lines[start_of(stopped.lines):]):
         yield f"slot {number} never had a turn: the schedule has no ORDERS"
     else:
-        above = [other for other in stopped.report.sections if other < number]
-        yield f"slot {number} never had a turn: {slots(above) if above else 'another slot'} could run at every call"
+        others = [other for other, section in stopped.report.sections.items() if section.orders]
+        yield f"slot {number} never had a turn: {slots(others)} could run at every call"
 
 
 def slots(numbers):
     """These slots in words."""
-    return f"slot {numbers[0]}" if len(numbers) == 1 else f"one of the slots {listed(list(map(str, numbers)), 'or')}"
+    return f"slot {numbers[0]}" if len(numbers) == 1 else f"slot {listed(list(map(str, numbers)), 'or')}"
 
 
 def story_of_hold(stopped, case, hold):
