@@ -10,12 +10,12 @@ def number_of(word):
 
 
 def value(word):
-    """A word as a number, or as a report has it, in octal digits, where it is likely to be anything but a number."""
+    """A word as a number, or in octal as in a report if it is probably not a number."""
     return str(number_of(word)) if abs(number_of(word)) < LARGE_NUMBER else f"{word:016o}"
 
 
 def changes(before, after, layout):
-    """What differs between two sections, the nest apart, in words."""
+    """What differs between two sections, apart from the nest, in words."""
     if after.words != before.words:
         for address, word in after.words.items():
             if word != before.words[address]:

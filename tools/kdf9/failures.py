@@ -22,7 +22,7 @@ OUTS = "0, 3, 4, 5, 6, 8 and 9"
 
 
 class Case(NamedTuple):
-    """A program that stopped: its slot, what the report tells of it, its deck beside its image, and the row of its next order, or None."""
+    """A program that stopped: its slot, what the report says of it, its deck next to its image, and the row of its next order, or None."""
 
     slot: Slot
     section: Section
@@ -31,7 +31,7 @@ class Case(NamedTuple):
 
     @property
     def text(self):
-        """The text of the next order's statement, or nothing where none wrote it."""
+        """The text of the next order's statement, or nothing if no statement wrote it."""
         return self.row.statement.text if self.row and self.row.statement else ""
 
     def q_store(self, q):
@@ -48,7 +48,7 @@ class Case(NamedTuple):
 
 
 def reason(case):
-    """Why the order failed, in words; nothing where its kind says it all."""
+    """Why the order failed, in words; nothing if the kind of failure says it all."""
     return {"LIV": reason_of_liv, "NOUV": reason_of_nouv, "RESET": reason_of_reset, "OUT": reason_of_out, "CLAIM": reason_of_claim}[case.section.failure](case)
 
 
@@ -85,7 +85,7 @@ def address_of_store(case, name, q):
 
 
 def fault_of_area(case, first, last):
-    """Why the words from `first` to `last` are no area."""
+    """Why the words from `first` to `last` aren't an area."""
     if first > last:
         return f"the first address, {first}, is above the last, {last}"
     if last >= case.slot.store:
@@ -94,7 +94,7 @@ def fault_of_area(case, first, last):
 
 
 def reason_of_no_order(case):
-    """What stands where there is no order."""
+    """What the program met instead of an order."""
     word, syllable = case.section.at
     if word >= case.slot.store:
         return f"word {word} isn't in the store; {case.words_of_store()}"
@@ -120,7 +120,7 @@ def reason_of_nouv(case):
 
 
 def reason_of_reset(case):
-    """Which link it is that is no place."""
+    """Which link isn't a place."""
     return f"the link is {case.section.links[0]}, but a word has syllables 0 to 5"
 
 

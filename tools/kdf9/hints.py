@@ -16,13 +16,13 @@ FORMS = {
 }
 SCHEDULED = ["ORDERS", "MOVE", "END", "CLOCK", "SWAP", "ENDJOB"]
 
-# A lost `;` is looked for after the first pieces of a statement, so many; no statement has more that are only one, and few have more than four.
+# A missing `;` is looked for after the first PIECES pieces of a statement. No valid statement has more pieces, and few have more than FEW_PIECES.
 PIECES, FEW_PIECES = 16, 4
 PIECE = re.compile(r"[^ \n]+")
 
-# Orders of the KDF9 that this machine leaves out, beside those of floating point, and what comes nearest.
+# Orders of the KDF9 that this machine leaves out, besides floating point, and what comes closest.
 LEFT_OUT = {
-    "X": "XD and CONT multiply whole numbers", "MAX": "compare by - and JrLTZ", "SIGN": "compare by JrGTZ and JrLTZ",
+    "X": "XD and CONT multiply whole numbers", "MAX": "compare with - and JrLTZ", "SIGN": "compare with JrGTZ and JrLTZ",
     "DIV[DR]?": "DIVI divides whole numbers", "ROUNDH?": "SHA to the right rounds", r"CTQ\d+": "no order ends a transfer",
     r"=K[0-3]|K[457]|CLOQ\d+": "it belongs to Director, which isn't a program here", r"=?W\d+Q?": "use V-stores and Y-stores",
 }
@@ -34,7 +34,7 @@ def begins_statement(text):
 
 
 def lost_semicolon(fault, statement):
-    """Where a `;` is missing, if what stands before a gap of the statement is one by itself, and so is what begins after it; None else."""
+    """Where a `;` is missing, if the text before a gap is a statement by itself and so is what begins after the gap; otherwise None."""
     text = decks.without_comments(fault.slot.deck)[statement.start:statement.end]
     pieces = list(itertools.islice(PIECE.finditer(text), PIECES))
     for piece in reversed(pieces[:-1]):
@@ -97,7 +97,7 @@ def hint_of_job(fault, lines):
 
 
 def hint_of_line(line, expected):
-    """A hint for a line that isn't allowed where it stands: what is."""
+    """A hint for a line that isn't allowed: which lines are."""
     word = line.split(" ")[0]
     if word in FORMS and word in expected:
         return f"the form of this line is {FORMS[word]}"
@@ -120,7 +120,7 @@ def expected_at(lines, line):
 
 
 def hint_of_number(line):
-    """The range of the first number of a line that is out of it."""
+    """The range of the first number of a line that is out of range."""
     word, index = line.split(" ")[0], faults.word_of_bad_number(line)
     if index == 0:
         return None
@@ -129,7 +129,7 @@ def hint_of_number(line):
 
 
 def is_in_deck(lines):
-    """Whether the lines of a job stop in a deck."""
+    """Whether the lines of a job end inside a deck."""
     return "DECK" in lines and "ENDDECK" not in lines[len(lines) - lines[::-1].index("DECK"):]
 
 

@@ -1,4 +1,4 @@
-"""Why a program is still live when the run stops: it is held up for good, it goes round in a loop, or it never had a turn."""
+"""Why a program is still live when the run stops: it is held up for good, it is in a loop, or it never had a turn."""
 import re
 from typing import NamedTuple
 
@@ -12,14 +12,14 @@ from kdf9.words import count, listed
 
 GROUP = 32
 
-# A loop is looked for in so many of the last orders.
+# How many of the last orders are searched for a loop.
 LONGEST_LOOP = 40
 
 COUNTERS = re.compile(r"(?:J.*C|DC|=C)(\d+)")
 
 
 class Hold(NamedTuple):
-    """What held up a program last: BUSY, LOV or WAIT, and the number of the device or group, or the kind."""
+    """What held a program up last: BUSY, LOV or WAIT, and the number of the device or group, or the kind."""
 
     kind: str
     number: int
@@ -122,7 +122,7 @@ def devices_that_are_none(stopped):
 
 
 def story_of_loop(stopped, case):
-    """That a program goes round in a loop, and how its counters change, if it was at the same place not long before."""
+    """That a program is in a loop, and how its counters change, if it was at the same place shortly before."""
     section = case.section
     places, earlier = set(), None
     for orders in range(section.orders - 1, max(0, section.orders - LONGEST_LOOP), -1):

@@ -8,7 +8,7 @@ from kdf9.program import BadInput
 HEADERS = re.compile(r"KDF9 (REPORT 1|ALONE [0-3])\Z")
 OCTAL = re.compile(r"[0-7]{16}\Z")
 
-# What stands after the first word of an entry, by names; the last of FAIL and WAIT is a name.
+# The fields after the first word of an entry, by name; the last one of FAIL and WAIT is a name.
 ENTRIES = {
     "RAN": ("slot", "orders"), "START": ("slot", "device", "order"), "ANSWER": ("slot", "answer"), "FAIL": ("slot", "kind"), "ENDED": ("slot",),
     "LOV": ("slot", "group"), "BUSY": ("slot", "device"), "WAIT": ("slot", "kind"), "IDLE": ("calls",), "MOVE": ("device", "words"),
@@ -55,7 +55,7 @@ class Reader:
         return self.at < len(self.lines) and self.lines[self.at].partition(" ")[0] in words
 
     def take(self, word):
-        """What stands after its first word, which is this, in the next line."""
+        """The rest of the next line, which has to begin with this word."""
         self.last = self.at
         first, _, rest = self.lines[self.at].partition(" ")
         if first != word:
@@ -64,7 +64,7 @@ class Reader:
         return rest
 
     def all(self, word):
-        """What stands after this first word in all lines that follow and have it."""
+        """The rest of each of the next lines that begin with this word."""
         while self.next_is(word):
             yield self.take(word)
 
@@ -163,7 +163,7 @@ def lines_of_section(section):
 
 
 def parts_of_json(record):
-    """The JSON of a record, piece by piece, an entry or a section a line."""
+    """The JSON of a record, piece by piece, with an entry or a section on each line."""
     yield f'{{"text": {json.dumps(record["text"])},\n"journal": ['
     for name, separator in (("journal", '],\n"slots": ['), ("slots", "]}\n")):
         for at, part in enumerate(record[name]):

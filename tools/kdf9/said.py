@@ -2,7 +2,7 @@
 from kdf9.journal import RAN, READY, Held, in_order
 from kdf9.words import count
 
-# Beginnings of transfers are drawn for a device that has no more of them than this; of more MOVEs the signs are small.
+# The beginnings of transfers are drawn only for a device that has no more of them than this; if there are more MOVEs, their signs are small.
 MOST_SIGNS = 100
 
 
@@ -12,7 +12,7 @@ def name_of_device(chart, number):
 
 
 def reasons(chart, calls):
-    """By what a program was held up in so many calls each, in words, most first."""
+    """What held a program up, and for how many calls, in words, most calls first."""
     held = [(number, reason) for reason, number in calls.items() if isinstance(reason, Held)]
     for number, reason in sorted(held, key=lambda one: -one[0]):
         yield f"held up for {count(number, 'call')} by {said_of_hold(chart, reason)}"
