@@ -164,10 +164,11 @@ def lines_of_section(section):
 
 def parts_of_json(record):
     """The JSON of a record, piece by piece, with an entry or a section on each line."""
-    yield f'{{"text": {json.dumps(record["text"])},\n"journal": ['
+    encode = json.JSONEncoder().encode
+    yield f'{{"text": {encode(record["text"])},\n"journal": ['
     for name, separator in (("journal", '],\n"slots": ['), ("slots", "]}\n")):
         for at, part in enumerate(record[name]):
-            yield (",\n" if at else "\n") + json.dumps(part)
+            yield (",\n" if at else "\n") + encode(part)
         yield separator
 
 
@@ -203,7 +204,7 @@ def read_json(text, name):
         lines = list(lines_of_report(record))
         same = all("\n" not in line for line in lines) and record_of_report(Reader(lines)) == record
     except (AttributeError, IndexError, KeyError, TypeError, ValueError) as why:
-        raise BadInput(f"{name}: this JSON isn't a report: {f'{why} is missing' if isinstance(why, KeyError) else 'a part has the wrong form'}") from why
+        raise BadInput(f"{name}: this JSON isn't a report: {f'{why} is missing or unknown' if isinstance(why, KeyError) else 'a part has the wrong form'}") from why
     if not same or not HEADERS.match(lines[0]):
         raise BadInput(f"{name}: this JSON isn't a report: a part has a value that a report can't have")
     return lines
