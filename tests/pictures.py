@@ -1,4 +1,4 @@
-"""Tries the tool picture: what it counts is counted in the report, and each of its signs is where it should be."""
+"""Tries the tool picture: what it counts agrees with the report, and each sign is where it should be."""
 import collections
 import re
 import xml.etree.ElementTree
@@ -117,8 +117,8 @@ def moves_and_clock_are_drawn():
     for title in MOVES_TITLES:
         yield f"a picture with the title {title}", None if titles.count(title) == 1 else f"has {titles}"
     yield "a MOVE of no transfer isn't drawn", None if sum("moved by" in title for title in titles) == 2 else f"is in {titles}"
-    for before, row, behind in MOVES_ROWS:
-        yield f"a picture's row of {before}", None if f"\n{before:<12}|{row}| {behind}\n" in text else f"isn't in {text}"
+    for before, row, after in MOVES_ROWS:
+        yield f"a picture's row of {before}", None if f"\n{before:<12}|{row}| {after}\n" in text else f"isn't in {text}"
     often = MOVES.replace("MOVE 3 2\n", "MOVE 3 1\n" * 200)
     run, row = kdf9(["picture"], often), "        " + "0" * 38 + " " * 14
     yield "many MOVEs in a title", None if "call 29: up to 200 words moved by 200 MOVEs" in run.out else "are missing"

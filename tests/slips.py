@@ -1,4 +1,4 @@
-"""The slips that beginners make, each in a small job of its own, and what explain has to say of it."""
+"""The slips that beginners make, each in a small job, and what explain has to say of it."""
 from toolkit import job_of_deck, side_by_side
 
 READER = "DEVICE 2 TR\n+ABCDEFGHIJKLMNOP\nDEVICE 3 LP\n"

@@ -1,6 +1,4 @@
-"""Tries the launcher and the tools: each fault of decks and of jobs, failed programs, hints, every example, bad input, and texts of the largest
-sizes.
-"""
+"""Tries the launcher and the tools: each fault of decks and of jobs, failed programs, hints, every example, bad input, and the largest texts."""
 import json
 import os
 import re
@@ -16,7 +14,7 @@ from runs import SUITES as RUNS
 from slips import SUITES as SLIPS
 from toolkit import ENVIRONMENT, HEAD, PLAIN, ROOT, TAIL, document, examples, job_of_deck, kdf9, refused
 
-# A deck's name of a fault, its lines, the line and the column in the deck, and how the sentence on it begins. The store has 32 words.
+# The name of a deck's fault, the deck, the line and the column in it, and how the sentence on the fault begins. The store has 32 words.
 DECK_FAULTS = [
     ("BadByte", "PROGRAM;\n  ZERO;\t OUT;\nFINISH;", 2, 8, "This byte can't occur in a deck"),
     ("CommentOpen", "PROGRAM;\n ZERO; (adds\nFINISH;", 2, 8, "A `(` has no `)` after it."),
@@ -39,7 +37,7 @@ DECK_FAULTS = [
     ("TooLarge", "Y99;\nPROGRAM; FINISH;", 3, 1, "The image has more words than the store."),
 ]
 
-# A job's name of a fault, its text, the line and the column, and how the sentence on it begins.
+# The name of a job's fault, the job, the line and the column, and how the sentence on the fault begins.
 JOB_FAULTS = [
     ("BadLine", HEAD + "PRINT 3\n" + TAIL, 7, 1, "this line isn't allowed here"),
     ("BadNumber", HEAD + "SCHEDULE\nMOVE 3 4097\nENDJOB\n", 8, 8, "a field that should be a number isn't one, or is out of range"),
@@ -59,7 +57,7 @@ JOB_FAULTS = [
     ("TooManyEvents", HEAD + "SCHEDULE\n" + "END 1\n" * 500001 + "ENDJOB\n", 500008, 1, "this is line 500,001 of the schedule"),
 ]
 
-# Texts that are no jobs, where, what stands there, and what follows the sentence on that.
+# Texts that aren't jobs, where the fault is, the text there, and what follows the sentence on the fault.
 NO_JOBS = [
     (HEAD.replace("JOB 1", "JOB 2") + TAIL, "1:10", "KDF9 JOB 2", ""), ("", "1:1", "the job ends here", ""), ("no job\n", "1:1", "no job", ""),
     (" " + HEAD + TAIL, "1:1", " KDF9 JOB 1", ""), ("\x00" * 5000000, "1:1", "?" * 57 + "...", ""),
@@ -75,7 +73,7 @@ MEDIA = [
 # Where a line of an exchange is wrong: its fault and its column.
 EXCHANGE_FAULTS = [("SWAP 0 4", "BadNumber", 8), ("SWAP 4 0", "BadNumber", 6), ("SWAP 0", "BadLine", 1), ("SWAP 0 1 2", "BadLine", 1)]
 
-# What stands in a deck of one line, and a part of the hint.
+# A deck, and a part of the hint.
 HINTS = [
     ("PROGRAM; zero; OUT; FINISH;", "write ZERO"),
     ("PROGRAM V0; V0=Pabc; FINISH;", "write V0=PABC"),
@@ -105,7 +103,7 @@ JOB_HINTS = [
     (HEAD + "DEVICE 3 TR\n+ab\n" + TAIL, "lowercase letters aren't characters"),
 ]
 
-# How a program fails, its deck, the line and the column in the deck at which it stands, and a part of what is said of it.
+# How a program fails, its deck, the line and the column of the failing order in the deck, and a part of what is said of it.
 FAILURES = [
     ("LIV", "PROGRAM;\n ZERO; (to nowhere)\n =E9999; FINISH;", 3, 2, "LIV: its address is 9999; the store has words 0 to 31"),
     ("NOUV", "PROGRAM; SET 5;\n   +; FINISH;", 2, 4, "the nest has 1 word, which is too few for +"),
@@ -241,7 +239,7 @@ def failures_are_found():
         text = HEAD.replace(PLAIN, deck) + "DEVICE 3 TR\n+ABCDEFGHIJKLMNOPQ\nSCHEDULE\nORDERS 20\nENDJOB\n"
         yield f"a program that is held up by {hold}", explained(text, f"-:5:{column}: LIVE: {statement}", [f"held up by {hold}"])
     nowhere = explained(job_of_deck("PROGRAM; J1P1; P1; 1; FINISH;"), "", ["-: LIV: the next order of slot 0 is at syllable 0 of word 2"])
-    yield "a program that stands at no statement", nowhere
+    yield "a program whose next order no statement wrote", nowhere
 
 
 def example_report(name):
@@ -287,7 +285,7 @@ def json_is_wrong(report):
 
 
 def listing_is_wrong(text, slot):
-    """What is wrong with a listing, beside that of the program: syllables are put together to words again; or None."""
+    """What is wrong with a listing, compared with that of the program: its syllables are put together to words again; or None."""
     run, own = kdf9(["listing", "-", slot], text), kdf9(["asm", slot], text)
     if run.status or run.err:
         return run.err
@@ -306,7 +304,7 @@ def listing_is_wrong(text, slot):
 
 
 def steps_are_wrong(text, slot):
-    """What is wrong with the steps of a program, beside the text of its lone run; or None."""
+    """What is wrong with the steps of a program, compared with the output of its lone run; or None."""
     schedule = text.rindex("SCHEDULE\n")
     alone = kdf9(["alone", slot], text[:schedule] + "SCHEDULE\nORDERS 16\nENDJOB\n").out
     run = kdf9(["steps", "-", slot, "1", "16"], text)
