@@ -91,7 +91,7 @@ def picture_is_wrong(report):
         if due != seen:
             return f"{what}: {seen} in place of {due}"
     for slot, state, orders in re.findall(r"^SLOT (\d)\nSTATE (.*)\nORDERS (\d+)$", report, re.MULTILINE):
-        if not re.search(rf"^slot {slot} .*\| {state}, {orders} orders?, held \d+, ready \d+$", text.out, re.MULTILINE):
+        if not re.search(rf"^slot {slot} .*\| {state}, {orders} orders?, held up \d+, ready \d+$", text.out, re.MULTILINE):
             return f"the text doesn't show slot {slot}: {text.out}"
     return None
 
