@@ -144,8 +144,7 @@ def sentence(fault):
         found = re.search(rf"^\| `{fault.name}` \| (.*?) \|$", page("JOB.md"), re.MULTILINE)
         return found[1], "(docs/JOB.md)"
     found = re.search(rf"^### (\d+) {fault.name}\n\n(.*?)\n\n", page("USERCODE.md"), re.MULTILINE | re.DOTALL)
-    said = " ".join(found[2].split())
-    return said.partition(" The offset is")[0], f"(docs/USERCODE.md, fault {found[1]})"
+    return " ".join(found[2].split()), f"(docs/USERCODE.md, fault {found[1]})"
 
 
 def lines_of_job(source, text):
