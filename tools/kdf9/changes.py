@@ -1,5 +1,6 @@
 """What an order changed, in words: what differs between two sections of one program."""
 from kdf9.deck import WORD
+from kdf9.words import count
 
 LARGE_NUMBER = 10**9
 
@@ -43,7 +44,7 @@ def changes_outside(before, after):
         if old.state != new.state:
             yield f"device {new.number} {new.kind}: {new.state}"
         if old.blocks != new.blocks:
-            yield f"device {new.number} {new.kind}: {len(new.blocks)} blocks"
+            yield f"device {new.number} {new.kind}: {count(len(new.blocks), 'block')}"
     for text in after.spools[len(before.spools):]:
         yield f"spooled {text}"
     if after.state != before.state:
