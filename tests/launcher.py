@@ -1,4 +1,4 @@
-"""Tries ./kdf9 in a folder of its own, where a stand-in for rt builds a program which tells its source, its words and its input."""
+"""Tries ./kdf9 in a folder of its own, where a stand-in for rt builds a program that shows its source, its arguments and its input."""
 import fcntl
 import os
 import pathlib
@@ -47,7 +47,7 @@ class Checkout:
         self.date(name, 10)
 
     def date(self, name, seconds):
-        """Lets a file be so many seconds newer than the program."""
+        """Makes a file this many seconds newer than the program."""
         program = self.folder / PROGRAM
         if program.exists():
             at = program.stat().st_mtime + seconds
@@ -99,7 +99,7 @@ BUILDING = "kdf9: building the program"
 
 
 def built(crates=4):
-    """The lines of a build of so many crates."""
+    """The lines of a build of this number of crates."""
     return (f"{BUILDING}: {crates} crates, 2 at a time", *(f"is proved: {n} of {crates} after" for n in range(1, crates + 1)), "is built, after")
 
 
@@ -136,7 +136,7 @@ def shows_the_end_of_a_check_that_failed(checkout):
     yield None if checkout.log().count("begins kdf_word") == 1 and "goes on with kdf_nest" in checkout.log() else f"{checkout.log()}"
 
 
-def goes_on_where_it_was_stopped(checkout):
+def carries_on_where_it_was_stopped(checkout):
     checkout.write(QSTORE, "endless\n")
     for end, status, line in ((signal.SIGINT, 130, "begins kdf_qstore"), (signal.SIGKILL, -signal.SIGKILL, "goes on with kdf_qstore")):
         start = checkout.begin("make", "0", start_new_session=True)
@@ -174,7 +174,7 @@ def writes_down_how_long_crates_took(checkout):
         yield None if (checkout.folder / TIMES).read_text() == "# seconds\nkdf9 1\nkdf_nest 1\nkdf_qstore 1\nkdf_word 1\n" else "other times"
 
 
-def tells_that_there_is_no_rt(checkout):
+def says_that_there_is_no_rt(checkout):
     checkout.without("rt")
     yield differs(checkout.start("run"), 1, "", "isn't built, and there is no rt")
 
@@ -198,7 +198,7 @@ def sees_what_changed_while_it_built(checkout):
     yield differs(checkout.start("make", "0"), 42, "<changed><make><0>", *built())
 
 
-def tells_than_which_file_a_program_is_older(checkout):
+def names_the_source_that_is_newer(checkout):
     checkout.start("make", "0")
     checkout.without("rt")
     checkout.date(MAIN, 10)
@@ -284,9 +284,9 @@ def at_terminal(checkout, *words):
 
 
 CASES = (
-    builds_once, proves_side_by_side, proves_in_turn_without_python, shows_the_end_of_a_check_that_failed, goes_on_where_it_was_stopped,
-    draws_a_bar_on_a_terminal, writes_down_how_long_crates_took, tells_that_there_is_no_rt, builds_what_has_changed, builds_nothing_for_a_date,
-    sees_what_changed_while_it_built, tells_than_which_file_a_program_is_older, starts_in_a_copy, goes_by_dates_where_another_built,
+    builds_once, proves_side_by_side, proves_in_turn_without_python, shows_the_end_of_a_check_that_failed, carries_on_where_it_was_stopped,
+    draws_a_bar_on_a_terminal, writes_down_how_long_crates_took, says_that_there_is_no_rt, builds_what_has_changed, builds_nothing_for_a_date,
+    sees_what_changed_while_it_built, names_the_source_that_is_newer, starts_in_a_copy, goes_by_dates_where_another_built,
     starts_in_a_copy_of_what_another_built, waits_for_another_start, starts_no_program_that_is_being_built, says_how_a_job_is_handed_in,
     says_that_a_terminal_is_read,
 )

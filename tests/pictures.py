@@ -1,4 +1,4 @@
-"""Tries the tool picture: what it counts is counted in the report, and each of its signs is where it should be."""
+"""Tries the tool picture: what it counts agrees with the report, and each sign is where it should be."""
 import collections
 import re
 import xml.etree.ElementTree
@@ -32,7 +32,7 @@ ENDREPORT
 # The titles and the rows that its pictures have to have.
 MOVES_TITLES = [
     "device 3 TR, call 29: up to 2 words moved by 1 MOVE", "device 3 TR, call 38: up to 4103 words moved by 2 MOVEs",
-    "call 38: the clock was set to 5 and so on up to 6", "slot 0, calls 9 to 46: held up for 38 calls by device 3 TR, which has a transfer",
+    "call 38: the clock was set to 5, and then up to 6", "slot 0, calls 9 to 46: held up for 38 calls by device 3 TR, which has a transfer",
 ]
 MOVES_ROWS = [
     ("device 3 TR", "        " + "0" * 20 + "m" + "0" * 8 + "m" + "0" * 8 + " " * 14, "1 transfer, 3 MOVEs"),
@@ -63,9 +63,9 @@ ORDERS 29
 ENDREPORT
 """
 EXCHANGES_TITLES = [
-    "call 11: SWAP 0 1; priorities, the highest first: 1, 0",
-    "call 31: SWAP 1 0 and so on up to SWAP 0 3; priorities, the highest first: 1, 0",
-    "call 60: SWAP 2 2; priorities, the highest first: 1, 0",
+    "call 11: SWAP 0 1; priorities, highest first: 1, 0",
+    "call 31: SWAP 1 0 to SWAP 0 3; priorities, highest first: 1, 0",
+    "call 60: SWAP 2 2; priorities, highest first: 1, 0",
     "slot 1, calls 40 to 60: held up for 21 calls by the pool, whose devices of kind TP all have holders",
 ]
 EXCHANGES_ROW = f"\npriorities  |{'x':>11}{'x':>20}{'x':>29}| 4 exchanges, at the end 1, 0\n"
@@ -75,8 +75,8 @@ COUNTS = [
     ("orders", r"^RAN (?P<key>\d) (?P<number>\d+)$", r"^slot (?P<key>\d),.*obeyed (?P<number>\d+) order"),
     ("transfers", r"^START \d (?P<key>\d+) \d+$", r"^device (?P<key>\d+) .*?(?P<number>\d+) transfers? begun"),
     ("idle calls", r"^IDLE (?P<number>\d+)$", r": (?P<number>\d+) calls? idle"),
-    ("failures", r"^FAIL (?P<key>\d) \w+$", r"^slot (?P<key>\d) failed with call \d+: \w+$"),
-    ("ends", r"^ENDED (?P<key>\d)$", r"^slot (?P<key>\d) ended with call \d+$"),
+    ("failures", r"^FAIL (?P<key>\d) \w+$", r"^slot (?P<key>\d) failed at call \d+: \w+$"),
+    ("ends", r"^ENDED (?P<key>\d)$", r"^slot (?P<key>\d) ended at call \d+$"),
 ]
 
 
@@ -91,7 +91,7 @@ def picture_is_wrong(report):
         if due != seen:
             return f"{what}: {seen} in place of {due}"
     for slot, state, orders in re.findall(r"^SLOT (\d)\nSTATE (.*)\nORDERS (\d+)$", report, re.MULTILINE):
-        if not re.search(rf"^slot {slot} .*\| {state}, {orders} orders?, held \d+, ready \d+$", text.out, re.MULTILINE):
+        if not re.search(rf"^slot {slot} .*\| {state}, {orders} orders?, held up \d+, ready \d+$", text.out, re.MULTILINE):
             return f"the text doesn't show slot {slot}: {text.out}"
     return None
 
@@ -117,8 +117,8 @@ def moves_and_clock_are_drawn():
     for title in MOVES_TITLES:
         yield f"a picture with the title {title}", None if titles.count(title) == 1 else f"has {titles}"
     yield "a MOVE of no transfer isn't drawn", None if sum("moved by" in title for title in titles) == 2 else f"is in {titles}"
-    for before, row, behind in MOVES_ROWS:
-        yield f"a picture's row of {before}", None if f"\n{before:<12}|{row}| {behind}\n" in text else f"isn't in {text}"
+    for before, row, after in MOVES_ROWS:
+        yield f"a picture's row of {before}", None if f"\n{before:<12}|{row}| {after}\n" in text else f"isn't in {text}"
     often = MOVES.replace("MOVE 3 2\n", "MOVE 3 1\n" * 200)
     run, row = kdf9(["picture"], often), "        " + "0" * 38 + " " * 14
     yield "many MOVEs in a title", None if "call 29: up to 200 words moved by 200 MOVEs" in run.out else "are missing"

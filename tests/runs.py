@@ -1,4 +1,4 @@
-"""Tries the tools that run a job in other ways: schedule, same, and steps with --run. Each is tried on every example."""
+"""Tries the tools that run a job in other ways: schedule, same, and steps --run. Each is tried on every example."""
 import os
 import re
 import subprocess
@@ -7,7 +7,7 @@ from concurrent.futures import ThreadPoolExecutor
 
 from toolkit import ENVIRONMENT, HEAD, ROOT, examples, kdf9, refused, side_by_side
 
-# Where a program asks whether its device is busy, how its order is answered depends on the schedule.
+# This program asks whether its device is busy, so the answer depends on the schedule.
 ASKS = """KDF9 JOB 1
 SLOT 2
 STORE 64
@@ -25,7 +25,7 @@ ORDERS 30
 ENDJOB
 """
 
-# The words of schedule, and the lines that it has to write for ASKS.
+# The arguments of schedule, and the lines that it has to write for ASKS.
 SCHEDULES = [
     (["--after", "0"], "ORDERS 8 END 3 ORDERS 22"), (["--after", "3"], "ORDERS 11 END 3 ORDERS 19"), (["3=9"], "ORDERS 17 END 3 ORDERS 13"),
     (["--after", "2", "--every", "5"], "ORDERS 13 MOVE 3 1 ORDERS 5 MOVE 3 1 END 3 ORDERS 12"), (["--after", "22"], "ORDERS 30"),
@@ -34,7 +34,7 @@ SCHEDULES = [
 # The schedule of ASKS in one job and in another, and what same says.
 SAME = [
     (["--after", "0"], None, "slot 2: the same\n"),
-    (["--after", "7"], None, "slot 2: the same after 8 orders, but for the transfer in flight of device 3; order 9 asked, and was answered 1 in {} and 0 alone\n"),
+    (["--after", "7"], None, "slot 2: the same after 8 orders, except for the transfer in flight of device 3; order 9 asked, and was answered 1 in {} and 0 alone\n"),
     (["--after", "99"], ["--after", "80"], "slot 2: the same after 10 orders\n"),
     (["--after", "7"], ["--after", "9"], "slot 2: the same\n"),
     (["--after", "7"], ["--after", "0"], "slot 2: the same after 8 orders; order 9 asked, and was answered 1 in {} and 0 in {}\n"),
@@ -51,10 +51,10 @@ BAD_INPUT = [
     (["same"], "", "usage: ./kdf9 same JOB"),
     (["same", "-", "no/such/file"], ASKS, "no/such/file: No such file"),
     (["same", "-"], HEAD, "-:7:1: BadLine: the job ends here"),
-    (["same", "-", "examples/adds-cards.job"], ASKS, "examples/adds-cards.job: no slot has the lines of a slot of -"),
+    (["same", "-", "examples/adds-cards.job"], ASKS, "examples/adds-cards.job: no slot has the same program as a slot of -"),
     (["steps", "-", "--run", "--watch"], ASKS, "-: slot 2 has no word "),
     (["steps", "-", "2", "--watch", "V1"], ASKS, "-: slot 2 has no word V1"),
-    (["steps", "-", "2", "12", "--run"], ASKS, "-: in this run the program obeys 10 orders: there is no order 12"),
+    (["steps", "-", "2", "12", "--run"], ASKS, "-: the program obeys only 10 orders in this run, so there is no order 12"),
 ]
 
 
@@ -73,7 +73,7 @@ def schedules_are_written():
 
 
 def transfer_is_late(text, delay):
-    """What is wrong with the schedule of a job whose transfers all have to end so many calls after they began; or None."""
+    """What is wrong with the schedule of a job whose transfers all have to end this many calls after they began; or None."""
     calls, begun, over = 0, {}, {}
     for line in kdf9(["run"], text).out.split("\n"):
         word, *rest = line.split(" ")
@@ -102,7 +102,7 @@ def programs_are_compared():
                         file.write(kdf9(["schedule", "-", *words], ASKS).out)
             run, due = kdf9(["same", *names], ""), due.format(*names)
             yield f"same by {one}, {other}", None if (run.status, run.out) == (0, due) else f"{run} in place of {due}"
-        yield "same of a program that isn't", other_machine_is_seen(folder)
+        yield "same of a program that comes to something else", other_machine_is_seen(folder)
         yield "same with other neighbours", other_neighbours_are_seen(folder)
 
 
@@ -117,7 +117,7 @@ def other_neighbours_are_seen(folder):
 
 
 def other_machine_is_seen(folder):
-    """What is wrong with what same says of a machine in which a lone program leaves another nest; or None."""
+    """What is wrong with what same says of a machine that leaves another nest when a program runs alone; or None."""
     machine = os.path.join(folder, "machine")
     with open(machine, "w", encoding="ascii") as file:
         file.write(f'#!/bin/sh\n"{ROOT}/kdf9" "$@" | if [ "$1" = alone ]; then sed "s/^NEST .*/NEST 9/"; else cat; fi\n')
@@ -143,7 +143,7 @@ def orders_are_traced():
 
 
 def run_is_wrong(text, slot):
-    """What is wrong with the first orders of a program as it ran beside others: they have to be those of the job's own report; or None."""
+    """What is wrong with the first orders of a program as it ran under Director: they have to be those of the job's own report; or None."""
     run, own = kdf9(["steps", "-", slot, "1", "12", "--run"], text), kdf9(["run"], text).out
     section = own[own.index(f"\nSLOT {slot}\n"):]
     orders = int(re.search(r"^ORDERS (\d+)$", section, re.MULTILINE)[1])

@@ -1,4 +1,4 @@
-"""The slips that beginners make, each in a small job of its own, and what explain has to say of it."""
+"""The slips that beginners make, each in a small job, and what explain has to say of it."""
 from toolkit import job_of_deck, side_by_side
 
 READER = "DEVICE 2 TR\n+ABCDEFGHIJKLMNOP\nDEVICE 3 LP\n"
@@ -17,26 +17,26 @@ PLAIN = job("PROGRAM; ZERO; OUT; FINISH;")
 # The slip, the job that has it, and what explain says of it.
 SLIPS = [
     ("DUPP", job("PROGRAM; SET 1; DUPP; FINISH;"), ["-:5:17: UnknownOrder: DUPP", "hint: did you mean DUP or DUPD?"]),
-    ("PROGRAMME", job("PROGRAMME V0; FINISH;"), ["-:5:1: ", "hint: the main part is opened by PROGRAM;"]),
+    ("PROGRAMME", job("PROGRAMME V0; FINISH;"), ["-:5:1: ", "hint: the main part begins with PROGRAM;"]),
     ("STOP", job("PROGRAM; SET 1; STOP; FINISH;"), ["-:5:17: UnknownOrder: STOP", "hint: ZERO; OUT; ends a program"]),
     ("1:", job("PROGRAM;\n1: SET 1; J1; FINISH;"), ["-:6:1: UnknownOrder", "hint: a reference is a number and a semicolon: 1;"]),
     (
         "a loop's counter too large", job("PROGRAM V0; V0 = Q-13/3/0;\nV0; =Q1;\n1; DC1; J1C1NZ; ZERO; OUT; FINISH;"),
-        ["-:7:", "it goes round in a loop: it was here 2 orders before; C1 = 65504, and was 65505 then"],
+        ["-:7:", "it is in a loop: it was here 2 orders earlier; C1 = 65504, and was 65505 then"],
     ),
     (
         "TR for CR in DEVICE", job(TAKES_TWO + "ZERO; OUT; FINISH;", READER),
-        ["-:6:16: CLAIM: OUT", "OUT 5 wants a card reader, CR; the slot has TR 2 and LP 3"],
+        ["-:6:16: CLAIM: OUT", "OUT 5 needs a card reader, CR; the slot has TR 2 and LP 3"],
     ),
     (
         "END 12 for END 2", job(READS, READER, "ORDERS 40\nEND 12\nORDERS 10\n"),
-        ["-:7:8: LIVE: E32", "the transfer of device 2 began with call 8, and the schedule has no END 2 after it", "line 15, END 12: no slot has device 12; did you mean END 2?"],
+        ["-:7:8: LIVE: E32", "the transfer of device 2 began at call 8, and the schedule has no END 2 after it", "line 15, END 12: no slot has device 12; did you mean END 2?"],
     ),
-    ("ENDJOB left out", PLAIN.replace("ENDJOB\n", ""), ["hint: ENDJOB hasn't come"]),
-    ("ENDDECK left out", PLAIN.replace("ENDDECK\n", ""), ["hint: ENDDECK hasn't come"]),
-    ("small letters", job("PROGRAM; zero; OUT; FINISH;"), ["hint: small letters mean nothing here; write ZERO"]),
-    ("a small first line", PLAIN.lower(), ["-:1:1: Header: kdf9 job 1", "small letters mean nothing here; write KDF9 JOB 1"]),
-    ("a blank first line", "\n" + PLAIN, ["-:1:1: Header", "nothing, not even a blank line, stands before it"]),
+    ("ENDJOB left out", PLAIN.replace("ENDJOB\n", ""), ["hint: ENDJOB is missing"]),
+    ("ENDDECK left out", PLAIN.replace("ENDDECK\n", ""), ["hint: ENDDECK is missing"]),
+    ("small letters", job("PROGRAM; zero; OUT; FINISH;"), ["hint: lowercase letters aren't allowed here; write ZERO"]),
+    ("a small first line", PLAIN.lower(), ["-:1:1: Header: kdf9 job 1", "lowercase letters aren't allowed here; write KDF9 JOB 1"]),
+    ("a blank first line", "\n" + PLAIN, ["-:1:1: Header", "nothing may come before it, not even a blank line"]),
     ("a byte-order mark", "\xef\xbb\xbf" + PLAIN, ["-:1:1: Header", "begins with a byte-order mark"]),
     (
         "another label", job("PROGRAM V0; V0 = PWATER;\n V0; SET 4; OUT; ZERO; OUT; FINISH;", "DEVICE 7 MT WINE\n+A\nDEVICE 8 LP\n"),
@@ -47,33 +47,38 @@ SLIPS = [
     ("STORE too small for an area", job(READS.replace("32/33", "64/64"), READER), ["-:7:2: LIV: PRQ1", "Q1 is 2/64/64; the store has words 0 to 63"]),
     ("an address beyond the store", job("PROGRAM; SET 96; =M2; M0M2; FINISH;"), ["-:5:23: LIV: M0M2", "M0 + M2 = 96; the store has words 0 to 63"]),
     ("a store beyond the store", job("Y3; PROGRAM; SET 90; =M2; Y2M2; FINISH;"), ["LIV: Y2M2", "Y2 is word 5, and M2 = 90, which gives 95; the store has words 0 to 63"]),
-    ("LPQ1 with Q1 of the card reader", job(TAKES_TWO + "LPQ1; FINISH;", CARDS), ["CLAIM: LPQ1", "Q1 names device 4, a card reader; LPQ1 wants a line printer"]),
+    ("LPQ1 with Q1 of the card reader", job(TAKES_TWO + "LPQ1; FINISH;", CARDS), ["CLAIM: LPQ1", "Q1 names device 4, a card reader; LPQ1 needs a line printer"]),
     ("OUT's operands exchanged", job("PROGRAM; SET 5; SET 4; OUT; FINISH;", CARDS), ["CLAIM: OUT", "label 5, which is a number: for a card reader write SET 4; SET 5; OUT"]),
-    ("OUT's operands exchanged, for a reader", job("PROGRAM; SET 5; SET 2; OUT; FINISH;", READER), ["OUT: OUT", "OUT 2 isn't one of 0, 3, 4, 5, 6, 8 and 9: is N2, 5, the number, which goes on top?"]),
+    ("OUT's operands exchanged, for a reader", job("PROGRAM; SET 5; SET 2; OUT; FINISH;", READER), ["OUT: OUT", "OUT 2 isn't one of 0, 3, 4, 5, 6, 8 and 9; did you mean OUT 5? The number goes on top, and here 5 is in N2"]),
     (
         "an area in the group of the program's own code", job(READS.replace("32/33", "2/16"), READER),
         ["-:7:8: LIVE: E32", "it needs group 0: words 0 to 31 hold this order, and are locked out by a transfer", "no END 2 after it"],
     ),
     (
         "EXIT into a constant", job("PROGRAM V3; V3 = 5;\n SET 4; =LINK;\n EXIT; FINISH;"),
-        ["-: LIV: the next order of slot 0 is syllable 0 of word 4, in V3", "V3 = 5 is a constant, and no order", "the order before it was EXIT, at -:7:2"],
+        ["-: LIV: the next order of slot 0 is at syllable 0 of word 4, in V3; no statement wrote it", "V3 = 5 is a constant, not an order", "the order before it was EXIT, at -:7:2"],
     ),
     ("no ZERO; OUT;", job("Y0; PROGRAM;\n SET 1; =Y0;\nFINISH;"), ["-: LIV: ", "it ran past =Y0, the last statement there", "ZERO; OUT; at the end"]),
     (
         "no =C1 before PRQ1", job(READS.replace(" =C1;", " ERASE;"), READER),
-        ["-:7:2: CLAIM: PRQ1", "Q1 is 0/32/33, and its counter names device 0: is =C1 forgotten?; the slot has TR 2 and LP 3"],
+        ["-:7:2: CLAIM: PRQ1", "Q1 is 0/32/33, and its counter names device 0; the slot has TR 2 and LP 3; did you forget =C1?"],
     ),
     (
         "a slot that never had its turn", job("PROGRAM; 1; J1; FINISH;").replace("SCHEDULE", "SLOT 3\nSTORE 32\nDECK\nPROGRAM; ZERO; OUT; FINISH;\nENDDECK\nSCHEDULE"),
-        ["-: LIVE: slot 3 stands at its first order", "slot 3 never had a turn: slot 0 could go on at each call"],
+        ["-: LIVE: slot 3 is at its first order", "slot 3 never had a turn: slot 0 could run at every call"],
+    ),
+    (
+        "a slot that an exchange starves",
+        job("PROGRAM; 1; J1; FINISH;", schedule="SWAP 0 3\nORDERS 40\n").replace("SCHEDULE", "SLOT 3\nSTORE 32\nDECK\nPROGRAM; 1; J1; FINISH;\nENDDECK\nSCHEDULE"),
+        ["-: LIVE: slot 0 is at its first order", "slot 0 never had a turn: slot 3 could run at every call"],
     ),
     ("a Q-store that was never set", job("PROGRAM; 1; M0M2; J1; FINISH;"), ["NOUV: M0M2", "no statement sets Q2, which is used at 5:13: it is 0/0/0"]),
     ("CARD without +", job("PROGRAM; ZERO; OUT; FINISH;", "DEVICE 4 CR\n12345\n"), ["-:8:1: BadLine: 12345", "hint: expected +, DEVICE, SHOW, SLOT or SCHEDULE"]),
-    ("DEVICE 16", job("PROGRAM; FINISH;", "DEVICE 16 CR\n"), ["-:7:8: BadNumber", "hint: here stands a number from 0 to 15"]),
-    ("SLOT 4", PLAIN.replace("SLOT 0", "SLOT 4"), ["-:2:6: BadNumber", "hint: here stands a number from 0 to 3"]),
-    ("STORE 8224", PLAIN.replace("STORE 64", "STORE 8224"), ["-:3:7: BadNumber", "hint: here stands a number from 32 to 8192"]),
+    ("DEVICE 16", job("PROGRAM; FINISH;", "DEVICE 16 CR\n"), ["-:7:8: BadNumber", "hint: this has to be a number from 0 to 15"]),
+    ("SLOT 4", PLAIN.replace("SLOT 0", "SLOT 4"), ["-:2:6: BadNumber", "hint: this has to be a number from 0 to 3"]),
+    ("STORE 8224", PLAIN.replace("STORE 64", "STORE 8224"), ["-:3:7: BadNumber", "hint: this has to be a number from 32 to 8192"]),
     ("SHEDULE", PLAIN.replace("SCHEDULE", "SHEDULE"), ["-:7:1: BadLine", "hint: did you mean SCHEDULE?"]),
-    ("ORDERS without a number", PLAIN.replace("ORDERS 40", "ORDERS"), ["-:8:1: BadLine", "hint: the line is written ORDERS n"]),
+    ("ORDERS without a number", PLAIN.replace("ORDERS 40", "ORDERS"), ["-:8:1: BadLine", "hint: the form of this line is ORDERS n"]),
 ]
 
 # A job, and the status that explain gives it with --strict.

@@ -1,5 +1,5 @@
 """Stands in for rt in the tests of ./kdf9. As rt does, it wants all crates of the list to be there, and the folders of its crate and of those below
-for itself; it proves what isn't proved yet, and goes on from what it kept. A source tells by its text how its proof goes, and for which crates it waits.
+for itself; it proves what isn't proved yet, and carries on from what it kept. The text of a source says how its proof goes, and for which crates it waits.
 """
 import fcntl
 import hashlib

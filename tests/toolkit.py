@@ -41,7 +41,7 @@ def document(name):
 
 
 def examples():
-    """The examples, and the cases whose jobs stand written: the name of each and its job."""
+    """The examples, and the cases that have a job of their own: the name of each and its job."""
     for folder in ("examples", "tests/cases"):
         for path in sorted((ROOT / folder).glob("*.job")):
             yield path.stem, path.read_text(encoding="latin-1")

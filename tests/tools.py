@@ -1,6 +1,4 @@
-"""Tries the launcher and the tools: each fault of decks and of jobs, failed programs, hints, every example, bad input, and texts of the largest
-sizes.
-"""
+"""Tries the launcher and the tools: each fault of decks and of jobs, failed programs, hints, every example, bad input, and the largest texts."""
 import json
 import os
 import re
@@ -16,50 +14,50 @@ from runs import SUITES as RUNS
 from slips import SUITES as SLIPS
 from toolkit import ENVIRONMENT, HEAD, PLAIN, ROOT, TAIL, document, examples, job_of_deck, kdf9, refused
 
-# A deck's name of a fault, its lines, the line and the column in the deck, and how the sentence on it begins. The store has 32 words.
+# The name of a deck's fault, the deck, the line and the column in it, and how the sentence on the fault begins. The store has 32 words.
 DECK_FAULTS = [
     ("BadByte", "PROGRAM;\n  ZERO;\t OUT;\nFINISH;", 2, 8, "This byte can't occur in a deck"),
-    ("CommentOpen", "PROGRAM;\n ZERO; (adds\nFINISH;", 2, 8, "A `(` without a later `)`."),
+    ("CommentOpen", "PROGRAM;\n ZERO; (adds\nFINISH;", 2, 8, "A `(` has no `)` after it."),
     ("NoSemicolon", "PROGRAM;\n  ZERO;\nFINISH", 3, 1, "There is text after the last `;`."),
     ("UnknownOrder", "PROGRAM; SET 5;\n(add) ADD; FINISH;", 2, 7, "This isn't a Usercode statement."),
-    ("Floating", "PROGRAM;\n ZERO;\n +F; FINISH;", 3, 2, "The statement is a floating-point order of the KDF9"),
-    ("BadNumber", "PROGRAM;\nSET 5; SET 40000;\nFINISH;", 2, 8, "A number outside its range, other than in the next two."),
+    ("Floating", "PROGRAM;\n ZERO;\n +F; FINISH;", 3, 2, "This is a floating-point order of the KDF9"),
+    ("BadNumber", "PROGRAM;\nSET 5; SET 40000;\nFINISH;", 2, 8, "A number is out of range, other than those of faults 7 and 8."),
     ("QRange", "PROGRAM;\n\n   Q16; FINISH;", 3, 4, "The number of a Q-store is above 15."),
-    ("ConstantRange", "PROGRAM V1; V0 = 1;\nV1 = 140737488355328; FINISH;", 2, 1, "A constant outside its range, or with more than 8 characters."),
-    ("BadHeading", "PROGRAM V0;\nZERO;\n V0=1; FINISH;", 3, 2, "The statement isn't in its place in the sequence."),
+    ("ConstantRange", "PROGRAM V1; V0 = 1;\nV1 = 140737488355328; FINISH;", 2, 1, "A constant is out of range, or has more than 8 characters."),
+    ("BadHeading", "PROGRAM V0;\nZERO;\n V0=1; FINISH;", 3, 2, "The statement isn't allowed here: it is out of sequence"),
     ("NoFinish", "PROGRAM;\nZERO;", 3, 1, "There is no `FINISH`."),
     ("AfterFinish", "PROGRAM; ZERO;\nFINISH; ZERO;", 2, 9, "There is text after `FINISH`."),
-    ("ReferenceTwice", "PROGRAM; 1; J1;\n  1; FINISH;", 2, 3, "The reference stood before in this part."),
-    ("ReferenceMissing", "PROGRAM; 1;\n    J2; FINISH;", 2, 5, "The target's part is there and hasn't that reference."),
-    ("PartTwice", "PROGRAM;\nP1; ZERO;\nP1; ZERO; FINISH;", 3, 1, "The part's number stood before."),
-    ("PartMissing", "PROGRAM;\n ZERO; JSP3; FINISH;", 2, 8, "A jump or a store names a part that isn't there."),
-    ("VRange", "PROGRAM V1;\n  V2; FINISH;", 2, 3, "N is above the part's last V-store"),
-    ("YRange", "Y1; PROGRAM;\nY0; YB0; FINISH;", 2, 5, "N is above the group's last store"),
-    ("ShortLoopFar", "PROGRAM; 1;\nDC1; J1C1NZS; FINISH;", 2, 6, "Reference r of `JrCqNZS` isn't at the beginning of the word before."),
+    ("ReferenceTwice", "PROGRAM; 1; J1;\n  1; FINISH;", 2, 3, "This part already has this reference."),
+    ("ReferenceMissing", "PROGRAM; 1;\n    J2; FINISH;", 2, 5, "The part that the target names doesn't have this reference."),
+    ("PartTwice", "PROGRAM;\nP1; ZERO;\nP1; ZERO; FINISH;", 3, 1, "An earlier part has this number."),
+    ("PartMissing", "PROGRAM;\n ZERO; JSP3; FINISH;", 2, 8, "A jump or a store names a part that the deck doesn't have."),
+    ("VRange", "PROGRAM V1;\n  V2; FINISH;", 2, 3, "The part doesn't declare this V-store"),
+    ("YRange", "Y1; PROGRAM;\nY0; YB0; FINISH;", 2, 5, "The deck doesn't declare this Y-store."),
+    ("ShortLoopFar", "PROGRAM; 1;\nDC1; J1C1NZS; FINISH;", 2, 6, "Reference r of `JrCqNZS` isn't at the beginning of the word before its own."),
     ("TooLarge", "Y99;\nPROGRAM; FINISH;", 3, 1, "The image has more words than the store."),
 ]
 
-# A job's name of a fault, its text, the line and the column, and how the sentence on it begins.
+# The name of a job's fault, the job, the line and the column, and how the sentence on the fault begins.
 JOB_FAULTS = [
     ("BadLine", HEAD + "PRINT 3\n" + TAIL, 7, 1, "this line isn't allowed here"),
-    ("BadNumber", HEAD + "SCHEDULE\nMOVE 3 4097\nENDJOB\n", 8, 8, "a word that has to be a number isn't one, or is out of its range"),
-    ("SlotOrder", HEAD + HEAD[11:] + TAIL, 7, 6, "the slot isn't above the slot before"),
+    ("BadNumber", HEAD + "SCHEDULE\nMOVE 3 4097\nENDJOB\n", 8, 8, "a field that should be a number isn't one, or is out of range"),
+    ("SlotOrder", HEAD + HEAD[11:] + TAIL, 7, 6, "the slot isn't higher than the slot before it"),
     ("SizeNotGroups", HEAD.replace("64", "65") + TAIL, 3, 7, "the store isn't a multiple of 32"),
     (
         "StoreFull", "KDF9 JOB 1\n" + "".join(HEAD[11:].replace("SLOT 0", f"SLOT {slot}").replace("64", "8192") for slot in range(4)) + TAIL,
-        18, 7, "the stores so far have more than 31744 words together",
+        18, 7, "the stores so far add up to more than 31744 words",
     ),
     ("DeviceTwice", HEAD + "DEVICE 3 TR\nDEVICE 3 TP\n" + TAIL, 8, 8, "an earlier device of the job has this number"),
     ("BadLabel", HEAD + "DEVICE 3 MT a\n" + TAIL, 7, 13, "the label isn't 1 to 8 characters of A to Z and 0 to 9"),
-    ("LabelTwice", HEAD + "DEVICE 3 MT A\nDEVICE 4 MT A\n" + TAIL, 8, 13, "the slot has a tape of this label already"),
-    ("BadMedium", HEAD + "DEVICE 3 TR\n+AB&D\n" + TAIL, 8, 4, "a byte is no character, the line is too long for its kind"),
+    ("LabelTwice", HEAD + "DEVICE 3 MT A\nDEVICE 4 MT A\n" + TAIL, 8, 13, "the slot already has a tape with this label"),
+    ("BadMedium", HEAD + "DEVICE 3 TR\n+AB&D\n" + TAIL, 8, 4, "a byte isn't a character, the line is too long for its kind"),
     ("ShowRange", HEAD + "SHOW 3 2\n" + TAIL, 7, 6, "the first address is above the last"),
-    ("ClockFalls", HEAD + "SCHEDULE\nCLOCK 10\nCLOCK 9\nENDJOB\n", 9, 7, "the time is below the one before"),
-    ("TooManyOrders", HEAD + "SCHEDULE\nORDERS 20000000\nORDERS 1\nENDJOB\n", 9, 8, "the `ORDERS` lines so far have more than 20000000 together"),
+    ("ClockFalls", HEAD + "SCHEDULE\nCLOCK 10\nCLOCK 9\nENDJOB\n", 9, 7, "the time is earlier than the one before it"),
+    ("TooManyOrders", HEAD + "SCHEDULE\nORDERS 20000000\nORDERS 1\nENDJOB\n", 9, 8, "the `ORDERS` lines so far add up to more than 20000000"),
     ("TooManyEvents", HEAD + "SCHEDULE\n" + "END 1\n" * 500001 + "ENDJOB\n", 500008, 1, "this is line 500,001 of the schedule"),
 ]
 
-# Texts that are no jobs, where, what stands there, and what follows the sentence on that.
+# Texts that aren't jobs, where the fault is, the text there, and what follows the sentence on the fault.
 NO_JOBS = [
     (HEAD.replace("JOB 1", "JOB 2") + TAIL, "1:10", "KDF9 JOB 2", ""), ("", "1:1", "the job ends here", ""), ("no job\n", "1:1", "no job", ""),
     (" " + HEAD + TAIL, "1:1", " KDF9 JOB 1", ""), ("\x00" * 5000000, "1:1", "?" * 57 + "...", ""),
@@ -75,7 +73,7 @@ MEDIA = [
 # Where a line of an exchange is wrong: its fault and its column.
 EXCHANGE_FAULTS = [("SWAP 0 4", "BadNumber", 8), ("SWAP 4 0", "BadNumber", 6), ("SWAP 0", "BadLine", 1), ("SWAP 0 1 2", "BadLine", 1)]
 
-# What stands in a deck of one line, and a part of the hint.
+# A deck, and a part of the hint.
 HINTS = [
     ("PROGRAM; zero; OUT; FINISH;", "write ZERO"),
     ("PROGRAM V0; V0=Pabc; FINISH;", "write V0=PABC"),
@@ -86,8 +84,8 @@ HINTS = [
     ("PROGRAM; SET 1; SET 1; DIV; FINISH;", "DIVI divides"),
     ("PROGRAM V1; V0 = PDIVIDEND V1 = 17; FINISH;", "a ; is missing at 5:27, after V0 = PDIVIDEND"),
     ("PROGRAM V0 SET 5; FINISH;", "a ; is missing at 5:11, after PROGRAM V0"),
-    ("PROGRAM; SET 5; =K1; FINISH;", "it is Director's"),
-    ("PROGRAM; W0; FINISH;", "there are V-stores and Y-stores"),
+    ("PROGRAM; SET 5; =K1; FINISH;", "it belongs to Director"),
+    ("PROGRAM; W0; FINISH;", "use V-stores and Y-stores"),
     ("PROGRAM; ZERO; FINISH", "a ; is missing at 5:22"),
 ]
 
@@ -99,19 +97,19 @@ JOB_HINTS = [
     (HEAD + "Device 3 " + "tr" * 9999 + TAIL, "write DEVICE 3 " + "TR" * 24 + "...\n"),
     ((HEAD + TAIL).replace("ORDERS 10", "swap 0 1"), "write SWAP 0 1\n"),
     ((HEAD + TAIL).replace("ORDERS 10", "ORDERS  10"), "exactly one space"),
-    ((HEAD + TAIL).replace("ORDERS 10", "ORDERS 010"), "no zeros in front"),
-    ((HEAD + TAIL).replace("ENDDECK\n", ""), "ENDDECK hasn't come"),
-    ((HEAD + TAIL).replace("ENDJOB\n", ""), "ENDJOB hasn't come"),
-    (HEAD + "DEVICE 3 TR\n+ab\n" + TAIL, "small letters are no characters"),
+    ((HEAD + TAIL).replace("ORDERS 10", "ORDERS 010"), "no leading zeros"),
+    ((HEAD + TAIL).replace("ENDDECK\n", ""), "ENDDECK is missing"),
+    ((HEAD + TAIL).replace("ENDJOB\n", ""), "ENDJOB is missing"),
+    (HEAD + "DEVICE 3 TR\n+ab\n" + TAIL, "lowercase letters aren't characters"),
 ]
 
-# How a program fails, its deck, the line and the column in the deck at which it stands, and a part of what is said of it.
+# How a program fails, its deck, the line and the column of the failing order in the deck, and a part of what is said of it.
 FAILURES = [
     ("LIV", "PROGRAM;\n ZERO; (to nowhere)\n =E9999; FINISH;", 3, 2, "LIV: its address is 9999; the store has words 0 to 31"),
     ("NOUV", "PROGRAM; SET 5;\n   +; FINISH;", 2, 4, "the nest has 1 word, which is too few for +"),
     ("OUT", "PROGRAM;\nSET 7; OUT;\nFINISH;", 2, 8, "OUT 7 isn't one of 0, 3, 4, 5, 6, 8 and 9"),
-    ("RESET", "PROGRAM; SET -1;\n=LINK; EXIT; FINISH;", 2, 8, "the link is 8191/7, and a word has the syllables 0 to 5"),
-    ("CLAIM", "PROGRAM;\nZERO; =Q1;\n    PRQ1; FINISH;", 3, 5, "Q1 is 0/0/0, and its counter names device 0: is =C1 forgotten?; the slot has no devices"),
+    ("RESET", "PROGRAM; SET -1;\n=LINK; EXIT; FINISH;", 2, 8, "the link is 8191/7, but a word has syllables 0 to 5"),
+    ("CLAIM", "PROGRAM;\nZERO; =Q1;\n    PRQ1; FINISH;", 3, 5, "Q1 is 0/0/0, and its counter names device 0; the slot has no devices; did you forget =C1?"),
     ("LIVE", "PROGRAM; 1;\n  J1; FINISH;", 2, 3, "was live when the schedule ended, after 10 orders"),
 ]
 
@@ -122,7 +120,7 @@ BAD_INPUT = [
     (["steps", "-", "0", "0"], HEAD + TAIL, "usage: ./kdf9 steps JOB"),
     (["steps", "-", "0", "5", "4"], HEAD + TAIL, "usage: ./kdf9 steps JOB"),
     (["steps", "-", "1"], HEAD + TAIL, "-: the job has no slot 1"),
-    (["steps", "-", "0", "9"], HEAD.replace(PLAIN, "PROGRAM; ZERO; OUT; FINISH;") + TAIL, "-: the program obeys 3 orders"),
+    (["steps", "-", "0", "9"], HEAD.replace(PLAIN, "PROGRAM; ZERO; OUT; FINISH;") + TAIL, "-: the program obeys only 3 orders, so there is no order 9"),
     (["steps", "-"], HEAD.replace("J1", "ADD") + TAIL, "-:5:13: UnknownOrder: ADD"),
     (["listing", "-"], HEAD, "-:7:1: BadLine: the job ends here"),
     (["listing", "-", "x"], HEAD + TAIL, "usage: ./kdf9 listing JOB"),
@@ -134,41 +132,41 @@ BAD_INPUT = [
     (["listing", "-"], "KDF9 JOB 1\n" + " " * 4194304, "-: the job has more than 4194304 bytes"),
     (["picture", "--svg"], "", "usage: ./kdf9 picture"),
     (["json", "-"], "", "usage: ./kdf9 json"),
-    (["json"], "", "-:1: this is no report"),
+    (["json"], "", "-:1: this isn't a report"),
     (["json"], "KDF9 REPORT 1\nRAN 0 01\nENDREPORT\n", "-:2: this line isn't allowed here: RAN 0 01"),
     (["json"], "KDF9 REPORT 1\nSLOT 0\nSTATE LIVE\nORDERS x\n", "-:4: this line isn't allowed here: ORDERS x"),
     (["json"], "KDF9 REPORT 1\nRAN 0 1\n", "-:3: this line isn't allowed here: the report ends here"),
     (["json"], "KDF9 REPORT 1\nENDREPORT\n\n", "-:3: this line isn't allowed here: "),
     (["report", "-"], "", "usage: ./kdf9 report"),
-    (["report"], '{"text":', "-:1:9: this is no JSON"),
-    (["report"], "[]", "-: this JSON is no report"),
-    (["report"], '{"text": "KDF9 REPORT 1", "journal": [{"entry": "RAN", "slot": 0}], "slots": []}', "-: this JSON is no report: 'orders'"),
-    (["report"], '{"text": "KDF9 REPORT 1", "journal": [{"entry": "IDLE", "calls": 1, "more": 2}], "slots": []}', "-: this JSON is no report"),
-    (["picture"], "", "-:1: this is no report"),
-    (["picture", "--text"], HEAD + TAIL, "-:1: this is no report"),
-    (["picture"], "KDF9 REPORT 1\nRAN 0 1\nSLEPT 0\nENDREPORT\n", "-:3: this is no entry of a journal: SLEPT 0"),
-    (["picture"], "KDF9 REPORT 1\nRAN 0 one\nENDREPORT\n", "-:2: this is no entry of a journal: RAN 0 one"),
-    (["picture"], f"KDF9 REPORT 1\nRAN 0 {'9' * 5000}\nENDREPORT\n", "-:2: this is no entry of a journal: RAN 0 999"),
-    (["picture"], "KDF9 REPORT 1\nRAN 0 -1\nENDREPORT\n", "-:2: this is no entry of a journal: RAN 0 -1"),
+    (["report"], '{"text":', "-:1:9: this isn't JSON"),
+    (["report"], "[]", "-: this JSON isn't a report"),
+    (["report"], '{"text": "KDF9 REPORT 1", "journal": [{"entry": "RAN", "slot": 0}], "slots": []}', "-: this JSON isn't a report: 'orders' is missing"),
+    (["report"], '{"text": "KDF9 REPORT 1", "journal": [{"entry": "IDLE", "calls": 1, "more": 2}], "slots": []}', "-: this JSON isn't a report"),
+    (["picture"], "", "-:1: this isn't a report"),
+    (["picture", "--text"], HEAD + TAIL, "-:1: this isn't a report"),
+    (["picture"], "KDF9 REPORT 1\nRAN 0 1\nSLEPT 0\nENDREPORT\n", "-:3: this isn't an entry of a journal: SLEPT 0"),
+    (["picture"], "KDF9 REPORT 1\nRAN 0 one\nENDREPORT\n", "-:2: this isn't an entry of a journal: RAN 0 one"),
+    (["picture"], f"KDF9 REPORT 1\nRAN 0 {'9' * 5000}\nENDREPORT\n", "-:2: this isn't an entry of a journal: RAN 0 999"),
+    (["picture"], "KDF9 REPORT 1\nRAN 0 -1\nENDREPORT\n", "-:2: this isn't an entry of a journal: RAN 0 -1"),
     (["picture"], "KDF9 REPORT 1\nRAN 1 1\nSLOT 0\nSTATE LIVE\nENDREPORT\n", "-:2: the report has no slot or device 1"),
     (["picture"], "KDF9 REPORT 1\nRAN 0 1\nSLOT 0\nSTATE LIVE\n", "-:4: the report ends without ENDREPORT"),
-    (["picture"], "KDF9 REPORT 1\nSLOT 0\nSTATE LIVE\nCOLOUR blue\nENDREPORT\n", "-:4: this is no line of a report: COLOUR blue"),
-    (["picture"], "KDF9 REPORT 1\nSLOT 4\nSTATE LIVE\nENDREPORT\n", "-:2: this is no line of a report: SLOT 4"),
+    (["picture"], "KDF9 REPORT 1\nSLOT 0\nSTATE LIVE\nCOLOUR blue\nENDREPORT\n", "-:4: this isn't a line of a report: COLOUR blue"),
+    (["picture"], "KDF9 REPORT 1\nSLOT 4\nSTATE LIVE\nENDREPORT\n", "-:2: this isn't a line of a report: SLOT 4"),
     (["picture"], "KDF9 REPORT 1\nSTART 1 3 1\nSLOT 0\nSTATE LIVE\nDEVICE 3 TR FREE PLACE 0 FLAG 0\nENDREPORT\n", "-:2: the report has no slot"),
     (["picture"], "KDF9 REPORT 1\nBUSY 0 9\nSLOT 0\nSTATE LIVE\nENDREPORT\n", "-:2: the report has no slot or device 9"),
     (["picture"], "KDF9 REPORT 1\nSLOT 0\nENDREPORT\n", "-:3: slot 0 has no line STATE"),
     (["picture"], "KDF9 REPORT 1\nSWAP 0 4\nSLOT 0\nSTATE LIVE\nENDREPORT\n", "-:2: the report has no slot or device 4"),
-    (["picture"], "KDF9 REPORT 1\nSWAP 0\nENDREPORT\n", "-:2: this is no entry of a journal: SWAP 0"),
+    (["picture"], "KDF9 REPORT 1\nSWAP 0\nENDREPORT\n", "-:2: this isn't an entry of a journal: SWAP 0"),
 ]
 
 # Two programs, of which the second fails, with what explain says of their priorities after the schedule.
 TWO_LOOPS = HEAD + HEAD[11:].replace("SLOT 0", "SLOT 1")
 FAILS_SECOND = TWO_LOOPS[::-1].replace("J1"[::-1], "+"[::-1], 1)[::-1]
 TURNS = [
-    (TWO_LOOPS, "ORDERS 5\nSWAP 0 1\n", ["  priorities at the end, the highest first: 1, 0; it is the turn of slot 1\n"]),
-    (TWO_LOOPS, "ORDERS 5\nSWAP 0 0\n", ["  priorities at the end, the highest first: 0, 1; it is the turn of slot 0\n"]),
-    (TWO_LOOPS, "ORDERS 19999999\nSWAP 0 2\nORDERS 1\n", ["  priorities at the end, the highest first: 1, 0\n"]),
-    (FAILS_SECOND, "SWAP 0 1\nORDERS 5\nSWAP 0 1\n", ["order 2; its nest, the top first: empty\n  priorities then, the highest first: 1, 0\n"]),
+    (TWO_LOOPS, "ORDERS 5\nSWAP 0 1\n", ["  priorities at the end, highest first: 1, 0; the next turn is slot 1's\n"]),
+    (TWO_LOOPS, "ORDERS 5\nSWAP 0 0\n", ["  priorities at the end, highest first: 0, 1; the next turn is slot 0's\n"]),
+    (TWO_LOOPS, "ORDERS 19999999\nSWAP 0 2\nORDERS 1\n", ["  priorities at the end, highest first: 1, 0\n"]),
+    (FAILS_SECOND, "SWAP 0 1\nORDERS 5\nSWAP 0 1\n", ["order 2; nest, top first: empty\n  priorities at that point, highest first: 1, 0\n"]),
 ]
 
 
@@ -201,7 +199,7 @@ def faults_are_found():
         parts = [pointed(text, line, column), f"\n  {sentence}", "(docs/JOB.md)"]
         yield f"fault {name} of a job", explained(text, f"-:{line}:{column}: {name}", parts)
     for text, place, subject, rest in NO_JOBS:
-        due = f"-:{place}: Header: {subject}: line 1 isn't there, or isn't `KDF9 JOB 1` (docs/JOB.md){rest}"
+        due = f"-:{place}: Header: {subject}: line 1 is missing, or isn't `KDF9 JOB 1` (docs/JOB.md){rest}"
         for tool in ("explain", "listing", "steps"):
             run = kdf9([tool, "-"], text)
             yield f"{tool} of {text[:24]!r}", None if refused(run) and run.err.startswith(due) else f"{run} in place of {due}"
@@ -227,7 +225,7 @@ def hints_are_given():
     for text, part in JOB_HINTS:
         yield f"a hint on a job: {part}", explained(text, "", ["  hint: ", part])
     for order in re.search(r"^for name in (.*); do$", document("DIFFERENCES.md"), re.MULTILINE)[1].split():
-        yield f"a hint on {order}", explained(job_of_deck(f"PROGRAM; {order}; FINISH;"), "", ["hint: the KDF9 has this order, and this machine leaves"])
+        yield f"a hint on {order}", explained(job_of_deck(f"PROGRAM; {order}; FINISH;"), "", ["hint: the KDF9 has this order, but this machine leaves"])
     for deck in ("PROGRAM; NOSUCHORDER; FINISH;", "PROGRAM V0; V0 = PABCDEFGHIJ; FINISH;", "PROGRAM V1; V1 = 140737488355328; FINISH;"):
         yield f"no hint on {deck!r}", None if "hint" not in kdf9(["explain", "-"], job_of_deck(deck)).err else "a hint"
 
@@ -240,8 +238,8 @@ def failures_are_found():
         deck = f"PROGRAM V0; V0=Q{area}; SET 2; SET 5; OUT; V0; =Q1; =C1; 1; PRQ1; J1; FINISH;"
         text = HEAD.replace(PLAIN, deck) + "DEVICE 3 TR\n+ABCDEFGHIJKLMNOPQ\nSCHEDULE\nORDERS 20\nENDJOB\n"
         yield f"a program that is held up by {hold}", explained(text, f"-:5:{column}: LIVE: {statement}", [f"held up by {hold}"])
-    nowhere = explained(job_of_deck("PROGRAM; J1P1; P1; 1; FINISH;"), "", ["-: LIV: the next order of slot 0 is syllable 0 of word 2"])
-    yield "a program that stands at no statement", nowhere
+    nowhere = explained(job_of_deck("PROGRAM; J1P1; P1; 1; FINISH;"), "", ["-: LIV: the next order of slot 0 is at syllable 0 of word 2"])
+    yield "a program whose next order no statement wrote", nowhere
 
 
 def example_report(name):
@@ -287,7 +285,7 @@ def json_is_wrong(report):
 
 
 def listing_is_wrong(text, slot):
-    """What is wrong with a listing, beside that of the program: syllables are put together to words again; or None."""
+    """What is wrong with a listing, compared with that of the program: its syllables are put together to words again; or None."""
     run, own = kdf9(["listing", "-", slot], text), kdf9(["asm", slot], text)
     if run.status or run.err:
         return run.err
@@ -306,7 +304,7 @@ def listing_is_wrong(text, slot):
 
 
 def steps_are_wrong(text, slot):
-    """What is wrong with the steps of a program, beside the text of its lone run; or None."""
+    """What is wrong with the steps of a program, compared with the output of its lone run; or None."""
     schedule = text.rindex("SCHEDULE\n")
     alone = kdf9(["alone", slot], text[:schedule] + "SCHEDULE\nORDERS 16\nENDJOB\n").out
     run = kdf9(["steps", "-", slot, "1", "16"], text)

@@ -1,1 +1,1 @@
-"""How the program is built: in which order and by how many processors its crates are proved, where each is, and how that is told."""
+"""How the program is built: when and on how many processors each crate is proved, where that happens, and how progress is shown."""

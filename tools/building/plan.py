@@ -3,7 +3,7 @@
 # How many processors can share one crate.
 MOST_JOBS = 4
 
-# A crate that takes so many seconds or more is long.
+# A crate that takes this many seconds or more is long.
 LONG = 60
 
 
@@ -17,7 +17,7 @@ class Plan:
             self.chains[name] = times[name] + max((self.chains[it] for it in self.chains if name in crates[it]), default=0)
 
     def in_order(self):
-        """The crates in the order in which they are begun once they can be: those first above which the longest chain stands."""
+        """The crates in the sequence in which they are begun once they can be: first those with the longest chain above them."""
         return sorted(self.crates, key=lambda it: -self.chains[it])
 
     def begins(self, left, jobs, proved):
@@ -38,7 +38,7 @@ class Plan:
         return begun
 
     def seconds(self, left, jobs, works, proved):
-        """How long it takes from here, where these checks are running and have so many seconds of work left."""
+        """How long the rest takes, given the running checks and the seconds of work that each has left."""
         left, jobs, works, proved = list(left), dict(jobs), dict(works), set(proved)
         seconds = 0
         while left or jobs:
@@ -55,5 +55,5 @@ class Plan:
 
 
 def speed(jobs):
-    """How much faster than one so many processors prove a crate."""
+    """How much faster this number of processors proves a crate than one does."""
     return jobs ** 0.75

@@ -20,7 +20,7 @@ PROGRAM = "kdf9"
 ROOMS = CRATES / PROGRAM / "out" / "rooms"
 SOURCES = ("src", "specs", "proofs")
 
-# What a check says stands in this file below the crate's folder.
+# What a check says goes to this file in the crate's folder.
 LOG = pathlib.Path("out", "check.log")
 
 
@@ -31,7 +31,7 @@ def read_list():
 
 
 def read_crates():
-    """The crates that the program stands on, each after those that it stands on itself, and the program last: the names of all below each."""
+    """The crates that the program uses, each after those that it uses itself, and the program last, with the names of all crates below each."""
     uses = {name: line.partition(":")[2].split() for name, line in read_list().items()}
     below = {}
 
@@ -97,7 +97,7 @@ class Check(NamedTuple):
 
 
 def make_room(name, below):
-    """Makes the room of a crate: what it stands on as it was proved, and the crate with what an earlier check kept."""
+    """Makes the room of a crate: the crates that it uses, as they were proved, and the crate with what an earlier check kept."""
     room = ROOMS / name / "crates"
     for each in [*below, name]:
         for part in SOURCES:

@@ -1,4 +1,4 @@
-"""What the tools share: the text of a job, a deck beside its image, a report, faults and their places, and the program that answers.
+"""What the tools share: the text of a job, a deck next to its image, a report, faults and where they are, and the program that answers.
 
-What a statement became and what a program did is read off what the program tells: nothing is assembled or obeyed here.
+What a statement became, and what a program did, comes from the output of the program: nothing is assembled or obeyed here.
 """

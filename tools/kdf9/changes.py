@@ -1,5 +1,6 @@
 """What an order changed, in words: what differs between two sections of one program."""
 from kdf9.deck import WORD
+from kdf9.words import count
 
 LARGE_NUMBER = 10**9
 
@@ -10,12 +11,12 @@ def number_of(word):
 
 
 def value(word):
-    """A word as a number, or as a report has it, in octal digits, where it is likely to be anything but a number."""
+    """A word as a number, or in octal as in a report if it is probably not a number."""
     return str(number_of(word)) if abs(number_of(word)) < LARGE_NUMBER else f"{word:016o}"
 
 
 def changes(before, after, layout):
-    """What differs between two sections, the nest apart, in words."""
+    """What differs between two sections, apart from the nest, in words."""
     if after.words != before.words:
         for address, word in after.words.items():
             if word != before.words[address]:
@@ -43,7 +44,7 @@ def changes_outside(before, after):
         if old.state != new.state:
             yield f"device {new.number} {new.kind}: {new.state}"
         if old.blocks != new.blocks:
-            yield f"device {new.number} {new.kind}: {len(new.blocks)} blocks"
+            yield f"device {new.number} {new.kind}: {count(len(new.blocks), 'block')}"
     for text in after.spools[len(before.spools):]:
         yield f"spooled {text}"
     if after.state != before.state:

@@ -1,7 +1,7 @@
-"""The columns of a picture: which calls each of them stands for. All stand for as many, but that a long idle stretch is folded into a few."""
+"""The columns of a picture, and which calls each of them is. All have the same number of calls, but a long idle stretch is folded into a few."""
 from bisect import bisect_right
 
-# An idle stretch of so many calls, and of at least such a part of the run, is folded into such a part of the columns.
+# An idle stretch of at least FOLDED_FROM calls and 1/FOLDED_PART of the run is folded into 1/FOLDED_INTO of the columns.
 FOLDED_FROM, FOLDED_PART, FOLDED_INTO = 100, 5, 24
 
 
@@ -9,7 +9,7 @@ class Columns:
     """The columns of a run: `starts` has the calls before each of them and, at its end, all calls; `folds` the columns of folded stretches."""
 
     def __init__(self, total, idle, most):
-        """For so many calls, the idle stretches as pairs of the calls before and their number, and at most so many columns."""
+        """For a number of calls, the idle stretches as pairs of the calls before and their number, and the most columns."""
         folded = [(first, calls) for first, calls in idle if calls >= FOLDED_FROM and FOLDED_PART * calls >= total]
         width = max(2, most // FOLDED_INTO)
         rest = total - sum(calls for _, calls in folded)
@@ -26,17 +26,17 @@ class Columns:
         self.number = len(self.starts) - 1
 
     def _add(self, end, length):
-        """Adds columns of so many calls each up to this call, of which the last may have fewer."""
+        """Adds columns of this number of calls each up to this call; the last column may have fewer."""
         self.starts.extend(range(self.starts[-1] + length, end, length))
         if self.starts[-1] < end:
             self.starts.append(end)
 
     def at(self, call):
-        """The column of what happens when so many calls have been made."""
+        """The column of what happens after this number of calls."""
         return min(bisect_right(self.starts, call), self.number) - 1
 
     def place(self, call):
-        """Where in the columns, as a number with a fraction, so many calls have been made."""
+        """Where in the columns this number of calls has been made, as a fraction."""
         column = self.at(call)
         calls = self.starts[column + 1] - self.starts[column]
         return column + (call - self.starts[column]) / max(1, calls)

@@ -1,6 +1,6 @@
-"""A deck beside its image: its statements, what each of them became, and the names of words.
+"""A deck next to its image: its statements, what each of them became, and the names of words.
 
-How many syllables a statement became is read off the image, which the program lists; of orders only that is known here.
+The image, which the program lists, says how many syllables each statement became; nothing else is known of orders here.
 """
 import bisect
 import re
@@ -22,8 +22,8 @@ USES_Q = re.compile(r"[QCIM](\d+)")
 
 
 class Statement(NamedTuple):
-    """A statement: the offset in its deck of its first byte that means something, that behind its last, what stands there with single
-    spaces, and its text without what means nothing.
+    """A statement: the offsets in its deck of its first significant byte and after its last, what is written there with single
+    spaces, and its text without comments and spaces.
     """
 
     start: int
@@ -33,8 +33,8 @@ class Statement(NamedTuple):
 
 
 class Row(NamedTuple):
-    """What a statement became: its kind, and its syllables by their place, counted from the first of the store, and their number. What
-    no statement became has none: the jump in word 0, and the orders that fill a word.
+    """What a statement became: its kind, the place of its first syllable, counted from the beginning of the store, and how many there are.
+    The jump in word 0 and the orders that fill a word have no statement.
     """
 
     kind: str
@@ -44,26 +44,26 @@ class Row(NamedTuple):
 
 
 class Names(NamedTuple):
-    """The names of neighbouring stores: what stands before the number, what behind it, the address of number 0, and how many they are."""
+    """The names of neighbouring stores: the text before the number, the text after it, the address of number 0, and how many there are."""
 
     before: str
-    behind: str
+    after: str
     address: int
     count: int
 
     def name(self, number):
         """The name of the store of this number."""
-        return f"{self.before}{number}{self.behind}"
+        return f"{self.before}{number}{self.after}"
 
 
 def without_comments(deck):
-    """The deck with spaces in place of its comments, so that offsets stay."""
+    """The deck with its comments replaced by spaces, so that offsets stay the same."""
     return COMMENT.sub(lambda comment: " " * len(comment[0]), deck)
 
 
 def statements(deck):
-    """The statements of a deck, in order; what stands behind the last `;` is one too. One that begins with `*` and goes on is two, and a row
-    of `*` is taken as one.
+    """The statements of a deck, in sequence; the text after the last `;` is one too. A statement that begins with `*` and goes on is two, and a
+    row of `*` counts as one.
     """
     for found in STATEMENT.finditer(without_comments(deck)):
         text, start = found[0], found.start()
@@ -77,7 +77,7 @@ def statements(deck):
 
 
 def statement_at(deck, offset):
-    """The statement in which this byte of the deck stands, or None."""
+    """The statement that has this byte of the deck, or None."""
     for statement in statements(deck):
         if statement.end > offset:
             return statement if statement.start <= offset else None
@@ -111,7 +111,7 @@ def places_of_orders(row):
 
 
 class Layout:
-    """A deck beside its listing, in which each statement has its row and each store its name."""
+    """A deck next to its listing, in which each statement has its row and each store its name."""
 
     def __init__(self, deck, listing):
         self.image = listing.image
@@ -159,7 +159,7 @@ class Layout:
         return next((row.statement for row in self.rows if row.kind == "constant" and row.place == WORD * address), None)
 
     def unset_q_stores(self):
-        """The Q-stores that statements use and none sets, each with the first statement that uses it; Q0 is none of them."""
+        """The Q-stores other than Q0 that statements use and none sets, each with the first statement that uses it."""
         used, set_ones = {}, {"0"}
         for row in self.rows:
             if row.kind == "order":
@@ -173,11 +173,11 @@ class Layout:
         found = re.fullmatch(r"(V|Y[A-Z]?|E)(\d{1,5})(P\d{1,3})?", name)
         if not found:
             return None
-        before, number, behind = found[1], int(found[2]), found[3] or ""
+        before, number, after = found[1], int(found[2]), found[3] or ""
         if before == "E":
-            return None if behind else number
-        behind = "" if behind == "P0" else behind
-        ours = [names for names in self.names if (names.before, names.behind) == (before, behind) and number < names.count]
+            return None if after else number
+        after = "" if after == "P0" else after
+        ours = [names for names in self.names if (names.before, names.after) == (before, after) and number < names.count]
         return ours[0].address + number if ours else None
 
     def _add(self, statement):
@@ -202,12 +202,12 @@ class Layout:
             self._put("order", size_of_order(first), statement)
 
     def _refer(self, number):
-        """The listing tells where each reference stands, and has to agree."""
+        """The listing says where each reference is, and has to agree."""
         if next(self._references, None) != f"REF {self._part} {number} {self._place // WORD} {self._place % WORD}":
             raise BadInput(OTHER_DECK)
 
     def _add_star(self, statement):
-        """A `*` behind a `*` is left out: it fills nothing, and a deck may have millions."""
+        """A `*` after a `*` is left out: it fills nothing, and a deck may have millions."""
         last = self.rows[-1].statement
         if last is None or last.text != "*":
             self._put("heading", 0, statement)

@@ -6,18 +6,18 @@ from kdf9.said import (MOST_SIGNS, description, exchanges_in_all, held_calls, na
                        sums_of_slot, title_of, transfers_and_moves)
 from kdf9.words import count
 
-# Colours that stay apart for those who don't see red and green as two, by slot; and the shades of what is no program's.
+# Colours by slot that can be told apart without telling red from green; and the shades of what belongs to no program.
 COLOURS = ("#0072b2", "#e69f00", "#009e73", "#cc79a7")
 IDLE, READY_LINE, FAILURE = "#9a9a9a", "#8a8a8a", "#d55e00"
 
-# Where things stand, in pixels.
+# Where things are, in pixels.
 LEFT, WIDTH, RIGHT, TOP = 170, 880, 420, 46
 SLOT_HEIGHT, DEVICE_HEIGHT, GAP, LINE = 30, 18, 8, 18
 
-# How many pixels a character takes of the slots that stand after the sign of an exchange, and how many the sign itself.
-CHARACTER, SIGN = 7.5, 12
+# The width in pixels of a character of the slots after the sign of an exchange, and of the sign itself.
+CHARACTER, SIGN = 9, 12
 
-# How wide a bar is at least that has the digit of its slot in it, and the colours of digits by slot.
+# The least width of a bar that has the digit of its slot in it, and the colours of digits by slot.
 BAR_OF_DIGIT = 14
 DIGITS = ("#fff", "#000", "#fff", "#000")
 
@@ -89,19 +89,19 @@ class Drawing:
             self.titled(f"slot {number}, {self.when(first, end)}: {said_of_slot(self.chart, calls)}", boxes)
         for stretch, (at, failure) in lane.happened():
             sign = self.failure_sign if failure else self.end_sign
-            said = f"failed with call {at}: {failure}" if failure else f"ended with call {at}"
+            said = f"failed at call {at}: {failure}" if failure else f"ended at call {at}"
             self.titled(f"slot {number} {said}", [sign(self.x(stretch + 1))])
         self.y += SLOT_HEIGHT + GAP
 
     def digit(self, number, first, end, height):
         """The digit of a slot in a bar, where there is room for it."""
         if self.x(end) - self.x(first) >= BAR_OF_DIGIT:
-            yield f'<text x="{(self.x(first) + self.x(end)) / 2:.1f}" y="{self.y + height - 4}" text-anchor="middle" fill="{DIGITS[number]}">{number}</text>'
+            yield f'<text x="{(self.x(first) + self.x(end)) / 2:.1f}" y="{self.y + height / 2 + 5:g}" text-anchor="middle" fill="{DIGITS[number]}">{number}</text>'
 
-    def label(self, height, before, behind):
-        """What stands before a lane and after it."""
+    def label(self, height, before, after):
+        """The text before a lane and the text after it."""
         self.text(8, self.y + height / 2 + 5, before)
-        self.text(LEFT + WIDTH + 22, self.y + height / 2 + 5, behind)
+        self.text(LEFT + WIDTH + 22, self.y + height / 2 + 5, after)
 
     def end_sign(self, x):
         return f'<rect x="{x + 2:.1f}" y="{self.y + 10}" width="10" height="10" fill="#000"/>'
@@ -122,7 +122,7 @@ class Drawing:
         return f'<path d="M{x:.1f} {self.y + 2}l5 12h-10z" fill="#000"/>'
 
     def device(self, number, lane):
-        """The lane of a device. Where transfers are too many to be told apart, their beginnings are only counted."""
+        """The lane of a device. If there are too many transfers to see each one, their beginnings are only counted."""
         name, transfers = name_of_device(self.chart, number), self.chart.transfers[number]
         self.label(DEVICE_HEIGHT, name, transfers_and_moves(self.chart, number))
         for first, end, calls, events in groups(lane):
@@ -148,7 +148,7 @@ class Drawing:
         self.label(DEVICE_HEIGHT, "idle", count(lane.total()["idle"], "call"))
         for first, end, calls, _ in groups(lane):
             boxes = self.stack(first, end, DEVICE_HEIGHT, [(calls["idle"], IDLE)])
-            self.titled(f"{self.when(first, end)}: {count(calls['idle'], 'call')} idle, every live program being held up", boxes)
+            self.titled(f"{self.when(first, end)}: {count(calls['idle'], 'call')} idle: every live program is held up", boxes)
         self.y += DEVICE_HEIGHT + GAP
 
     def clock(self):
@@ -161,7 +161,7 @@ class Drawing:
         self.y += DEVICE_HEIGHT + GAP
 
     def exchanges(self):
-        """The lane of the exchanges of priorities, if there are any. After the sign of one stand its slots, where there is room."""
+        """The lane of the exchanges of priorities, if there are any. The slots follow the sign of an exchange, if there is room."""
         if not self.chart.exchanges.number_of_events():
             return
         self.label(DEVICE_HEIGHT, "priorities", exchanges_in_all(self.chart))
@@ -171,12 +171,12 @@ class Drawing:
             x, slots = self.x(first), ", ".join(f"{p} {q}" for (p, q), _ in exchanges)
             shapes = [exchange_sign(x, self.y + 2)]
             if x + SIGN + CHARACTER * len(slots) + SIGN <= following:
-                shapes.append(f'<text x="{x + SIGN:.1f}" y="{self.y + 12}" font-size="11">{slots}</text>')
+                shapes.append(f'<text x="{x + SIGN:.1f}" y="{self.y + 12}">{slots}</text>')
             self.titled(f"{self.when(first, first + 1)}: {said_of_exchanges(self.chart, exchanges)}", shapes)
         self.y += DEVICE_HEIGHT + GAP
 
     def axis(self):
-        """The calls at the bottom, with lines through all lanes, which stand behind what is drawn."""
+        """The calls at the bottom, with lines through all lanes in the background."""
         lines = []
         for calls in self.numbers_of_axis():
             x = self.x(self.columns.place(calls))
@@ -190,7 +190,7 @@ class Drawing:
         self.y += 44
 
     def numbers_of_axis(self):
-        """The numbers that stand on the axis: none where a long idle stretch is folded."""
+        """The numbers on the axis; there are none where a long idle stretch is folded."""
         starts, folds = self.columns.starts, self.columns.folds
         step = step_of_axis(sum(starts[at + 1] - starts[at] for at in range(self.columns.number) if at not in folds))
         for at in range(self.columns.number):
@@ -215,7 +215,7 @@ class Drawing:
         for index, (fill, words) in enumerate(shades):
             self.key(index, self.box(0, 0, 22, 12, fill), words)
         signs = [
-            (f'<rect width="22" height="1.5" y="9" fill="{READY_LINE}"/>', "could go on; another runs"),
+            (f'<rect width="22" height="1.5" y="9" fill="{READY_LINE}"/>', "ready, while another runs"),
             (f'<path d="M11 0v13" stroke="#000"/>', "a transfer begins"),
             (f'<path d="M8 4h6l-3 6z" fill="#fff" stroke="#000" stroke-width="0.7"/>', "words are moved by MOVE"),
             (f'<rect x="6" y="1" width="10" height="10"/>', "ended"),
@@ -228,14 +228,14 @@ class Drawing:
             self.key(index, shape, words)
         self.y = y + LINE * -(-(len(shades) + len(signs)) // 3)
         if self.columns.length > 1:
-            self.text(8, self.y + 12, f"Each column stands for {self.columns.length} calls; its heights are shares of them.")
+            self.text(8, self.y + 12, f"Each column is {self.columns.length} calls; heights are shares of them.")
             self.y += LINE
         if self.columns.folds:
-            self.text(8, self.y + 12, "A broken line stands for a long idle stretch, which is folded.")
+            self.text(8, self.y + 12, "A broken line marks a long idle stretch that is folded.")
             self.y += LINE
 
     def key(self, index, shape, words):
-        """An entry of the legend: they stand in three columns."""
+        """An entry of the legend, which has three columns."""
         x, y = 8 + 420 * (index % 3), self.y + LINE * (index // 3)
         self.add(f'<g transform="translate({x} {y})">{shape}</g>')
         self.text(x + 30, y + 11, words)
@@ -248,7 +248,7 @@ def exchange_sign(x, y):
 
 def span(events):
     """The first and the last of some times, in words."""
-    return str(events[0]) if len(events) == 1 else f"{events[0]} and so on up to {events[-1]}"
+    return str(events[0]) if len(events) == 1 else f"{events[0]}, and then up to {events[-1]}"
 
 
 def step_of_axis(total):

@@ -8,7 +8,7 @@ from kdf9.job import Slot
 from kdf9.report import Section
 from kdf9.words import count, listed
 
-KINDS = {"TP": "a tape punch", "TR": "a tape reader", "LP": "a line printer", "CR": "a card reader", "MT": "a magnetic tape"}
+KINDS = {"TP": "a paper tape punch", "TR": "a paper tape reader", "LP": "a line printer", "CR": "a card reader", "MT": "a magnetic tape"}
 CODES_OF_KINDS = {1: "TP", 2: "TR", 3: "LP", 4: "CR"}
 CHARACTERS = " \"~^_?%':=()$*,/0123456789`;+-.!@ABCDEFGHIJKLMNOPQRSTUVWXYZ[]|<>"
 MOST_WORDS = 4096
@@ -22,7 +22,7 @@ OUTS = "0, 3, 4, 5, 6, 8 and 9"
 
 
 class Case(NamedTuple):
-    """A program that stopped: its slot, what the report tells of it, its deck beside its image, and the row of its next order, or None."""
+    """A program that stopped: its slot, what the report says of it, its deck next to its image, and the row of its next order, or None."""
 
     slot: Slot
     section: Section
@@ -31,7 +31,7 @@ class Case(NamedTuple):
 
     @property
     def text(self):
-        """The text of the next order's statement, or nothing where none wrote it."""
+        """The text of the next order's statement, or nothing if no statement wrote it."""
         return self.row.statement.text if self.row and self.row.statement else ""
 
     def q_store(self, q):
@@ -48,7 +48,7 @@ class Case(NamedTuple):
 
 
 def reason(case):
-    """Why the order failed, in words; nothing where its kind says it all."""
+    """Why the order failed, in words; nothing if the kind of failure says it all."""
     return {"LIV": reason_of_liv, "NOUV": reason_of_nouv, "RESET": reason_of_reset, "OUT": reason_of_out, "CLAIM": reason_of_claim}[case.section.failure](case)
 
 
@@ -67,7 +67,7 @@ def reason_of_liv(case):
     if case.text == "OUT" and len(case.section.nest) > 1:
         first, last = case.section.nest[1] >> 16 & 0xFFFF, case.section.nest[1] & 0xFFFF
         return f"OUT 8 sends the words {first} to {last}; {fault_of_area(case, first, last)}"
-    return f"a syllable of it is outside the store; {case.words_of_store()}"
+    return f"one of its syllables is outside the store; {case.words_of_store()}"
 
 
 def sum_of_two(case, k, q, half, after):
@@ -85,7 +85,7 @@ def address_of_store(case, name, q):
 
 
 def fault_of_area(case, first, last):
-    """Why the words from `first` to `last` are no area."""
+    """Why the words from `first` to `last` aren't an area."""
     if first > last:
         return f"the first address, {first}, is above the last, {last}"
     if last >= case.slot.store:
@@ -94,34 +94,34 @@ def fault_of_area(case, first, last):
 
 
 def reason_of_no_order(case):
-    """What stands where there is no order."""
+    """What the program met instead of an order."""
     word, syllable = case.section.at
     if word >= case.slot.store:
         return f"word {word} isn't in the store; {case.words_of_store()}"
     last = case.layout.order_before(WORD * word + syllable)
     if last is not None:
-        return f"it ran past {last.written}, the last statement there; does a jump, or ZERO; OUT; at the end, miss?"
+        return f"it ran past {last.written}, the last statement there; is a jump missing, or ZERO; OUT; at the end?"
     constant = case.layout.constant_at(word)
     if constant is not None:
-        return f"{constant.written} is a constant, and no order"
-    return f"word {word} is {case.layout.name_of(word)}, and no order"
+        return f"{constant.written} is a constant, not an order"
+    return f"word {word} is {case.layout.name_of(word)}, not an order"
 
 
 def reason_of_nouv(case):
     """How many words or links there are."""
     links, words = len(case.section.links), len(case.section.nest)
     if case.text.startswith("JS") or (case.text == "=LINK" and links == 16):
-        return "there are 16 links already"
+        return "there are already 16 links"
     if case.text == "LINK" and words < 16 or case.text.startswith("EXIT"):
-        return "there is no link: was this part jumped to by J, and not by JS?"
+        return "there is no link: was this part reached by J instead of JS?"
     if words > 14:
-        return f"the nest has {count(words, 'word')}, and room for 16"
+        return f"the nest has {count(words, 'word')}, and at most 16 fit"
     return f"the nest has {count(words, 'word')}, which is too few for {case.text or 'this order'}"
 
 
 def reason_of_reset(case):
-    """Which link it is that is no place."""
-    return f"the link is {case.section.links[0]}, and a word has the syllables 0 to 5"
+    """Which link isn't a place."""
+    return f"the link is {case.section.links[0]}, but a word has syllables 0 to 5"
 
 
 def reason_of_out(case):
@@ -129,10 +129,10 @@ def reason_of_out(case):
     call, *rest = map(number_of, case.section.nest)
     second = rest[0] if rest else None
     if call == 5:
-        return f"OUT 5 wants 1 (TP), 2 (TR), 3 (LP) or 4 (CR) as N2, which is {second}"
+        return f"OUT 5 needs 1 (TP), 2 (TR), 3 (LP) or 4 (CR) in N2, but N2 is {second}"
     if call == 8:
-        return f"OUT 8 has the streams 0 to 7, and the counter of N2 is {case.section.nest[1] >> 32}"
-    exchanged = f": is N2, {second}, the number, which goes on top?" if second in (4, 5, 6, 8) else ""
+        return f"OUT 8 has streams 0 to 7, but the counter of N2 is {case.section.nest[1] >> 32}"
+    exchanged = f"; did you mean OUT {second}? The number goes on top, and here {second} is in N2" if second in (4, 5, 6, 8) else ""
     return f"OUT {call} isn't one of {OUTS}{exchanged}"
 
 
@@ -149,8 +149,8 @@ def reason_of_claim(case):
     if call == 5:
         kind = CODES_OF_KINDS[second]
         taken = [number for number, other in devices(case, claimed=True) if other == kind]
-        return f"OUT 5 wants {KINDS[kind]}, {kind}; {all_claimed(taken) if taken else shown_devices(case)}"
-    return f"OUT 6 gives device {number_of(second)} back, which isn't claimed; {shown_devices(case)}"
+        return f"OUT 5 needs {KINDS[kind]}, {kind}; {all_claimed(taken) if taken else shown_devices(case)}"
+    return f"OUT 6 gives back device {number_of(second)}, which isn't claimed; {shown_devices(case)}"
 
 
 def devices(case, claimed):
@@ -160,7 +160,7 @@ def devices(case, claimed):
 
 def all_claimed(numbers):
     """That these devices, which were wanted, are all taken."""
-    return f"device {numbers[0]} is claimed already" if len(numbers) == 1 else f"devices {listed(list(map(str, numbers)))} are claimed already"
+    return f"device {numbers[0]} is already claimed" if len(numbers) == 1 else f"devices {listed(list(map(str, numbers)))} are already claimed"
 
 
 def shown_devices(case):
@@ -174,12 +174,12 @@ def reason_of_device(case, order, q):
     number = case.q_store(q)[0]
     kinds, wanted = case.slot.kinds(), OF_KINDS.get(order, "MT")
     if number not in kinds:
-        unset = f": is =C{q} forgotten?" if number == 0 else ""
-        return f"{case.shown_q(q)}, and its counter names device {number}{unset}; {shown_devices(case)}"
+        unset = f"; did you forget =C{q}?" if number == 0 else ""
+        return f"{case.shown_q(q)}, and its counter names device {number}; {shown_devices(case)}{unset}"
     named = f"Q{q} names device {number}, {KINDS[kinds[number]]}"
     if (number, kinds[number]) in devices(case, claimed=False):
         return f"{named}, which isn't claimed: OUT {4 if kinds[number] == 'MT' else 5} claims it"
-    return f"{named}; {case.text} wants {KINDS[wanted]}"
+    return f"{named}; {case.text} needs {KINDS[wanted]}"
 
 
 def reason_of_label(case, word):

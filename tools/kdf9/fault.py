@@ -1,4 +1,4 @@
-"""What the program finds wrong with a job or a deck: where it stands in the text, and what the documents say of it."""
+"""What the program finds wrong with a job or a deck: where it is in the text, and what the documents say of it."""
 import re
 from typing import NamedTuple
 
@@ -8,17 +8,17 @@ from kdf9.program import ROOT, BadInput, ask
 
 HEADER = "KDF9 JOB 1"
 
-# The bytes that some editors write first, and how many blank lines before a job are taken for a slip.
+# The bytes that some editors write first, and how many blank lines before a job count as a slip.
 BYTE_ORDER_MARK = "\xef\xbb\xbf"
 BLANK_LINES = 9
 
-# Which word of a line is the one at fault, counted from 0.
+# Which field of a line is the one at fault, counted from 0.
 WORD_AT_FAULT = {
     "SlotOrder": 1, "SizeNotGroups": 1, "StoreFull": 1, "DeviceTwice": 1, "BadLabel": 3, "LabelTwice": 3,
     "ShowRange": 1, "ClockFalls": 1, "TooManyOrders": 1,
 }
 
-# The least and the greatest number that may stand in a line, for each of its words that is one.
+# The least and the greatest value of each number in a line.
 RANGES = {
     "SLOT": [(0, 3)], "STORE": [(32, 8192)], "DEVICE": [(0, 15)], "SHOW": [(0, 8191), (0, 8191)],
     "ORDERS": [(1, 20000000)], "MOVE": [(0, 15), (1, 4096)], "END": [(0, 15)], "CLOCK": [(0, 2**47 - 1)],
@@ -27,18 +27,18 @@ RANGES = {
 KEYWORDS = {*RANGES, "DECK", "ENDDECK", "SCHEDULE", "ENDJOB"}
 NUMBER = re.compile(r"(?:0|[1-9][0-9]*)\Z")
 
-# The bytes of a medium that are no characters, and the most characters of a line by the kind of its device.
+# The bytes of a medium that aren't characters, and the most characters of a line by the kind of its device.
 NO_CHARACTER = re.compile(r"[^ -`|]|[#&\\]")
 LONGEST = {"CR": 80, "MT": 32768}
 
 LONGEST_SUBJECT = 60
 
-BYTE_13 = "the line has a byte 13, as files of some other systems have before each line end; take them out: tr -d '\\r'"
+BYTE_13 = "the line has a byte 13, as Windows writes before each newline; remove them with tr -d '\\r'"
 
 
 class Fault(NamedTuple):
-    """A fault that the program found: its name, the line and the column, both from 1, and what stands there, which may be nothing. Of a
-    deck's fault there are the slot and the offset in its deck too.
+    """A fault that the program found: its name, the line and the column, both from 1, and the text there, which may be empty. The fault of
+    a deck also has the slot and the offset in its deck.
     """
 
     name: str
@@ -49,12 +49,12 @@ class Fault(NamedTuple):
     offset: int = 0
 
     def head(self, source):
-        """The line that says where what is wrong, which begins as those of a compiler do."""
+        """The line that says where the fault is and what it is. It begins like a compiler's."""
         return f"{source}:{self.line}:{self.column}: {self.name}" + (f": {brief(self.subject)}" if self.subject else "")
 
 
 def fault_of(answer, lines):
-    """The fault that the program's answer to a job of these lines is."""
+    """The fault that the program reports for a job of these lines."""
     kind, *words = answer.text.split()
     if kind == "JOB":
         return fault_of_job(words[0], int(words[1]), lines)
@@ -74,7 +74,7 @@ def fault_of_deck(slot, name, offset):
 
 
 def fault_of_job(name, line, lines):
-    """The fault of this name in a line of a job; the line behind the last stands for the end of the text."""
+    """The fault of this name in a line of a job. The line after the last one is the end of the text."""
     if line > len(lines):
         return Fault(name, line, 1, "the job ends here")
     text = lines[line - 1]
@@ -95,12 +95,12 @@ def first_difference(text, due):
 
 
 def column_of_word(text, index):
-    """The column, from 1, at which the word of this index stands in a line."""
+    """The column, from 1, at which the field of this index begins."""
     return 1 + sum(len(word) + 1 for word in text.split(" ")[:index])
 
 
 def word_of_bad_number(text):
-    """Which word of a line isn't a number in its range: the first of them."""
+    """The first field of a line that should be a number and isn't one in its range."""
     keyword, *words = text.split(" ")
     for index, (word, (least, most)) in enumerate(zip(words, RANGES[keyword]), 1):
         if not NUMBER.match(word) or not least <= int(word) <= most:
@@ -114,7 +114,7 @@ def device_above(lines, line):
 
 
 def column_in_medium(text, kind):
-    """The column at which a line of a medium is wrong: its mark, the first byte that is no character, or the first that is too many."""
+    """The column at which a line of a medium is wrong: its mark, the first byte that isn't a character, or the first byte too many."""
     if kind in ("TP", "LP") or (text[0] == "=" and kind != "MT"):
         return 1
     stranger = NO_CHARACTER.search(text, 1)
@@ -124,7 +124,7 @@ def column_in_medium(text, kind):
 
 
 def shown(text):
-    """The text as a terminal can show it in as many columns: with a `?` in place of whatever it can't."""
+    """The text as a terminal can show it, in as many columns; a `?` replaces whatever it can't show."""
     return "".join(character if " " <= character <= "~" else "?" for character in text)
 
 
@@ -144,12 +144,11 @@ def sentence(fault):
         found = re.search(rf"^\| `{fault.name}` \| (.*?) \|$", page("JOB.md"), re.MULTILINE)
         return found[1], "(docs/JOB.md)"
     found = re.search(rf"^### (\d+) {fault.name}\n\n(.*?)\n\n", page("USERCODE.md"), re.MULTILINE | re.DOTALL)
-    said = " ".join(found[2].split())
-    return said.partition(" Its place is")[0], f"(docs/USERCODE.md, fault {found[1]})"
+    return " ".join(found[2].split()), f"(docs/USERCODE.md, fault {found[1]})"
 
 
 def lines_of_job(source, text):
-    """The lines of a job. A text with another first line is no job, and bad input."""
+    """The lines of a job. A text with another first line isn't a job, but bad input."""
     lines = jobs.read_lines(text)
     if lines[:1] == [HEADER]:
         return lines
@@ -159,28 +158,28 @@ def lines_of_job(source, text):
 
 
 def hint_of_header(lines):
-    """What may have led to a text whose first line isn't that of a job, or nothing."""
+    """A hint for a text whose first line isn't that of a job, or nothing."""
     first = lines[0] if lines else ""
     if "\r" in first:
         return f"; {BYTE_13}"
     if first.startswith(BYTE_ORDER_MARK):
         return "; the text begins with a byte-order mark; save it without one"
     if first.upper() == HEADER:
-        return f"; small letters mean nothing here; write {HEADER}"
+        return f"; lowercase letters aren't allowed here; write {HEADER}"
     if not first.strip() and HEADER in lines[:BLANK_LINES]:
-        return "; nothing, not even a blank line, stands before it"
+        return "; nothing may come before it, not even a blank line"
     return ""
 
 
 def sound_lines(source, text):
-    """The lines of a job. One with a fault, be it of a deck, is bad input."""
+    """The lines of a job. A job with a fault, also of a deck, is bad input."""
     lines = lines_of_job(source, text)
     refuse(source, lines, ask(["asm", "0"], text))
     return lines
 
 
 def sound_slot(source, text, words):
-    """The slot of a job which the command's words name, or its first, with the program's listing of it. A job with a fault, or without
+    """The slot of a job that the arguments name, or its first, with the program's listing of it. A job with a fault, or without
     that slot, is bad input.
     """
     slots = jobs.read_slots(sound_lines(source, text))
@@ -191,7 +190,7 @@ def sound_slot(source, text, words):
 
 
 def refuse(source, lines, answer):
-    """Ends the tool where the program's answer isn't the text that was asked for."""
+    """Ends the tool if the program reports a fault."""
     if answer.status in (2, 3):
         raise BadInput(fault_of(answer, lines).head(source))
     if answer.status == 4:

@@ -7,7 +7,7 @@ from kdf9 import fault as faults
 from kdf9.names import distance_is_one, has_form, hint_of_name
 from kdf9.words import listed
 
-CAPITALS = "small letters mean nothing here; write {}"
+CAPITALS = "lowercase letters aren't allowed here; write {}"
 
 # The form of each line of a job that has operands.
 FORMS = {
@@ -16,15 +16,15 @@ FORMS = {
 }
 SCHEDULED = ["ORDERS", "MOVE", "END", "CLOCK", "SWAP", "ENDJOB"]
 
-# A lost `;` is looked for after the first pieces of a statement, so many; no statement has more that are only one, and few have more than four.
+# A missing `;` is looked for after the first PIECES pieces of a statement. No valid statement has more pieces, and few have more than FEW_PIECES.
 PIECES, FEW_PIECES = 16, 4
 PIECE = re.compile(r"[^ \n]+")
 
-# Orders of the KDF9 that this machine leaves out, beside those of floating point, and what comes nearest.
+# Orders of the KDF9 that this machine leaves out, besides floating point, and what comes closest.
 LEFT_OUT = {
-    "X": "XD and CONT multiply whole numbers", "MAX": "compare by - and JrLTZ", "SIGN": "compare by JrGTZ and JrLTZ",
+    "X": "XD and CONT multiply whole numbers", "MAX": "compare with - and JrLTZ", "SIGN": "compare with JrGTZ and JrLTZ",
     "DIV[DR]?": "DIVI divides whole numbers", "ROUNDH?": "SHA to the right rounds", r"CTQ\d+": "no order ends a transfer",
-    r"=K[0-3]|K[457]|CLOQ\d+": "it is Director's, which is no program here", r"=?W\d+Q?": "there are V-stores and Y-stores",
+    r"=K[0-3]|K[457]|CLOQ\d+": "it belongs to Director, which isn't a program here", r"=?W\d+Q?": "use V-stores and Y-stores",
 }
 
 
@@ -34,7 +34,7 @@ def begins_statement(text):
 
 
 def lost_semicolon(fault, statement):
-    """Where a `;` is missing, if what stands before a gap of the statement is one by itself, and so is what begins after it; None else."""
+    """Where a `;` is missing, if the text before a gap is a statement by itself and so is what begins after the gap; otherwise None."""
     text = decks.without_comments(fault.slot.deck)[statement.start:statement.end]
     pieces = list(itertools.islice(PIECE.finditer(text), PIECES))
     for piece in reversed(pieces[:-1]):
@@ -50,7 +50,7 @@ def hint_of_statement(fault):
     text = statement.text
     for left_out, nearest in LEFT_OUT.items():
         if re.fullmatch(left_out, text):
-            return f"the KDF9 has this order, and this machine leaves it out; {nearest}"
+            return f"the KDF9 has this order, but this machine leaves it out; {nearest}"
     if text != text.upper() and has_form(text.upper()):
         return CAPITALS.format(faults.brief(statement.written.upper()))
     return lost_semicolon(fault, statement) or (hint_of_name(text) if fault.name == "UnknownOrder" else None)
@@ -59,9 +59,9 @@ def hint_of_statement(fault):
 def hint_of_deck(fault):
     """A hint for a fault of a deck, or None."""
     if fault.name == "BadByte":
-        return {13: faults.BYTE_13, 9: "this is a tab; write spaces"}.get(ord(fault.slot.deck[fault.offset]))
+        return {13: faults.BYTE_13, 9: "this is a tab; use spaces"}.get(ord(fault.slot.deck[fault.offset]))
     if fault.name == "Floating":
-        return "the KDF9 has this order, and this machine leaves out floating point; it reckons in whole numbers"
+        return "the KDF9 has this order, but this machine leaves out floating point and works in whole numbers"
     if fault.name in ("UnknownOrder", "ConstantRange"):
         return hint_of_statement(fault)
     if fault.name == "NoSemicolon":
@@ -73,7 +73,7 @@ def hint_of_deck(fault):
 def hint_of_job(fault, lines):
     """A hint for a fault of a job, or None."""
     if fault.line > len(lines):
-        return ("ENDDECK" if is_in_deck(lines) else "ENDJOB") + " hasn't come"
+        return ("ENDDECK" if is_in_deck(lines) else "ENDJOB") + " is missing"
     line = lines[fault.line - 1]
     if "\r" in line:
         return faults.BYTE_13
@@ -83,9 +83,9 @@ def hint_of_job(fault, lines):
     if line != capitals and not faults.KEYWORDS.isdisjoint(capitals.split()[:1]):
         return CAPITALS.format(faults.brief(faults.shown(capitals)))
     if line != " ".join(line.split()):
-        return "words are separated by exactly one space, and a line neither begins nor ends with one"
+        return "fields are separated by exactly one space, and a line doesn't begin or end with one"
     if re.search(r" 0[0-9]", line) and fault.name == "BadNumber":
-        return "a number has no zeros in front"
+        return "a number has no leading zeros"
     if fault.name == "BadNumber":
         return hint_of_number(line)
     if fault.name == "BadLine":
@@ -97,10 +97,10 @@ def hint_of_job(fault, lines):
 
 
 def hint_of_line(line, expected):
-    """A hint for a line that isn't allowed where it stands: what is."""
+    """A hint for a line that isn't allowed: which lines are."""
     word = line.split(" ")[0]
     if word in FORMS and word in expected:
-        return f"the line is written {FORMS[word]}"
+        return f"the form of this line is {FORMS[word]}"
     meant = next((name for name in expected if distance_is_one(word, name)), None)
     return f"did you mean {meant}?" if meant else f"expected {listed(expected, 'or')}"
 
@@ -120,23 +120,23 @@ def expected_at(lines, line):
 
 
 def hint_of_number(line):
-    """The range of the first number of a line that is out of it."""
+    """The range of the first number of a line that is out of range."""
     word, index = line.split(" ")[0], faults.word_of_bad_number(line)
     if index == 0:
         return None
     least, most = faults.RANGES[word][index - 1]
-    return f"here stands a number from {least} to {most}"
+    return f"this has to be a number from {least} to {most}"
 
 
 def is_in_deck(lines):
-    """Whether the lines of a job stop in a deck."""
+    """Whether the lines of a job end inside a deck."""
     return "DECK" in lines and "ENDDECK" not in lines[len(lines) - lines[::-1].index("DECK"):]
 
 
 def hint_of_medium(line, kind, column):
     """A hint for a line of a medium that is wrong at this column."""
     if kind in ("TP", "LP"):
-        return f"a device of kind {kind} begins with nothing, and has no lines"
+        return f"a device of kind {kind} begins empty, so it has no lines"
     if line[column - 1:column].islower():
-        return "small letters are no characters"
+        return "lowercase letters aren't characters"
     return None

@@ -14,7 +14,7 @@ class Slot(NamedTuple):
     devices: list
 
     def place(self, offset):
-        """The line of the job and the column, both from 1, of a byte of the deck; behind its last byte stands ENDDECK."""
+        """The line of the job and the column, both from 1, of a byte of the deck. ENDDECK comes after the last byte."""
         line = self.deck.count("\n", 0, offset)
         return self.deck_line + line, offset - (self.deck.rfind("\n", 0, offset) + 1) + 1
 
@@ -29,7 +29,7 @@ class Slot(NamedTuple):
 
 
 def read_lines(text):
-    """The lines of a job; behind the last line end there is a line only if it isn't empty."""
+    """The lines of a job. After the last newline there is another line only if it isn't empty."""
     lines = text.split("\n")
     return lines if lines[-1] else lines[:-1]
 
@@ -40,16 +40,16 @@ def read_slots(lines):
     at = 1
     while lines[at].startswith("SLOT "):
         end = lines.index("ENDDECK", at)
-        behind = next(line for line in range(end, len(lines)) if lines[line].startswith(("SLOT ", "SCHEDULE")))
+        after = next(line for line in range(end, len(lines)) if lines[line].startswith(("SLOT ", "SCHEDULE")))
         slot = Slot(
             number=int(lines[at].split()[1]),
             store=int(lines[at + 1].split()[1]),
             deck_line=at + 4,
             deck=join_lines(lines[at + 3:end]),
-            devices=[line for line in lines[end + 1:behind] if not line.startswith("SHOW ")],
+            devices=[line for line in lines[end + 1:after] if not line.startswith("SHOW ")],
         )
         slots[slot.number] = slot
-        at = behind
+        at = after
     return slots
 
 
@@ -70,5 +70,5 @@ def text_of_slot(slot, is_shown):
 
 
 def lone_job(slot, orders):
-    """A job of this slot alone that shows its whole store, with a schedule of so many orders."""
+    """A job of this slot alone that shows its whole store, with a schedule of this number of calls."""
     return job_text([slot], [f"ORDERS {orders}"] if orders else [], [slot.number])

@@ -1,7 +1,7 @@
 """A journal over time: what each program and each device did in each stretch of calls.
 
-Time is counted in calls of the machine. A chart has so many stretches, each of which is a column, so that a run of ten million calls takes no more
-room than one of ten: in each stretch it keeps how many calls went to what.
+Time is counted in calls of the machine. A chart has a fixed number of stretches, each of which is a column, so a run of ten million calls takes no
+more room than one of ten: for each stretch the chart keeps how many calls went to what.
 """
 from collections import Counter
 from typing import NamedTuple
@@ -67,7 +67,7 @@ class Lane:
             first, stretch = until, stretch + 1
 
     def event(self, at, what):
-        """This happened when so many calls had been made."""
+        """This happened after this number of calls."""
         self.events[self.columns.at(at)].append(what)
 
     def happened(self):
@@ -234,8 +234,8 @@ def turns(entries):
 
 
 def groups(lane):
-    """The stretches of a lane in which something went on, neighbours put together that are the same: the first of them, the one behind the
-    last, their calls, and what happened in the first; in the others nothing did.
+    """The stretches of a lane in which something went on, with equal neighbours put together: the first of them, the one after the last,
+    their calls, and what happened in the first; in the others nothing did.
     """
     first = 0
     for stretch in range(1, len(lane.calls) + 1):

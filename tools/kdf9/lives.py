@@ -1,4 +1,4 @@
-"""Why a program is still live when the run stops: it is held up for good, it goes round in a loop, or it never had a turn."""
+"""Why a program is still live when the run stops: it is held up for good, it is in a loop, or it never had a turn."""
 import re
 from typing import NamedTuple
 
@@ -12,14 +12,14 @@ from kdf9.words import count, listed
 
 GROUP = 32
 
-# A loop is looked for in so many of the last orders.
+# How many of the last orders are searched for a loop.
 LONGEST_LOOP = 40
 
 COUNTERS = re.compile(r"(?:J.*C|DC|=C)(\d+)")
 
 
 class Hold(NamedTuple):
-    """What held up a program last: BUSY, LOV or WAIT, and the number of the device or group, or the kind."""
+    """What held a program up last: BUSY, LOV or WAIT, and the number of the device or group, or the kind."""
 
     kind: str
     number: int
@@ -76,13 +76,13 @@ def story_of_no_turn(stopped, number):
     if not any(line.startswith("ORDERS ") for line in stopped.lines[start_of(stopped.lines):]):
         yield f"slot {number} never had a turn: the schedule has no ORDERS"
     else:
-        above = [other for other in stopped.report.sections if other < number]
-        yield f"slot {number} never had a turn: {slots(above) if above else 'another slot'} could go on at each call"
+        others = [other for other, section in stopped.report.sections.items() if section.orders]
+        yield f"slot {number} never had a turn: {slots(others)} could run at every call"
 
 
 def slots(numbers):
     """These slots in words."""
-    return f"slot {numbers[0]}" if len(numbers) == 1 else f"one of the slots {listed(list(map(str, numbers)), 'or')}"
+    return f"slot {numbers[0]}" if len(numbers) == 1 else f"slot {listed(list(map(str, numbers)), 'or')}"
 
 
 def story_of_hold(stopped, case, hold):
@@ -96,7 +96,7 @@ def story_of_hold(stopped, case, hold):
         own = " hold this order, and" if hold.number in groups_of_order(case) else ""
         yield f"it needs group {hold.number}: {words}{own} are locked out by a transfer"
     for device, call in flights.items():
-        yield f"the transfer of device {device} began with call {call}, and the schedule has no END {device} after it"
+        yield f"the transfer of device {device} began at call {call}, and the schedule has no END {device} after it"
 
 
 def groups_of_order(case):
@@ -122,7 +122,7 @@ def devices_that_are_none(stopped):
 
 
 def story_of_loop(stopped, case):
-    """That a program goes round in a loop, and how its counters change, if it was at the same place not long before."""
+    """That a program is in a loop, and how its counters change, if it was at the same place shortly before."""
     section = case.section
     places, earlier = set(), None
     for orders in range(section.orders - 1, max(0, section.orders - LONGEST_LOOP), -1):
@@ -133,7 +133,7 @@ def story_of_loop(stopped, case):
     else:
         return
     rounds = section.orders - earlier.orders
-    yield f"it goes round in a loop: it was here {count(rounds, 'order')} before{''.join(counters(case, earlier, places))}"
+    yield f"it is in a loop: it was here {count(rounds, 'order')} earlier{''.join(counters(case, earlier, places))}"
 
 
 def counters(case, earlier, places):

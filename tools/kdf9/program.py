@@ -8,12 +8,12 @@ from typing import NamedTuple
 
 ROOT = pathlib.Path(__file__).resolve().parents[2]
 
-# A text has one character for each of its bytes, so that offsets in it are those that the program tells.
+# A text has one character for each of its bytes, so that offsets in it are those that the program reports.
 ENCODING = "latin-1"
 
 
 class BadInput(Exception):
-    """What was handed in is of no use to the tool; its text is the one line that says where and why."""
+    """The tool can't use its input; the text of this exception is the one line that says where and why."""
 
 
 class Answer(NamedTuple):
@@ -24,8 +24,8 @@ class Answer(NamedTuple):
 
 
 def begin(main, usage):
-    """Runs `main` on the words behind the tool's name and ends by the status that it gives; bad input is one line and status 1. Nothing is
-    collected meanwhile: of a large text there are millions of small things, which all stay.
+    """Runs `main` on the arguments of the tool and ends with its status; bad input gives one line and status 1. The garbage collector is
+    off: a large text becomes millions of small objects, which are all needed to the end.
     """
     gc.disable()
     sys.exit(ended(main, usage))
@@ -54,11 +54,11 @@ def ended(main, usage):
 
 
 class BadWords(Exception):
-    """The words behind the tool's name aren't those that it takes."""
+    """The tool doesn't take these arguments."""
 
 
 def drop_output():
-    """Lets what isn't written yet go nowhere, since writing it failed already."""
+    """Discards what isn't written yet, because writing has already failed."""
     os.dup2(os.open(os.devnull, os.O_WRONLY), 1)
 
 
@@ -72,7 +72,7 @@ def read_text(name):
 
 
 def ask(words, job):
-    """What the program answers to these words and this job: the one that the variable KDF9 names, or else that of this folder."""
+    """What the program answers to these arguments and this job. It is the program that the variable KDF9 names, or the one of this folder."""
     name = os.environ.get("KDF9") or str(ROOT / "kdf9")
     try:
         done = subprocess.run([name, *words], input=job.encode(ENCODING), stdout=subprocess.PIPE, check=False)
@@ -90,7 +90,7 @@ def answer_to(words, job):
 
 
 def number(word, least, most):
-    """The number that a word of the command spells, from `least` to `most`."""
+    """The number that an argument is, from `least` to `most`."""
     if not (word.isascii() and word.isdigit() and least <= int(word) <= most):
         raise BadWords
     return int(word)

@@ -8,7 +8,7 @@ from kdf9.program import BadInput
 HEADERS = re.compile(r"KDF9 (REPORT 1|ALONE [0-3])\Z")
 OCTAL = re.compile(r"[0-7]{16}\Z")
 
-# What stands after the first word of an entry, by names; the last of FAIL and WAIT is a name.
+# The fields after the first word of an entry, by name; the last one of FAIL and WAIT is a name.
 ENTRIES = {
     "RAN": ("slot", "orders"), "START": ("slot", "device", "order"), "ANSWER": ("slot", "answer"), "FAIL": ("slot", "kind"), "ENDED": ("slot",),
     "LOV": ("slot", "group"), "BUSY": ("slot", "device"), "WAIT": ("slot", "kind"), "IDLE": ("calls",), "MOVE": ("device", "words"),
@@ -55,7 +55,7 @@ class Reader:
         return self.at < len(self.lines) and self.lines[self.at].partition(" ")[0] in words
 
     def take(self, word):
-        """What stands after its first word, which is this, in the next line."""
+        """The rest of the next line, which has to begin with this word."""
         self.last = self.at
         first, _, rest = self.lines[self.at].partition(" ")
         if first != word:
@@ -64,7 +64,7 @@ class Reader:
         return rest
 
     def all(self, word):
-        """What stands after this first word in all lines that follow and have it."""
+        """The rest of each of the next lines that begin with this word."""
         while self.next_is(word):
             yield self.take(word)
 
@@ -163,11 +163,12 @@ def lines_of_section(section):
 
 
 def parts_of_json(record):
-    """The JSON of a record, piece by piece, an entry or a section a line."""
-    yield f'{{"text": {json.dumps(record["text"])},\n"journal": ['
+    """The JSON of a record, piece by piece, with an entry or a section on each line."""
+    encode = json.JSONEncoder().encode
+    yield f'{{"text": {encode(record["text"])},\n"journal": ['
     for name, separator in (("journal", '],\n"slots": ['), ("slots", "]}\n")):
         for at, part in enumerate(record[name]):
-            yield (",\n" if at else "\n") + json.dumps(part)
+            yield (",\n" if at else "\n") + encode(part)
         yield separator
 
 
@@ -175,7 +176,7 @@ def read_report(text, name):
     """The record of a report of which `name` says whose text it is."""
     reader = Reader(read_lines(text))
     if not HEADERS.match("".join(reader.lines[:1])):
-        raise BadInput(f"{name}:1: this is no report: its first line isn't KDF9 REPORT 1 or KDF9 ALONE K")
+        raise BadInput(f"{name}:1: this isn't a report: its first line isn't KDF9 REPORT 1 or KDF9 ALONE K")
     try:
         record = record_of_report(reader)
         fault = first_difference(reader.lines, lines_of_report(record))
@@ -198,12 +199,12 @@ def read_json(text, name):
         record = json.loads(text)
     except (ValueError, RecursionError) as why:
         place = f"{name}:{why.lineno}:{why.colno}" if isinstance(why, json.JSONDecodeError) else name
-        raise BadInput(f"{place}: this is no JSON") from why
+        raise BadInput(f"{place}: this isn't JSON") from why
     try:
         lines = list(lines_of_report(record))
         same = all("\n" not in line for line in lines) and record_of_report(Reader(lines)) == record
     except (AttributeError, IndexError, KeyError, TypeError, ValueError) as why:
-        raise BadInput(f"{name}: this JSON is no report: {why if isinstance(why, KeyError) else 'a part has another form'}") from why
+        raise BadInput(f"{name}: this JSON isn't a report: {f'{why} is missing or unknown' if isinstance(why, KeyError) else 'a part has the wrong form'}") from why
     if not same or not HEADERS.match(lines[0]):
-        raise BadInput(f"{name}: this JSON is no report: a part has another value than a report can have")
+        raise BadInput(f"{name}: this JSON isn't a report: a part has a value that a report can't have")
     return lines

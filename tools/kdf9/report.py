@@ -1,10 +1,10 @@
-"""The texts that tell what programs came to: the report of a run, and the text of a program that ran alone."""
+"""The texts that say what programs came to: the report of a run, and the output for a program that ran alone."""
 from typing import NamedTuple
 
 from kdf9.job import read_lines
 from kdf9.program import BadInput
 
-# The entries of a journal, and how many words stand behind each.
+# The entries of a journal, and how many fields each of them has after its first word.
 ENTRIES = {
     "RAN": 2, "START": 3, "ANSWER": 2, "FAIL": 2, "ENDED": 1, "LOV": 2, "BUSY": 2, "IDLE": 1,
     "MOVE": 2, "END": 1, "CLOCK": 1, "SWAP": 2, "TAKE": 2, "GIVE": 2, "WAIT": 2,
@@ -18,7 +18,7 @@ LONGEST_ENTRY = 40
 
 SLOTS = ["0", "1", "2", "3"]
 
-# What the program writes in place of a report, by its first word, and the status that it has then.
+# The first word of what the program writes instead of a report, and the status that goes with it.
 STATUSES = {"USAGE": 1, "JOB": 2, "DECK": 3, "LARGE": 4}
 
 
@@ -32,7 +32,7 @@ class Device(NamedTuple):
 
 
 class Section:
-    """What a report tells of one program. The words of its store are numbers by their addresses, the Q-stores triples by theirs."""
+    """What a report says of one program. The words of its store are numbers by address, the Q-stores are triples by number."""
 
     def __init__(self, number):
         self.number = number
@@ -94,7 +94,7 @@ READERS = {
 
 
 def status_of_fault(text):
-    """The status with which the program wrote this text in place of a report, or 0 where it is no such line."""
+    """The status with which the program wrote this line instead of a report, or 0 if it isn't such a line."""
     word = text.partition(" ")[0]
     return STATUSES.get(word, 0) if text.count("\n") == 1 and len(text) <= LONGEST_ENTRY * 2 else 0
 
@@ -107,7 +107,7 @@ class Report(NamedTuple):
 
 
 def read_report(text, name):
-    """The report that this text is; `name` says whose text it is where it is none."""
+    """The report that this text is. If it isn't one, the message begins with `name`."""
     return read(text, name, "KDF9 REPORT 1")
 
 
@@ -128,13 +128,13 @@ def read(text, name, header):
     """The report, or a text of its form, which begins with the line `header`."""
     lines = read_lines(text)
     if lines[:1] != [header]:
-        raise BadInput(f"{name}:1: this is no report: its first line isn't {header}")
+        raise BadInput(f"{name}:1: this isn't a report: its first line isn't {header}")
     sections_from = next((at for at, line in enumerate(lines) if line.startswith(("SLOT ", "ENDREPORT"))), len(lines))
     return Report(read_entries(lines[1:sections_from], name), read_sections(lines, sections_from, name))
 
 
 def read_entries(lines, name):
-    """The entries of a journal, which stand in the lines from the second of a report on. Many are alike, and each is read once."""
+    """The entries of a journal, which begin in the second line of a report. Many are alike, and each text is read only once."""
     entries, known = [], {}
     for at, line in enumerate(lines, 2):
         entry = known.get(line)
@@ -145,18 +145,18 @@ def read_entries(lines, name):
 
 
 def read_entry(line, at, name):
-    """An entry of a journal: its first word and what stands behind it."""
+    """An entry of a journal: its first word and its other fields."""
     word, *rest = line.split(" ")
     if ENTRIES.get(word) == len(rest) and len(line) <= LONGEST_ENTRY:
         if "".join(rest).isdecimal() and "" not in rest:
             return (word, *map(int, rest))
         if word in NAMING and rest[0].isdecimal():
             return word, int(rest[0]), rest[1]
-    raise BadInput(f"{name}:{at}: this is no entry of a journal: {line[:60]}")
+    raise BadInput(f"{name}:{at}: this isn't an entry of a journal: {line[:60]}")
 
 
 def read_sections(lines, start, name):
-    """The sections that stand from this line on, up to the last line of the report."""
+    """The sections from this line on, up to the last line of the report."""
     sections = {}
     section = None
     for at in range(start, len(lines)):
@@ -170,12 +170,12 @@ def read_sections(lines, start, name):
             else:
                 section.add(word, rest)
         except (AttributeError, IndexError, KeyError, ValueError) as why:
-            raise BadInput(f"{name}:{at + 1}: this is no line of a report: {line[:60]}") from why
+            raise BadInput(f"{name}:{at + 1}: this isn't a line of a report: {line[:60]}") from why
     raise BadInput(f"{name}:{len(lines)}: the report ends without ENDREPORT")
 
 
 def checked(sections, line, name):
-    """The sections, each of which has to tell the life of its program."""
+    """The sections, each of which has to have a line STATE."""
     for section in sections.values():
         if not section.state:
             raise BadInput(f"{name}:{line}: slot {section.number} has no line STATE")

@@ -2,7 +2,7 @@
 from kdf9.journal import RAN, READY, Held, in_order
 from kdf9.words import count
 
-# Beginnings of transfers are drawn for a device that has no more of them than this; of more MOVEs the signs are small.
+# The beginnings of transfers are drawn only for a device that has no more of them than this; if there are more MOVEs, their signs are small.
 MOST_SIGNS = 100
 
 
@@ -12,7 +12,7 @@ def name_of_device(chart, number):
 
 
 def reasons(chart, calls):
-    """By what a program was held up in so many calls each, in words, most first."""
+    """What held a program up, and for how many calls, in words, most calls first."""
     held = [(number, reason) for reason, number in calls.items() if isinstance(reason, Held)]
     for number, reason in sorted(held, key=lambda one: -one[0]):
         yield f"held up for {count(number, 'call')} by {said_of_hold(chart, reason)}"
@@ -37,7 +37,7 @@ def said_of_slot(chart, calls):
     said = [f"obeyed {count(calls[RAN], 'order')}"] if calls[RAN] else []
     said += reasons(chart, calls)
     if calls[READY]:
-        said.append(f"could go on for {count(calls[READY], 'call')}, while another ran")
+        said.append(f"ready for {count(calls[READY], 'call')} while another ran")
     return "; ".join(said)
 
 
@@ -60,8 +60,8 @@ def said_of_exchanges(chart, exchanges):
     first, last = exchanges[0], exchanges[-1]
     said = f"SWAP {first.slots[0]} {first.slots[1]}"
     if len(exchanges) > 1:
-        said += f" and so on up to SWAP {last.slots[0]} {last.slots[1]}"
-    return f"{said}; priorities, the highest first: {in_order(last.after, chart.sections)}"
+        said += f" to SWAP {last.slots[0]} {last.slots[1]}"
+    return f"{said}; priorities, highest first: {in_order(last.after, chart.sections)}"
 
 
 def exchanges_in_all(chart):
@@ -90,4 +90,4 @@ def state_of(section):
 def title_of(chart):
     """The run in one line."""
     transfers = sum(chart.transfers.values())
-    return f"{count(chart.total, 'call')}, {count(chart.idle.total()['idle'], 'call')} of them idle; {count(transfers, 'transfer')}"
+    return f"{count(chart.total, 'call')}, {chart.idle.total()['idle']} of them idle; {count(transfers, 'transfer')}"

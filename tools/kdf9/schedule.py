@@ -1,4 +1,4 @@
-"""The schedule of a job over time: which of its lines stands after how many calls; and the same job with another schedule."""
+"""The schedule of a job over time: how many calls come before each of its lines; and the same job with another schedule."""
 from typing import NamedTuple
 
 from kdf9.job import job_text
@@ -14,7 +14,7 @@ class Event(NamedTuple):
 
 
 class Schedule(NamedTuple):
-    """So many calls, and the events between them, in order."""
+    """A number of calls, and the events between them, in sequence."""
 
     calls: int
     events: list
@@ -37,7 +37,7 @@ def read_schedule(lines):
 
 
 def lines_of_schedule(schedule):
-    """The lines of a schedule, which stand between SCHEDULE and ENDJOB."""
+    """The lines of a schedule, which come between SCHEDULE and ENDJOB."""
     lines, calls = [], 0
     for event in schedule.events:
         if event.calls > calls:
@@ -50,12 +50,12 @@ def lines_of_schedule(schedule):
 
 
 def cut(schedule, calls):
-    """The schedule up to this call: what stands after it is left out."""
+    """The schedule up to this call, without anything after it."""
     return Schedule(calls, [event for event in schedule.events if event.calls < calls])
 
 
 def cut_before_next(schedule, calls):
-    """The schedule up to what stands between this call and the next."""
+    """The schedule up to this call, and the events before the next call."""
     return Schedule(calls, [event for event in schedule.events if event.calls <= calls])
 
 

@@ -11,7 +11,7 @@ def timed(entries):
 
 
 def call_of_order(entries, slot, order):
-    """The call with which the program of a slot obeyed this order of its own; 0 for order 0. It has to have obeyed so many."""
+    """The call at which the program of a slot obeyed this order of its own; 0 for order 0. It has to have obeyed that many."""
     obeyed = 0
     for calls, entry in timed(entries):
         if obeyed >= order:

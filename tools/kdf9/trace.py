@@ -1,11 +1,11 @@
-"""The orders of one program as it ran beside others: the call of each, what was between it and the one before, and the transfers meanwhile."""
+"""The orders of one program as it ran under Director: the call of each, what happened since the one before, and the transfers at that time."""
 from collections import Counter
 from typing import NamedTuple
 
 from kdf9.timeline import timed
 from kdf9.words import count
 
-# What may hold up a program, and the lines of a schedule, of which so many are told between two orders.
+# What may hold a program up, and how many lines of the schedule are shown between two orders.
 HOLDS = {"BUSY": "device", "LOV": "group", "WAIT": "the pool's want of a"}
 SCHEDULED = ("MOVE", "END", "CLOCK", "SWAP")
 MOST_SCHEDULED = 8
@@ -53,7 +53,7 @@ class Trace:
             self._flying.discard(numbers[0])
 
     def _ran(self, calls, orders):
-        """Takes so many orders, of which those that aren't asked for are only counted."""
+        """Takes this number of orders; those that aren't asked for are only counted."""
         first = max(self._orders.start, self._obeyed + 1)
         for order in range(first, min(self._orders.stop, self._obeyed + orders + 1)):
             between = self.rest if order == self._obeyed + 1 else []

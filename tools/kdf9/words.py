@@ -2,7 +2,7 @@
 
 
 def count(number, what):
-    """So many of something, in words."""
+    """A number of something, in words."""
     return f"{number} {what}" + ("" if number == 1 else "s")
 
 
