@@ -33,7 +33,7 @@ use Rattle.kdf_director.specs.Taken.{HasTaken}
 use Rattle.kdf_director.specs.World.{need_of}
 use Rattle.kdf_director.proofs.Calls.{moves-took}
 use Rattle.kdf_director.proofs.Entering.{map_twice}
-use Rattle.kdf_director.proofs.NextPrograms.{any_same, few_ran, is_next, near_holds, none_next}
+use Rattle.kdf_director.proofs.NextPrograms.{any_same, few_ran, is_next, near_holds, none_next, of_four}
 use Rattle.kdf_director.proofs.Taking.{HasAdvanced, all_ended, holds_in, taken, waited}
 use Rattle.kdf_director.proofs.Turned.{if_ok, on_either, on_err}
 
@@ -75,6 +75,10 @@ module _ (slots : List Loaded) (windows : List Window) (store : Cells) (programs
 
   pub near : AreNearHolds rs (holds_of programs)
   near = near_holds xs rs ps s J ready.agrees (holds_of programs) have
+
+  -- their slots are of the four
+  pub fours : (i : ℕ) → i < length programs → (seat_at ps i).p < 4
+  fours i lt = of_four xs rs ps s J ready.agrees i (omega (arith, length-map programs seat_of))
 
   -- what is found over the same programs and places
   pub found : (r o : Option ℕ) (others : List Program) (left : List Place) → others ≡ programs → left ≡ places → (order : List ℕ) → order ≡ priorities J → r ≡ first_going rs (seats_in others) (holds_of others) (shared_in store left) order → r ≡ o → first_going rs ps (holds_of programs) s (priorities J) ≡ o

@@ -75,3 +75,5 @@ pub mod NextPrograms
 pub mod Taking
 pub mod Calling
 pub mod Calls
+pub mod Living
+pub mod InOrder

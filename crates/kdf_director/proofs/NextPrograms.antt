@@ -100,6 +100,12 @@ module _ (slots : List Slot) (reaches : List Reach) (seats : List Seat) (s : Sha
       let small = a.four i no_slot inside in
       omega (arith, p_at i within, slot_at i within)
 
+  pub of_four : (i : ℕ) → i < length seats → p i < 4
+  of_four i lt =
+      let e = many in
+      let small = four i (omega arith) in
+      omega (arith, small, p_at i lt)
+
   -- a slot is some program's
   has_program : (k : ℕ) → is_some (slot_of slots k) ≡ true → (i : ℕ) × (i < length ps) × (get_or ps i 0 ≡ k)
   has_program k is =

@@ -1,9 +1,8 @@
 -- One program of all, and its slot.
 use Rattle.std.specs.Prelude.{find}
 use Rattle.std.specs.List.{range_with_len}
-use Rattle.std.proofs.Common.{◌≡◌, refl, ℕ, zero, suc, ◌+◌, ◌-◌, ◌<◌, Bool, true, false, eqb, Some, List, [], ◌∷◌, cond, length, map, get_or, set, Option, None, sym, ap, ap₂, ◌∙◌, subst, arith}
+use Rattle.std.proofs.Common.{◌≡◌, ℕ, ◌-◌, ◌<◌, eqb, List, [], length, map, get_or, set, Option, None, sym, ap, ap₂, ◌∙◌, subst, arith}
 use Rattle.std.proofs.Math.Seq.{map-set_same}
-use Rattle.std.proofs.lemmas.Bool.{eq-eqb, ne_eqb}
 use Rattle.std.proofs.lemmas.List.{map-set, get_or-map, length-map}
 use Rattle.kdf_relocate.specs.declared.window.Window.{Window}
 use Rattle.kdf_journal.specs.declared.entry.Entry.{Entry}
@@ -15,13 +14,11 @@ use Rattle.kdf_director.specs.declared.machine.Progress.{Progress}
 use Rattle.kdf_director.specs.declared.note.Note.{Note}
 use Rattle.kdf_director.specs.declared.program.Program.{Program}
 use Rattle.kdf_director.specs.declared.slot.Loaded.{Loaded}
-use Rattle.kdf_director.specs.Going.{place_of, first_going, goes, goes_at, hold_at, if_goes, or_else, AreNearHolds, IsNearHold}
+use Rattle.kdf_director.specs.Going.{place_of, goes, goes_at, hold_at, AreNearHolds, IsNearHold}
 use Rattle.kdf_director.specs.Parts.{Reach, Seat, Shared, reach_of, seat_of, window_at}
-use Rattle.kdf_director.specs.Running.{no_seat, seat_at, reach_at, reaches_in, seats_in, AreNumbered, IsRunning}
+use Rattle.kdf_director.specs.Running.{no_seat, seat_at, reach_at, reaches_in, seats_in, IsRunning}
 use Rattle.kdf_director.specs.Taken.{HasTaken, hold_left, progress_of, step_told}
 use Rattle.kdf_director.specs.Turned.{HasRun, HasTurned}
-use Rattle.kdf_processor.proofs.Finding.{found_behind, found_here}
-use Rattle.kdf_director.proofs.Firsts.{found_first}
 use Rattle.kdf_director.proofs.Turned.{turned, turned_running}
 
 abbrev no_reach : Reach
@@ -111,46 +108,3 @@ unfolding place_of
 place_first programs p =
     let count : length (seats_in programs) ≡ length programs - 0 = omega (arith, length-map programs seat_of) in
     ap (λ n. find (λ i. eqb (seat_at (seats_in programs) i).p p) (range_with_len 0 n)) count
-
--- the program that is found is one of them
-pub place_within : (programs : List Program) (p i : ℕ) → place_of (seats_in programs) p ≡ Some i → i < length programs
-unfolding place_of
-place_within programs p i is =
-    let first = found_first (λ j. eqb (seat_at (seats_in programs) j).p p) 0 (length (seats_in programs)) i is in
-    omega (arith, first.high, length-map programs seat_of)
-
--- a number that passes, where none below it does
-module _ (p : ℕ → Bool) (h end : ℕ) (below : h < end) (is : p h ≡ true) (not : (i : ℕ) → i < h → p i ≡ false) where
-  found_from : (k a : ℕ) → a + k ≡ h → find p (range_with_len a (end - a)) ≡ Some h
-  found_from zero a e =
-      let here : a ≡ h = omega (arith, e) in
-      found_here p a end (omega (arith, e, below)) (ap p here ∙ is) ∙ ap Some here
-  found_from (suc k) a e =
-      found_behind p a end (omega (arith, e, below)) (not a (omega (arith, e)))
-      ∙ found_from k (a + 1) (omega (arith, e))
-
--- a program whose place is the number of its slot
-pub place_own : (programs : List Program) (p : ℕ) → AreNumbered (seats_in programs) → p < length programs → (program : Program) → program ≡ get_or programs p program → program.p ≡ p → place_of (seats_in programs) p ≡ Some p
-place_own programs p numbered below program at same =
-    let seats = seats_in programs in
-    let there : p < length seats = omega (arith, below, length-map programs seat_of) in
-    let own : (seat_at seats p).p ≡ p = number_at programs p below program at ∙ same in
-    place_first programs p
-    ∙ found_from (λ i. eqb (seat_at seats i).p p) p (length programs) below (eq-eqb (seat_at seats p).p p own)
-    (λ i lt. ne_eqb (seat_at seats i).p p (λ e. let less = numbered i p lt there in omega (arith, less, own, e)))
-    p 0 (omega arith)
-
--- one program alone that doesn't go on
-pub lone_held : (reaches : List Reach) (programs : List Program) (holds : List (Option Need)) (s : Shared) → length programs ≡ 1 → goes_at reaches (seats_in programs) holds s 0 ≡ false → (ps : List ℕ) → first_going reaches (seats_in programs) holds s ps ≡ None
-lone_held reaches programs holds s one held = none
-  where
-    at_place : (p : ℕ) (o : Option ℕ) → place_of (seats_in programs) p ≡ o → if_goes reaches (seats_in programs) holds s o ≡ None
-    at_place p None e = refl
-    at_place p (Some i) e =
-        let first : i ≡ 0 = omega (arith, one, place_within programs p i e) in
-        ap (λ b. cond b (Some i) None) (ap (goes_at reaches (seats_in programs) holds s) first ∙ held)
-
-    none : (ps : List ℕ) → first_going reaches (seats_in programs) holds s ps ≡ None
-    none [] = refl
-    none (p ∷ ps) =
-        ap (λ o. or_else o (first_going reaches (seats_in programs) holds s ps)) (at_place p (place_of (seats_in programs) p) refl) ∙ none ps

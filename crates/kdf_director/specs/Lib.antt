@@ -35,3 +35,4 @@ pub mod Viewed
 pub mod Fields
 pub mod ByNumber
 pub mod Holders
+pub mod Progressed

@@ -1,11 +1,12 @@
 //! Which program is next: of those that are live and aren't held up still, the one of the highest priority.
-ghost use Rattle.std.specs.Prelude.{◌≡◌, ◌+◌, ◌*◌, ◌/◌, ◌%◌, ◌<◌, ◌≤◌, IfSome, length, map};
+ghost use Rattle.std.specs.Prelude.{◌≡◌, ℕ, ◌+◌, ◌*◌, ◌/◌, ◌%◌, ◌<◌, ◌≤◌, IfSome, length, map, true};
+ghost use Rattle.kdf_journal.specs.Counts.{slot_numbers};
 ghost use Rattle.kdf_lockout.specs.Groups.{is_out};
 ghost use Rattle.kdf_processor.specs.Lone.{is_live};
 ghost use Rattle.kdf_director.specs.declared.program.Program.{Program};
 ghost use Rattle.kdf_director.specs.Going.{any_on, first_going, goes, goes_at, if_goes, is_stopped, place_of, AreNearHolds, IsNearHold};
 ghost use Rattle.kdf_director.specs.Parts.{reach_of, seat_of, shared_in, window_at};
-ghost use Rattle.kdf_director.specs.Running.{reaches_in, seats_in, AreNumbered, IsRunning};
+ghost use Rattle.kdf_director.specs.Running.{reaches_in, seat_at, seats_in, IsRunning};
 ghost use Rattle.kdf_director.specs.Shared.{is_busy_in};
 
 use crate::dispatch::window_of;
@@ -46,17 +47,31 @@ fn is_busy_at(store: &Store, places: &[Place], d: u8) -> bool
     }
 }
 
+/// The place of the first word of a group of a window.
+fn place_in(window: Window, group: u16) -> usize
+    ensures { result ≡ window.base + 32 * group }
+{
+    window.base as usize + 32 * usize::from(group)
+}
+
 /// Whether what held a program is pending still.
 #[tactic(auto, unfolding(crate::specs::Shared::is_pool_taken))]
-fn is_stopped(window: Window, store: &Store, places: &[Place], hold: Option<Need>) -> bool
-    requires near { IsNearHold window.size hold }
-    requires at_group { window.base % 32 ≡ 0 }
-    requires in_store { window.base + window.size ≤ 32 * length store.now }
-    ensures { result ≡ is_stopped window.base (shared_in store.now places.now) hold }
+fn is_stopped(
+    windows: &[Window; 4],
+    p: u8,
+    store: &Store,
+    places: &[Place],
+    hold: Option<Need>,
+) -> bool
+    requires near { IsNearHold (window_at windows.now p).size hold }
+    requires at_group { (window_at windows.now p).base % 32 ≡ 0 }
+    requires in_store { (window_at windows.now p).base + (window_at windows.now p).size
+        ≤ 32 * length store.now }
+    ensures { result ≡ is_stopped (window_at windows.now p).base (shared_in store.now places.now) hold }
 {
     match hold {
         None => false,
-        Some(Need::Group(g)) => { is_out_at(store, window.base as usize + 32 * usize::from(g)) }
+        Some(Need::Group(g)) => is_out_at(store, place_in(window_of(windows, p), g)),
         Some(Need::Device(d)) => is_busy_at(store, places, d),
         Some(Need::Pool(_)) => true,
     }
@@ -78,12 +93,11 @@ fn goes(
     ensures { result ≡ goes (seat_of program.now) (reach_of windows.now slot.now)
         (shared_in store.now places.now) program.now.hold }
 {
-    is_on(program.registers.state)
-        && !is_stopped(window_of(windows, slot.p), store, places, program.hold)
+    is_on(program.registers.state) && !is_stopped(windows, slot.p, store, places, program.hold)
 }
 
-/// Which of the programs is in this slot, found by looking at one after the other.
-fn search(programs: &[Program], p: u8) -> Option<usize>
+/// Which of the programs is in this slot.
+fn place_of(programs: &[Program], p: u8) -> Option<usize>
     ensures result { result ≡ place_of (seats_in programs.now) p }
     ensures there { IfSome result (λ i. i < length programs.now) }
 {
@@ -93,19 +107,6 @@ fn search(programs: &[Program], p: u8) -> Option<usize>
         }
     }
     None
-}
-
-/// Which of the programs is in this slot. Where no slot before it is absent, its number is its place, so that is tried first.
-#[inline(always)]
-fn place_of(programs: &[Program], p: u8) -> Option<usize>
-    requires numbered { AreNumbered (seats_in programs.now) }
-    ensures result { result ≡ place_of (seats_in programs.now) p }
-    ensures there { IfSome result (λ i. i < length programs.now) }
-{
-    match programs.get(usize::from(p)) {
-        Some(program) if program.p == p => Some(usize::from(p)),
-        _ => search(programs, p),
-    }
 }
 
 /// Whether the program at this place is live, and isn't held up still.
@@ -130,9 +131,42 @@ fn goes_at(
     goes(windows, &slots[i], &programs[i], store, places)
 }
 
-/// The program that is next, if one is. Where a program that is there alone doesn't go on, the other slots aren't looked for.
+/// Whether the slots have the priorities that they have before any exchange.
 #[inline(always)]
-pub(crate) fn next_of(
+fn are_first(priorities: &[u8; 4]) -> bool
+    ensures { result ≡ true → priorities.now ≡ slot_numbers }
+{
+    matches!(priorities, [0, 1, 2, 3])
+}
+
+/// The program that is next, if one is, before any exchange of priorities: the programs stand in the order of their slots.
+#[inline(always)]
+fn first_of_all(
+    windows: &[Window; 4],
+    slots: &[Loaded],
+    programs: &[Program],
+    store: &Store,
+    places: &[Place],
+) -> Option<usize>
+    requires slots { length slots.now ≡ length programs.now }
+    requires running { IsRunning (reaches_in windows.now slots.now) (seats_in programs.now)
+        (shared_in store.now places.now) }
+    requires near { AreNearHolds (reaches_in windows.now slots.now)
+        (map (λ (x : Program). x.hold) programs.now) }
+    requires four { (i : ℕ) → i < length programs.now → (seat_at (seats_in programs.now) i).p < 4 }
+    ensures { result ≡ first_going (reaches_in windows.now slots.now) (seats_in programs.now)
+        (map (λ (x : Program). x.hold) programs.now) (shared_in store.now places.now) slot_numbers }
+{
+    for i in 0..programs.len() {
+        if goes_at(windows, slots, programs, store, places, i) {
+            return Some(i);
+        }
+    }
+    None
+}
+
+/// The program that is next, if one is, by these priorities.
+fn first_by(
     windows: &[Window; 4],
     slots: &[Loaded],
     programs: &[Program],
@@ -154,12 +188,36 @@ pub(crate) fn next_of(
             if goes_at(windows, slots, programs, store, places, i) {
                 return Some(i);
             }
-            if programs.len() == 1 {
-                return None;
-            }
         }
     }
     None
+}
+
+/// The program that is next, if one is.
+#[inline(always)]
+pub(crate) fn next_of(
+    windows: &[Window; 4],
+    slots: &[Loaded],
+    programs: &[Program],
+    store: &Store,
+    places: &[Place],
+    priorities: &[u8; 4],
+) -> Option<usize>
+    requires slots { length slots.now ≡ length programs.now }
+    requires running { IsRunning (reaches_in windows.now slots.now) (seats_in programs.now)
+        (shared_in store.now places.now) }
+    requires near { AreNearHolds (reaches_in windows.now slots.now)
+        (map (λ (x : Program). x.hold) programs.now) }
+    requires four { (i : ℕ) → i < length programs.now → (seat_at (seats_in programs.now) i).p < 4 }
+    ensures { result ≡ first_going (reaches_in windows.now slots.now) (seats_in programs.now)
+        (map (λ (x : Program). x.hold) programs.now) (shared_in store.now places.now)
+        priorities.now }
+{
+    if are_first(priorities) {
+        first_of_all(windows, slots, programs, store, places)
+    } else {
+        first_by(windows, slots, programs, store, places, priorities)
+    }
 }
 
 /// Whether a program is live.

@@ -9,9 +9,10 @@ ghost use Rattle.kdf_course.specs.Follows.{Reaches};
 ghost use Rattle.kdf_director.specs.Follows.{IsJournal, IsRising, entries_in, time_behind};
 ghost use Rattle.kdf_director.specs.Legal.{IsLegal, IsTrue};
 ghost use Rattle.kdf_director.specs.Next.{any_live, lone_dispatched};
+ghost use Rattle.kdf_director.specs.Progressed.{found_live};
 ghost use Rattle.kdf_director.specs.Shown.{ShowsSeen};
 
-use crate::Machine;
+use crate::{Machine, Progress};
 use kdf_journal::CALL_LIMIT;
 use kdf_schedule::Event;
 use std::alloc::AllocError;
@@ -103,7 +104,22 @@ fn make_calls(machine: &mut Machine, event: Event) -> Result<(), AllocError>
     Ok(())
 }
 
-/// So many orders, or fewer where no program is live any more.
+/// Whether a call found a program that is live.
+#[inline(always)]
+fn found_live(progress: Progress) -> bool
+    ensures { result ≡ found_live progress }
+{
+    match progress {
+        Progress::Ran(_) => true,
+        Progress::Held(_, _) => true,
+        Progress::Idle => true,
+        Progress::AllEnded => false,
+    }
+}
+
+/// So many orders, or fewer where no program is live any more. Its loop stays apart from its caller, whose values would be moved
+/// out of its way at each order.
+#[inline(never)]
 fn obey_orders(machine: &mut Machine, n: u32) -> Result<(), AllocError>
     requires { calls machine.old.journal + n ≤ CALL_LIMIT }
     ensures steps { OnOk result (Reaches (lone_dispatched machine.old.slots)
@@ -114,10 +130,11 @@ fn obey_orders(machine: &mut Machine, n: u32) -> Result<(), AllocError>
     ensures slots { machine.new.slots ≡ machine.old.slots }
 {
     for _i in 0..n {
-        if !machine.is_any_live() {
+        let _journal = machine.journal();
+        let progress = machine.order()?;
+        if !found_live(progress) {
             return Ok(());
         }
-        machine.order()?;
     }
     Ok(())
 }

@@ -1,5 +1,5 @@
 use Rattle.std.specs.Prelude.{IfOk}
-use Rattle.std.proofs.Common.{◌≡◌, List, cond, Some, None, refl, sym, ap, ◌∙◌, subst, arith}
+use Rattle.std.proofs.Common.{◌≡◌, ℕ, ◌<◌, List, length, cond, Some, None, refl, sym, ap, ◌∙◌, subst, arith}
 use Rattle.kdf_journal.specs.declared.entry.Entry.{Entry}
 use Rattle.kdf_journal.specs.Counts.{priorities}
 use Rattle.kdf_journal.specs.Recorded.{Recorded}
@@ -8,9 +8,9 @@ use Rattle.kdf_director.specs.declared.machine.Progress.TheVariants.{AllEnded, I
 use Rattle.kdf_director.specs.declared.program.Program.{Program}
 use Rattle.kdf_director.specs.Going.{any_on, AreNearHolds}
 use Rattle.kdf_director.specs.Parts.{shared_in}
-use Rattle.kdf_director.specs.Running.{reaches_in, seats_in}
+use Rattle.kdf_director.specs.Running.{reaches_in, seat_at, seats_in}
 use Rattle.kdf_director.specs.Taken.{HasTaken}
-use Rattle.kdf_director.proofs.Calling.{advance_turned, advance_waited, err_turned, found, holds_of, live, near, ran, ready_turned, ready_waited, there}
+use Rattle.kdf_director.proofs.Calling.{advance_turned, advance_waited, err_turned, found, fours, holds_of, live, near, ran, ready_turned, ready_waited, there}
 use Rattle.kdf_director.proofs.Turned.{on_err}
 use Rattle.kdf_director.proofs.advance.advance.Goals as goal
 
@@ -18,6 +18,11 @@ pub next_of-requires-clause-near : goal.next_of-requires-clause-near
 next_of-requires-clause-near c =
     subst (λ (xs : List Program). AreNearHolds (reaches_in c.args.windows.now c.args.slots.now) (holds_of xs)) (sym c.deref.ensures.value)
     (near c.args.slots.now c.args.windows.now c.args.store.now c.args.programs.now.items c.args.places.now.items c.args.journal.now.entries c.args.journal.now.spare c.args.room c.requires.ready)
+
+pub next_of-requires-clause-four : goal.next_of-requires-clause-four
+next_of-requires-clause-four c =
+    subst (λ (xs : List Program). (i : ℕ) → i < length xs → (seat_at (seats_in xs) i).p < 4) (sym c.deref.ensures.value)
+    (fours c.args.slots.now c.args.windows.now c.args.store.now c.args.programs.now.items c.args.places.now.items c.args.journal.now.entries c.args.journal.now.spare c.args.room c.requires.ready)
 
 pub take_turn-requires-clause-there : goal.take_turn-requires-clause-there
 take_turn-requires-clause-there c =

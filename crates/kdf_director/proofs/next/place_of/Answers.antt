@@ -1,14 +1,21 @@
-use Rattle.std.proofs.Common.{◌≡◌, ◌<◌, Some, get_or, sym, ap, length, ◌∙◌, subst}
-use Rattle.std.proofs.lemmas.Bool.{ltb-true}
-use Rattle.kdf_director.proofs.Programs.{place_own}
+use Rattle.std.proofs.Common.{eqb, length, sym, ap, ◌∙◌}
+use Rattle.std.proofs.lemmas.Bool.{eq-eqb, ne_eqb}
+use Rattle.kdf_processor.proofs.Finding.{found_behind, found_here}
+use Rattle.kdf_director.specs.Running.{seat_at, seats_in}
+use Rattle.kdf_director.proofs.Programs.{number_at, place_first}
 use Rattle.kdf_director.proofs.next.place_of.Goals as goal
 
-pub returns-in-Some-clause-result : goal.returns-in-Some-clause-result
-returns-in-Some-clause-result c =
-    let lookup = c.in-Some.ensures.lookup in
-    let programs = c.args.programs.now in
-    let program = c.in-Some.program.now in
-    let below : c.from.result < length programs = ltb-true c.from.result (length programs) (sym lookup.0) in
-    let there : program ≡ get_or programs c.from.result program = lookup.1 in
-    let own = place_own programs c.args.p c.requires.numbered (subst (λ i. i < length programs) c.from.ensures below) program (subst (λ i. program ≡ get_or programs i program) c.from.ensures there) c.if-program-p.true in
-    ap Some c.from-in-Some.ensures ∙ sym own
+pub loop-i-init : goal.loop-i-init
+loop-i-init c = place_first c.args.programs.now c.args.p
+
+pub returns-then-program-p-clause-result : goal.returns-then-program-p-clause-result
+returns-then-program-p-clause-result c =
+    sym (c.loop-i.invariant
+    ∙ found_here (λ i. eqb (seat_at (seats_in c.args.programs.now) i).p c.args.p) c.loop-i.i (length c.args.programs.now) c.loop-i-test.true
+    (ap (λ n. eqb n c.args.p) (number_at c.args.programs.now c.loop-i.i c.loop-i-test.true c.index-programs-i.result c.index-programs-i.is) ∙ eq-eqb c.index-programs-i.result.p c.args.p c.if-program-p.true))
+
+pub loop-i-preserved : goal.loop-i-preserved
+loop-i-preserved c =
+    c.loop-i.invariant
+    ∙ found_behind (λ i. eqb (seat_at (seats_in c.args.programs.now) i).p c.args.p) c.loop-i.i (length c.args.programs.now) c.loop-i-test.true
+    (ap (λ n. eqb n c.args.p) (number_at c.args.programs.now c.loop-i.i c.loop-i-test.true c.index-programs-i.result c.index-programs-i.is) ∙ ne_eqb c.index-programs-i.result.p c.args.p c.if-program-p.false)

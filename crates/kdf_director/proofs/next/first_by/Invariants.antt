@@ -3,7 +3,7 @@ use Rattle.kdf_director.specs.Going.{first_going}
 use Rattle.kdf_director.specs.Parts.{shared_in}
 use Rattle.kdf_director.specs.Running.{reaches_in, seats_in}
 use Rattle.kdf_director.specs.declared.program.Program.{Program}
-use Rattle.kdf_director.proofs.next.next_of.Given as goal
+use Rattle.kdf_director.proofs.next.first_by.Given as goal
 
 abbrev pub invariant-loop-p : goal.invariant-loop-p
 invariant-loop-p l =
