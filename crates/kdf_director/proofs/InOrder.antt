@@ -106,7 +106,7 @@ module _ (reaches : List Reach) (seats : List Seat) (holds : List (Option Need))
       ap (λ k. or_else (if_goes reaches seats holds s (Some k)) (first_going reaches seats holds s (range_with_len (a + 1) n))) x.0
       ∙ goes_or n a i x.1 (rest (i + 1)) (g i) refl
 
-  -- behind the last slot there is no program
+  -- after the last slot there is no program
   over : (a i : ℕ) → AreBefore a i → 4 ≤ a → end ≤ i
   over a i b le =
       ⊎_elim

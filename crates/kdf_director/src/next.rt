@@ -131,13 +131,12 @@ fn goes_at(
     goes(windows, &slots[i], &programs[i], store, places)
 }
 
-/// Whether the slots have the priorities that they have before any exchange. The four are compared at once, without a branch for each.
+/// Whether the slots have the priorities that they have before any exchange.
 #[inline(always)]
 fn are_first(priorities: &[u8; 4]) -> bool
     ensures { result ≡ true → priorities.now ≡ slot_numbers }
 {
-    let [first, second, third, fourth] = *priorities;
-    (first == 0) & (second == 1) & (third == 2) & (fourth == 3)
+    matches!(priorities, [0, 1, 2, 3])
 }
 
 /// The program that is next, if one is, before any exchange of priorities: the programs stand in the order of their slots.
