@@ -83,9 +83,9 @@ fn command_of_name(values: Values<'_>) -> Result<Option<Command>, AllocError>
 {
     match values.name {
         "run" => Ok(values.none()?.then_some(Command::Run)),
-        "alone" => Ok(values.one("K")?.and_then(slot).map(Command::Alone)),
-        "asm" => Ok(values.one("K")?.and_then(slot).map(Command::Asm)),
-        "make" => Ok(values.one("N")?.and_then(made).map(Command::Make)),
+        "alone" => Ok(values.one()?.and_then(slot).map(Command::Alone)),
+        "asm" => Ok(values.one()?.and_then(slot).map(Command::Asm)),
+        "make" => Ok(values.one()?.and_then(made).map(Command::Make)),
         _ => Ok(None),
     }
 }

@@ -8,6 +8,9 @@ use clap::error::ErrorKind;
 use clap::{Arg, ArgAction, ArgMatches, Command};
 use std::alloc::{AllocError, Global};
 
+/// What `clap` calls the value of a command.
+const VALUE: &str = "value";
+
 /// Whether a word begins with `-`.
 pub fn any_hyphen(words: &[String]) -> bool
     ensures { result ≡ any_hyphen (map string_bytes words.now) }
@@ -38,13 +41,13 @@ impl<'a> Values<'a> {
         Ok(parsed(bare(self.alloc, self.name), self.words)?.is_some())
     }
 
-    /// The value `id`, where it is the only one.
-    pub fn one(self, id: &'a str) -> Result<Option<&'a str>, AllocError>
+    /// The value, where it is the only one.
+    pub fn one(self) -> Result<Option<&'a str>, AllocError>
         ensures { IfOk result (λ value. option_map (λ v. v.now) value
             ≡ only (map string_bytes self.entry.words.now)) }
     {
-        match parsed(with_one(self.alloc, self.name, id)?, self.words)? {
-            Some(matches) => Ok(matches.get_str(id)),
+        match parsed(with_one(self.alloc, self.name, VALUE)?, self.words)? {
+            Some(matches) => Ok(matches.get_str(VALUE)),
             None => Ok(None),
         }
     }
