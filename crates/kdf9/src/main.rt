@@ -26,7 +26,10 @@ fn main(rt: HostRuntime) -> ExitCode {
 /// as no words at all.
 fn words(rt: &(impl Env + AllocGlobal)) -> Result<Vec<String>, AllocError> {
     match env::args(rt) {
-        Ok(args) => args.skip(1).collect(rt.alloc()),
+        Ok(mut args) => {
+            args.next();
+            args.collect(rt.alloc())
+        }
         Err(error) if error.kind() == ErrorKind::OutOfMemory => Err(AllocError),
         Err(_) => Ok(Vec::new(rt.alloc())),
     }
