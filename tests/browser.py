@@ -9,7 +9,10 @@ import tempfile
 import time
 
 PROGRAM = shutil.which("chromium") or shutil.which("chromium-browser") or shutil.which("google-chrome")
-WORDS = ["--headless", "--no-sandbox", "--disable-gpu", "--remote-debugging-pipe", "--no-first-run", "--disable-background-networking", "--disable-sync", "--hide-scrollbars"]
+WORDS = [
+    "--headless", "--no-sandbox", "--disable-gpu", "--remote-debugging-pipe", "--no-first-run", "--disable-background-networking", "--disable-sync",
+    "--hide-scrollbars",
+]
 PATIENCE = 120
 
 
@@ -33,7 +36,8 @@ class Browser:
         to_browser, from_browser = (self._raise(it) for it in high)
         words = ["nice", PROGRAM, *WORDS, f"--user-data-dir={self._folder}", "about:blank"]
         self._process = subprocess.Popen(
-            words, stdin=subprocess.DEVNULL, stdout=subprocess.DEVNULL, stderr=subprocess.DEVNULL, preexec_fn=take_pipes, pass_fds=(3, 4), env={**os.environ, "HOME": self._folder},
+            words, stdin=subprocess.DEVNULL, stdout=subprocess.DEVNULL, stderr=subprocess.DEVNULL, preexec_fn=take_pipes, pass_fds=(3, 4),
+            env={**os.environ, "HOME": self._folder},
         )
         os.close(to_browser)
         os.close(from_browser)
@@ -126,7 +130,8 @@ class Page:
     def press(self, key, code, modifiers=0, text=""):
         """Presses a key: its name, its number, and 2 for Ctrl."""
         for kind in ("keyDown", "keyUp"):
-            self.send("Input.dispatchKeyEvent", type=kind, key=key, windowsVirtualKeyCode=code, modifiers=modifiers, **({"text": text} if text and kind == "keyDown" else {}))
+            typed = {"text": text} if text and kind == "keyDown" else {}
+            self.send("Input.dispatchKeyEvent", type=kind, key=key, windowsVirtualKeyCode=code, modifiers=modifiers, **typed)
 
     def picture(self, path, whole=False, **clip):
         """Takes a picture of what is seen, of the whole page, or of a part of it."""

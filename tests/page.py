@@ -64,7 +64,8 @@ class Shown:
 
     def type_into(self, selector, text):
         """Puts a text into a control, as somebody does who writes it there."""
-        self.js(f"(() => {{ const it = document.querySelector({json.dumps(selector)}); it.focus(); it.value = {json.dumps(text)}; it.dispatchEvent(new Event('input')); }})()")
+        self.js(f"""(() => {{ const it = document.querySelector({json.dumps(selector)}); it.focus(); it.value = {json.dumps(text)};
+            it.dispatchEvent(new Event('input')); }})()""")
 
     def write_job(self, text):
         """Puts a text into the editor of the whole job."""
@@ -141,7 +142,8 @@ def faults_are_shown(shown):
     shown.type_into(".slot textarea", deck.replace("SET 7;", "ADD 7;"))
     shown.page.wait("document.querySelector('.fault') !== null")
     said = shown.js("document.querySelector('.fault').textContent")
-    yield "a fault while it is written", None if "Line 1, column 22: UnknownOrder: ADD 7." in said and "docs/USERCODE.md, fault 4" in said else said
+    is_said = "Line 1, column 22: UnknownOrder: ADD 7." in said and "docs/USERCODE.md, fault 4" in said
+    yield "a fault while it is written", None if is_said else said
     shown.click("run")
     shown.idle()
     state = shown.state()
@@ -272,6 +274,12 @@ def nothing_is_fetched(running, address):
     yield "scripts", None if not thrown + logged else f"{thrown + logged}"
 
 
+SUITES = (
+    faults_are_shown, parts_and_text_are_in_step, schedules_write_themselves, runs_are_stopped, faults_stand_at_their_places, controls_have_names,
+    runs_are_those_of_the_program,
+)
+
+
 def cases(file):
     """All cases over the page in this file."""
     address = f"file://{file}"
@@ -281,7 +289,7 @@ def cases(file):
         def opened(where, **how):
             return running.open(where, **how)
         shown = Shown(opened(address))
-        for suite in (faults_are_shown, parts_and_text_are_in_step, schedules_write_themselves, runs_are_stopped, faults_stand_at_their_places, controls_have_names, runs_are_those_of_the_program):
+        for suite in SUITES:
             yield from suite(shown)
         yield from links_hold_jobs(shown, opened, address)
         yield from browsers_without_the_machine(opened, address)

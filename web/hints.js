@@ -1,6 +1,6 @@
 // What may have led to a fault of a job or of its deck.
 
-import { linesOf } from "./job.js";
+import { HEADER, linesOf } from "./job.js";
 import { lineAndColumn, statementAt, withoutComments } from "./deck.js";
 import { RANGES, kindAbove, wordOfBadNumber } from "./fault.js";
 import { distanceIsOne, hasForm, hintOfName } from "./names.js";
@@ -9,6 +9,9 @@ const BYTE_13 = "the line has a byte 13, as files of some other systems have bef
 
 // A lost `;` is looked for after the first pieces of a statement, so many; no statement has more that are only one, and few have more than four.
 const PIECES = 16, FEW_PIECES = 4;
+
+/** How many blank lines before a job are taken for a slip. */
+const BLANK_LINES = 9;
 
 /** The form of each line of a job that has operands. */
 const FORMS = {
@@ -80,8 +83,18 @@ async function beginsStatement(ask, text) {
   return false;
 }
 
+/** What may have led to a text whose first line isn't that of a job, or null. */
+function hintOfHeader(lines) {
+  const [first = ""] = lines;
+  if (first.includes("\r")) return BYTE_13;
+  if (first.startsWith("\ufeff")) return "the text begins with a byte-order mark; save it without one";
+  if (first.toUpperCase() === HEADER) return capitals(HEADER);
+  return first.trim() === "" && lines.slice(0, BLANK_LINES).includes(HEADER) ? "nothing, not even a blank line, stands before it" : null;
+}
+
 /** A hint for a fault of a job of these lines, or null. */
 function hintOfJob(fault, lines) {
+  if (fault.name === "Header") return hintOfHeader(lines);
   if (fault.line > lines.length) return `${isInDeck(lines) ? "ENDDECK" : "ENDJOB"} hasn't come`;
   const line = lines[fault.line - 1], upper = line.toUpperCase();
   if (line.includes("\r")) return BYTE_13;

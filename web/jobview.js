@@ -132,7 +132,8 @@ export class JobView {
       this.redraw();
     });
     const number = this.input(`device ${at} ${index}`, device.number, (value) => { device.number = value; }, { size: "3", inputmode: "numeric" });
-    const label = device.kind === "MT" || device.label ? [labelled("Label", this.input(`label ${at} ${index}`, device.label, (value) => { device.label = value; }, { size: "9" }))] : [];
+    const named = this.input(`label ${at} ${index}`, device.label, (value) => { device.label = value; }, { size: "9" });
+    const label = device.kind === "MT" || device.label ? [labelled("Label", named)] : [];
     const remove = button("Remove", () => { slot.devices.splice(index, 1); this.redraw(); }, { "aria-label": `Remove device ${device.number}` });
     const fields = make("div", { class: "fields" }, labelled("Device", number), labelled("Kind", kind), ...label, remove);
     return make("fieldset", {}, make("legend", {}, `Device ${device.number}`), fields, ...this.drawMedia(device, at, index));

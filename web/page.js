@@ -8,6 +8,7 @@ import { EMPTY_JOB } from "./job.js";
 import { JobView } from "./jobview.js";
 import { hasJob, jobOfLink, packedJob, saveFile } from "./link.js";
 import { layoutsOf, resultsOf, shownText } from "./results.js";
+import { Replay } from "./replay.js";
 import { NoSchedule, scheduled } from "./schedule.js";
 
 const DONE = 0, JOB_HAS_FAULT = 2, DECK_HAS_FAULT = 3;
@@ -21,9 +22,11 @@ const texts = JSON.parse(byId("texts").textContent);
 const view = new JobView(byId("editors"), changed);
 let engine = null;
 let lastText = "";
+let lastRun = null; // what can be looked at call by call: the job, its report, and the layouts of its decks
 let pause = 0;
 
 const ask = (words, job) => engine.ask(words, job);
+const replay = new Replay(byId("replay"), { ask, say, failed: (error) => sayFailed(error) });
 
 /** Says in the line of the page that is read aloud what has happened. */
 function say(text, isWrong = false) {
@@ -48,8 +51,15 @@ async function lookForFault() {
     const answer = await ask(["asm", "0"], text);
     if (text === view.text) await showFault(answer, text);
   } catch (error) {
-    if (!(error instanceof Stopped)) say(`The machine stopped: ${error.message}`, true);
+    if (!(error instanceof Stopped)) sayFailed(error);
   }
+}
+
+/** Why there is no answer. */
+function sayFailed(error) {
+  if (error instanceof Stopped) say("Stopped.", true);
+  else if (error instanceof NoSchedule) say(`There is no schedule: ${error.message}.`, true);
+  else say(`The machine stopped: ${error.message}`, true);
 }
 
 /** Marks the fault that the answer tells, if it tells one, and gives it. */
@@ -84,9 +94,7 @@ async function work(text, task) {
   try {
     await task();
   } catch (error) {
-    if (error instanceof Stopped) say("Stopped.", true);
-    else if (error instanceof NoSchedule) say(`There is no schedule: ${error.message}.`, true);
-    else say(`The machine stopped: ${error.message}`, true);
+    sayFailed(error);
   }
   setBusy(false);
 }
@@ -100,6 +108,8 @@ async function run() {
     const fault = await showFault(answer, text);
     const layouts = answer.status === DONE && asked[0] !== "make" ? await layoutsOf(ask, text) : new Map();
     showText(answer.text, answer.status === DONE ? resultsOf(answer.text, layouts) : []);
+    lastRun = answer.status === DONE && asked[0] === "run" ? { text, report: answer.text, layouts } : null;
+    byId("look").disabled = lastRun === null;
     sayAnswer(answer, fault);
   });
 }
@@ -122,8 +132,18 @@ async function explain(job) {
   return { ...fault, hint: await hintOf(ask, fault, job) };
 }
 
+/** Looks at the last run call by call. */
+function look() {
+  replay.open(lastRun.text, lastRun.report, lastRun.layouts);
+  byId("replay").focus();
+  byId("replay").scrollIntoView();
+}
+
 function showText(text, sections) {
   lastText = text;
+  lastRun = null;
+  byId("look").disabled = true;
+  replay.close();
   const shown = shownText(text);
   byId("report").textContent = shown.text;
   byId("rest").textContent = shown.rest;
@@ -227,6 +247,7 @@ function attend() {
   byId("run").onclick = run;
   byId("stop").onclick = stop;
   byId("schedule").onclick = writeSchedule;
+  byId("look").onclick = look;
   byId("open").onclick = () => byId("file").click();
   byId("file").onchange = openFile;
   byId("save").onclick = () => saveFile("kdf9.job", view.text);

@@ -81,5 +81,6 @@ export function resultsOf(text, layouts) {
 /** The text as it is shown: all of it, or its beginning where it is long. */
 export function shownText(text) {
   if (text.length <= MOST_SHOWN) return { text, rest: "" };
-  return { text: text.slice(0, MOST_SHOWN), rest: `The first ${MOST_SHOWN.toLocaleString("en")} of ${text.length.toLocaleString("en")} characters are shown; the saved file has all.` };
+  const [shown, all] = [MOST_SHOWN, text.length].map((number) => number.toLocaleString("en"));
+  return { text: text.slice(0, MOST_SHOWN), rest: `The first ${shown} of ${all} characters are shown; the saved file has all.` };
 }

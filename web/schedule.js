@@ -10,7 +10,7 @@ const USUAL_WINDOW = 64;
 export class NoSchedule extends Error {}
 
 /** The calls of a schedule, and its events in order: each its line, and the number of calls before it. */
-function readSchedule(text) {
+export function readSchedule(text) {
   const events = [];
   let calls = 0;
   for (const line of linesOf(text)) {
@@ -20,7 +20,7 @@ function readSchedule(text) {
   return { calls, events };
 }
 
-function writeSchedule({ calls, events }) {
+export function writeSchedule({ calls, events }) {
   const lines = [];
   let before = 0;
   for (const event of events) {

@@ -16,8 +16,14 @@ SOURCES = ROOT / "web" / "engine"
 OUT = CRATES / "kdf9" / "out" / "page"
 MODULE, SUMS, LOG = OUT / "engine.wasm", OUT / "engine.sums", OUT / "engine.log"
 
+# What the proof keeps, so that after a change only what is new is proved.
+KEPT = OUT / "incremental"
+
 # Where each file of the crate's text stands in the crate. They have names of their own, since `rt ci` refuses a source that no crate of the list has.
-PLACES = {"lib.rt.txt": "src/lib.rt", "Words.antt.txt": "specs/Words.antt", "Specs.antt.txt": "specs/Lib.antt", "Answer.antt.txt": "proofs/answer/Answers.antt"}
+PLACES = {
+    "lib.rt.txt": "src/lib.rt", "Words.antt.txt": "specs/Words.antt", "Specs.antt.txt": "specs/Lib.antt", "Answer.antt.txt": "proofs/answer/Answers.antt",
+    "Lines.antt.txt": "proofs/lines_of/Answers.antt", "OwnWords.antt.txt": "proofs/own_words/Invariants.antt",
+}
 CRATE, USES = "page", ["kdf_top", "kdf_io", "kdf_director"]
 
 TARGET = ["--target=wasm64-unknown-unknown", "-mcpu=lime1", "--no-default-config"]
@@ -29,6 +35,7 @@ FLAGS = """-expand-div-rem-bits=64 -expand-fp-convert-bits=64 -trap-unreachable 
 # What the script of the page gives the module.
 IMPORTS = ["rattle_alloc", "rattle_realloc", "rattle_dealloc", "__multi3", "__ashlti3", "__lshrti3", "__ashrti3"]
 STACK, MOST_MEMORY = 1 << 20, 1 << 32
+LEVEL = "-O2"
 
 # What says that the bitcode is for x86-64: the two lines of its head, and these attributes.
 HEAD = re.compile(r"^target (?:datalayout|triple) = .*$", re.MULTILINE)
@@ -128,7 +135,7 @@ class Room:
             words += ["--extern", f"{name}={folder}/{name}.rlib"] if name in USES else []
             words += ["-L", f"dependency={folder}"]
         words += ["--antt-project", self.kit / "rattle/logic/antt-project.json", "--logic-built", self.kit / "logic_built", "--jobs", "1"]
-        words += ["--crate-type", "staticlib", "--toolchain", self.folder / "toolchain", "--backend", "llvm", "-o", self.folder / "libpage.a"]
+        words += ["--incremental", KEPT, "--crate-type", "staticlib", "--toolchain", self.folder / "toolchain", "--backend", "llvm", "-o", self.folder / "libpage.a"]
         self.run(self.kit / "bin/rattle", "build", *words, cwd=crate)
 
     def keep_bitcode(self):
@@ -149,12 +156,14 @@ class Room:
         (self.folder / "empty.c").write_text("void empty(void) {}\n", encoding="ascii")
         (self.folder / "imports").write_text("".join(f"{name}\n" for name in IMPORTS), encoding="ascii")
         self.run(clang, *TARGET, "-S", "-emit-llvm", "-o", "empty.ll", "empty.c", cwd=self.folder)
-        self.run(clang, "--target=x86_64-unknown-linux-gnu", "-x", "ir", "module.bc", "-S", "-emit-llvm", "-Xclang", "-disable-llvm-passes", "-o", "x64.ll", cwd=self.folder)
+        whole = ["--target=x86_64-unknown-linux-gnu", "-x", "ir", "module.bc", "-S", "-emit-llvm", "-Xclang", "-disable-llvm-passes"]
+        self.run(clang, *whole, "-o", "x64.ll", cwd=self.folder)
         self.retarget()
-        flags = [word for flag in FLAGS for word in ("-mllvm", flag)]
-        self.run(clang, *TARGET, *flags, "-ffunction-sections", "-fdata-sections", "-O2", "-x", "ir", "-c", "wasm64.ll", "-o", "page.o", cwd=self.folder)
-        self.run(linker, "-flavor", "wasm", "-mwasm64", "--no-entry", "--stack-first", "-z", f"stack-size={STACK}", "--gc-sections", "--strip-all",
-                 "--allow-undefined-file=imports", "--export=kdf9_run", "--export=__heap_base", f"--max-memory={MOST_MEMORY}", "page.o", "-o", "engine.wasm", cwd=self.folder)
+        flags = [word for flag in FLAGS for word in ("-mllvm", flag)] + ["-ffunction-sections", "-fdata-sections", LEVEL]
+        self.run(clang, *TARGET, *flags, "-x", "ir", "-c", "wasm64.ll", "-o", "page.o", cwd=self.folder)
+        words = ["-flavor", "wasm", "-mwasm64", "--no-entry", "--stack-first", "-z", f"stack-size={STACK}", f"--max-memory={MOST_MEMORY}", "--gc-sections", "--strip-all"]
+        exports = ["--export=kdf9_run", "--export=__heap_base"]
+        self.run(linker, *words, *exports, "--allow-undefined-file=imports", "page.o", "-o", "engine.wasm", cwd=self.folder)
 
     def retarget(self):
         """Writes the bitcode's text for wasm64, and stops where more of it is for x86-64 than what is changed."""
