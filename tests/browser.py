@@ -133,6 +133,11 @@ class Page:
             typed = {"text": text} if text and kind == "keyDown" else {}
             self.send("Input.dispatchKeyEvent", type=kind, key=key, windowsVirtualKeyCode=code, modifiers=modifiers, **typed)
 
+    def choose_file(self, name, path):
+        """Chooses a file in the control of this id."""
+        handle = self.send("Runtime.evaluate", expression=f"document.getElementById({json.dumps(name)})")["result"]["objectId"]
+        self.send("DOM.setFileInputFiles", files=[str(path)], objectId=handle)
+
     def picture(self, path, whole=False, **clip):
         """Takes a picture of what is seen, of the whole page, or of a part of it."""
         how = {"clip": {**clip, "scale": 1}} if clip else {}

@@ -6,6 +6,10 @@ import { painted } from "./deck.js";
 import { HEADER, KINDS, editedMedia, editedShows, linesOf, placedLines, readJob, readMedia, readShows, writeJob } from "./job.js";
 
 const NO_PARTS = "This text can't be shown by parts, since a line of it stands where none like it may. Here is the whole text.";
+const TOO_LONG = "This job is too long to be edited here. It can be run and saved as it is.";
+
+// A browser is slow with a longer text in an editor.
+const LONGEST_EDITED = 300000;
 const MOST_SLOTS = 4, MOST_DEVICES = 16;
 const NEW_DECK = "PROGRAM;\n  ZERO; OUT;\nFINISH;\n";
 
@@ -33,7 +37,7 @@ export class JobView {
     this.isWhole = false;
     this.controls = new Map();
     this.said = make("p", { class: "fault", id: freshId("fault") });
-    this.notice = make("p", { class: "notice", hidden: true }, NO_PARTS);
+    this.notice = make("p", { class: "notice", hidden: true });
     this.parts = make("div", { class: "parts" });
     this.whole = new Editor({ label: "The whole job", text: "", paint: paintedJob, onchange: (text) => this.changed(text) });
     element.append(this.notice, this.parts, this.whole.element);
@@ -56,6 +60,10 @@ export class JobView {
     return this.job !== null && !this.isWhole;
   }
 
+  get isTooLong() {
+    return this.text.length > LONGEST_EDITED;
+  }
+
   changed(text) {
     this.text = text;
     this.forgetFault();
@@ -69,12 +77,13 @@ export class JobView {
   draw() {
     this.forgetFault();
     this.controls.clear();
-    this.job = readJob(this.text);
-    this.notice.hidden = this.isWhole || this.job !== null;
+    this.job = this.isTooLong ? null : readJob(this.text);
+    this.notice.textContent = this.isTooLong ? TOO_LONG : NO_PARTS;
+    this.notice.hidden = !this.isTooLong && (this.isWhole || this.job !== null);
     this.parts.hidden = !this.isByParts;
-    this.whole.element.hidden = this.isByParts;
+    this.whole.element.hidden = this.isByParts || this.isTooLong;
     this.parts.replaceChildren(...(this.isByParts ? this.drawParts() : []));
-    this.whole.text = this.isByParts ? "" : this.text;
+    this.whole.text = this.whole.element.hidden ? "" : this.text;
   }
 
   drawParts() {
@@ -108,7 +117,8 @@ export class JobView {
   }
 
   input(name, value, take, attributes) {
-    const control = make("input", { type: "text", spellcheck: "false", autocomplete: "off", ...attributes, oninput: () => { take(control.value); this.partChanged(); } });
+    const oninput = () => { take(control.value); this.partChanged(); };
+    const control = make("input", { type: "text", spellcheck: "false", autocomplete: "off", ...attributes, oninput });
     control.value = value;
     this.controls.set(name, control);
     return control;
@@ -162,6 +172,7 @@ export class JobView {
   /** Shows a fault at its place, with its sentence and a hint, and a button that goes there. */
   showFault(fault, hint) {
     this.forgetFault();
+    if (this.isTooLong) return;
     const { control, place, line, column, end } = this.placeOf(fault);
     const where = line ? `Line ${line}, column ${column}: ` : "";
     const subject = fault.subject ? `: ${fault.subject.length > 60 ? `${fault.subject.slice(0, 57)}...` : fault.subject}` : "";
@@ -180,7 +191,8 @@ export class JobView {
     if (!this.isByParts) return this.placeInWhole(fault);
     if (fault.deck !== undefined) {
       const at = this.job.slots.findIndex(({ number }) => number === `${fault.slot}`);
-      return { control: this.controls.get(`deck ${at}`), place: fault.place, line: fault.lineOfDeck, column: fault.column, end: endOfStatement(fault.deck, fault.place) };
+      const { place, lineOfDeck: line, column, deck } = fault;
+      return { control: this.controls.get(`deck ${at}`), place, line, column, end: endOfStatement(deck, place) };
     }
     const { part, slot, device, line } = placedLines(this.job)[fault.line - 1] ?? { part: "schedule", line: linesOf(this.job.schedule).length };
     const names = [`${part} ${slot} ${device}`, `${part} ${slot}`, part, `store ${slot}`, "schedule"];

@@ -161,9 +161,9 @@ class Room:
         self.retarget()
         flags = [word for flag in FLAGS for word in ("-mllvm", flag)] + ["-ffunction-sections", "-fdata-sections", LEVEL]
         self.run(clang, *TARGET, *flags, "-x", "ir", "-c", "wasm64.ll", "-o", "page.o", cwd=self.folder)
-        words = ["-flavor", "wasm", "-mwasm64", "--no-entry", "--stack-first", "-z", f"stack-size={STACK}", f"--max-memory={MOST_MEMORY}", "--gc-sections", "--strip-all"]
-        exports = ["--export=kdf9_run", "--export=__heap_base"]
-        self.run(linker, *words, *exports, "--allow-undefined-file=imports", "page.o", "-o", "engine.wasm", cwd=self.folder)
+        sizes = ["--stack-first", "-z", f"stack-size={STACK}", f"--max-memory={MOST_MEMORY}", "--gc-sections", "--strip-all"]
+        doors = ["--no-entry", "--export=kdf9_run", "--export=__heap_base", "--allow-undefined-file=imports"]
+        self.run(linker, "-flavor", "wasm", "-mwasm64", *sizes, *doors, "page.o", "-o", "engine.wasm", cwd=self.folder)
 
     def retarget(self):
         """Writes the bitcode's text for wasm64, and stops where more of it is for x86-64 than what is changed."""
