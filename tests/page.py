@@ -11,6 +11,11 @@ from browser import Browser
 from toolkit import HEAD, ROOT, TAIL, job_of_deck, kdf9
 from tools import DECK_FAULTS, HINTS, JOB_FAULTS, JOB_HINTS
 
+sys.path.insert(0, str(ROOT / "tools"))
+from kdf9.job import read_lines, read_slots
+from kdf9.report import read_report
+from kdf9.schedule import cut_before_next, job_with, read_schedule
+
 COMMAND = re.compile(r"run|(?:alone|asm|make)\n\d+")
 LOOP = "KDF9 JOB 1\nSLOT 0\nSTORE 32\nDECK\nPROGRAM;\n1; J1;\nFINISH;\nENDDECK\nSCHEDULE\nORDERS 20000000\nENDJOB\n"
 CTRL = 2
@@ -20,6 +25,18 @@ LONGEST_WRITTEN = 100000
 
 # What stands in the way of running the machine, as in a browser whose memories have 32 bits.
 WITHOUT_MEMORY64 = "const validate = WebAssembly.validate; WebAssembly.validate = (bytes) => bytes[10] !== 4 && validate(bytes);"
+
+# Runs that are looked at call by call; of a longer one only every so many calls.
+LOOKED_AT = (
+    "adds-5-and-7", "subroutine", "walks-over-a-table", "reads-tape", "computes-while-it-reads", "two-parts", "waits-for-its-printer", "asks-for-the-time",
+    "adds-to-nothing", "fails-with-a-transfer-in-flight",
+)
+FEW_CALLS, STEP = 80, 9
+
+# What is shown of each program at a call: the paragraph on its orders, the registers, and how many words have changed.
+SHOWN_PROGRAMS = """[...document.querySelectorAll('.programs > section')].map((it) => [it.querySelector('p').textContent,
+    [...it.querySelector('table').querySelectorAll('tbody tr')].map((row) => [...row.children].map((cell) => cell.textContent)),
+    [...it.querySelectorAll('table')].slice(1).flatMap((words) => [...words.querySelectorAll('tbody th')]).filter((name) => name.textContent.startsWith('•')).length])"""
 
 # Schedules that write themselves: an example, what is written into the three fields, and the words of the tool that writes the same.
 SCHEDULES = [
@@ -236,6 +253,50 @@ def runs_are_stopped(shown):
     yield "a job that is too long", None if got == ("LARGE 4194304\n", 4) else f"{got[1]} {got[0][:50]}"
 
 
+def runs_are_looked_at(shown):
+    """At each call what is shown is the report of the job cut there, with the whole stores shown, as the program gives it."""
+    for name in LOOKED_AT:
+        text = (ROOT / f"examples/{name}.job").read_text(encoding="ascii")
+        shown.example(name)
+        shown.choose("command", "run")
+        shown.click("run")
+        shown.idle()
+        shown.click("look")
+        shown.page.wait("document.querySelector('.programs') !== null")
+        total, reports = shown.js("Number(document.querySelector('#replay input').max)"), {}
+        wrong = [why for call in range(0, total + 1, 1 if total <= FEW_CALLS else STEP) for why in wrong_at(shown, text, call, reports)]
+        yield f"{name} call by call", "; ".join(wrong[:3]) or None
+    shown.js("document.querySelector('#replay').dispatchEvent(new KeyboardEvent('keydown', { key: 'b', bubbles: true }))")
+    shown.page.wait(f"{id_of('state')}.textContent.startsWith('After call {total - 1}:')")
+    yield "a call back by its key", None
+
+
+def cut_report(text, call, reports):
+    """The report of a job cut after a call, as the program gives it."""
+    if call not in reports:
+        lines = read_lines(text)
+        slots = read_slots(lines)
+        schedule = cut_before_next(read_schedule(lines), call)
+        reports[call] = read_report(kdf9(["run"], job_with(slots, schedule._replace(calls=call), slots)).out, "the report")
+    return reports[call]
+
+
+def wrong_at(shown, text, call, reports):
+    """What is shown wrongly at a call."""
+    shown.js(f"(() => {{ const it = document.querySelector('#replay input'); it.value = {call}; it.dispatchEvent(new Event('input')); }})()")
+    shown.page.wait(f"{id_of('state')}.textContent.startsWith('After call {call}:')")
+    now, before = (cut_report(text, each, reports).sections for each in (call, max(call - 1, 0)))
+    for (orders, registers, changed), section in zip(shown.js(SHOWN_PROGRAMS), now.values(), strict=True):
+        signed = [f"{word - 2 ** 48 if word >> 47 else word}" for word in section.nest]
+        due = ["  ".join(signed) or "empty", "  ".join(section.links) or "empty", ", ".join(map(str, section.flags))]
+        q_stores = {row[0].removeprefix("• "): row[1] for row in registers[3:]}
+        due_q_stores = {f"Q{number}": "/".join(map(str, parts)) for number, parts in section.q_stores.items()}
+        others = sum(word != before[section.number].words[address] for address, word in section.words.items())
+        seen = [row[1] for row in registers[:3]], {name: parts for name, parts in q_stores.items() if parts != "0/0/0"}, changed
+        if not orders.startswith(f"After {section.orders} order") or seen != (due, due_q_stores, others):
+            yield f"call {call}, slot {section.number}: {orders} {seen} in place of {section.orders} {(due, due_q_stores, others)}"
+
+
 def links_hold_jobs(shown, opened, address):
     """A link has the job, and one that is damaged says so."""
     shown.example("walks-over-a-table")
@@ -291,7 +352,7 @@ def nothing_is_fetched(running, address):
 
 
 SUITES = (
-    faults_are_shown, parts_and_text_are_in_step, schedules_write_themselves, runs_are_stopped, faults_stand_at_their_places, controls_have_names,
+    runs_are_looked_at, faults_are_shown, parts_and_text_are_in_step, schedules_write_themselves, runs_are_stopped, faults_stand_at_their_places, controls_have_names,
     runs_are_those_of_the_program,
 )
 

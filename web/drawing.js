@@ -4,8 +4,8 @@ import { make } from "./dom.js";
 import { FLYING, HELD, RAN, READY, columnsOf } from "./timeline.js";
 
 const NAMESPACE = "http://www.w3.org/2000/svg";
-const NAME = 90, WIDTH = 900, ROW = 22, HEIGHT = 14, MOST_COLUMNS = 450;
-const LEGEND = "Full: obeyed orders, or a transfer. Hatched: held up. Thin line: could go on while another ran.";
+const NAME = 90, WIDTH = 900, ROW = 22, HEIGHT = 14, DIGIT = 11, MOST_COLUMNS = 450;
+const LEGEND = "Full: obeyed orders, or a transfer for the program whose number it has. Hatched: held up. Thin line: could go on while another ran.";
 
 function svg(name, attributes, ...children) {
   const element = document.createElementNS(NAMESPACE, name);
@@ -30,6 +30,15 @@ function rectangles(columns, kind, classOf, top) {
   return found;
 }
 
+/** The transfers of a device, each with the number of the program that it is for, where there is room. */
+function flights(columns, top) {
+  return rectangles(columns, FLYING, (column) => `flying slot-${column.slot}`, top).flatMap((rectangle) => {
+    const [x, width] = ["x", "width"].map((name) => Number(rectangle.getAttribute(name)));
+    const [slot] = rectangle.getAttribute("class").slice(-1);
+    return width < DIGIT ? [rectangle] : [rectangle, svg("text", { x: x + 2, y: top + HEIGHT - 3, class: "digit" }, slot)];
+  });
+}
+
 /** The picture of a timeline, and a function that marks a call in it. `choose` is called with the call that is pointed at. */
 export function drawTimeline(timeline, choose) {
   const rows = [
@@ -44,7 +53,7 @@ export function drawTimeline(timeline, choose) {
     return [
       svg("text", { x: 0, y: top + HEIGHT - 2 }, name),
       ...rectangles(columns, READY, () => "ready", top), ...rectangles(columns, HELD, () => "held", top),
-      ...rectangles(columns, RAN, () => `ran slot-${slot}`, top), ...rectangles(columns, FLYING, (column) => `flying slot-${column.slot}`, top),
+      ...rectangles(columns, RAN, () => `ran slot-${slot}`, top), ...flights(columns, top),
     ];
   });
   const line = svg("line", { y1: 0, y2: height, class: "now" });

@@ -2,7 +2,10 @@
 
 import { callsOf } from "./report.js";
 
-export const RAN = "ran", HELD = "held", READY = "ready", FLYING = "flying";
+export const RAN = "ran";
+export const HELD = "held";
+export const READY = "ready";
+export const FLYING = "flying";
 
 /** What is known of a program while its journal is read. */
 const program = () => ({ does: READY, since: 0, reason: null, waitsFor: new Set() });

@@ -22,17 +22,21 @@ def read(path):
 
 def script(name=MAIN):
     """The script of this name and those that it imports, as one: each is a function that is called once, and gives what it exports."""
-    done = {}
+    done, exported = {}, {}
 
     def visit(each):
         if each in done:
             return
         done[each] = None
         text = read(f"web/{each}.js")
-        for _, used in IMPORT.findall(text):
+        for names, used in IMPORT.findall(text):
             visit(used)
+            missing = set(re.findall(r"\w+", names)) - set(exported[used])
+            if missing:
+                raise ValueError(f"web/{each}.js imports {', '.join(missing)}, which web/{used}.js doesn't export")
         del done[each]
-        names = ", ".join(exported for _, exported in EXPORT.findall(text))
+        exported[each] = [found for _, found in EXPORT.findall(text)]
+        names = ", ".join(exported[each])
         body = EXPORT.sub(r"\1\2", IMPORT.sub(r"const \1 = \2_js;\n", text))
         done[each] = f"const {each}_js = (() => {{\n{body}return {{ {names} }};\n}})();\n"
 
