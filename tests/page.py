@@ -24,7 +24,7 @@ CTRL = 2
 LONGEST_WRITTEN = 100000
 
 # What stands in the way of running the machine, as in a browser whose memories have 32 bits.
-WITHOUT_MEMORY64 = "const validate = WebAssembly.validate; WebAssembly.validate = (bytes) => bytes[10] !== 4 && validate(bytes);"
+WITHOUT_MEMORY64 = "const validate = WebAssembly.validate; WebAssembly.validate = (bytes) => bytes[11] !== 4 && validate(bytes);"
 
 # Runs that are looked at call by call; of a longer one only every so many calls.
 LOOKED_AT = (
@@ -32,6 +32,9 @@ LOOKED_AT = (
     "adds-to-nothing", "fails-with-a-transfer-in-flight",
 )
 FEW_CALLS, STEP = 80, 9
+
+# The run of a picture, and its call.
+PICTURED, PICTURED_CALL = "adds-cards-while-a-tape-is-copied", 37
 
 # What is shown of each program at a call: the paragraph on its orders, the registers, and how many words have changed.
 SHOWN_PROGRAMS = """[...document.querySelectorAll('.programs > section')].map((it) => [it.querySelector('p').textContent,
@@ -178,6 +181,7 @@ def faults_are_shown(shown):
     shown.click("run")
     shown.idle()
     state = shown.state()
+    yield "the text of a fault", None if shown.js("kdf9.text()") == "DECK 0 UnknownOrder 20\n" else shown.js("kdf9.text()")
     yield "a fault is said", None if "Status 3: a deck has a fault. UnknownOrder, line 5 of the job." in state else state
     shown.js("document.querySelector('.fault button').click()")
     caret = shown.js("[document.activeElement.tagName, document.activeElement.selectionStart, document.activeElement.getAttribute('aria-invalid')]")
@@ -373,16 +377,48 @@ def cases(file):
         yield from nothing_is_fetched(running, address)
 
 
-def main():
+def take_pictures(opened, address):
+    """Takes the pictures of docs/PAGE.md."""
+    docs = ROOT / "docs"
+    shown = Shown(opened(address, width=1200, height=760))
+    shown.choose("example", "The first hour/table")
+    shown.run("run")
+    shown.page.picture(docs / "page-run.png")
+    deck = shown.js("document.querySelector('.slot textarea').value")
+    shown.type_into(".slot textarea", deck.replace("=V1; ZERO;", "=V1 ZERO;"))
+    shown.page.wait("document.querySelector('.fault') !== null")
+    shown.js("document.querySelector('.fault button').click()")
+    shown.page.picture(docs / "page-fault.png", x=0, y=310, width=600, height=400)
+    shown.example(PICTURED)
+    shown.run("run")
+    shown.click("look")
+    shown.page.wait("document.querySelector('.programs') !== null")
+    shown.js(f"(() => {{ const it = document.querySelector('#replay input'); it.value = {PICTURED_CALL}; it.dispatchEvent(new Event('input')); }})()")
+    shown.page.wait(f"{id_of('state')}.textContent.startsWith('After call {PICTURED_CALL}:')")
+    shown.js("document.getElementById('replay').scrollIntoView()")
+    shown.page.picture(docs / "page-calls.png")
+    shown.page.close()
+
+
+def make_page(file):
+    """Makes the page as this file; whether it could be made."""
+    with open(file, "wb") as written:
+        return subprocess.run([ROOT / "kdf9", "page"], stdout=written, check=False).returncode == 0
+
+
+def main(words):
     if browser.PROGRAM is None:
         print("page: not run, since there is no chromium")
         return 0
     with tempfile.TemporaryDirectory() as folder:
         file = pathlib.Path(folder) / "kdf9.html"
-        with open(file, "wb") as written:
-            if subprocess.run([ROOT / "kdf9", "page"], stdout=written, check=False).returncode:
-                print("page: the page could not be made")
-                return 1
+        if not make_page(file):
+            print("page: the page could not be made")
+            return 1
+        if words == ["--pictures"]:
+            with Browser() as running:
+                take_pictures(running.open, f"file://{file}")
+            return 0
         all_cases = list(cases(file))
     faults = [(what, why) for what, why in all_cases if why]
     for what, why in faults:
@@ -392,4 +428,4 @@ def main():
 
 
 if __name__ == "__main__":
-    sys.exit(main())
+    sys.exit(main(sys.argv[1:]))

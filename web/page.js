@@ -39,6 +39,7 @@ function say(text, isWrong = false) {
 function changed() {
   byId("example").value = OWN;
   byId("link-said").hidden = true;
+  byId("stale").hidden = lastText === "";
   clearTimeout(pause);
   pause = setTimeout(lookForFault, PAUSE);
 }
@@ -141,6 +142,7 @@ function look() {
 
 function showText(text, sections) {
   lastText = text;
+  byId("stale").hidden = true;
   lastRun = null;
   byId("look").disabled = true;
   replay.close();

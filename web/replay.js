@@ -215,7 +215,7 @@ function nextOf({ state, orders }, next) {
 }
 
 function saidOfHold({ kind, number, since, devices }) {
-  const by = kind === "BUSY" ? `device ${number}` : `group ${number}, words ${32 * number} to ${32 * number + 31}`;
+  if (kind === "BUSY") return `held up since call ${since} by device ${number}, which has a transfer`;
   const of = devices.length ? `, by the transfer of device ${devices.join(" or ")}` : "";
-  return `held up since call ${since} by ${by}${of}`;
+  return `held up since call ${since} by group ${number}, words ${32 * number} to ${32 * number + 31}${of}`;
 }
