@@ -23,6 +23,7 @@ KEPT = OUT / "incremental"
 PLACES = {
     "lib.rt.txt": "src/lib.rt", "Words.antt.txt": "specs/Words.antt", "Specs.antt.txt": "specs/Lib.antt", "Answer.antt.txt": "proofs/answer/Answers.antt",
     "Lines.antt.txt": "proofs/lines_of/Answers.antt", "OwnWords.antt.txt": "proofs/own_words/Invariants.antt",
+    "WordsOf.antt.txt": "proofs/words_of/Answers.antt",
 }
 CRATE, USES = "page", ["kdf_top", "kdf_io", "kdf_director"]
 
