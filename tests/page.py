@@ -252,6 +252,12 @@ def runs_are_stopped(shown):
     yield "a run is stopped by Escape", None if running == "Running." and "Stopped." in stopped else f"{running} {stopped}"
     got = shown.run("run")
     yield "and runs again", None if got[1] == 0 and "\nRAN 0 20000000\n" in got[0] else f"{got}"
+    shown.write_job(LOOP.replace("1; J1;", "ZERO; OUT;").replace("STORE 32", "STORE 8192").replace("SCHEDULE", "SHOW 0 8191\n" * 500 + "SCHEDULE"))
+    shown.choose("command", "run")
+    shown.click("run")
+    shown.idle()
+    length, rest = shown.js(f"[kdf9.text().length, {id_of('rest')}.textContent]")
+    yield "a report of 100 MB", None if length > 10 ** 8 and rest.startswith("The first 100,000 of") else f"{length} {rest} {shown.state()}"
     shown.write_job("KDF9 JOB 1\n" + " " * 4194304)
     got = shown.run("run")
     yield "a job that is too long", None if got == ("LARGE 4194304\n", 4) else f"{got[1]} {got[0][:50]}"

@@ -69,5 +69,6 @@ export function drawTimeline(timeline, choose) {
     line.setAttribute("x1", x);
     line.setAttribute("x2", x);
   };
-  return { picture: make("div", { class: "timeline" }, picture, make("p", {}, LEGEND)), mark };
+  const scrolled = make("div", { tabindex: "0", role: "group", "aria-label": "Picture of the run" }, picture);
+  return { picture: make("div", { class: "timeline" }, scrolled, make("p", {}, LEGEND)), mark };
 }

@@ -7,7 +7,7 @@ import { hintOf } from "./hints.js";
 import { EMPTY_JOB } from "./job.js";
 import { JobView } from "./jobview.js";
 import { hasJob, jobOfLink, packedJob, saveFile } from "./link.js";
-import { layoutsOf, resultsOf, shownText } from "./results.js";
+import { isReadable, layoutsOf, resultsOf, shownText } from "./results.js";
 import { Replay } from "./replay.js";
 import { NoSchedule, scheduled } from "./schedule.js";
 
@@ -109,7 +109,7 @@ async function run() {
     const fault = await showFault(answer, text);
     const layouts = answer.status === DONE && asked[0] !== "make" ? await layoutsOf(ask, text) : new Map();
     showText(answer.text, answer.status === DONE ? resultsOf(answer.text, layouts) : []);
-    lastRun = answer.status === DONE && asked[0] === "run" ? { text, report: answer.text, layouts } : null;
+    lastRun = answer.status === DONE && asked[0] === "run" && isReadable(answer.text) ? { text, report: answer.text, layouts } : null;
     byId("look").disabled = lastRun === null;
     sayAnswer(answer, fault);
   });

@@ -85,7 +85,7 @@ export class Replay {
       while (this.wanted !== null && timeline === this.timeline) {
         const at = this.wanted;
         this.wanted = null;
-        const [now, before] = [await this.sections(at), await this.sections(Math.max(0, at - 1))];
+        const before = await this.sections(Math.max(0, at - 1)), now = await this.sections(at);
         if (timeline === this.timeline) this.drawMoment(at, now, before);
       }
     } catch (error) {

@@ -10,6 +10,12 @@ const FLAGS = ["V, the overflow flag", "TR, the test register"];
 // A longer text is shown up to here, and of a longer journal so many entries; the file that is saved has all.
 const MOST_SHOWN = 100000, MOST_ENTRIES = 1000, MOST_WORDS = 1000;
 
+// A longer report isn't read, but only shown.
+const LONGEST_READ = 20000000;
+
+/** Whether a text is a report, or that of a lone program, and short enough to be read. */
+export const isReadable = (text) => text.length <= LONGEST_READ && /^KDF9 (REPORT|ALONE) /.test(text);
+
 /** The layouts of the decks of a job by their slots, for the names of words. The machine lists each; a slot without a listing has none. */
 export async function layoutsOf(ask, text) {
   const layouts = new Map();
@@ -73,7 +79,7 @@ function journalOf(entries) {
 
 /** What a text of the machine says, to be put into the page: a report, the text of a lone program, or another. */
 export function resultsOf(text, layouts) {
-  if (!/^KDF9 (REPORT|ALONE) /.test(text)) return [];
+  if (!isReadable(text)) return [];
   const { entries, sections } = readReport(text);
   return [...sections.map((section) => sectionOf(section, layouts.get(section.slot))), ...(entries.length ? [journalOf(entries)] : [])];
 }
