@@ -13,7 +13,7 @@ WORDS = [
     "--headless", "--no-sandbox", "--disable-gpu", "--remote-debugging-pipe", "--no-first-run", "--disable-background-networking", "--disable-sync",
     "--hide-scrollbars",
 ]
-PATIENCE = 120
+PATIENCE = 60
 
 
 class Failed(Exception):

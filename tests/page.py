@@ -307,6 +307,13 @@ def wrong_at(shown, text, call, reports):
             yield f"call {call}, slot {section.number}: {orders} {seen} in place of {section.orders} {(due, due_q_stores, others)}"
 
 
+def opened_link(opened, link):
+    """The page of a link, once it has said what came of it."""
+    other = Shown(opened(link))
+    other.page.wait(f"{id_of('state')}.textContent.includes('link')")
+    return other
+
+
 def links_hold_jobs(shown, opened, address):
     """A link has the job, and one that is damaged says so."""
     shown.example("walks-over-a-table")
@@ -314,11 +321,11 @@ def links_hold_jobs(shown, opened, address):
     shown.page.wait(f"!{id_of('link-said')}.hidden")
     link = shown.js(f"{id_of('address')}.value")
     due = (ROOT / "examples/walks-over-a-table.job").read_text(encoding="ascii")
-    other = Shown(opened(link))
+    other = opened_link(opened, link)
     yield "a link", None if other.js("kdf9.job()") == due and "job of the link" in other.state() else other.state()
     other.page.close()
     for damaged in (link[:-9], link[:60] + "AAAA" + link[64:], f"{address}#job=", f"{address}#job=%%"):
-        other = Shown(opened(damaged))
+        other = opened_link(opened, damaged)
         is_empty = "PROGRAM;\n  ZERO; OUT;\nFINISH;" in other.js("kdf9.job()")
         yield f"a damaged link {damaged[-12:]}", None if "damaged" in other.state() and is_empty else other.state()
         other.page.close()

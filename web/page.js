@@ -46,7 +46,11 @@ function changed() {
 
 /** Shows the fault of the job, if it has one, while it is written. Nothing is said aloud meanwhile. */
 async function lookForFault() {
-  if (!engine || engine.isBusy) return;
+  if (!engine) return;
+  if (engine.isBusy) {
+    pause = setTimeout(lookForFault, PAUSE);
+    return;
+  }
   const { text } = view;
   try {
     const answer = await ask(["asm", "0"], text);

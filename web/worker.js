@@ -103,7 +103,8 @@ function answer(module, words, job, room) {
   const text = place(room), length = place(8);
   const slices = [...handIn(new TextEncoder().encode(words.join("\n"))), ...handIn(job)];
   const began = performance.now();
-  const status = exports.kdf9_run(...slices, BigInt(text), BigInt(room), BigInt(length));
+  // The number of the status is a byte. What stands above it in the result means nothing, as wherever C returns a byte.
+  const status = exports.kdf9_run(...slices, BigInt(text), BigInt(room), BigInt(length)) & 255;
   const milliseconds = performance.now() - began;
   const written = Number(new DataView(machine.memory.buffer).getBigUint64(length, true));
   return { status, text: new Uint8Array(machine.memory.buffer).slice(text, text + written), milliseconds, memory: machine.memory.buffer.byteLength };
