@@ -4,6 +4,7 @@ The kit's own way to WebAssembly takes nothing that reaches the heap. So the cra
 and lowered for x86-64, by a compiler that keeps the LLVM bitcode; and the kit's own clang and linker make WebAssembly of that.
 """
 import hashlib
+import os
 import pathlib
 import re
 import shutil
@@ -35,6 +36,7 @@ FLAGS = """-expand-div-rem-bits=64 -expand-fp-convert-bits=64 -trap-unreachable 
 
 # What the script of the page gives the module.
 IMPORTS = ["rattle_alloc", "rattle_realloc", "rattle_dealloc", "__multi3", "__ashlti3", "__lshrti3", "__ashrti3"]
+# Bytes of the stack and, at most, of all memory; and how much the compiler optimizes.
 STACK, MOST_MEMORY = 1 << 20, 1 << 32
 LEVEL = "-O2"
 
@@ -94,7 +96,7 @@ def engine(say):
         missing = [name for name, folder in libraries().items() if not (folder / f"{name}.rlib").exists()]
         if missing:
             raise NoEngine(f"the library {missing[0]} isn't built here, since the program was built elsewhere; cd crates/kdf9 && rt run -- make 0 builds all")
-        say("making the machine as WebAssembly, which takes two or three minutes the first time")
+        say("making the machine as WebAssembly, which takes some minutes the first time")
         make_engine(found)
     return MODULE.read_bytes()
 
@@ -107,7 +109,9 @@ def make_engine(found):
         room = Room(found, pathlib.Path(folder), log)
         room.prove()
         room.compile()
-        shutil.copy(room.folder / "engine.wasm", MODULE)
+        made = OUT / f"engine.{os.getpid()}"
+        shutil.copy(room.folder / "engine.wasm", made)
+        made.replace(MODULE)
     SUMS.write_text(now, encoding="ascii")
 
 
