@@ -33,6 +33,17 @@ LOOKED_AT = (
 )
 FEW_CALLS, STEP = 80, 9
 
+# Lines of devices and of what is shown, and a line of the schedule; and the control that the job's fault stands in, with what is said there.
+FAULTY_PARTS = [
+    ("SHOW 3 99\n", "ORDERS 10", "Show the words from, to", "ShowRange: SHOW 3 99. The first address"),
+    ("DEVICE 16 TR\n", "ORDERS 10", "Device", "BadNumber: DEVICE 16 TR. A word"),
+    ("DEVICE 3 MT a\n", "ORDERS 10", "Label", "BadLabel: DEVICE 3 MT a. The label"),
+    ("DEVICE 3 TR\n+OK\n+no\n", "ORDERS 10", "The characters on the tape", "Line 2, column 1: BadMedium: +no."),
+    ("DEVICE 3 MT A\n+OK\n+no\n", "ORDERS 10", "The blocks, one to a line: + before each, or = where it has its mark", "Line 2, column 2: BadMedium: +no."),
+    ("", "ORDERS 5\nMOVE 3 5000", "The lines of the schedule", "Line 2, column 8: BadNumber: MOVE 3 5000."),
+    ("", "ORDERS 5\nPRINT", "The lines of the schedule", "Line 2, column 1: BadLine: PRINT."),
+]
+
 # The run of a picture, and its call.
 PICTURED, PICTURED_CALL = "adds-cards-while-a-tape-is-copied", 37
 
@@ -197,6 +208,18 @@ def faults_are_shown(shown):
     yield "words have names and are decimal too", None if words == "Words name address octal decimal Y0 3 0000000000000113 75" else words
 
 
+def faults_stand_at_their_parts(shown):
+    """By parts, a fault of the job is shown at the control that it stands in, and Go to it sets the focus there."""
+    for devices, schedule, label, said in FAULTY_PARTS:
+        shown.write_job(HEAD + devices + TAIL.replace("ORDERS 10", schedule))
+        shown.view("parts")
+        shown.run("run")
+        got = shown.js("""[document.querySelector('[aria-invalid]').labels[0].textContent, document.querySelector('.fault').textContent,
+            document.querySelectorAll('[aria-invalid]').length, (document.querySelector('.fault button').click(), document.activeElement.labels[0].textContent)]""")
+        good = got[0] == got[3] == label and said in got[1] and got[2] == 1
+        yield f"the part of {said}", None if good else f"{got}"
+
+
 def parts_and_text_are_in_step(shown):
     """What is changed by parts stands in the text, and the other way round; and a text without parts is shown whole."""
     for path in sorted((ROOT / "examples").glob("*.job")):
@@ -331,6 +354,25 @@ def links_hold_jobs(shown, opened, address):
         other.page.close()
 
 
+def pages_are_made_with_jobs(opened, file):
+    """`replay` makes a page that opens at the run of its job; where that has a fault, it is shown."""
+    other = file.with_name("run.html")
+    yield "a page with a job", None if make_page(other, "replay", "examples/reads-tape.job") else "isn't made"
+    shown = Shown(opened(f"file://{other}"))
+    shown.page.wait("document.querySelector('.programs') !== null")
+    got = shown.js("[document.querySelector('#replay output').textContent, kdf9.text()]")
+    due = ["0 of 15", (ROOT / "examples/reads-tape.report").read_text(encoding="ascii")]
+    yield "its run", None if got == due else f"{got}"
+    shown.page.close()
+    yield "a page with a deck that is refused", None if make_page(other, "replay", "examples/missing-reference.job") else "isn't made"
+    shown = Shown(opened(f"file://{other}"))
+    shown.page.wait("document.querySelector('.fault') !== null")
+    yield "its fault", None if "ReferenceMissing" in shown.state() else shown.state()
+    shown.page.close()
+    refused = kdf9(["replay", "nowhere.job"], "")
+    yield "a page with no job", None if refused.status == 1 and refused.err == "kdf9: nowhere.job: No such file or directory\n" else f"{refused}"
+
+
 def browsers_without_the_machine(opened, address):
     """The examples are shown with their recorded reports, and what is lacking is said."""
     shown = Shown(opened(address, before=WITHOUT_MEMORY64))
@@ -369,7 +411,7 @@ def nothing_is_fetched(running, address):
 
 
 SUITES = (
-    runs_are_looked_at, faults_are_shown, parts_and_text_are_in_step, schedules_write_themselves, runs_are_stopped, faults_stand_at_their_places, controls_have_names,
+    runs_are_looked_at, faults_are_shown, faults_stand_at_their_parts, parts_and_text_are_in_step, schedules_write_themselves, runs_are_stopped, faults_stand_at_their_places, controls_have_names,
     runs_are_those_of_the_program,
 )
 
@@ -388,6 +430,7 @@ def cases(file):
         yield from links_hold_jobs(shown, opened, address)
         yield from browsers_without_the_machine(opened, address)
         yield from nothing_is_fetched(running, address)
+        yield from pages_are_made_with_jobs(opened, file)
 
 
 def take_pictures(opened, address):
@@ -413,10 +456,10 @@ def take_pictures(opened, address):
     shown.page.close()
 
 
-def make_page(file):
-    """Makes the page as this file; whether it could be made."""
+def make_page(file, *words):
+    """Makes the page as this file by these words; whether it could be made."""
     with open(file, "wb") as written:
-        return subprocess.run([ROOT / "kdf9", "page"], stdout=written, check=False).returncode == 0
+        return subprocess.run([ROOT / "kdf9", *words], stdout=written, check=False).returncode == 0
 
 
 def main(words):
@@ -425,7 +468,7 @@ def main(words):
         return 0
     with tempfile.TemporaryDirectory() as folder:
         file = pathlib.Path(folder) / "kdf9.html"
-        if not make_page(file):
+        if not make_page(file, "page"):
             print("page: the page could not be made")
             return 1
         if words == ["--pictures"]:

@@ -195,7 +195,7 @@ export class JobView {
       return { control: this.controls.get(`deck ${at}`), place, line, column, end: endOfStatement(deck, place) };
     }
     const { part, slot, device, line } = placedLines(this.job)[fault.line - 1] ?? { part: "schedule", line: linesOf(this.job.schedule).length };
-    const names = [`${part} ${slot} ${device}`, `${part} ${slot}`, part, `store ${slot}`, "schedule"];
+    const names = [/Label/.test(fault.name) && `label ${slot} ${device}`, `${part} ${slot} ${device}`, `${part} ${slot}`, part, `store ${slot}`, "schedule"];
     const control = this.controls.get(names.find((name) => this.controls.has(name)));
     if (!(control instanceof Editor)) return { control };
     const isShort = part === "media" && this.job.slots[slot].devices[device].kind !== "MT";

@@ -284,12 +284,21 @@ async function open() {
   } catch (error) {
     say(`This browser can't run the machine: ${error.message}. The examples are shown with the reports that were recorded of them.`, true);
   }
-  if (!(await openLink())) {
-    byId("example").selectedIndex = 0;
-    const { job, args } = texts.jobs[byId("example").value];
-    begin(job, args);
-    if (!engine) showRecorded(texts.jobs[byId("example").value]);
-  }
+  if (await openLink()) return;
+  if (typeof texts.start === "string") return openStart();
+  byId("example").selectedIndex = 0;
+  const { job, args } = texts.jobs[byId("example").value];
+  begin(job, args);
+  if (!engine) showRecorded(texts.jobs[byId("example").value]);
+}
+
+/** Runs the job that the page was made with, and shows the run call by call. */
+async function openStart() {
+  byId("example").value = OWN;
+  begin(texts.start, ["run"]);
+  if (!engine) return;
+  await run();
+  if (lastRun) look();
 }
 
 // For those who look into the page by its console: the machine's answer to words over a job, its fault, and the job and the text that are shown.

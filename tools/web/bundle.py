@@ -76,14 +76,14 @@ def jobs_of_examples():
             yield f"{EXAMPLES}/{name}", {"group": EXAMPLES, "job": job, "args": args.split(), "report": report}
 
 
-def texts():
-    """What the script shows, as JSON that may stand in a page."""
+def texts(start):
+    """What the script shows, as JSON that may stand in a page; `start` is the job that is run as the page opens, or None."""
     jobs = dict([*jobs_of_first_hour(), *jobs_of_examples()])
-    return json.dumps({"jobs": jobs, "sentences": sentences()}, ensure_ascii=False, separators=(",", ":")).replace("</", "<\\/")
+    return json.dumps({"jobs": jobs, "sentences": sentences(), "start": start}, ensure_ascii=False, separators=(",", ":")).replace("</", "<\\/")
 
 
-def page(module):
-    """The page, of the bytes of the module."""
+def page(module, start=None):
+    """The page, of the bytes of the module, and with a job that is run as it opens where there is one."""
     packed = base64.b64encode(gzip.compress(module, 9, mtime=0)).decode("ascii")
-    parts = {"STYLE": read("web/page.css"), "WORKER": read("web/worker.js"), "TEXTS": texts(), "MODULE": packed, "SCRIPT": script()}
+    parts = {"STYLE": read("web/page.css"), "WORKER": read("web/worker.js"), "TEXTS": texts(start), "MODULE": packed, "SCRIPT": script()}
     return re.sub(r"/\* ([A-Z]+) \*/", lambda mark: parts[mark[1]], read("web/page.html"))
