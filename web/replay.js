@@ -107,8 +107,9 @@ export class Replay {
     this.where.textContent = `${call.toLocaleString("en")} of ${this.timeline.total.toLocaleString("en")}`;
     this.mark(call);
     const programs = now.map((section, at) => this.drawProgram(call, section, before[at]));
-    this.shown.replaceChildren(make("div", { class: "programs" }, ...programs), this.drawJournal(call));
-    this.say(`After call ${call}: ${now.map((section, at) => this.sentence(call, section, before[at])).join("; ")}.`);
+    const said = `After call ${call}: ${now.map((section, at) => this.sentence(call, section, before[at])).join("; ")}.`;
+    this.shown.replaceChildren(make("p", { class: "said" }, said), make("div", { class: "programs" }, ...programs), this.drawJournal(call));
+    this.say(said);
   }
 
   /** What a program did with the call, in words. */
