@@ -123,7 +123,7 @@ export class Replay {
     const state = section.state.split(" ")[0];
     if (state !== "LIVE") return `${name} ${state === "ENDED" ? "has ended" : "has failed"}`;
     const reason = this.holdOf(section.slot, call);
-    return reason ? `${name} is ${saidOfHold(reason)}` : `${name} can go on`;
+    return reason ? `${name} has been ${saidOfHold(reason)}` : `${name} can go on`;
   }
 
   /** By what a program is held up after a call, or null. */
