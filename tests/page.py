@@ -8,30 +8,15 @@ import tempfile
 
 import browser
 from browser import Browser
+from page_runs import orders_are_those_of_the_program, runs_are_looked_at, runs_are_those_of_the_program
+from shown import CTRL, Shown, id_of
 from toolkit import HEAD, ROOT, TAIL, job_of_deck, kdf9
 from tools import DECK_FAULTS, HINTS, JOB_FAULTS, JOB_HINTS
 
-sys.path.insert(0, str(ROOT / "tools"))
-from kdf9.job import read_lines, read_slots
-from kdf9.report import read_report
-from kdf9.schedule import cut_before_next, job_with, read_schedule
-
-COMMAND = re.compile(r"run|(?:alone|asm|make)\n\d+")
 LOOP = "KDF9 JOB 1\nSLOT 0\nSTORE 32\nDECK\nPROGRAM;\n1; J1;\nFINISH;\nENDDECK\nSCHEDULE\nORDERS 20000000\nENDJOB\n"
-CTRL = 2
-
-# A longer job comes as a file.
-LONGEST_WRITTEN = 100000
 
 # What stands in the way of running the machine, as in a browser whose memories have 32 bits.
 WITHOUT_MEMORY64 = "const validate = WebAssembly.validate; WebAssembly.validate = (bytes) => bytes[11] !== 4 && validate(bytes);"
-
-# Runs that are looked at call by call; of a longer one only every so many calls.
-LOOKED_AT = (
-    "adds-5-and-7", "subroutine", "walks-over-a-table", "reads-tape", "computes-while-it-reads", "two-parts", "waits-for-its-printer", "asks-for-the-time",
-    "adds-to-nothing", "fails-with-a-transfer-in-flight",
-)
-FEW_CALLS, STEP = 80, 9
 
 # Lines of devices and of what is shown, and a line of the schedule; and the control that the job's fault stands in, with what is said there.
 FAULTY_PARTS = [
@@ -47,11 +32,6 @@ FAULTY_PARTS = [
 # The run of a picture, and its call.
 PICTURED, PICTURED_CALL = "adds-cards-while-a-tape-is-copied", 37
 
-# What is shown of each program at a call: the paragraph on its orders, the registers, and how many words have changed.
-SHOWN_PROGRAMS = """[...document.querySelectorAll('.programs > section')].map((it) => [it.querySelector('p').textContent,
-    [...it.querySelector('table').querySelectorAll('tbody tr')].map((row) => [...row.children].map((cell) => cell.textContent)),
-    [...it.querySelectorAll('table')].slice(1).flatMap((words) => [...words.querySelectorAll('tbody th')]).filter((name) => name.textContent.startsWith('•')).length])"""
-
 # Schedules that write themselves: an example, what is written into the three fields, and the words of the tool that writes the same.
 SCHEDULES = [
     ("adds-cards", ("7", "", "4=30"), ["--after", "7", "4=30"]),
@@ -60,102 +40,6 @@ SCHEDULES = [
     ("computes-while-it-reads", ("3", "5", ""), ["--after", "3", "--every", "5"]),
     ("adds-5-and-7", ("0", "", ""), ["--after", "0"]),
 ]
-
-
-def id_of(name):
-    """The element of this id, in a script."""
-    return f"document.getElementById({json.dumps(name)})"
-
-
-class Shown:
-    """The page as it is opened in a browser."""
-
-    def __init__(self, opened):
-        self.page = opened
-        self.page.wait(f"globalThis.kdf9 && {id_of('state')}.textContent.length > 0 && !{id_of('state')}.textContent.includes('loaded')")
-
-    def js(self, expression):
-        return self.page.js(expression)
-
-    def state(self):
-        """The line that is read aloud."""
-        return self.js(f"{id_of('state')}.textContent")
-
-    def idle(self):
-        """Waits until nothing runs."""
-        self.page.wait(f"{id_of('results')}.getAttribute('aria-busy') !== 'true' && !{id_of('run')}.disabled")
-
-    def choose(self, name, value):
-        """Chooses an option of a list."""
-        self.js(f"{id_of(name)}.value = {json.dumps(value)}; {id_of(name)}.dispatchEvent(new Event('change'))")
-
-    def click(self, name):
-        self.js(f"{id_of(name)}.click()")
-
-    def view(self, name):
-        """Shows the job by parts, or as its whole text."""
-        self.js(f"document.querySelector('input[value={name}]').click()")
-
-    def type_into(self, selector, text):
-        """Puts a text into a control, as somebody does who writes it there."""
-        self.js(f"""(() => {{ const it = document.querySelector({json.dumps(selector)}); it.focus(); it.value = {json.dumps(text)};
-            it.dispatchEvent(new Event('input')); }})()""")
-
-    def write_job(self, text):
-        """Puts a text into the editor of the whole job."""
-        self.view("whole")
-        self.type_into("#editors > .edited textarea", text)
-
-    def open_file(self, name, job):
-        """Opens a file, as by the button of that name."""
-        with tempfile.NamedTemporaryFile(prefix=name, suffix=".job") as file:
-            file.write(job)
-            file.flush()
-            self.page.choose_file("file", file.name)
-            self.page.wait(f"{id_of('state')}.textContent.includes({json.dumps(name)})")
-
-    def run(self, command, value="0"):
-        """What the Run button shows, and the status."""
-        self.choose("command", command)
-        self.js(f"{id_of('value')}.value = {json.dumps(value)}")
-        self.click("run")
-        self.idle()
-        return self.js("kdf9.text()"), self.js(f"Number({id_of('state')}.dataset.status)")
-
-    def example(self, name):
-        self.choose("example", f"Examples/{name}")
-
-
-def stored(path, kind):
-    return path.with_suffix(f".{kind}").read_bytes()
-
-
-def job_of(path):
-    """The bytes of the job of an example or a case."""
-    made = path.with_suffix(".make")
-    return subprocess.run([made], capture_output=True, check=True).stdout if made.exists() else stored(path, "job")
-
-
-def runs_are_those_of_the_program(shown):
-    """Each example and case, by the Run button where the job can be written into the editor, and else by the machine itself."""
-    for path in sorted(it for folder in ("examples", "tests/cases") for it in (ROOT / folder).glob("*.status")):
-        job, words, due = job_of(path), stored(path, "args").decode(), stored(path, "report").decode("latin-1")
-        status = int(stored(path, "status"))
-        is_typed = COMMAND.fullmatch(words.rstrip("\n")) and job.isascii() and b"\r" not in job and b"\0" not in job
-        if is_typed:
-            if len(job) < LONGEST_WRITTEN:
-                shown.write_job(job.decode("ascii"))
-            else:
-                shown.open_file(path.stem, job)
-            got = shown.run(*words.split())
-            yield f"run of {path.stem}", None if got == (due, status) else f"gives {got[1]} {got[0][:200]!r}"
-        else:
-            numbers = json.dumps(list(job)) if len(job) < 100000 else f"Array({len(job)}).fill({job[0]})" if len(set(job)) == 1 else None
-            given = [bytes(it, "ascii").decode("unicode_escape") for it in words.split("\n")[:-1]]
-            if numbers is None or any(it and ord(it) > 126 for word in given for it in word):
-                continue
-            got = shown.js(f"kdf9.ask({json.dumps(given)}, new Uint8Array({numbers})).then(({{ text, status }}) => [text, status])")
-            yield f"answer to {path.stem}", None if got == [due, status] else f"gives {got[1]} {got[0][:200]!r}"
 
 
 def faults_stand_at_their_places(shown):
@@ -286,50 +170,6 @@ def runs_are_stopped(shown):
     yield "a job that is too long", None if got == ("LARGE 4194304\n", 4) else f"{got[1]} {got[0][:50]}"
 
 
-def runs_are_looked_at(shown):
-    """At each call what is shown is the report of the job cut there, with the whole stores shown, as the program gives it."""
-    for name in LOOKED_AT:
-        text = (ROOT / f"examples/{name}.job").read_text(encoding="ascii")
-        shown.example(name)
-        shown.choose("command", "run")
-        shown.click("run")
-        shown.idle()
-        shown.click("look")
-        shown.page.wait("document.querySelector('.programs') !== null")
-        total, reports = shown.js("Number(document.querySelector('#replay input').max)"), {}
-        wrong = [why for call in range(0, total + 1, 1 if total <= FEW_CALLS else STEP) for why in wrong_at(shown, text, call, reports)]
-        yield f"{name} call by call", "; ".join(wrong[:3]) or None
-    shown.js("document.querySelector('#replay').dispatchEvent(new KeyboardEvent('keydown', { key: 'b', bubbles: true }))")
-    shown.page.wait(f"{id_of('state')}.textContent.startsWith('After call {total - 1}:')")
-    yield "a call back by its key", None
-
-
-def cut_report(text, call, reports):
-    """The report of a job cut after a call, as the program gives it."""
-    if call not in reports:
-        lines = read_lines(text)
-        slots = read_slots(lines)
-        schedule = cut_before_next(read_schedule(lines), call)
-        reports[call] = read_report(kdf9(["run"], job_with(slots, schedule._replace(calls=call), slots)).out, "the report")
-    return reports[call]
-
-
-def wrong_at(shown, text, call, reports):
-    """What is shown wrongly at a call."""
-    shown.js(f"(() => {{ const it = document.querySelector('#replay input'); it.value = {call}; it.dispatchEvent(new Event('input')); }})()")
-    shown.page.wait(f"{id_of('state')}.textContent.startsWith('After call {call}:')")
-    now, before = (cut_report(text, each, reports).sections for each in (call, max(call - 1, 0)))
-    for (orders, registers, changed), section in zip(shown.js(SHOWN_PROGRAMS), now.values(), strict=True):
-        signed = [f"{word - 2 ** 48 if word >> 47 else word}" for word in section.nest]
-        due = ["  ".join(signed) or "empty", "  ".join(section.links) or "empty", ", ".join(map(str, section.flags))]
-        q_stores = {row[0].removeprefix("• "): row[1] for row in registers[3:]}
-        due_q_stores = {f"Q{number}": "/".join(map(str, parts)) for number, parts in section.q_stores.items()}
-        others = sum(word != before[section.number].words[address] for address, word in section.words.items())
-        seen = [row[1] for row in registers[:3]], {name: parts for name, parts in q_stores.items() if parts != "0/0/0"}, changed
-        if not orders.startswith(f"After {section.orders} order") or seen != (due, due_q_stores, others):
-            yield f"call {call}, slot {section.number}: {orders} {seen} in place of {section.orders} {(due, due_q_stores, others)}"
-
-
 def opened_link(opened, link):
     """The page of a link, once it has said what came of it."""
     other = Shown(opened(link))
@@ -412,7 +252,7 @@ def nothing_is_fetched(running, address):
 
 SUITES = (
     runs_are_looked_at, faults_are_shown, faults_stand_at_their_parts, parts_and_text_are_in_step, schedules_write_themselves, runs_are_stopped, faults_stand_at_their_places, controls_have_names,
-    runs_are_those_of_the_program,
+    orders_are_those_of_the_program, runs_are_those_of_the_program,
 )
 
 
