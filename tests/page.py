@@ -156,6 +156,12 @@ def runs_are_stopped(shown):
     shown.page.press("Escape", 27)
     shown.idle()
     stopped = shown.state()
+    shown.click("run")
+    shown.example("reads-tape")
+    shown.idle()
+    got = shown.js("[kdf9.text(), kdf9.job() === " + json.dumps((ROOT / "examples/reads-tape.job").read_text(encoding="ascii")) + "]")
+    yield "a run is stopped by another job", None if got == ["", True] else f"{got}"
+    shown.write_job(LOOP)
     yield "a run is stopped by Escape", None if running == "Running." and "Stopped." in stopped else f"{running} {stopped}"
     got = shown.run("run")
     yield "and runs again", None if got[1] == 0 and "\nRAN 0 20000000\n" in got[0] else f"{got}"
@@ -244,15 +250,15 @@ def nothing_is_fetched(running, address):
     """Whatever was done, the browser asked for nothing but the page; and no script failed."""
     asked = {event["params"]["request"]["url"].split("#")[0][:100] for event in running.events if event["method"] == "Network.requestWillBeSent"}
     foreign = [url for url in asked if url != address[:100] and not url.startswith(("data:", "blob:"))]
-    yield "what is fetched", None if not foreign else f"{foreign}"
+    yield "what is fetched", None if address[:100] in asked and not foreign else f"{asked}"
     thrown = [event["params"]["exceptionDetails"]["text"] for event in running.events if event["method"] == "Runtime.exceptionThrown"]
     logged = [event["params"]["entry"]["text"] for event in running.events if event["method"] == "Log.entryAdded"]
     yield "scripts", None if not thrown + logged else f"{thrown + logged}"
 
 
 SUITES = (
-    runs_are_looked_at, faults_are_shown, faults_stand_at_their_parts, parts_and_text_are_in_step, schedules_write_themselves, runs_are_stopped, faults_stand_at_their_places, controls_have_names,
-    orders_are_those_of_the_program, runs_are_those_of_the_program,
+    runs_are_looked_at, faults_are_shown, faults_stand_at_their_parts, parts_and_text_are_in_step, schedules_write_themselves, runs_are_stopped,
+    faults_stand_at_their_places, controls_have_names, orders_are_those_of_the_program, runs_are_those_of_the_program,
 )
 
 

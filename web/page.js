@@ -115,6 +115,7 @@ async function run() {
     showText(answer.text, answer.status === DONE ? resultsOf(answer.text, layouts) : []);
     lastRun = answer.status === DONE && asked[0] === "run" && isReadable(answer.text) ? { text, report: answer.text, layouts } : null;
     byId("look").disabled = lastRun === null;
+    byId("stale").hidden = text === view.text;
     sayAnswer(answer, fault);
   });
 }
@@ -179,8 +180,9 @@ async function writeSchedule() {
   });
 }
 
-/** Begins with another job, and with the words of its command. */
+/** Begins with another job, and with the words of its command. What is running is stopped. */
 function begin(text, args) {
+  stop();
   view.show(text);
   byId("link-said").hidden = true;
   [byId("command").value, byId("value").value] = [args[0], args[1] ?? "0"];
