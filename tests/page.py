@@ -9,6 +9,7 @@ import tempfile
 import browser
 from browser import Browser
 from page_runs import orders_are_those_of_the_program, runs_are_looked_at, runs_are_those_of_the_program
+from page_worker import worker_alone
 from shown import CTRL, Shown, id_of
 from toolkit import HEAD, ROOT, TAIL, job_of_deck, kdf9
 from tools import DECK_FAULTS, HINTS, JOB_FAULTS, JOB_HINTS
@@ -270,6 +271,7 @@ def cases(file):
     with Browser() as running:
         def opened(where, **how):
             return running.open(where, **how)
+        yield from worker_alone(opened)
         shown = Shown(opened(address))
         for suite in SUITES:
             yield from suite(shown)
