@@ -30,7 +30,8 @@ FEW_CALLS, STEP = 80, 9
 # What is shown of each program at a call: the paragraph on its orders, the registers, and how many words have changed.
 SHOWN_PROGRAMS = """[...document.querySelectorAll('.programs > section')].map((it) => [it.querySelector('p').textContent,
     [...it.querySelector('table').querySelectorAll('tbody tr')].map((row) => [...row.children].map((cell) => cell.textContent)),
-    [...it.querySelectorAll('table')].slice(1).flatMap((words) => [...words.querySelectorAll('tbody th')]).filter((name) => name.textContent.startsWith('•')).length])"""
+    [...it.querySelectorAll('table')].slice(1).flatMap((words) => [...words.querySelectorAll('tbody th')])
+        .filter((name) => name.textContent.startsWith('•')).length])"""
 
 
 def stored(path, kind):
