@@ -1,0 +1,335 @@
+"""Tries the page in Chromium: every example and case by its Run button, faults with their places and hints, and the other things that it does."""
+import json
+import pathlib
+import re
+import subprocess
+import sys
+import tempfile
+
+import browser
+from browser import Browser
+from page_runs import orders_are_those_of_the_program, runs_are_looked_at, runs_are_those_of_the_program
+from page_worker import worker_alone
+from shown import CTRL, Shown, id_of
+from toolkit import HEAD, ROOT, TAIL, job_of_deck, kdf9
+from tools import DECK_FAULTS, HINTS, JOB_FAULTS, JOB_HINTS
+
+LOOP = "KDF9 JOB 1\nSLOT 0\nSTORE 32\nDECK\nPROGRAM;\n1; J1;\nFINISH;\nENDDECK\nSCHEDULE\nORDERS 20000000\nENDJOB\n"
+
+# What stands in the way of running the machine, as in a browser whose memories have 32 bits.
+WITHOUT_MEMORY64 = "const validate = WebAssembly.validate; WebAssembly.validate = (bytes) => bytes[11] !== 4 && validate(bytes);"
+
+# Lines of devices and of what is shown, and a line of the schedule; and the control that the job's fault stands in, with what is said there.
+FAULTY_PARTS = [
+    ("SHOW 3 99\n", "ORDERS 10", "Show the words from, to", "ShowRange: SHOW 3 99. The first address"),
+    ("DEVICE 16 TR\n", "ORDERS 10", "Device", "BadNumber: DEVICE 16 TR. A word"),
+    ("DEVICE 3 MT a\n", "ORDERS 10", "Label", "BadLabel: DEVICE 3 MT a. The label"),
+    ("DEVICE 3 TR\n+OK\n+no\n", "ORDERS 10", "The characters on the tape", "Line 2, column 1: BadMedium: +no."),
+    ("DEVICE 3 MT A\n+OK\n+no\n", "ORDERS 10", "The blocks, one to a line: + before each, or = where it has its mark", "Line 2, column 2: BadMedium: +no."),
+    ("", "ORDERS 5\nMOVE 3 5000", "The lines of the schedule", "Line 2, column 8: BadNumber: MOVE 3 5000."),
+    ("", "ORDERS 5\nPRINT", "The lines of the schedule", "Line 2, column 1: BadLine: PRINT."),
+]
+
+# The run of a picture, and its call.
+PICTURED, PICTURED_CALL = "adds-cards-while-a-tape-is-copied", 37
+
+# Schedules that write themselves: an example, what is written into the three fields, and the words of the tool that writes the same.
+SCHEDULES = [
+    ("adds-cards", ("7", "", "4=30"), ["--after", "7", "4=30"]),
+    ("reads-tape", ("2", "", ""), ["--after", "2"]),
+    ("adds-cards-while-a-tape-is-copied", ("25", "", ""), ["--after", "25"]),
+    ("computes-while-it-reads", ("3", "5", ""), ["--after", "3", "--every", "5"]),
+    ("adds-5-and-7", ("0", "", ""), ["--after", "0"]),
+]
+
+
+def faults_stand_at_their_places(shown):
+    """Each fault has its line, its column and its sentence, and each hint of the tools is given here too."""
+    for name, deck, line, column, sentence in DECK_FAULTS:
+        yield f"fault {name} of a deck", wrong_fault(shown, job_of_deck(deck), (name, line + 4, column), sentence)
+    for name, text, line, column, sentence in JOB_FAULTS:
+        if len(text) < 100000:
+            yield f"fault {name} of a job", wrong_fault(shown, text, (name, line, column), sentence)
+    for text, part in [*((job_of_deck(deck), part) for deck, part in HINTS), *JOB_HINTS]:
+        hint = (shown.js(f"kdf9.explain({json.dumps(text)})") or {}).get("hint") or ""
+        part = re.sub(r"(\d+):(\d+)", lambda found: f"line {int(found[1]) - 4}, column {found[2]}", part).strip().removesuffix("...")
+        yield f"hint: {part[:60]}", None if part in hint else f"is {hint[:100]!r}"
+
+
+def wrong_fault(shown, text, due, sentence):
+    """What is wrong with the fault that is found in a job; or None."""
+    found = shown.js(f"kdf9.explain({json.dumps(text)})")
+    place = found and (found["name"], found["line"], found["column"])
+    begins = sentence.replace("`", "").casefold()
+    return None if place == due and found["said"].casefold().startswith(begins) else f"is {found}"
+
+
+def faults_are_shown(shown):
+    """A fault is marked in the deck's editor, is said, and is gone once the deck is right."""
+    shown.example("adds-5-and-7")
+    shown.view("parts")
+    deck = shown.js("document.querySelector('.slot textarea').value")
+    shown.type_into(".slot textarea", deck.replace("SET 7;", "ADD 7;"))
+    shown.page.wait("document.querySelector('.fault') !== null")
+    said = shown.js("document.querySelector('.fault').textContent")
+    is_said = "Line 1, column 21: UnknownOrder: ADD 7." in said and "docs/USERCODE.md, fault 4" in said
+    yield "a fault while it is written", None if is_said else said
+    shown.click("run")
+    shown.idle()
+    state = shown.state()
+    yield "the text of a fault", None if shown.js("kdf9.text()") == "DECK 0 UnknownOrder 20\n" else shown.js("kdf9.text()")
+    yield "a fault is said", None if "Status 3: a deck has a fault. UnknownOrder, line 5 of the job." in state else state
+    shown.js("document.querySelector('.fault button').click()")
+    caret = shown.js("[document.activeElement.tagName, document.activeElement.selectionStart, document.activeElement.getAttribute('aria-invalid')]")
+    yield "the caret goes to the fault", None if caret == ["TEXTAREA", 20, "true"] else f"{caret}"
+    marked = shown.js("[document.querySelector('.painted .wrong').textContent, document.querySelector('.gutter .wrong').textContent]")
+    yield "the fault is marked", None if marked == ["ADD 7", "▸1"] else f"{marked}"
+    shown.type_into(".slot textarea", deck.replace("SET 7;", "SET 70;"))
+    shown.page.press("Enter", 13, CTRL)
+    shown.idle()
+    report, left = shown.js("kdf9.text()"), shown.js("document.querySelector('.fault') === null")
+    yield "an edited deck runs by Ctrl and Enter", None if "WORD 3 0000000000000113" in report and left else f"{report} {left}"
+    words = shown.js("document.querySelector('#sections table').innerText.split(/\\s+/).join(' ')")
+    yield "words have names and are decimal too", None if words == "Words name address octal decimal Y0 3 0000000000000113 75" else words
+
+
+def faults_stand_at_their_parts(shown):
+    """By parts, a fault of the job is shown at the control that it stands in, and Go to it sets the focus there."""
+    for devices, schedule, label, said in FAULTY_PARTS:
+        shown.write_job(HEAD + devices + TAIL.replace("ORDERS 10", schedule))
+        shown.view("parts")
+        shown.run("run")
+        got = shown.js("""[document.querySelector('[aria-invalid]').labels[0].textContent, document.querySelector('.fault').textContent,
+            document.querySelectorAll('[aria-invalid]').length, (document.querySelector('.fault button').click(), document.activeElement.labels[0].textContent)]""")
+        good = got[0] == got[3] == label and said in got[1] and got[2] == 1
+        yield f"the part of {said}", None if good else f"{got}"
+
+
+def parts_and_text_are_in_step(shown):
+    """What is changed by parts stands in the text, and the other way round; and a text without parts is shown whole."""
+    for path in sorted((ROOT / "examples").glob("*.job")):
+        text = path.read_text(encoding="ascii")
+        if not text:
+            continue
+        shown.write_job(text)
+        shown.view("parts")
+        kept = shown.js("kdf9.job()")
+        parts = shown.js("document.querySelectorAll('.slot').length")
+        yield f"parts of {path.stem}", None if kept == text and parts == text.count("\nSLOT ") + 1 else f"{parts} parts"
+    shown.example("reads-tape")
+    shown.view("parts")
+    shown.js("[...document.querySelectorAll('.devices > button')].at(-1).click()")
+    shown.js("[...document.querySelectorAll('.parts > button')].at(-1).click()")
+    job = shown.js("kdf9.job()")
+    yield "a device and a program are added", None if "\nDEVICE 0 TR\n" in job and "\nSLOT 1\nSTORE 32\nDECK\n" in job else job
+    got = shown.run("run")
+    yield "and the job runs", None if got[1] == 0 and "\nSLOT 1\n" in got[0] else f"{got}"
+    shown.write_job("KDF9 JOB 1\nSTORE 7\n")
+    shown.view("parts")
+    seen = shown.js("[document.querySelector('.notice').hidden, document.querySelector('.parts').hidden]")
+    yield "a text without parts", None if seen == [False, True] else f"{seen}"
+    got = shown.run("run")
+    yield "and its fault", None if got == ("JOB BadLine 2\n", 2) else f"{got}"
+
+
+def schedules_write_themselves(shown):
+    """The schedule is that which the tool writes."""
+    for name, fields, words in SCHEDULES:
+        shown.example(name)
+        for field, value in zip(("after", "every", "delays"), fields):
+            shown.js(f"{id_of(field)}.value = {json.dumps(value)}")
+        shown.click("schedule")
+        shown.idle()
+        due = kdf9(["schedule", f"examples/{name}.job", *words], "").out
+        got = shown.js("kdf9.job()")
+        yield f"schedule of {name}", None if got == due else f"is {got[-200:]!r} in place of {due[-200:]!r}"
+    shown.js(f"{id_of('after')}.value = 'many'")
+    shown.click("schedule")
+    yield "no number of calls", None if "aren't numbers" in shown.state() else shown.state()
+
+
+def runs_are_stopped(shown):
+    """Stop ends a run at once, the page goes on meanwhile, and the next run is as ever."""
+    shown.write_job(LOOP)
+    shown.choose("command", "run")
+    shown.click("run")
+    running = shown.state()
+    shown.page.press("Escape", 27)
+    shown.idle()
+    stopped = shown.state()
+    shown.click("run")
+    shown.example("reads-tape")
+    shown.idle()
+    got = shown.js("[kdf9.text(), kdf9.job() === " + json.dumps((ROOT / "examples/reads-tape.job").read_text(encoding="ascii")) + "]")
+    yield "a run is stopped by another job", None if got == ["", True] else f"{got}"
+    shown.write_job(LOOP)
+    yield "a run is stopped by Escape", None if running == "Running." and "Stopped." in stopped else f"{running} {stopped}"
+    got = shown.run("run")
+    yield "and runs again", None if got[1] == 0 and "\nRAN 0 20000000\n" in got[0] else f"{got}"
+    shown.write_job(LOOP.replace("1; J1;", "ZERO; OUT;").replace("STORE 32", "STORE 8192").replace("SCHEDULE", "SHOW 0 8191\n" * 500 + "SCHEDULE"))
+    shown.choose("command", "run")
+    shown.click("run")
+    shown.idle()
+    length, rest = shown.js(f"[kdf9.text().length, {id_of('rest')}.textContent]")
+    yield "a report of 100 MB", None if length > 10 ** 8 and rest.startswith("The first 100,000 of") else f"{length} {rest} {shown.state()}"
+    shown.write_job("KDF9 JOB 1\n" + " " * 4194304)
+    got = shown.run("run")
+    yield "a job that is too long", None if got == ("LARGE 4194304\n", 4) else f"{got[1]} {got[0][:50]}"
+
+
+def opened_link(opened, link):
+    """The page of a link, once it has said what came of it."""
+    other = Shown(opened(link))
+    other.page.wait(f"{id_of('state')}.textContent.includes('link')")
+    return other
+
+
+def links_hold_jobs(shown, opened, address):
+    """A link has the job, and one that is damaged says so."""
+    shown.example("walks-over-a-table")
+    shown.click("link")
+    shown.page.wait(f"!{id_of('link-said')}.hidden")
+    link = shown.js(f"{id_of('address')}.value")
+    due = (ROOT / "examples/walks-over-a-table.job").read_text(encoding="ascii")
+    other = opened_link(opened, link)
+    yield "a link", None if other.js("kdf9.job()") == due and "job of the link" in other.state() else other.state()
+    other.page.close()
+    for damaged in (link[:-9], link[:60] + "AAAA" + link[64:], f"{address}#job=", f"{address}#job=%%"):
+        other = opened_link(opened, damaged)
+        is_empty = "PROGRAM;\n  ZERO; OUT;\nFINISH;" in other.js("kdf9.job()")
+        yield f"a damaged link {damaged[-12:]}", None if "damaged" in other.state() and is_empty else other.state()
+        other.page.close()
+
+
+def pages_are_made_with_jobs(opened, file):
+    """`replay` makes a page that opens at the run of its job; where that has a fault, it is shown."""
+    other = file.with_name("run.html")
+    yield "a page with a job", None if make_page(other, "replay", "examples/reads-tape.job") else "isn't made"
+    shown = Shown(opened(f"file://{other}"))
+    shown.page.wait("document.querySelector('.programs') !== null")
+    got = shown.js("[document.querySelector('#replay output').textContent, kdf9.text()]")
+    due = ["0 of 15", (ROOT / "examples/reads-tape.report").read_text(encoding="ascii")]
+    yield "its run", None if got == due else f"{got}"
+    shown.page.close()
+    yield "a page with a deck that is refused", None if make_page(other, "replay", "examples/missing-reference.job") else "isn't made"
+    shown = Shown(opened(f"file://{other}"))
+    shown.page.wait("document.querySelector('.fault') !== null")
+    yield "its fault", None if "ReferenceMissing" in shown.state() else shown.state()
+    shown.page.close()
+    refused = kdf9(["replay", "nowhere.job"], "")
+    yield "a page with no job", None if refused.status == 1 and refused.err == "kdf9: nowhere.job: No such file or directory\n" else f"{refused}"
+
+
+def browsers_without_the_machine(opened, address):
+    """The examples are shown with their recorded reports, and what is lacking is said."""
+    shown = Shown(opened(address, before=WITHOUT_MEMORY64))
+    yield "what is lacking", None if "it lacks a 64 bit memory in WebAssembly" in shown.state() else shown.state()
+    shown.example("reads-tape")
+    due = (ROOT / "examples/reads-tape.report").read_text(encoding="ascii")
+    got = shown.js("[kdf9.text(), document.getElementById('run').disabled]")
+    yield "a recorded report", None if got == [due, True] else f"{got}"
+    shown.page.close()
+
+
+def controls_have_names(shown):
+    """Each control has a name for a screen reader, no two elements have one id, and nothing is wider than a narrow window."""
+    shown.example("adds-cards-while-a-tape-is-copied")
+    shown.view("parts")
+    shown.run("run")
+    nameless = shown.js("""[...document.querySelectorAll('button, input, select, textarea')].filter((it) => !(it.textContent.trim() && it.tagName === 'BUTTON')
+        && !it.getAttribute('aria-label') && !it.labels?.length).map((it) => it.outerHTML.slice(0, 80))""")
+    yield "names of controls", None if nameless == [] else f"are missing: {nameless}"
+    twice = shown.js("[...document.querySelectorAll('[id]')].map((it) => it.id).filter((it, at, all) => all.indexOf(it) !== at)")
+    yield "ids", None if twice == [] else f"stand twice: {twice}"
+    shown.page.send("Emulation.setDeviceMetricsOverride", width=360, height=800, deviceScaleFactor=1, mobile=False)
+    width = shown.js("document.documentElement.scrollWidth")
+    yield "a narrow window", None if width <= 360 else f"is {width} wide"
+    shown.page.send("Emulation.setDeviceMetricsOverride", width=1280, height=900, deviceScaleFactor=1, mobile=False)
+
+
+def nothing_is_fetched(running, address):
+    """Whatever was done, the browser asked for nothing but the page; and no script failed."""
+    asked = {event["params"]["request"]["url"].split("#")[0][:100] for event in running.events if event["method"] == "Network.requestWillBeSent"}
+    foreign = [url for url in asked if url != address[:100] and not url.startswith(("data:", "blob:"))]
+    yield "what is fetched", None if address[:100] in asked and not foreign else f"{asked}"
+    thrown = [event["params"]["exceptionDetails"]["text"] for event in running.events if event["method"] == "Runtime.exceptionThrown"]
+    logged = [event["params"]["entry"]["text"] for event in running.events if event["method"] == "Log.entryAdded"]
+    yield "scripts", None if not thrown + logged else f"{thrown + logged}"
+
+
+SUITES = (
+    runs_are_looked_at, faults_are_shown, faults_stand_at_their_parts, parts_and_text_are_in_step, schedules_write_themselves, runs_are_stopped,
+    faults_stand_at_their_places, controls_have_names, orders_are_those_of_the_program, runs_are_those_of_the_program,
+)
+
+
+def cases(file):
+    """All cases over the page in this file."""
+    address = f"file://{file}"
+    size = file.stat().st_size
+    yield "the size of the page", None if size <= 600000 else f"is {size}"
+    with Browser() as running:
+        def opened(where, **how):
+            return running.open(where, **how)
+        yield from worker_alone(opened)
+        shown = Shown(opened(address))
+        for suite in SUITES:
+            yield from suite(shown)
+        yield from links_hold_jobs(shown, opened, address)
+        yield from browsers_without_the_machine(opened, address)
+        yield from nothing_is_fetched(running, address)
+        yield from pages_are_made_with_jobs(opened, file)
+
+
+def take_pictures(opened, address):
+    """Takes the pictures of docs/PAGE.md."""
+    docs = ROOT / "docs"
+    shown = Shown(opened(address, width=1200, height=760))
+    shown.choose("example", "The first hour/table")
+    shown.run("run")
+    shown.page.picture(docs / "page-run.png")
+    deck = shown.js("document.querySelector('.slot textarea').value")
+    shown.type_into(".slot textarea", deck.replace("=V1; ZERO;", "=V1 ZERO;"))
+    shown.page.wait("document.querySelector('.fault') !== null")
+    shown.js("document.querySelector('.fault button').click()")
+    shown.page.picture(docs / "page-fault.png", x=0, y=310, width=600, height=400)
+    shown.example(PICTURED)
+    shown.run("run")
+    shown.click("look")
+    shown.page.wait("document.querySelector('.programs') !== null")
+    shown.js(f"(() => {{ const it = document.querySelector('#replay input'); it.value = {PICTURED_CALL}; it.dispatchEvent(new Event('input')); }})()")
+    shown.page.wait(f"{id_of('state')}.textContent.startsWith('After call {PICTURED_CALL}:')")
+    shown.js("document.getElementById('replay').scrollIntoView()")
+    shown.page.picture(docs / "page-calls.png")
+    shown.page.close()
+
+
+def make_page(file, *words):
+    """Makes the page as this file by these words; whether it could be made."""
+    with open(file, "wb") as written:
+        return subprocess.run([ROOT / "kdf9", *words], stdout=written, check=False).returncode == 0
+
+
+def main(words):
+    if browser.PROGRAM is None:
+        print("page: not run, since there is no chromium")
+        return 0
+    with tempfile.TemporaryDirectory() as folder:
+        file = pathlib.Path(folder) / "kdf9.html"
+        if not make_page(file, "page"):
+            print("page: the page could not be made")
+            return 1
+        if words == ["--pictures"]:
+            with Browser() as running:
+                take_pictures(running.open, f"file://{file}")
+            return 0
+        all_cases = list(cases(file))
+    faults = [(what, why) for what, why in all_cases if why]
+    for what, why in faults:
+        print(f"page: {what}: {why}")
+    print(f"page: {len(all_cases) - len(faults)} passed, {len(faults)} failed")
+    return 1 if faults else 0
+
+
+if __name__ == "__main__":
+    sys.exit(main(sys.argv[1:]))

@@ -1,0 +1,83 @@
+"""Tries what stands between the proved code and the page by itself: sums of 128 bits, and the heap."""
+import itertools
+import json
+import random
+
+from toolkit import ROOT
+
+# Numbers at the edges of 64 and 128 bits, and places to shift by.
+EDGES = [0, 1, -1, 5, 2**47 - 1, 2**63 - 1, 2**63, 2**64 - 1, 2**64, -2**63, 2**95 + 12345, 2**127 - 1, -2**127, -2**64 - 7]
+PLACES = [0, 1, 31, 32, 63, 64, 65, 95, 127]
+
+SHIFTS = {
+    "__ashlti3": lambda value, places: value << places, "__ashrti3": lambda value, places: value >> places,
+    "__lshrti3": lambda value, places: value % 2**128 >> places,
+}
+
+# Calls of a function of the worker, each with its numbers; what each wrote.
+CALLS = """(() => {
+    const memory = new WebAssembly.Memory({ initial: 1 }), given = imports({ memory });
+    return CASES.map(([name, ...numbers]) => {
+        given[name](64n, ...numbers.map((number) => (typeof number === "string" ? BigInt(number) : number)));
+        return [64, 72].map((at) => `${new DataView(memory.buffer).getBigUint64(at, true)}`);
+    });
+})()"""
+
+# Takes, changes and gives back blocks by chance, each filled with a byte of its own; what is wrong with one of them, and whether memory came to its end.
+BLOCKS = """(() => {
+    const memory = new WebAssembly.Memory({ initial: 1n, maximum: 64n, address: "i64" }), heap = new Heap(memory, 1000);
+    const blocks = [];
+    let seed = 1, wasFull = false;
+    const chance = (below) => (seed = (seed * 48271) % 2147483647) % below;
+    const bytes = () => new Uint8Array(memory.buffer);
+    const fill = (block) => bytes().fill(block.mark, block.at, block.at + block.size);
+    const isWhole = (block, size) => bytes().subarray(block.at, block.at + size).every((byte) => byte === block.mark);
+    for (let turn = 0; turn < 4000; turn += 1) {
+        const block = blocks[chance(Math.max(1, blocks.length))], size = 1 + chance(1 << chance(16));
+        if (block && !isWhole(block, block.size)) return [`turn ${turn}`, wasFull];
+        if (!block || chance(3) > 0) {
+            const at = heap.take(size);
+            if (at % 16 || (at && at < 1000)) return [`a block at ${at}`, wasFull];
+            if (at) fill(blocks[blocks.push({ at, size, mark: 1 + chance(255) }) - 1]);
+            else wasFull = true;
+        } else if (chance(2)) {
+            const kept = Math.min(block.size, size), at = heap.change(block.at, kept, size);
+            if (!at) { wasFull = true; continue; }
+            block.at = at;
+            if (!isWhole(block, kept)) return [`what was kept in turn ${turn}`, wasFull];
+            block.size = size;
+            fill(block);
+        } else {
+            heap.giveBack(block.at);
+            blocks.splice(blocks.indexOf(block), 1);
+        }
+    }
+    return [blocks.find((block) => !isWhole(block, block.size)) ? "a block at the end" : null, wasFull];
+})()"""
+
+
+def halves(value):
+    """The two halves of a number of 128 bits as WebAssembly hands them over: with signs."""
+    return [str((value >> places & 2**64 - 1) - (2**64 if value >> places + 63 & 1 else 0)) for places in (0, 64)]
+
+
+def cases_of_sums():
+    """The functions, each with its numbers, and what comes of them."""
+    numbers = EDGES + [random.Random(9).getrandbits(128) - 2**127 for _ in range(20)]
+    for one, other in itertools.product(numbers, EDGES):
+        yield ["__multi3", *halves(one), *halves(other)], one * other
+    for (name, shift), value, places in itertools.product(SHIFTS.items(), numbers, PLACES):
+        yield [name, *halves(value), places], shift(value, places)
+
+
+def worker_alone(opened):
+    """The worker's script is right by itself."""
+    page = opened("about:blank")
+    page.js((ROOT / "web/worker.js").read_text(encoding="utf-8") + "; 0")
+    calls, due = zip(*cases_of_sums())
+    got = page.js(CALLS.replace("CASES", json.dumps(calls)))
+    wrong = [call for call, halves_of_sum, value in zip(calls, got, due) if int(halves_of_sum[0]) + (int(halves_of_sum[1]) << 64) != value % 2**128]
+    yield f"{len(calls)} sums of 128 bits", f"wrong: {wrong[:3]}" if wrong else None
+    got = page.js(BLOCKS)
+    yield "the heap", None if got == [None, True] else f"{got}"
+    page.close()

@@ -1,0 +1,89 @@
+"""The page as one file: the module, the script, the style, and the texts that the script shows."""
+import base64
+import gzip
+import json
+import re
+
+from building.rooms import ROOT
+
+WEB = ROOT / "web"
+FIRST_HOUR, EXAMPLES = "The first hour", "Examples"
+
+# The script that is begun with; the others are those that it imports.
+MAIN = "page"
+IMPORT = re.compile(r'^import (\{[^}]*\}) from "\./(\w+)\.js";\n', re.MULTILINE)
+EXPORT = re.compile(r"^export ((?:async )?(?:function|class|const) )(\w+)", re.MULTILINE)
+
+
+def read(path):
+    """The text of a file of the repository."""
+    return (ROOT / path).read_text(encoding="utf-8")
+
+
+def script(name=MAIN):
+    """The script of this name and those that it imports, as one: each is a function that is called once, and gives what it exports."""
+    done, exported = {}, {}
+
+    def visit(each):
+        if each in done:
+            return
+        done[each] = None
+        text = read(f"web/{each}.js")
+        for names, used in IMPORT.findall(text):
+            visit(used)
+            missing = set(re.findall(r"\w+", names)) - set(exported[used])
+            if missing:
+                raise ValueError(f"web/{each}.js imports {', '.join(missing)}, which web/{used}.js doesn't export")
+        del done[each]
+        exported[each] = [found for _, found in EXPORT.findall(text)]
+        names = ", ".join(exported[each])
+        body = EXPORT.sub(r"\1\2", IMPORT.sub(r"const \1 = \2_js;\n", text))
+        done[each] = f"const {each}_js = (() => {{\n{body}return {{ {names} }};\n}})();\n"
+
+    visit(name)
+    return "\n".join(done.values())
+
+
+def sentences():
+    """What the documents say of each fault, of a job and of a deck."""
+    table = read("docs/JOB.md").partition("## What is wrong with a job")[2].partition("\n## ")[0]
+    job = {name: f"{said[0].upper()}{said[1:]}. (docs/JOB.md)" for name, said in re.findall(r"^\| `(\w+)` \| (.*?) \|$", table, re.MULTILINE)}
+    deck = {}
+    for number, name, said in re.findall(r"^### (\d+) (\w+)\n\n(.*?)\n\n", read("docs/USERCODE.md"), re.MULTILINE | re.DOTALL):
+        deck[name] = f"{' '.join(said.split()).partition(' Its place is')[0]} (docs/USERCODE.md, fault {number})"
+    return {"job": plain(job), "deck": plain(deck)}
+
+
+def plain(said):
+    """Sentences without the marks that set off code."""
+    return {name: sentence.replace("`", "") for name, sentence in said.items()}
+
+
+def jobs_of_first_hour():
+    """The jobs of the first hour, each with the answer to `run` where the page has it."""
+    tour = read("docs/TOUR.md")
+    for name, job in re.findall(r"^```job (\S+)\n(.*?)^```$", tour, re.MULTILINE | re.DOTALL):
+        answer = re.search(rf"^```sh\n\./kdf9 run < {re.escape(name)}\n```\n+```answer\n(.*?)^```$", tour, re.MULTILINE | re.DOTALL)
+        yield f"{FIRST_HOUR}/{name.removesuffix('.job')}", {"group": FIRST_HOUR, "job": job, "args": ["run"], "report": answer and answer[1]}
+
+
+def jobs_of_examples():
+    """The examples, in the order of their page, each with its words and its report."""
+    listed = re.findall(r"`([\w-]+)`", read("docs/EXAMPLES.md"))
+    for name in dict.fromkeys(listed):
+        if (ROOT / "examples" / f"{name}.job").is_file():
+            job, args, report = (read(f"examples/{name}.{part}") for part in ("job", "args", "report"))
+            yield f"{EXAMPLES}/{name}", {"group": EXAMPLES, "job": job, "args": args.split(), "report": report}
+
+
+def texts(start):
+    """What the script shows, as JSON that may stand in a page; `start` is the job that is run as the page opens, or None."""
+    jobs = dict([*jobs_of_first_hour(), *jobs_of_examples()])
+    return json.dumps({"jobs": jobs, "sentences": sentences(), "start": start}, ensure_ascii=False, separators=(",", ":")).replace("</", "<\\/")
+
+
+def page(module, start=None):
+    """The page, of the bytes of the module, and with a job that is run as it opens where there is one."""
+    packed = base64.b64encode(gzip.compress(module, 9, mtime=0)).decode("ascii")
+    parts = {"STYLE": read("web/page.css"), "WORKER": read("web/worker.js"), "TEXTS": texts(start), "MODULE": packed, "SCRIPT": script()}
+    return re.sub(r"/\* ([A-Z]+) \*/", lambda mark: parts[mark[1]], read("web/page.html"))

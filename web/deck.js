@@ -1,0 +1,130 @@
+// A deck beside its image: its statements, what each of them became, and the names of words. How many syllables a statement became is read off the
+// image, which the machine lists; of orders only that is known here.
+
+export const SYLLABLES = 6; // of a word
+const COMMENT = /\([^)]*\)?/g;
+const STATEMENT = /\*(?:[* \n]*\*)?|[^*; \n][^;]*/g;
+const DECLARATION = /^Y([A-Z]?)(\d+)$/;
+const OPENING = /^(?:PROGRAM|P(\d+))(?:V(\d+))?$/;
+const CONSTANT = /^V(\d+)=/;
+
+/** The deck with spaces in place of its comments, so that places stay. */
+export const withoutComments = (deck) => deck.replace(COMMENT, (comment) => " ".repeat(comment.length));
+
+/** The statements of a deck, in order: where each begins and ends, what stands there with single spaces, and its text without what means nothing. What
+ * stands after the last `;` is one too. A `*` before something else is a statement by itself, and a row of them is taken as one. */
+export function statementsOf(deck) {
+  return [...withoutComments(deck).matchAll(STATEMENT)].map(({ 0: found, index }) => {
+    if (found[0] === "*") return { start: index, end: index + found.length, written: "*", text: "*" };
+    const words = found.trim().split(/[ \n]+/);
+    return { start: index, end: index + found.trimEnd().length, written: words.join(" "), text: words.join("") };
+  });
+}
+
+/** The statement in which this place of the deck stands, or undefined. */
+export function statementAt(deck, place) {
+  return statementsOf(deck).find(({ start, end }) => start <= place && place < end);
+}
+
+/** The line and the column, both from 1, of a place in a text. */
+export function lineAndColumn(text, place) {
+  const before = text.slice(0, place);
+  return { line: before.split("\n").length, column: place - before.lastIndexOf("\n") };
+}
+
+/** The parts of a deck that look different: comments and references, each as its kind, where it begins, and where it ends. */
+export function painted(deck) {
+  const comments = [...deck.matchAll(COMMENT)].map(({ 0: found, index }) => ({ kind: "comment", start: index, end: index + found.length }));
+  const references = statementsOf(deck).filter(({ text }) => /^\d+$/.test(text)).map(({ start, end }) => ({ kind: "reference", start, end }));
+  return [...comments, ...references].sort((one, other) => one.start - other.start);
+}
+
+/** The text of a listing by its words and its lines REF; null for a slot that the job doesn't have. */
+export function readListing(text) {
+  const lines = text.split("\n");
+  const words = lines.filter((line) => line.startsWith("WORD ")).map((line) => line.split(" ")[2]);
+  return words.length === 0 ? null : { words, references: lines.filter((line) => line.startsWith("REF ")) };
+}
+
+/** A deck beside its listing, in which each store has its name. */
+export class Layout {
+  constructor(deck, listing) {
+    this.syllables = listing.words.flatMap(syllablesOf);
+    this.references = listing.references.values();
+    this.names = [];
+    this.orders = new Map();
+    this.place = sizeOfOrder(this.syllables[0]);
+    this.part = null;
+    this.groups = new Map();
+    for (const statement of statementsOf(deck)) {
+      this.add(statement);
+      if (statement.text === "FINISH") break;
+    }
+    for (const letter of [...this.groups.keys()].sort()) this.name(`Y${letter}`, "", this.groups.get(letter));
+    if (!this.references.next().done || this.place !== this.syllables.length) throw new OtherDeck();
+  }
+
+  /** The name of the word at an address: that of the deck, or else by the address alone. */
+  nameOf(address) {
+    const found = this.names.find((names) => names.address <= address && address < names.address + names.count);
+    return found ? `${found.before}${address - found.address}${found.behind}` : `E${address}`;
+  }
+
+  /** The statement of the order at a syllable of a word, or undefined where no statement wrote it. */
+  statementOf(word, syllable) {
+    return this.orders.get(SYLLABLES * word + syllable);
+  }
+
+  add(statement) {
+    const { text } = statement;
+    if (/^\d+$/.test(text)) this.refer(Number(text));
+    else if (text === "*" || text === "FINISH") this.fill();
+    else if (OPENING.test(text)) this.open(OPENING.exec(text));
+    else if (CONSTANT.test(text)) return;
+    else if (this.part === null) this.declare(DECLARATION.exec(text));
+    else this.order(statement);
+  }
+
+  order(statement) {
+    this.orders.set(this.place, statement);
+    this.place += sizeOfOrder(this.syllables[this.place] ?? 0);
+  }
+
+  /** The listing tells where each reference stands, and has to agree. */
+  refer(number) {
+    const due = `REF ${this.part} ${number} ${Math.floor(this.place / SYLLABLES)} ${this.place % SYLLABLES}`;
+    if (this.references.next().value !== due) throw new OtherDeck();
+  }
+
+  fill() {
+    this.place = SYLLABLES * Math.ceil(this.place / SYLLABLES);
+  }
+
+  open([, part, last]) {
+    this.fill();
+    this.part = Number(part ?? 0);
+    if (last !== undefined) this.name("V", this.part ? `P${this.part}` : "", Number(last) + 1);
+  }
+
+  declare(declaration) {
+    if (declaration === null) throw new OtherDeck();
+    this.groups.set(declaration[1], Number(declaration[2]) + 1);
+  }
+
+  name(before, behind, count) {
+    this.names.push({ before, behind, address: this.place / SYLLABLES, count });
+    this.place += SYLLABLES * count;
+  }
+}
+
+/** The listing isn't that of the deck. */
+export class OtherDeck extends Error {}
+
+/** The six syllables of a word of 16 octal digits. */
+function syllablesOf(octal) {
+  const word = BigInt(`0o${octal}`);
+  return [40n, 32n, 24n, 16n, 8n, 0n].map((places) => Number((word >> places) & 255n));
+}
+
+/** How many syllables an order has, by its first. */
+const sizeOfOrder = (syllable) => (syllable < 0x40 ? 1 : syllable < 0x80 ? 2 : 3);

@@ -1,0 +1,136 @@
+// The text of a job, and the same by parts: its programs with their stores, decks, devices and what is shown of them, and its schedule.
+
+export const HEADER = "KDF9 JOB 1";
+export const KINDS = { TR: "paper tape reader", TP: "paper tape punch", CR: "card reader", LP: "line printer", MT: "magnetic tape" };
+export const EMPTY_JOB = `${HEADER}
+SLOT 0
+STORE 32
+DECK
+PROGRAM;
+  ZERO; OUT;
+FINISH;
+ENDDECK
+SCHEDULE
+ORDERS 100
+ENDJOB
+`;
+
+/** The lines of a text; after its last line end there is a line only if it isn't empty. */
+export function linesOf(text) {
+  const lines = text.split("\n");
+  if (lines.at(-1) === "") lines.pop();
+  return lines;
+}
+
+/** Some lines as a text in which each has its end. */
+export const textOf = (lines) => lines.map((line) => `${line}\n`).join("");
+
+/** A device that a line of a job names. */
+function readDevice(line) {
+  const [number, kind, ...label] = line.slice(7).split(" ");
+  return { number, kind: kind ?? "", label: label.join(" "), media: [] };
+}
+
+function lineOfDevice({ number, kind, label }) {
+  return ["DEVICE", number, kind, ...(label === "" ? [] : [label])].join(" ");
+}
+
+/** Reads the lines of a job one after another. */
+class Reader {
+  constructor(text) {
+    this.lines = linesOf(text);
+    this.at = 0;
+  }
+
+  /** The rest of the next line, which has to begin so; null where it doesn't. */
+  take(beginning) {
+    const line = this.lines[this.at];
+    if (line === undefined || !line.startsWith(beginning)) return null;
+    this.at += 1;
+    return line.slice(beginning.length);
+  }
+
+  /** The lines up to this one, which is taken too; null where it doesn't come. */
+  until(end) {
+    const found = this.lines.indexOf(end, this.at);
+    if (found < 0) return null;
+    const lines = this.lines.slice(this.at, found);
+    this.at = found + 1;
+    return lines;
+  }
+
+  slot() {
+    const number = this.take("SLOT "), store = this.take("STORE ");
+    const deck = this.take("DECK") === "" ? this.until("ENDDECK") : null;
+    if (number === null || store === null || deck === null) return null;
+    const slot = { number, store, deck: textOf(deck), devices: [], shows: [] };
+    for (let device = this.take("DEVICE "); device !== null; device = this.take("DEVICE ")) {
+      slot.devices.push(this.media(readDevice(`DEVICE ${device}`)));
+    }
+    for (let show = this.take("SHOW "); show !== null; show = this.take("SHOW ")) slot.shows.push(show);
+    return slot;
+  }
+
+  media(device) {
+    while (/^[+=]/.test(this.lines[this.at] ?? "")) device.media.push(this.lines[this.at++]);
+    return device;
+  }
+}
+
+/** The parts of a job, or null where the text can't be shown by parts. What is read is written again by `writeJob` to the letter. */
+export function readJob(text) {
+  const reader = new Reader(text);
+  if (reader.take(HEADER) !== "") return null;
+  const slots = [];
+  while (reader.lines[reader.at]?.startsWith("SLOT ")) {
+    const slot = reader.slot();
+    if (slot === null) return null;
+    slots.push(slot);
+  }
+  if (reader.take("SCHEDULE") !== "") return null;
+  const end = reader.lines.length - 1;
+  const job = { slots, schedule: textOf(reader.lines.slice(reader.at, end)) };
+  return reader.lines[end] === "ENDJOB" && end >= reader.at && writeJob(job) === text ? job : null;
+}
+
+/** The lines of a job by parts, each with the part that it belongs to: the names of the part, the index of its slot and of its device, and the
+ * number of the line in the part, from 0. */
+export function placedLines(job) {
+  const placed = [{ text: HEADER, part: "header" }];
+  job.slots.forEach((slot, at) => {
+    const add = (part, lines, device) => lines.forEach((text, line) => placed.push({ text, part, slot: at, device, line }));
+    add("number", [`SLOT ${slot.number}`]);
+    add("store", [`STORE ${slot.store}`]);
+    add("deck", ["DECK"]);
+    add("deck", linesOf(slot.deck));
+    add("deck", ["ENDDECK"]);
+    slot.devices.forEach((device, index) => {
+      add("device", [lineOfDevice(device)], index);
+      add("media", device.media, index);
+    });
+    add("shows", slot.shows.map((show) => `SHOW ${show}`));
+  });
+  placed.push({ text: "SCHEDULE", part: "schedule", line: 0 });
+  linesOf(job.schedule).forEach((text, line) => placed.push({ text, part: "schedule", line }));
+  placed.push({ text: "ENDJOB", part: "schedule", line: linesOf(job.schedule).length });
+  return placed;
+}
+
+/** The text of a job by parts. */
+export const writeJob = (job) => textOf(placedLines(job).map(({ text }) => text));
+
+/** The lines of a medium as they are edited: those of a tape as they stand, since they begin with + or =, and others without their +. */
+export function editedMedia({ kind, media }) {
+  const lines = kind === "MT" ? media : media.map((line) => line.slice(1));
+  return lines.join("\n") + (lines.at(-1) === "" ? "\n" : "");
+}
+
+/** The lines of a medium that were edited so. */
+export function readMedia(kind, text) {
+  const lines = linesOf(text);
+  return kind === "MT" ? lines.map((line) => (/^[+=]/.test(line) ? line : `+${line}`)) : lines.map((line) => `+${line}`);
+}
+
+/** The runs of words that are shown, as they are edited: `3 3, 32 40`. */
+export const editedShows = (shows) => shows.join(", ");
+export const readShows = (text) => text.split(",").map((show) => show.trim()).filter((show) => show !== "");

@@ -1,0 +1,232 @@
+// A job as it is edited: by parts, or as its whole text. Both are kept in step.
+
+import { button, choice, freshId, labelled, make } from "./dom.js";
+import { Editor } from "./editor.js";
+import { painted } from "./deck.js";
+import { HEADER, KINDS, editedMedia, editedShows, linesOf, placedLines, readJob, readMedia, readShows, writeJob } from "./job.js";
+
+const NO_PARTS = "This text can't be shown by parts, since a line of it stands where none like it may. Here is the whole text.";
+const TOO_LONG = "This job is too long to be edited here. It can be run and saved as it is.";
+
+// A browser is slow with a longer text in an editor.
+const LONGEST_EDITED = 300000;
+const MOST_SLOTS = 4, MOST_DEVICES = 16;
+const NEW_DECK = "PROGRAM;\n  ZERO; OUT;\nFINISH;\n";
+
+/** What looks different in the text of a job: the comments and references of its decks. */
+function paintedJob(text) {
+  const parts = [];
+  let place = 0, isDeck = false, start = 0;
+  for (const line of linesOf(text)) {
+    if (!isDeck && line === "DECK") {
+      isDeck = true;
+      start = place + line.length + 1;
+    } else if (isDeck && line === "ENDDECK") {
+      isDeck = false;
+      parts.push(...painted(text.slice(start, place)).map((part) => ({ ...part, start: part.start + start, end: part.end + start })));
+    }
+    place += line.length + 1;
+  }
+  return parts;
+}
+
+export class JobView {
+  /** The view of a job in an element of the page; `onchange` is called after each change by hand. */
+  constructor(element, onchange) {
+    this.onchange = onchange;
+    this.isWhole = false;
+    this.controls = new Map();
+    this.said = make("p", { class: "fault", id: freshId("fault") });
+    this.notice = make("p", { class: "notice", hidden: true });
+    this.parts = make("div", { class: "parts" });
+    this.whole = new Editor({ label: "The whole job", text: "", paint: paintedJob, onchange: (text) => this.changed(text) });
+    element.append(this.notice, this.parts, this.whole.element);
+    this.show(`${HEADER}\n`);
+  }
+
+  /** Shows another job. */
+  show(text) {
+    this.text = text;
+    this.draw();
+  }
+
+  /** Shows the job as its whole text, or by parts. */
+  showWhole(isWhole) {
+    this.isWhole = isWhole;
+    this.draw();
+  }
+
+  get isByParts() {
+    return this.job !== null && !this.isWhole;
+  }
+
+  get isTooLong() {
+    return this.text.length > LONGEST_EDITED;
+  }
+
+  changed(text) {
+    this.text = text;
+    this.forgetFault();
+    this.onchange();
+  }
+
+  partChanged() {
+    this.changed(writeJob(this.job));
+  }
+
+  draw() {
+    this.forgetFault();
+    this.controls.clear();
+    this.job = this.isTooLong ? null : readJob(this.text);
+    this.notice.textContent = this.isTooLong ? TOO_LONG : NO_PARTS;
+    this.notice.hidden = !this.isTooLong && (this.isWhole || this.job !== null);
+    this.parts.hidden = !this.isByParts;
+    this.whole.element.hidden = this.isByParts || this.isTooLong;
+    this.parts.replaceChildren(...(this.isByParts ? this.drawParts() : []));
+    this.whole.text = this.whole.element.hidden ? "" : this.text;
+  }
+
+  drawParts() {
+    const free = ["0", "1", "2", "3"].find((number) => this.job.slots.every((slot) => slot.number < number));
+    const add = button("Add a program", () => this.addSlot(free), { disabled: this.job.slots.length >= MOST_SLOTS || free === undefined });
+    return [...this.job.slots.map((slot, at) => this.drawSlot(slot, at)), add, this.drawSchedule()];
+  }
+
+  addSlot(number) {
+    this.job.slots.push({ number, store: "32", deck: NEW_DECK, devices: [], shows: [] });
+    this.redraw();
+    this.controls.get(`deck ${this.job.slots.length - 1}`).textarea.focus();
+  }
+
+  /** Draws the parts anew, after one came or went. */
+  redraw() {
+    this.partChanged();
+    this.draw();
+  }
+
+  drawSlot(slot, at) {
+    const heading = make("h3", { id: freshId("slot"), tabindex: "-1" }, `Program in slot ${slot.number}`);
+    const deck = new Editor({ label: "Deck", text: slot.deck, paint: painted, onchange: (text) => { slot.deck = text; this.partChanged(); } });
+    this.controls.set(`deck ${at}`, deck);
+    const fields = make("div", { class: "fields" },
+      labelled("Store, in words", this.input(`store ${at}`, slot.store, (value) => { slot.store = value; }, { inputmode: "numeric", size: "6" })),
+      labelled("Show the words from, to", this.input(`shows ${at}`, editedShows(slot.shows), (value) => { slot.shows = readShows(value); },
+        { size: "16", placeholder: "0 7, 32 40" })),
+      button("Remove", () => { this.job.slots.splice(at, 1); this.redraw(); }, { "aria-label": `Remove the program in slot ${slot.number}` }));
+    return make("section", { class: "slot", "aria-labelledby": heading.id }, heading, deck.element, fields, this.drawDevices(slot, at));
+  }
+
+  input(name, value, take, attributes) {
+    const oninput = () => { take(control.value); this.partChanged(); };
+    const control = make("input", { type: "text", spellcheck: "false", autocomplete: "off", ...attributes, oninput });
+    control.value = value;
+    this.controls.set(name, control);
+    return control;
+  }
+
+  drawDevices(slot, at) {
+    const taken = new Set(this.job.slots.flatMap(({ devices }) => devices.map(({ number }) => number)));
+    const free = Array.from({ length: MOST_DEVICES }, (_, number) => `${number}`).find((number) => !taken.has(number));
+    const add = button("Add a device", () => { slot.devices.push({ number: free, kind: "TR", label: "", media: [] }); this.redraw(); },
+      { disabled: free === undefined, "aria-label": `Add a device to slot ${slot.number}` });
+    return make("div", { class: "devices" }, ...slot.devices.map((device, index) => this.drawDevice(slot, at, device, index)), add);
+  }
+
+  drawDevice(slot, at, device, index) {
+    const kinds = Object.entries(KINDS).map(([kind, name]) => [kind, `${kind}, ${name}`]);
+    if (!(device.kind in KINDS)) kinds.push([device.kind, device.kind]);
+    const kind = choice(kinds, device.kind, () => {
+      device.kind = kind.value;
+      device.label = kind.value === "MT" ? device.label || "TAPE" : "";
+      device.media = kind.value === "TP" || kind.value === "LP" ? [] : readMedia(device.kind, device.media.map((line) => line.slice(1)).join("\n"));
+      this.redraw();
+    });
+    const number = this.input(`device ${at} ${index}`, device.number, (value) => { device.number = value; }, { size: "3", inputmode: "numeric" });
+    const named = this.input(`label ${at} ${index}`, device.label, (value) => { device.label = value; }, { size: "9" });
+    const label = device.kind === "MT" || device.label ? [labelled("Label", named)] : [];
+    const remove = button("Remove", () => { slot.devices.splice(index, 1); this.redraw(); }, { "aria-label": `Remove device ${device.number}` });
+    const fields = make("div", { class: "fields" }, labelled("Device", number), labelled("Kind", kind), ...label, remove);
+    return make("fieldset", {}, make("legend", {}, `Device ${device.number}`), fields, ...this.drawMedia(device, at, index));
+  }
+
+  /** What is on a device, unless it begins with nothing. */
+  drawMedia(device, at, index) {
+    if ((device.kind === "TP" || device.kind === "LP") && device.media.length === 0) return [];
+    const what = { TR: "The characters on the tape", CR: "The cards, one to a line", MT: "The blocks, one to a line: + before each, or = where it has its mark" };
+    const editor = new Editor({
+      label: what[device.kind] ?? "What is on it", text: editedMedia(device), paint: () => [],
+      onchange: (text) => { device.media = readMedia(device.kind, text); this.partChanged(); },
+    });
+    this.controls.set(`media ${at} ${index}`, editor);
+    return [editor.element];
+  }
+
+  drawSchedule() {
+    const heading = make("h3", { id: freshId("schedule") }, "Schedule");
+    const editor = new Editor({ label: "The lines of the schedule", text: this.job.schedule, paint: () => [],
+      onchange: (text) => { this.job.schedule = text; this.partChanged(); } });
+    this.controls.set("schedule", editor);
+    return make("section", { class: "slot", "aria-labelledby": heading.id }, heading, editor.element);
+  }
+
+  /** Shows a fault at its place, with its sentence and a hint, and a button that goes there. */
+  showFault(fault, hint) {
+    this.forgetFault();
+    if (this.isTooLong) return;
+    const { control, place, line, column, end } = this.placeOf(fault);
+    const where = line ? `Line ${line}, column ${column}: ` : "";
+    const subject = fault.subject ? `: ${fault.subject.length > 60 ? `${fault.subject.slice(0, 57)}...` : fault.subject}` : "";
+    const element = control instanceof Editor ? control.textarea : control;
+    this.said.replaceChildren(`${where}${fault.name}${subject}. ${fault.said}${hint ? ` Hint: ${hint}.` : ""} `,
+      button("Go to it", () => (control instanceof Editor ? control.goTo(place) : control.focus())));
+    (control instanceof Editor ? control.element : control.closest(".fields")).after(this.said);
+    if (control instanceof Editor) control.mark(place, end);
+    element.setAttribute("aria-invalid", "true");
+    element.setAttribute("aria-describedby", this.said.id);
+    this.faulty = { control, element };
+  }
+
+  /** The control in which a fault stands, and where in it. */
+  placeOf(fault) {
+    if (!this.isByParts) return this.placeInWhole(fault);
+    if (fault.deck !== undefined) {
+      const at = this.job.slots.findIndex(({ number }) => number === `${fault.slot}`);
+      const { place, lineOfDeck: line, column, deck } = fault;
+      return { control: this.controls.get(`deck ${at}`), place, line, column, end: endOfStatement(deck, place) };
+    }
+    const { part, slot, device, line } = placedLines(this.job)[fault.line - 1] ?? { part: "schedule", line: linesOf(this.job.schedule).length };
+    const names = [/Label/.test(fault.name) && `label ${slot} ${device}`, `${part} ${slot} ${device}`, `${part} ${slot}`, part, `store ${slot}`, "schedule"];
+    const control = this.controls.get(names.find((name) => this.controls.has(name)));
+    if (!(control instanceof Editor)) return { control };
+    const isShort = part === "media" && this.job.slots[slot].devices[device].kind !== "MT";
+    return this.placeInLine(control, line + 1, Math.max(1, fault.column - (isShort ? 1 : 0)));
+  }
+
+  placeInWhole(fault) {
+    const found = this.placeInLine(this.whole, fault.line, fault.column);
+    return fault.deck === undefined ? found : { ...found, end: endOfStatement(this.text, found.place) };
+  }
+
+  placeInLine(control, line, column) {
+    const lines = control.text.split("\n");
+    const place = lines.slice(0, line - 1).reduce((sum, text) => sum + text.length + 1, 0) + column - 1;
+    const end = place + ((lines[line - 1] ?? "").slice(column - 1).split(" ")[0] ?? "").length;
+    return { control, place, line, column, end };
+  }
+
+  forgetFault() {
+    this.said.remove();
+    if (!this.faulty) return;
+    const { control, element } = this.faulty;
+    if (control instanceof Editor) control.unmark();
+    element.removeAttribute("aria-invalid");
+    element.removeAttribute("aria-describedby");
+    this.faulty = null;
+  }
+}
+
+/** The end of the statement at a place of a text, as far as it stands in the same line. */
+function endOfStatement(text, place) {
+  const length = text.slice(place).search(/;|\n/);
+  return length > 0 ? place + length : place;
+}

@@ -1,0 +1,35 @@
+// Jobs that come and go: in a link, whose part after the # has the packed text, and as files.
+
+import { make } from "./dom.js";
+import { bytesOf, unpacked } from "./engine.js";
+
+const PREFIX = "#job=";
+
+/** The text of a job as the end of a link. */
+export async function packedJob(text) {
+  const stream = new Blob([text]).stream().pipeThrough(new CompressionStream("gzip"));
+  const bytes = new Uint8Array(await new Response(stream).arrayBuffer());
+  let characters = "";
+  for (const byte of bytes) characters += String.fromCharCode(byte);
+  return PREFIX + btoa(characters).replaceAll("+", "-").replaceAll("/", "_").replace(/=+$/, "");
+}
+
+/** Whether the end of a link has a job. */
+export const hasJob = (hash) => hash.startsWith(PREFIX);
+
+/** The job that the end of a link has, or null where it is damaged. */
+export async function jobOfLink(hash) {
+  try {
+    const bytes = bytesOf(hash.slice(PREFIX.length).replaceAll("-", "+").replaceAll("_", "/"));
+    return new TextDecoder("utf-8", { fatal: true }).decode(await unpacked(bytes));
+  } catch {
+    return null;
+  }
+}
+
+/** Offers a text as a file of this name. */
+export function saveFile(name, text) {
+  const address = URL.createObjectURL(new Blob([text], { type: "text/plain" }));
+  make("a", { href: address, download: name }).click();
+  setTimeout(() => URL.revokeObjectURL(address), 60000);
+}

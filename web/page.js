@@ -1,0 +1,308 @@
+// The page: what its buttons and keys do.
+
+import { byId, make } from "./dom.js";
+import { Engine, STATUSES, Stopped, bytesOf, canRun, unpacked } from "./engine.js";
+import { faultOf } from "./fault.js";
+import { hintOf } from "./hints.js";
+import { EMPTY_JOB } from "./job.js";
+import { JobView } from "./jobview.js";
+import { hasJob, jobOfLink, packedJob, saveFile } from "./link.js";
+import { isReadable, layoutsOf, resultsOf, shownText } from "./results.js";
+import { Replay } from "./replay.js";
+import { NoSchedule, scheduled } from "./schedule.js";
+
+const DONE = 0, JOB_HAS_FAULT = 2, DECK_HAS_FAULT = 3;
+const MEBIBYTE = 2 ** 20;
+const OWN = "own";
+
+/** A job is looked at so many milliseconds after the last key, for its faults. */
+const PAUSE = 700;
+
+const texts = JSON.parse(byId("texts").textContent);
+const view = new JobView(byId("editors"), changed);
+let engine = null;
+let lastText = "";
+let lastRun = null; // what can be looked at call by call: the job, its report, and the layouts of its decks
+let pause = 0;
+
+const ask = (words, job) => engine.ask(words, job);
+const replay = new Replay(byId("replay"), { ask, say, failed: (error) => sayFailed(error) });
+
+/** Says in the line of the page that is read aloud what has happened. */
+function say(text, isWrong = false) {
+  byId("state").textContent = isWrong ? `▸ ${text}` : text;
+  byId("state").classList.toggle("wrong", isWrong);
+  delete byId("state").dataset.status;
+}
+
+/** The job was changed by hand. */
+function changed() {
+  byId("example").value = OWN;
+  byId("link-said").hidden = true;
+  byId("stale").hidden = lastText === "";
+  clearTimeout(pause);
+  pause = setTimeout(lookForFault, PAUSE);
+}
+
+/** Shows the fault of the job, if it has one, while it is written. Nothing is said aloud meanwhile. */
+async function lookForFault() {
+  if (!engine) return;
+  if (engine.isBusy) {
+    pause = setTimeout(lookForFault, PAUSE);
+    return;
+  }
+  const { text } = view;
+  try {
+    const answer = await ask(["asm", "0"], text);
+    if (text === view.text) await showFault(answer, text);
+  } catch (error) {
+    if (!(error instanceof Stopped)) sayFailed(error);
+  }
+}
+
+/** Why there is no answer. */
+function sayFailed(error) {
+  if (error instanceof Stopped) say("Stopped.", true);
+  else if (error instanceof NoSchedule) say(`There is no schedule: ${error.message}.`, true);
+  else say(`The machine stopped: ${error.message}`, true);
+}
+
+/** Marks the fault that the answer tells, if it tells one, and gives it. */
+async function showFault({ status, text: answer }, job) {
+  if (status !== JOB_HAS_FAULT && status !== DECK_HAS_FAULT) {
+    view.forgetFault();
+    return null;
+  }
+  const fault = faultOf(answer, job, texts.sentences);
+  const hint = await hintOf(ask, fault, job);
+  if (job === view.text) view.showFault(fault, hint);
+  return fault;
+}
+
+function words() {
+  const command = byId("command").value;
+  return command === "run" ? ["run"] : [command, byId("value").value];
+}
+
+/** Something is being reckoned, or no longer. */
+function setBusy(isBusy) {
+  byId("run").disabled = byId("schedule").disabled = isBusy || !engine;
+  byId("stop").disabled = !isBusy;
+  byId("results").setAttribute("aria-busy", `${isBusy}`);
+}
+
+/** Does some work with the machine, which Stop ends. */
+async function work(text, task) {
+  clearTimeout(pause);
+  setBusy(true);
+  say(text);
+  try {
+    await task();
+  } catch (error) {
+    sayFailed(error);
+  }
+  setBusy(false);
+}
+
+async function run() {
+  if (byId("run").disabled) return;
+  await work("Running.", async () => {
+    const { text } = view, asked = words();
+    showText("", []);
+    const answer = await ask(asked, text);
+    const fault = await showFault(answer, text);
+    const layouts = answer.status === DONE && asked[0] !== "make" ? await layoutsOf(ask, text) : new Map();
+    showText(answer.text, answer.status === DONE ? resultsOf(answer.text, layouts) : []);
+    lastRun = answer.status === DONE && asked[0] === "run" && isReadable(answer.text) ? { text, report: answer.text, layouts } : null;
+    byId("look").disabled = lastRun === null;
+    byId("stale").hidden = text === view.text;
+    sayAnswer(answer, fault);
+  });
+}
+
+function sayAnswer({ status, milliseconds, memory }, fault) {
+  if (status === DONE) {
+    say(`Done, in ${Math.max(1, Math.round(milliseconds)).toLocaleString("en")} ms and ${(memory / MEBIBYTE).toFixed(1)} MiB.`);
+  } else {
+    const where = fault ? ` ${fault.name}, line ${fault.line} of the job. ${fault.said}` : "";
+    say(`Status ${status}: ${STATUSES[status]}.${where}`, true);
+  }
+  byId("state").dataset.status = status;
+}
+
+/** The fault of a job with its hint, as it is shown, or null where there is none. */
+async function explain(job) {
+  const { status, text } = await ask(["asm", "0"], job);
+  if (status !== JOB_HAS_FAULT && status !== DECK_HAS_FAULT) return null;
+  const fault = faultOf(text, job, texts.sentences);
+  return { ...fault, hint: await hintOf(ask, fault, job) };
+}
+
+/** Looks at the last run call by call. */
+function look() {
+  replay.open(lastRun.text, lastRun.report, lastRun.layouts);
+  byId("replay").focus();
+  byId("replay").scrollIntoView();
+}
+
+function showText(text, sections) {
+  lastText = text;
+  byId("stale").hidden = true;
+  lastRun = null;
+  byId("look").disabled = true;
+  replay.close();
+  const shown = shownText(text);
+  byId("report").textContent = shown.text;
+  byId("rest").textContent = shown.rest;
+  byId("rest").hidden = shown.rest === "";
+  byId("save-report").disabled = text === "";
+  byId("sections").replaceChildren(...sections);
+}
+
+function stop() {
+  if (!byId("stop").disabled) engine.stop();
+}
+
+async function writeSchedule() {
+  const numbers = ["after", "every"].map((id) => byId(id).value.trim());
+  const delays = byId("delays").value.split(",").map((part) => part.trim()).filter((part) => part !== "");
+  if (!numbers.every((number) => /^\d{0,8}$/.test(number)) || !delays.every((delay) => /^\d{1,2}=\d{1,8}$/.test(delay))) {
+    return say("These aren't numbers of calls: 20, or 3=50 for device 3.", true);
+  }
+  const devices = new Map(delays.map((delay) => delay.split("=")).map(([device, steps]) => [device, Number(steps)]));
+  return work("Writing the schedule.", async () => {
+    const answer = await ask(["asm", "0"], view.text);
+    const fault = await showFault(answer, view.text);
+    if (fault) return sayAnswer(answer, fault);
+    view.show(await scheduled(ask, view.text, { after: Number(numbers[0] || 20), every: Number(numbers[1]), devices }));
+    changed();
+    return say("The schedule is written. It can be changed like any other text.");
+  });
+}
+
+/** Begins with another job, and with the words of its command. What is running is stopped. */
+function begin(text, args) {
+  stop();
+  view.show(text);
+  byId("link-said").hidden = true;
+  [byId("command").value, byId("value").value] = [args[0], args[1] ?? "0"];
+  chooseCommand();
+  showText("", []);
+}
+
+function chooseCommand() {
+  const command = byId("command").value;
+  byId("value-field").hidden = command === "run";
+  byId("value-label").textContent = command === "make" ? "Number" : "Slot";
+}
+
+function chooseExample() {
+  const chosen = texts.jobs[byId("example").value];
+  if (!chosen) return;
+  begin(chosen.job, chosen.args);
+  if (engine) say("Ready.");
+  else showRecorded(chosen);
+}
+
+/** Where the machine can't run, the report that was recorded of an example. */
+function showRecorded({ report }) {
+  showText(report ?? "", report ? resultsOf(report, new Map()) : []);
+}
+
+async function openFile() {
+  const [file] = byId("file").files;
+  if (!file) return;
+  byId("file").value = "";
+  const text = await file.text(), plain = text.replace(/\r\n?/g, "\n");
+  byId("example").value = OWN;
+  begin(plain, ["run"]);
+  if (text === plain) say(`${file.name} is open.`);
+  else say(`${file.name} is open; its line ends, those of another system, were changed.`, true);
+}
+
+async function showLink() {
+  const hash = await packedJob(view.text);
+  byId("address").value = location.href.split("#")[0] + hash;
+  byId("link-said").hidden = false;
+  history.replaceState(null, "", hash);
+  byId("address").select();
+  say("The link stands below the buttons, and in the browser's line of addresses.");
+}
+
+/** Begins with the job that the link has, if it has one. */
+async function openLink() {
+  if (!hasJob(location.hash)) return false;
+  const job = await jobOfLink(location.hash);
+  byId("example").value = OWN;
+  begin(job ?? EMPTY_JOB, ["run"]);
+  if (job === null) say("The link is damaged, so here is an empty job.", true);
+  else if (engine) say("Ready, with the job of the link.");
+  return true;
+}
+
+function listExamples() {
+  const groups = new Map();
+  for (const [name, { group }] of Object.entries(texts.jobs)) {
+    if (!groups.has(group)) groups.set(group, make("optgroup", { label: group }));
+    groups.get(group).append(new Option(name.split("/")[1], name));
+  }
+  byId("example").append(...groups.values(), new Option("(a job of your own)", OWN));
+}
+
+function attend() {
+  byId("example").onchange = chooseExample;
+  byId("command").onchange = chooseCommand;
+  byId("run").onclick = run;
+  byId("stop").onclick = stop;
+  byId("schedule").onclick = writeSchedule;
+  byId("look").onclick = look;
+  byId("open").onclick = () => byId("file").click();
+  byId("file").onchange = openFile;
+  byId("save").onclick = () => saveFile("kdf9.job", view.text);
+  byId("save-report").onclick = () => saveFile("kdf9.report", lastText);
+  byId("link").onclick = showLink;
+  byId("address").onfocus = () => byId("address").select();
+  for (const radio of document.querySelectorAll("input[name=view]")) radio.onchange = () => view.showWhole(radio.value === "whole");
+  addEventListener("hashchange", openLink);
+  addEventListener("keydown", (event) => {
+    if (event.key === "Enter" && event.ctrlKey) run();
+    else if (event.key === "Escape") stop();
+  });
+}
+
+async function load() {
+  if (!canRun()) throw new Error("it lacks a 64 bit memory in WebAssembly");
+  const module = await WebAssembly.compile(await unpacked(bytesOf(byId("module").textContent)));
+  engine = new Engine(module, byId("worker").textContent);
+}
+
+async function open() {
+  listExamples();
+  attend();
+  try {
+    await load();
+    setBusy(false);
+    say("Ready.");
+  } catch (error) {
+    say(`This browser can't run the machine: ${error.message}. The examples are shown with the reports that were recorded of them.`, true);
+  }
+  if (await openLink()) return;
+  if (typeof texts.start === "string") return openStart();
+  byId("example").selectedIndex = 0;
+  const { job, args } = texts.jobs[byId("example").value];
+  begin(job, args);
+  if (!engine) showRecorded(texts.jobs[byId("example").value]);
+}
+
+/** Runs the job that the page was made with, and shows the run call by call. */
+async function openStart() {
+  byId("example").value = OWN;
+  begin(texts.start, ["run"]);
+  if (!engine) return;
+  await run();
+  if (lastRun) look();
+}
+
+// For those who look into the page by its console: the machine's answer to words over a job, its fault, and the job and the text that are shown.
+globalThis.kdf9 = { ask, explain, job: () => view.text, text: () => lastText };
+open();

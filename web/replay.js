@@ -1,0 +1,222 @@
+// A run to be looked at call by call. What is shown of a call is the machine's own report of the same job, cut after that call, with the whole store shown; so
+// it is the run itself, and nothing is reckoned here.
+
+import { button, choice, labelled, make, table } from "./dom.js";
+import { readJob, writeJob } from "./job.js";
+import { callsOf, numberOf, readReport, saidOf } from "./report.js";
+import { readSchedule, writeSchedule } from "./schedule.js";
+import { Timeline } from "./timeline.js";
+import { drawTimeline } from "./drawing.js";
+
+// So many entries of the journal are shown around the call, and of the words that changed so many.
+const ENTRIES_AROUND = 6, MOST_WORDS = 40;
+const CHANGED = "• ";
+
+/** The job cut after a call, with the events that stand between that call and the next, and with the whole store of each program shown. */
+export function cutJob(text, calls) {
+  const job = readJob(text);
+  const schedule = readSchedule(job.schedule);
+  const events = schedule.events.filter((event) => event.calls <= calls);
+  const slots = job.slots.map((slot) => ({ ...slot, shows: [`0 ${slot.store - 1}`] }));
+  return writeJob({ ...job, slots, schedule: writeSchedule({ calls: Math.min(calls, schedule.calls), events }) });
+}
+
+export class Replay {
+  constructor(element, { ask, say, failed }) {
+    Object.assign(this, { element, ask, say, failed });
+    this.element.addEventListener("keydown", (event) => this.press(event));
+  }
+
+  /** Begins with the report of a job, and the layouts of its decks. */
+  open(text, report, layouts) {
+    Object.assign(this, { text, layouts, job: readJob(text), timeline: new Timeline(readReport(report)), wanted: null, isAsking: false, last: null });
+    this.draw();
+    this.element.hidden = false;
+    return this.show(0);
+  }
+
+  close() {
+    this.element.hidden = true;
+    this.element.replaceChildren();
+    this.timeline = null;
+  }
+
+  draw() {
+    const { timeline } = this;
+    this.slider = make("input", { type: "range", min: "0", max: `${timeline.total}`, value: "0", oninput: () => this.show(Number(this.slider.value)) });
+    this.slot = choice([...timeline.slots.keys()].map((slot) => [`${slot}`, `program ${slot}`]), undefined, () => {});
+    this.where = make("output", {});
+    const { picture, mark } = drawTimeline(timeline, (call) => this.show(call));
+    this.mark = mark;
+    const go = (name, key, call) => button(name, () => this.show(call()), { title: `Key ${key}` });
+    const bar = make("div", { class: "bar", role: "group", "aria-label": "Where in the run" },
+      labelled("After call", this.slider), this.where,
+      go("A call back", "b", () => this.call - 1), go("A call on", "f", () => this.call + 1),
+      go("Next event", "e", () => timeline.next(timeline.events, this.call)), go("Next hold", "h", () => timeline.next(timeline.holds, this.call)),
+      go("Next order of", "o", () => this.nextOrder()), labelled("Program", this.slot));
+    this.shown = make("div", { class: "moment" });
+    this.element.replaceChildren(make("h2", {}, "The run, call by call"), picture, bar, this.shown);
+  }
+
+  nextOrder() {
+    return this.timeline.nextOrder(Number(this.slot.value), this.call);
+  }
+
+  /** The keys of the buttons, where none is written into. */
+  press(event) {
+    if (!this.timeline || event.ctrlKey || event.altKey || event.metaKey) return;
+    const { timeline, call } = this;
+    const to = {
+      b: () => call - 1, f: () => call + 1, e: () => timeline.next(timeline.events, call), h: () => timeline.next(timeline.holds, call), o: () => this.nextOrder(),
+    }[event.key];
+    if (!to) return;
+    event.preventDefault();
+    this.show(to());
+  }
+
+  /** Shows the machine after a call. While the machine is asked, only the last call that is wished for is kept. */
+  async show(call) {
+    this.wanted = this.call = Math.max(0, Math.min(call, this.timeline.total));
+    this.slider.value = `${this.call}`;
+    if (this.isAsking) return;
+    this.isAsking = true;
+    const { timeline } = this;
+    try {
+      while (this.wanted !== null && timeline === this.timeline) {
+        const at = this.wanted;
+        this.wanted = null;
+        const before = await this.sections(Math.max(0, at - 1)), now = await this.sections(at);
+        if (timeline === this.timeline) this.drawMoment(at, now, before);
+      }
+    } catch (error) {
+      this.failed(error);
+    }
+    this.isAsking = false;
+  }
+
+  async sections(call) {
+    if (this.last?.call === call && this.last.text === this.text) return this.last.sections;
+    const { status, text } = await this.ask(["run"], cutJob(this.text, call));
+    if (status) throw new Error(text.trim());
+    const { sections } = readReport(text);
+    this.last = { call, text: this.text, sections };
+    return sections;
+  }
+
+  drawMoment(call, now, before) {
+    this.where.textContent = `${call.toLocaleString("en")} of ${this.timeline.total.toLocaleString("en")}`;
+    this.mark(call);
+    const programs = now.map((section, at) => this.drawProgram(call, section, before[at]));
+    const said = `After call ${call}: ${now.map((section, at) => this.sentence(call, section, before[at])).join("; ")}.`;
+    this.shown.replaceChildren(make("p", { class: "said" }, said), make("div", { class: "programs" }, ...programs), this.drawJournal(call));
+    this.say(said);
+  }
+
+  /** What a program did with the call, in words. */
+  sentence(call, section, before) {
+    const name = `program ${section.slot}`, layout = this.layouts.get(section.slot);
+    if (section.orders > before.orders) {
+      const obeyed = layout?.statementOf(...before.at)?.written ?? "an order that no statement wrote";
+      const words = changedWords(section, before).slice(0, 3).map(({ address, octal }) => `, ${layout?.nameOf(address) ?? `E${address}`} is ${numberOf(octal)}`);
+      return `${name} obeyed ${obeyed}${words.join("")}`;
+    }
+    const state = section.state.split(" ")[0];
+    if (state !== "LIVE") return `${name} ${state === "ENDED" ? "has ended" : "has failed"}`;
+    const reason = this.holdOf(section.slot, call);
+    return reason ? `${name} has been ${saidOfHold(reason)}` : `${name} can go on`;
+  }
+
+  /** By what a program is held up after a call, or null. */
+  holdOf(slot, call) {
+    const spans = this.timeline.slots.get(slot), found = spans?.find(({ start, end }) => start <= call && call < end);
+    return found?.reason ?? null;
+  }
+
+  drawProgram(call, section, before) {
+    const layout = this.layouts.get(section.slot), reason = this.holdOf(section.slot, call);
+    const next = layout?.statementOf(...section.at);
+    const state = section.state === "LIVE" ? (reason ? saidOfHold(reason) : "can go on") : section.state.toLowerCase();
+    return make("section", { class: `slot ${reason ? "held" : ""}`, "aria-label": `Program ${section.slot}` },
+      make("h3", {}, `Program ${section.slot}: ${state}`),
+      make("p", {}, `After ${section.orders} order${section.orders === 1 ? "" : "s"}. Next: ${nextOf(section, next)}.`),
+      this.drawDeck(section, next), this.drawRegisters(section, before), this.drawWords(section, before, layout),
+      ...section.devices.map((device, at) => this.drawDevice(call, device, before.devices[at])));
+  }
+
+  /** The deck with the next statement marked. */
+  drawDeck(section, next) {
+    const { deck } = this.job.slots.find(({ number }) => number === `${section.slot}`);
+    if (!next || section.state === "ENDED") return make("pre", { class: "deck", tabindex: "0", "aria-label": "Deck" }, deck);
+    const mark = make("mark", {}, deck.slice(next.start, next.end));
+    setTimeout(() => { mark.parentElement.scrollTop = mark.offsetTop - mark.parentElement.offsetTop - 60; });
+    return make("pre", { class: "deck", tabindex: "0", "aria-label": "Deck, with the next statement marked" }, deck.slice(0, next.start), mark, deck.slice(next.end));
+  }
+
+  drawRegisters(section, before) {
+    const row = (name, value, old) => [value === old ? name : `${CHANGED}${name}`, value];
+    const nest = ({ nest: words }) => words.map((octal) => `${numberOf(octal)}`).join("  ") || "empty";
+    const parts = ({ qStores }) => new Map(qStores.map(({ number, parts: three }) => [number, three.join("/")]));
+    const [qStores, old] = [parts(section), parts(before)];
+    const numbers = [...new Set([...qStores.keys(), ...old.keys()])].sort((one, other) => one - other);
+    return table("Registers", ["", "• changed with this call"], [
+      row("Nest, the top first", nest(section), nest(before)),
+      row("Links, the top first", section.links.join("  ") || "empty", before.links.join("  ") || "empty"),
+      row("V, TR", section.flags.join(", "), before.flags.join(", ")),
+      ...numbers.map((number) => row(`Q${number}`, qStores.get(number) ?? "0/0/0", old.get(number) ?? "0/0/0")),
+    ]);
+  }
+
+  /** The words that changed with the call, and those that the job shows. */
+  drawWords(section, before, layout) {
+    const slot = this.job.slots.find(({ number }) => number === `${section.slot}`);
+    const changed = new Set(changedWords(section, before).map(({ address }) => address));
+    const ranges = slot.shows.map((show) => show.split(" ").map(Number));
+    const isShown = (address) => changed.has(address) || ranges.some(([first, last]) => first <= address && address <= last);
+    const words = section.words.filter(({ address }) => isShown(address)).slice(0, MOST_WORDS);
+    if (words.length === 0) return make("p", {}, "No word changed with this call.");
+    return table("Words", ["", "octal", "decimal"], words.map(({ address, octal }) => [
+      `${changed.has(address) ? CHANGED : ""}${layout?.nameOf(address) ?? `E${address}`}`, make("code", {}, octal), `${numberOf(octal)}`]));
+  }
+
+  drawDevice(call, device, before) {
+    const flight = this.timeline.devices.get(device.number)?.find(({ start, end }) => start <= call && call < end);
+    const isMove = ({ calls, entry: [kind, number] }) => kind === "MOVE" && number === device.number && calls >= flight.start && calls <= call;
+    const moves = flight ? this.timeline.entries.filter(isMove) : [];
+    const isChanged = JSON.stringify(device) !== JSON.stringify(before);
+    const state = `${isChanged ? CHANGED : ""}Device ${device.number}, ${device.kind}: ${device.isClaimed ? "claimed" : "not claimed"}, place ${device.place}`;
+    const transfer = flight ? `; a transfer since call ${flight.start}, ${moves.reduce((sum, { entry }) => sum + entry[2], 0)} words moved by MOVE` : "";
+    const attributes = { class: "blocks", tabindex: "0", "aria-label": `The blocks of device ${device.number}` };
+    const blocks = device.blocks.length ? [make("pre", attributes, device.blocks.map(({ text }) => text).join("\n"))] : [];
+    return make("div", {}, make("p", {}, `${state}${transfer}.`), ...blocks);
+  }
+
+  /** The entries of the journal around the call; that of the call is marked. */
+  drawJournal(call) {
+    const { entries } = this.timeline;
+    const at = entries.findLastIndex(({ calls, entry }) => calls < call || (calls === call && callsOf(entry) === 0));
+    const first = Math.max(0, at - ENTRIES_AROUND);
+    const rows = entries.slice(first, at + ENTRIES_AROUND + 1).map(({ calls, entry }, index) => {
+      const isNow = first + index === at;
+      return make("li", isNow ? { "aria-current": "step" } : {}, `${isNow ? "▸ " : ""}after call ${calls}: ${saidOf(entry)}`);
+    });
+    return make("section", { class: "slot", "aria-label": "Journal" }, make("h3", {}, "Journal"), make("ol", { class: "journal" }, ...rows));
+  }
+}
+
+/** The words of a section that are others than before. */
+function changedWords(section, before) {
+  return section.words.filter(({ octal }, at) => octal !== before.words[at].octal);
+}
+
+/** The next statement of a program, in words. */
+function nextOf({ state, orders }, next) {
+  if (next) return next.written;
+  if (state === "ENDED") return "none";
+  return orders ? "an order that no statement wrote" : "the jump to the main part";
+}
+
+function saidOfHold({ kind, number, since, devices }) {
+  if (kind === "BUSY") return `held up since call ${since} by device ${number}, which has a transfer`;
+  const of = devices.length ? `, by the transfer of device ${devices.join(" or ")}` : "";
+  return `held up since call ${since} by group ${number}, words ${32 * number} to ${32 * number + 31}${of}`;
+}

@@ -1,0 +1,92 @@
+// What came of a run: each program in words and tables, the journal in words, and the text itself.
+
+import { make, table } from "./dom.js";
+import { Layout, readListing } from "./deck.js";
+import { readJob } from "./job.js";
+import { callsOf, numberOf, readReport, saidOf } from "./report.js";
+
+const FLAGS = ["V, the overflow flag", "TR, the test register"];
+
+// A longer text is shown up to here, and of a longer journal so many entries; the file that is saved has all.
+const MOST_SHOWN = 100000, MOST_ENTRIES = 1000, MOST_WORDS = 1000;
+
+// A longer report isn't read, but only shown.
+const LONGEST_READ = 20000000;
+
+/** Whether a text is a report, or that of a lone program, and short enough to be read. */
+export const isReadable = (text) => text.length <= LONGEST_READ && /^KDF9 (REPORT|ALONE) /.test(text);
+
+/** The layouts of the decks of a job by their slots, for the names of words. The machine lists each; a slot without a listing has none. */
+export async function layoutsOf(ask, text) {
+  const layouts = new Map();
+  for (const slot of readJob(text)?.slots ?? []) {
+    const { status, text: listing } = await ask(["asm", slot.number], text);
+    const read = status === 0 ? readListing(listing) : null;
+    try {
+      if (read) layouts.set(Number(slot.number), new Layout(slot.deck, read));
+    } catch {
+      // The names are a help: without them a word has its address.
+    }
+  }
+  return layouts;
+}
+
+const wordCells = (octal) => [make("code", {}, octal), numberOf(octal).toLocaleString("en")];
+
+/** What became of a program, in a sentence. */
+function storyOf({ slot, state, orders, at }, layout) {
+  const [life, kind] = state.split(" ");
+  const next = layout?.statementOf(...at);
+  const stands = `It stands at word ${at[0]}, syllable ${at[1]}${next ? `: ${next.written}` : ""}.`;
+  const became = { LIVE: "is live", ENDED: "has ended", FAILED: `failed (${kind})` }[life] ?? state;
+  return `Program ${slot} ${became}, after ${orders.toLocaleString("en")} order${orders === 1 ? "" : "s"}. ${life === "ENDED" ? "" : stands}`;
+}
+
+function sectionOf(section, layout) {
+  const parts = [make("h3", {}, `Program ${section.slot}`), make("p", {}, storyOf(section, layout))];
+  const words = section.words.slice(0, MOST_WORDS).map(({ address, octal }) => [layout?.nameOf(address) ?? `E${address}`, `${address}`, ...wordCells(octal)]);
+  if (words.length) parts.push(table("Words", ["name", "address", "octal", "decimal"], words));
+  if (section.words.length > MOST_WORDS) parts.push(make("p", {}, `${section.words.length - MOST_WORDS} more words stand in the report.`));
+  if (section.nest.length) parts.push(table("Nest, the top first", ["", "octal", "decimal"], section.nest.map((octal, at) => [`N${at + 1}`, ...wordCells(octal)])));
+  if (section.qStores.length) {
+    parts.push(table("Q-stores", ["", "counter", "increment", "modifier"], section.qStores.map(({ number, parts: [...cells] }) => [`Q${number}`, ...cells])));
+  }
+  const set = FLAGS.filter((_, at) => section.flags[at]);
+  if (set.length) parts.push(make("p", {}, `Set: ${set.join("; ")}.`));
+  if (section.links.length) parts.push(make("p", {}, `Links, the top first: ${section.links.join(", ")}.`));
+  for (const spool of section.spools) parts.push(make("p", {}, "Spooled: ", make("code", {}, spool)));
+  return make("section", {}, ...parts, ...section.devices.map(deviceOf));
+}
+
+function deviceOf({ number, kind, isClaimed, place, flag, blocks }) {
+  const said = make("p", {}, `Device ${number}, ${kind}: ${isClaimed ? "claimed" : "not claimed"}, place ${place}, flag ${flag}`);
+  if (!blocks.length) return said;
+  const lines = blocks.map(({ text, isLast }) => `${text}${isLast ? "   (last block mark)" : ""}`).join("\n");
+  return make("div", {}, said, make("pre", { class: "blocks", tabindex: "0", "aria-label": `The blocks of device ${number}` }, lines));
+}
+
+function journalOf(entries) {
+  let calls = 0;
+  const rows = entries.slice(0, MOST_ENTRIES).map((entry) => {
+    const row = [entry.join(" "), saidOf(entry), `${calls}`];
+    calls += callsOf(entry);
+    return row;
+  });
+  const rest = entries.length > MOST_ENTRIES ? [make("p", {}, `${entries.length - MOST_ENTRIES} more entries stand in the report.`)] : [];
+  return make("details", { open: true }, make("summary", {}, "The journal: what happened, in order"),
+    table("Entries", ["entry", "what it says", "calls before it"], rows), ...rest);
+}
+
+/** What a text of the machine says, to be put into the page: a report, the text of a lone program, or another. */
+export function resultsOf(text, layouts) {
+  if (!isReadable(text)) return [];
+  const { entries, sections } = readReport(text);
+  return [...sections.map((section) => sectionOf(section, layouts.get(section.slot))), ...(entries.length ? [journalOf(entries)] : [])];
+}
+
+/** The text as it is shown: all of it, or its beginning where it is long. */
+export function shownText(text) {
+  if (text.length <= MOST_SHOWN) return { text, rest: "" };
+  const [shown, all] = [MOST_SHOWN, text.length].map((number) => number.toLocaleString("en"));
+  return { text: text.slice(0, MOST_SHOWN), rest: `The first ${shown} of ${all} characters are shown; the saved file has all.` };
+}

@@ -1,0 +1,82 @@
+// A schedule that writes itself: each transfer ends so many calls after it began. When transfers begin is read off the journals of the machine itself. A
+// schedule that is right up to some call has a journal that is right up to there, so each run shows more of what to write than the one before.
+
+import { linesOf, readJob, textOf, writeJob } from "./job.js";
+
+const MOST_LINES = 500000;
+const USUAL_WINDOW = 64;
+
+/** The schedule can't be written: why. */
+export class NoSchedule extends Error {}
+
+/** The calls of a schedule, and its events in order: each its line, and the number of calls before it. */
+export function readSchedule(text) {
+  const events = [];
+  let calls = 0;
+  for (const line of linesOf(text)) {
+    if (line.startsWith("ORDERS ")) calls += Number(line.slice(7));
+    else events.push({ calls, line });
+  }
+  return { calls, events };
+}
+
+export function writeSchedule({ calls, events }) {
+  const lines = [];
+  let before = 0;
+  for (const event of events) {
+    if (event.calls > before) lines.push(`ORDERS ${event.calls - before}`);
+    before = Math.max(before, event.calls);
+    lines.push(event.line);
+  }
+  if (calls > before) lines.push(`ORDERS ${calls - before}`);
+  return textOf(lines);
+}
+
+/** The transfers that a journal tells, each with its device and the calls that were made when it had begun, and the calls of the whole run. */
+function readTransfers(report) {
+  const begun = [];
+  let calls = 0;
+  for (const line of report.split("\n").slice(1)) {
+    const [word, ...rest] = line.split(" ");
+    if (word === "RAN" || word === "IDLE") calls += Number(rest.at(-1));
+    else if (word === "START") begun.push({ calls, device: rest[1] });
+    else if (word === "BUSY" || word === "LOV") calls += 1;
+    else if (word === "SLOT" || word === "ENDREPORT") break;
+  }
+  return { begun, calls };
+}
+
+/** How long transfers take: `after` calls, or that of `devices` for one device, each a number of steps of which `every` says how many calls they have: with
+ * it a word is moved in each step. */
+function eventsOf(transfer, { after, devices, every }) {
+  const steps = devices.get(transfer.device) ?? after, length = every || 1;
+  const moves = every ? Array.from({ length: steps }, (_, at) => ({ calls: transfer.calls + (at + 1) * length, line: `MOVE ${transfer.device} 1` })) : [];
+  return [...moves, { calls: transfer.calls + steps * length, line: `END ${transfer.device}` }];
+}
+
+/** The text of a job by parts with a schedule in which each transfer ends as `delays` says, in place of its lines MOVE and END. */
+export async function scheduled(ask, text, delays) {
+  const job = readJob(text);
+  const { calls: total, events } = readSchedule(job.schedule);
+  const kept = events.filter(({ line }) => !/^(MOVE|END) /.test(line));
+  const found = [];
+  const withEnds = (calls) => {
+    const all = [...kept, ...found.flatMap((transfer) => eventsOf(transfer, delays))].filter((event) => event.calls < calls);
+    if (all.length > MOST_LINES) throw new NoSchedule(`the schedule would have more than ${MOST_LINES.toLocaleString("en")} lines`);
+    return writeSchedule({ calls, events: all.sort((one, other) => one.calls - other.calls) });
+  };
+  let known = 0, window = USUAL_WINDOW;
+  while (known < total) {
+    const until = Math.min(total, known + window);
+    const { status, text: report } = await ask(["run"], writeJob({ ...job, slots: job.slots.map((slot) => ({ ...slot, shows: [] })), schedule: withEnds(until) }));
+    if (status) throw new NoSchedule(report.trim());
+    const journal = readTransfers(report);
+    const next = journal.begun.filter(({ calls }) => calls > known);
+    const right = Math.min(until, ...next.map((transfer) => eventsOf(transfer, delays)[0].calls));
+    found.push(...next.filter(({ calls }) => calls <= right));
+    window = next.length ? USUAL_WINDOW : 2 * window;
+    known = right;
+    if (journal.calls < right) break;
+  }
+  return writeJob({ ...job, schedule: withEnds(total) });
+}
