@@ -5,9 +5,9 @@ import { lineAndColumn, statementAt, withoutComments } from "./deck.js";
 import { RANGES, kindAbove, wordOfBadNumber } from "./fault.js";
 import { distanceIsOne, hasForm, hintOfName } from "./names.js";
 
-const BYTE_13 = "the line has a byte 13, as files of some other systems have before each line end";
+const BYTE_13 = "the line has a byte 13, as Windows writes before each newline";
 
-// A lost `;` is looked for after the first pieces of a statement, so many; no statement has more that are only one, and few have more than four.
+// A missing `;` is looked for after the first PIECES pieces of a statement. No valid statement has more pieces, and few have more than FEW_PIECES.
 const PIECES = 16, FEW_PIECES = 4;
 
 /** How many blank lines before a job are taken for a slip. */
@@ -21,14 +21,14 @@ const FORMS = {
 const SCHEDULED = ["ORDERS", "MOVE", "END", "CLOCK", "SWAP", "ENDJOB"];
 const KEYWORDS = [...Object.keys(RANGES), "DECK", "ENDDECK", "SCHEDULE", "ENDJOB"];
 
-/** Orders of the KDF9 that this machine leaves out, beside those of floating point, and what comes nearest. */
+/** Orders of the KDF9 that this machine leaves out, besides floating point, and what comes closest. */
 const LEFT_OUT = [
-  [/^X$/, "XD and CONT multiply whole numbers"], [/^MAX$/, "compare by - and JrLTZ"], [/^SIGN$/, "compare by JrGTZ and JrLTZ"],
+  [/^X$/, "XD and CONT multiply whole numbers"], [/^MAX$/, "compare with - and JrLTZ"], [/^SIGN$/, "compare with JrGTZ and JrLTZ"],
   [/^DIV[DR]?$/, "DIVI divides whole numbers"], [/^ROUNDH?$/, "SHA to the right rounds"], [/^CTQ\d+$/, "no order ends a transfer"],
-  [/^(?:=K[0-3]|K[457]|CLOQ\d+)$/, "it is Director's, which is no program here"], [/^=?W\d+Q?$/, "there are V-stores and Y-stores"],
+  [/^(?:=K[0-3]|K[457]|CLOQ\d+)$/, "it belongs to Director, which isn't a program here"], [/^=?W\d+Q?$/, "use V-stores and Y-stores"],
 ];
 
-const capitals = (text) => `small letters mean nothing here; write ${text}`;
+const capitals = (text) => `lowercase letters aren't allowed here; write ${text}`;
 const spaced = (text) => text.trim().split(/[ \n]+/).join(" ");
 const listed = (words) => (words.length < 2 ? words.join("") : `${words.slice(0, -1).join(", ")} or ${words.at(-1)}`);
 
@@ -39,8 +39,8 @@ export async function hintOf(ask, fault, text) {
 
 /** A hint for a fault of a deck, or null. */
 async function hintOfDeck(ask, { name, deck, place }) {
-  if (name === "BadByte") return { 13: BYTE_13, 9: "this is a tab; write spaces" }[deck.charCodeAt(place)] ?? null;
-  if (name === "Floating") return "the KDF9 has this order, and this machine leaves out floating point; it reckons in whole numbers";
+  if (name === "BadByte") return { 13: BYTE_13, 9: "this is a tab; use spaces" }[deck.charCodeAt(place)] ?? null;
+  if (name === "Floating") return "the KDF9 has this order, but this machine leaves out floating point and works in whole numbers";
   if (name === "UnknownOrder" || name === "ConstantRange") return hintOfStatement(ask, name, deck, place);
   if (name === "NoSemicolon") return `a ; is missing at ${placeIn(deck, withoutComments(deck).trimEnd().length)}`;
   return null;
@@ -55,13 +55,13 @@ function placeIn(deck, place) {
 async function hintOfStatement(ask, name, deck, place) {
   const statement = statementAt(deck, place);
   const leftOut = LEFT_OUT.find(([names]) => names.test(statement.text));
-  if (leftOut) return `the KDF9 has this order, and this machine leaves it out; ${leftOut[1]}`;
+  if (leftOut) return `the KDF9 has this order, but this machine leaves it out; ${leftOut[1]}`;
   const upper = statement.text.toUpperCase();
   if (upper !== statement.text && await hasForm(ask, upper)) return capitals(statement.written.toUpperCase());
   return await lostSemicolon(ask, deck, statement) ?? (name === "UnknownOrder" ? hintOfName(ask, statement.text) : null);
 }
 
-/** Where a `;` is missing, if what stands before a gap of the statement is one by itself, and so is what begins after it; null else. */
+/** Where a `;` is missing, if the text before a gap is a statement by itself and so is what begins after the gap; otherwise null. */
 async function lostSemicolon(ask, deck, { start, end }) {
   const text = withoutComments(deck).slice(start, end);
   const ends = endsOfPieces(text, PIECES).slice(0, -1);
@@ -89,19 +89,19 @@ function hintOfHeader(lines) {
   if (first.includes("\r")) return BYTE_13;
   if (first.startsWith("\ufeff")) return "the text begins with a byte-order mark; save it without one";
   if (first.toUpperCase() === HEADER) return capitals(HEADER);
-  return first.trim() === "" && lines.slice(0, BLANK_LINES).includes(HEADER) ? "nothing, not even a blank line, stands before it" : null;
+  return first.trim() === "" && lines.slice(0, BLANK_LINES).includes(HEADER) ? "nothing may come before it, not even a blank line" : null;
 }
 
 /** A hint for a fault of a job of these lines, or null. */
 function hintOfJob(fault, lines) {
   if (fault.name === "Header") return hintOfHeader(lines);
-  if (fault.line > lines.length) return `${isInDeck(lines) ? "ENDDECK" : "ENDJOB"} hasn't come`;
+  if (fault.line > lines.length) return `${isInDeck(lines) ? "ENDDECK" : "ENDJOB"} is missing`;
   const line = lines[fault.line - 1], upper = line.toUpperCase();
   if (line.includes("\r")) return BYTE_13;
   if (fault.name === "BadMedium") return hintOfMedium(line, kindAbove(lines, fault.line), fault.column);
   if (line !== upper && KEYWORDS.includes(spaced(upper).split(" ")[0])) return capitals(upper);
-  if (line !== spaced(line)) return "words are separated by exactly one space, and a line neither begins nor ends with one";
-  if (/ 0[0-9]/.test(line) && fault.name === "BadNumber") return "a number has no zeros in front";
+  if (line !== spaced(line)) return "fields are separated by exactly one space, and a line doesn't begin or end with one";
+  if (/ 0[0-9]/.test(line) && fault.name === "BadNumber") return "a number has no leading zeros";
   if (fault.name === "BadNumber") return hintOfNumber(line);
   if (fault.name === "BadLine") return hintOfLine(line, expectedAt(lines, fault.line));
   if (fault.name === "ShowRange") return `the store has words 0 to ${storeAbove(lines, fault.line) - 1}`;
@@ -109,22 +109,22 @@ function hintOfJob(fault, lines) {
 }
 
 function hintOfMedium(line, kind, column) {
-  if (kind === "TP" || kind === "LP") return `a device of kind ${kind} begins with nothing, and has no lines`;
-  return /[a-z]/.test(line.slice(column - 1, column)) ? "small letters are no characters" : null;
+  if (kind === "TP" || kind === "LP") return `a device of kind ${kind} begins empty, so it has no lines`;
+  return /[a-z]/.test(line.slice(column - 1, column)) ? "lowercase letters aren't characters" : null;
 }
 
-/** The range of the first number of a line that is out of it. */
+/** The range of the first number of a line that is out of range. */
 function hintOfNumber(line) {
   const index = wordOfBadNumber(line);
   if (index === 0) return null;
   const [least, most] = RANGES[line.split(" ")[0]][index - 1];
-  return `here stands a number from ${least} to ${most}`;
+  return `this has to be a number from ${least} to ${most}`;
 }
 
-/** A hint for a line that isn't allowed where it stands: what is. */
+/** A hint for a line that isn't allowed: which lines are. */
 function hintOfLine(line, expected) {
   const [word] = line.split(" ");
-  if (word in FORMS && expected.includes(word)) return `the line is written ${FORMS[word]}`;
+  if (word in FORMS && expected.includes(word)) return `the form of this line is ${FORMS[word]}`;
   const meant = expected.find((name) => distanceIsOne(word, name));
   return meant ? `did you mean ${meant}?` : `expected ${listed(expected)}`;
 }
