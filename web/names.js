@@ -15,14 +15,14 @@ J0 JP0 J0P0 JS0 JSP0 JS0P0 J0= J0# J0=Z J0#Z J0GTZ J0LTZ J0GEZ J0LEZ J0V J0NV J0
 
 /** What other machines call something, and how it is written here. */
 const ELSEWHERE = [
-  [/^(?:PROG|PROGRAMM?E?|MAIN|START|BEGIN)(?:V\d+)?$/, "the main part is opened by PROGRAM; or by PROGRAM V0; where it has a V-store"],
-  [/^(?:ADD|PLUS)$/, "+ adds"], [/^(?:SUB|MINUS|SUBTRACT)$/, "- subtracts"], [/^(?:MUL|MULT|MPY|TIMES)$/, "XD and CONT multiply"],
-  [/^(?:POP|DROP|DEL(?:ETE)?)$/, "ERASE drops the top"], [/^(?:SWAP|EXCH(?:ANGE)?)$/, "REV exchanges the two on top"],
+  [/^(?:PROG|PROGRAMM?E?|MAIN|START|BEGIN)(?:V\d+)?$/, "the main part begins with PROGRAM; or, if it has V-stores, with PROGRAM V0;"],
+  [/^(?:ADD|PLUS)$/, "+ adds"], [/^(?:SUB|MINUS|SUBTRACT)$/, "- subtracts"], [/^(?:MUL|MULT|MPY|TIMES)$/, "XD; CONT multiplies"],
+  [/^(?:POP|DROP|DEL(?:ETE)?)$/, "ERASE drops the top"], [/^(?:SWAP|EXCH(?:ANGE)?)$/, "REV exchanges the top two"],
   [/^(?:NOP|NOOP)$/, "DUMMY does nothing"], [/^RET(?:URN)?$/, "EXIT 1 returns from a part that JS called"],
-  [/^(?:STOP|HALT|HLT|END|QUIT)$/, "ZERO; OUT; ends a program"], [/^XOR$/, "NEV is either but not both"],
-  [/^ROT(?:ATE)?$/, "CAB and PERM turn the three on top"], [/^(?:CALL|JSR|GOSUB)/, "JSP1 calls part 1"],
-  [/^(?:GOTO|JMP|JUMP|BRA)/, "J1 jumps to reference 1"], [/^(?:PUSH|LOAD|LDA)/, "a number goes on the nest by SET, a word by its name"],
-  [/^(?:STORE|STA)/, "=V0 keeps the top in V0"], [/^INC$/, "SET 1; + adds one"], [/^DEC$/, "SET 1; - takes one away"],
+  [/^(?:STOP|HALT|HLT|END|QUIT)$/, "ZERO; OUT; ends a program"], [/^XOR$/, "NEV is exclusive or"],
+  [/^ROT(?:ATE)?$/, "CAB and PERM rotate the top three"], [/^(?:CALL|JSR|GOSUB)/, "JSP1 calls part 1"],
+  [/^(?:GOTO|JMP|JUMP|BRA)/, "J1 jumps to reference 1"], [/^(?:PUSH|LOAD|LDA)/, "SET pushes a number, and the name of a word pushes the word"],
+  [/^(?:STORE|STA)/, "=V0 stores the top in V0"], [/^INC$/, "SET 1; + adds one"], [/^DEC$/, "SET 1; - subtracts one"],
   [/^(?:PRINT|WRITE)/, "LPQ1 prints the area of Q1"],
 ];
 
