@@ -1,4 +1,4 @@
-"""Chromium without a window, driven over its pipe: pages are opened, scripts are run in them, and pictures are taken."""
+"""Chromium without a window, driven through a pipe. It opens pages, runs scripts in them, and takes pictures."""
 import base64
 import fcntl
 import json
@@ -17,11 +17,11 @@ PATIENCE = 60
 
 
 class Failed(Exception):
-    """A script of a page failed: how."""
+    """How a command to the browser, or a script of a page, failed."""
 
 
 class Browser:
-    """A running Chromium, to be used by `with`."""
+    """A running Chromium, to be used in a `with` statement."""
 
     def __enter__(self):
         self._folder = tempfile.mkdtemp(prefix="kdf9-browser-")
@@ -47,7 +47,7 @@ class Browser:
 
     @staticmethod
     def _raise(end):
-        """The end of a pipe under a number above those that the browser reads and writes."""
+        """The end of a pipe under a higher number than those that the browser reads and writes."""
         raised = fcntl.fcntl(end, fcntl.F_DUPFD, 10)
         os.close(end)
         return raised
@@ -87,7 +87,7 @@ class Browser:
         return json.loads(message)
 
     def open(self, address, width=1280, height=900, dark=False, before=""):
-        """A page at this address; `before` is a script that runs before its own."""
+        """Opens a page at this address. `before` is a script that runs before the page's own."""
         target = self.send("Target.createTarget", url="about:blank")["targetId"]
         page = Page(self, self.send("Target.attachToTarget", targetId=target, flatten=True)["sessionId"], target)
         page.send("Emulation.setDeviceMetricsOverride", width=width, height=height, deviceScaleFactor=1, mobile=False)
@@ -112,7 +112,7 @@ class Page:
         return self._browser.send(method, self.session, **params)
 
     def js(self, expression):
-        """What an expression comes to in the page, once it is settled."""
+        """The value of an expression in the page. A promise is waited for."""
         answer = self.send("Runtime.evaluate", expression=expression, returnByValue=True, awaitPromise=True)
         if "exceptionDetails" in answer:
             details = answer["exceptionDetails"]
@@ -128,7 +128,7 @@ class Page:
             time.sleep(0.02)
 
     def press(self, key, code, modifiers=0, text=""):
-        """Presses a key: its name, its number, and 2 for Ctrl."""
+        """Presses a key, by its name and its number. `modifiers` is 2 for Ctrl."""
         for kind in ("keyDown", "keyUp"):
             typed = {"text": text} if text and kind == "keyDown" else {}
             self.send("Input.dispatchKeyEvent", type=kind, key=key, windowsVirtualKeyCode=code, modifiers=modifiers, **typed)
@@ -139,7 +139,7 @@ class Page:
         self.send("DOM.setFileInputFiles", files=[str(path)], objectId=handle)
 
     def picture(self, path, whole=False, **clip):
-        """Takes a picture of what is seen, of the whole page, or of a part of it."""
+        """Takes a picture of what is in view, of the whole page, or of a part of it."""
         how = {"clip": {**clip, "scale": 1}} if clip else {}
         data = self.send("Page.captureScreenshot", format="png", captureBeyondViewport=whole, **how)["data"]
         path.write_bytes(base64.b64decode(data))

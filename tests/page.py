@@ -1,4 +1,4 @@
-"""Tries the page in Chromium: every example and case by its Run button, faults with their places and hints, and the other things that it does."""
+"""Tries the page in Chromium: every example and case with its Run button, where faults are shown and with which hints, and whatever else it does."""
 import json
 import pathlib
 import re
@@ -16,10 +16,10 @@ from tools import DECK_FAULTS, HINTS, JOB_FAULTS, JOB_HINTS
 
 LOOP = "KDF9 JOB 1\nSLOT 0\nSTORE 32\nDECK\nPROGRAM;\n1; J1;\nFINISH;\nENDDECK\nSCHEDULE\nORDERS 20000000\nENDJOB\n"
 
-# What stands in the way of running the machine, as in a browser whose memories have 32 bits.
+# Makes the browser refuse the machine, like one whose memories have 32-bit addresses.
 WITHOUT_MEMORY64 = "const validate = WebAssembly.validate; WebAssembly.validate = (bytes) => bytes[11] !== 4 && validate(bytes);"
 
-# Lines of devices and of what is shown, and a line of the schedule; and the control that the job's fault stands in, with what is said there.
+# Lines of devices and SHOW lines, the lines of the schedule, the label of the control that has the fault, and what is said there.
 FAULTY_PARTS = [
     ("SHOW 3 99\n", "ORDERS 10", "Show the words from, to", "ShowRange: SHOW 3 99. The first address"),
     ("DEVICE 16 TR\n", "ORDERS 10", "Device", "BadNumber: DEVICE 16 TR. A word"),
@@ -30,10 +30,10 @@ FAULTY_PARTS = [
     ("", "ORDERS 5\nPRINT", "The lines of the schedule", "Line 2, column 1: BadLine: PRINT."),
 ]
 
-# The run of a picture, and its call.
+# The example and the call that are shown in a picture.
 PICTURED, PICTURED_CALL = "adds-cards-while-a-tape-is-copied", 37
 
-# Schedules that write themselves: an example, what is written into the three fields, and the words of the tool that writes the same.
+# Schedules that write themselves: an example, what is typed into the three boxes, and the arguments of the tool that writes the same.
 SCHEDULES = [
     ("adds-cards", ("7", "", "4=30"), ["--after", "7", "4=30"]),
     ("reads-tape", ("2", "", ""), ["--after", "2"]),
@@ -44,7 +44,7 @@ SCHEDULES = [
 
 
 def faults_stand_at_their_places(shown):
-    """Each fault has its line, its column and its sentence, and each hint of the tools is given here too."""
+    """Each fault has its line, its column and its sentence, and the page gives each hint that the tools give."""
     for name, deck, line, column, sentence in DECK_FAULTS:
         yield f"fault {name} of a deck", wrong_fault(shown, job_of_deck(deck), (name, line + 4, column), sentence)
     for name, text, line, column, sentence in JOB_FAULTS:
@@ -57,7 +57,7 @@ def faults_stand_at_their_places(shown):
 
 
 def wrong_fault(shown, text, due, sentence):
-    """What is wrong with the fault that is found in a job; or None."""
+    """What is wrong with the fault that is found in a job, or None."""
     found = shown.js(f"kdf9.explain({json.dumps(text)})")
     place = found and (found["name"], found["line"], found["column"])
     begins = sentence.replace("`", "").casefold()
@@ -65,7 +65,7 @@ def wrong_fault(shown, text, due, sentence):
 
 
 def faults_are_shown(shown):
-    """A fault is marked in the deck's editor, is said, and is gone once the deck is right."""
+    """A fault is marked in the deck's editor, is explained, and is gone once the deck is right."""
     shown.example("adds-5-and-7")
     shown.view("parts")
     deck = shown.js("document.querySelector('.slot textarea').value")
@@ -94,7 +94,7 @@ def faults_are_shown(shown):
 
 
 def faults_stand_at_their_parts(shown):
-    """By parts, a fault of the job is shown at the control that it stands in, and Go to it sets the focus there."""
+    """By parts, a fault of the job is shown at the control that has it, and Go to it sets the focus there."""
     for devices, schedule, label, said in FAULTY_PARTS:
         shown.write_job(HEAD + devices + TAIL.replace("ORDERS 10", schedule))
         shown.view("parts")
@@ -106,7 +106,7 @@ def faults_stand_at_their_parts(shown):
 
 
 def parts_and_text_are_in_step(shown):
-    """What is changed by parts stands in the text, and the other way round; and a text without parts is shown whole."""
+    """A change by parts is a change of the text, and the other way round; and a text without parts is shown whole."""
     for path in sorted((ROOT / "examples").glob("*.job")):
         text = path.read_text(encoding="ascii")
         if not text:
@@ -133,7 +133,7 @@ def parts_and_text_are_in_step(shown):
 
 
 def schedules_write_themselves(shown):
-    """The schedule is that which the tool writes."""
+    """The schedule is the one that the tool writes."""
     for name, fields, words in SCHEDULES:
         shown.example(name)
         for field, value in zip(("after", "every", "delays"), fields):
@@ -149,7 +149,7 @@ def schedules_write_themselves(shown):
 
 
 def runs_are_stopped(shown):
-    """Stop ends a run at once, the page goes on meanwhile, and the next run is as ever."""
+    """Stop ends a run at once, the page can be used during a run, and the next run is as usual."""
     shown.write_job(LOOP)
     shown.choose("command", "run")
     shown.click("run")
@@ -178,14 +178,14 @@ def runs_are_stopped(shown):
 
 
 def opened_link(opened, link):
-    """The page of a link, once it has said what came of it."""
+    """The page of a link, once it has said what it found in the link."""
     other = Shown(opened(link))
     other.page.wait(f"{id_of('state')}.textContent.includes('link')")
     return other
 
 
 def links_hold_jobs(shown, opened, address):
-    """A link has the job, and one that is damaged says so."""
+    """A link has the job, and the page says so if a link is damaged."""
     shown.example("walks-over-a-table")
     shown.click("link")
     shown.page.wait(f"!{id_of('link-said')}.hidden")
@@ -202,7 +202,7 @@ def links_hold_jobs(shown, opened, address):
 
 
 def pages_are_made_with_jobs(opened, file):
-    """`replay` makes a page that opens at the run of its job; where that has a fault, it is shown."""
+    """`replay` makes a page that opens at the run of its job. If the job has a fault, the page shows it."""
     other = file.with_name("run.html")
     yield "a page with a job", None if make_page(other, "replay", "examples/reads-tape.job") else "isn't made"
     shown = Shown(opened(f"file://{other}"))
@@ -221,7 +221,7 @@ def pages_are_made_with_jobs(opened, file):
 
 
 def browsers_without_the_machine(opened, address):
-    """The examples are shown with their recorded reports, and what is lacking is said."""
+    """The examples are shown with their recorded reports, and the page says what the browser lacks."""
     shown = Shown(opened(address, before=WITHOUT_MEMORY64))
     yield "what is lacking", None if "it lacks a 64 bit memory in WebAssembly" in shown.state() else shown.state()
     shown.example("reads-tape")
@@ -232,7 +232,7 @@ def browsers_without_the_machine(opened, address):
 
 
 def controls_have_names(shown):
-    """Each control has a name for a screen reader, no two elements have one id, and nothing is wider than a narrow window."""
+    """Each control has a name for a screen reader, no two elements have the same id, and nothing is wider than a narrow window."""
     shown.example("adds-cards-while-a-tape-is-copied")
     shown.view("parts")
     shown.run("run")
@@ -248,7 +248,7 @@ def controls_have_names(shown):
 
 
 def nothing_is_fetched(running, address):
-    """Whatever was done, the browser asked for nothing but the page; and no script failed."""
+    """In all that was done, the browser asked for nothing but the page, and no script failed."""
     asked = {event["params"]["request"]["url"].split("#")[0][:100] for event in running.events if event["method"] == "Network.requestWillBeSent"}
     foreign = [url for url in asked if url != address[:100] and not url.startswith(("data:", "blob:"))]
     yield "what is fetched", None if address[:100] in asked and not foreign else f"{asked}"
@@ -264,7 +264,7 @@ SUITES = (
 
 
 def cases(file):
-    """All cases over the page in this file."""
+    """All cases for the page in this file."""
     address = f"file://{file}"
     size = file.stat().st_size
     yield "the size of the page", None if size <= 600000 else f"is {size}"
@@ -305,7 +305,7 @@ def take_pictures(opened, address):
 
 
 def make_page(file, *words):
-    """Makes the page as this file by these words; whether it could be made."""
+    """Makes the page in this file with these arguments. Returns whether it could be made."""
     with open(file, "wb") as written:
         return subprocess.run([ROOT / "kdf9", *words], stdout=written, check=False).returncode == 0
 

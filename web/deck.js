@@ -1,18 +1,19 @@
-// A deck beside its image: its statements, what each of them became, and the names of words. How many syllables a statement became is read off the
-// image, which the machine lists; of orders only that is known here.
+// A deck next to its image: its statements, what each of them became, and the names of words. How many syllables a statement became is read from the
+// image, which the machine lists; nothing else about orders is known here.
 
-export const SYLLABLES = 6; // of a word
+export const SYLLABLES = 6; // in a word
 const COMMENT = /\([^)]*\)?/g;
 const STATEMENT = /\*(?:[* \n]*\*)?|[^*; \n][^;]*/g;
 const DECLARATION = /^Y([A-Z]?)(\d+)$/;
 const OPENING = /^(?:PROGRAM|P(\d+))(?:V(\d+))?$/;
 const CONSTANT = /^V(\d+)=/;
 
-/** The deck with spaces in place of its comments, so that places stay. */
+/** The deck with spaces instead of its comments, so that offsets stay the same. */
 export const withoutComments = (deck) => deck.replace(COMMENT, (comment) => " ".repeat(comment.length));
 
-/** The statements of a deck, in order: where each begins and ends, what stands there with single spaces, and its text without what means nothing. What
- * stands after the last `;` is one too. A `*` before something else is a statement by itself, and a row of them is taken as one. */
+/** The statements of a deck, from first to last: where each begins and ends, how it is written there, without comments and with single spaces, and its text
+ * without any spaces. What comes after the last `;` is a statement too. A `*` before something else is a statement by itself, and several in a row count
+ * as one. */
 export function statementsOf(deck) {
   return [...withoutComments(deck).matchAll(STATEMENT)].map(({ 0: found, index }) => {
     if (found[0] === "*") return { start: index, end: index + found.length, written: "*", text: "*" };
@@ -21,32 +22,32 @@ export function statementsOf(deck) {
   });
 }
 
-/** The statement in which this place of the deck stands, or undefined. */
+/** The statement at this offset of the deck, or undefined. */
 export function statementAt(deck, place) {
   return statementsOf(deck).find(({ start, end }) => start <= place && place < end);
 }
 
-/** The line and the column, both from 1, of a place in a text. */
+/** The line and the column of an offset in a text, both counted from 1. */
 export function lineAndColumn(text, place) {
   const before = text.slice(0, place);
   return { line: before.split("\n").length, column: place - before.lastIndexOf("\n") };
 }
 
-/** The parts of a deck that look different: comments and references, each as its kind, where it begins, and where it ends. */
+/** The pieces of a deck that look different, which are comments and references: the kind of each, where it begins, and where it ends. */
 export function painted(deck) {
   const comments = [...deck.matchAll(COMMENT)].map(({ 0: found, index }) => ({ kind: "comment", start: index, end: index + found.length }));
   const references = statementsOf(deck).filter(({ text }) => /^\d+$/.test(text)).map(({ start, end }) => ({ kind: "reference", start, end }));
   return [...comments, ...references].sort((one, other) => one.start - other.start);
 }
 
-/** The text of a listing by its words and its lines REF; null for a slot that the job doesn't have. */
+/** The words and the REF lines of a listing; null for a slot that the job doesn't have. */
 export function readListing(text) {
   const lines = text.split("\n");
   const words = lines.filter((line) => line.startsWith("WORD ")).map((line) => line.split(" ")[2]);
   return words.length === 0 ? null : { words, references: lines.filter((line) => line.startsWith("REF ")) };
 }
 
-/** A deck beside its listing, in which each store has its name. */
+/** A deck next to its listing, in which each store has its name. */
 export class Layout {
   constructor(deck, listing) {
     this.syllables = listing.words.flatMap(syllablesOf);
@@ -64,7 +65,7 @@ export class Layout {
     if (!this.references.next().done || this.place !== this.syllables.length) throw new OtherDeck();
   }
 
-  /** The name of the word at an address: that of the deck, or else by the address alone. */
+  /** The name of the word at an address: the one that the deck gives it, or else one made from the address. */
   nameOf(address) {
     const found = this.names.find((names) => names.address <= address && address < names.address + names.count);
     return found ? `${found.before}${address - found.address}${found.behind}` : `E${address}`;
@@ -90,7 +91,7 @@ export class Layout {
     this.place += sizeOfOrder(this.syllables[this.place] ?? 0);
   }
 
-  /** The listing tells where each reference stands, and has to agree. */
+  /** The listing says what the place of each reference is, and has to agree. */
   refer(number) {
     const due = `REF ${this.part} ${number} ${Math.floor(this.place / SYLLABLES)} ${this.place % SYLLABLES}`;
     if (this.references.next().value !== due) throw new OtherDeck();
@@ -126,5 +127,5 @@ function syllablesOf(octal) {
   return [40n, 32n, 24n, 16n, 8n, 0n].map((places) => Number((word >> places) & 255n));
 }
 
-/** How many syllables an order has, by its first. */
+/** How many syllables an order has, as its first syllable says. */
 const sizeOfOrder = (syllable) => (syllable < 0x40 ? 1 : syllable < 0x80 ? 2 : 3);

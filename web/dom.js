@@ -1,6 +1,6 @@
 // Elements of the page, made by hand.
 
-/** An element of this name with its attributes, its handlers (`onclick` and the like) and what stands in it. */
+/** An element of this name with its attributes, its handlers (such as `onclick`) and its children. */
 export function make(name, attributes = {}, ...children) {
   const element = document.createElement(name);
   for (const [key, value] of Object.entries(attributes)) {
@@ -26,7 +26,7 @@ export function labelled(label, control) {
   return make("span", { class: "field" }, make("label", { for: control.id }, label), control);
 }
 
-/** A choice among options, each a value and what stands for it. */
+/** A list to choose from. Each option is a value and the text that is shown for it. */
 export function choice(options, chosen, onchange) {
   const select = make("select", { onchange });
   for (const [value, text] of options) select.append(new Option(text, value, value === chosen, value === chosen));
@@ -35,7 +35,7 @@ export function choice(options, chosen, onchange) {
 
 export const button = (text, onclick, attributes = {}) => make("button", { type: "button", onclick, ...attributes }, text);
 
-/** A table with a caption, the names of its columns, and its rows, the first cell of which is their heading. */
+/** A table with a caption, the names of its columns, and its rows. The first cell of each row is its heading. */
 export function table(caption, columns, rows) {
   const head = make("tr", {}, ...columns.map((name) => make("th", { scope: "col" }, name)));
   const body = rows.map(([first, ...cells]) => make("tr", {}, make("th", { scope: "row" }, first), ...cells.map((cell) => make("td", {}, cell))));

@@ -1,4 +1,4 @@
-// The picture of a run over time: a row for each program and each device, from left to right as the calls went.
+// The picture of a run over time: a row for each program and each device, from left to right in the sequence of the calls.
 
 import { make } from "./dom.js";
 import { FLYING, HELD, RAN, READY, columnsOf } from "./timeline.js";
@@ -14,7 +14,7 @@ function svg(name, attributes, ...children) {
   return element;
 }
 
-/** Rectangles for the shares of a kind of span; neighbours that are the same are one. */
+/** Rectangles for the shares of one kind of span. Neighbours that are the same become one rectangle. */
 function rectangles(columns, kind, classOf, top) {
   const width = WIDTH / columns.length, found = [];
   for (let at = 0; at < columns.length; at += 1) {
@@ -30,7 +30,7 @@ function rectangles(columns, kind, classOf, top) {
   return found;
 }
 
-/** The transfers of a device, each with the number of the program that it is for, where there is room. */
+/** The transfers of a device, each with the number of its program if there is room. */
 function flights(columns, top) {
   return rectangles(columns, FLYING, (column) => `flying slot-${column.slot}`, top).flatMap((rectangle) => {
     const [x, width] = ["x", "width"].map((name) => Number(rectangle.getAttribute(name)));
@@ -39,7 +39,7 @@ function flights(columns, top) {
   });
 }
 
-/** The picture of a timeline, and a function that marks a call in it. `choose` is called with the call that is pointed at. */
+/** The picture of a timeline, and a function that marks a call in it. `choose` is called with the call that is clicked. */
 export function drawTimeline(timeline, choose) {
   const rows = [
     ...[...timeline.slots].map(([slot, spans]) => ({ name: `program ${slot}`, spans, slot })),

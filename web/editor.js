@@ -1,14 +1,14 @@
-// A text to be edited, with the numbers of its lines, with comments told apart from orders, and with the place of a fault marked.
+// An editor for a text. It numbers the lines, makes comments look different from orders, and marks a fault.
 
 import { freshId, make } from "./dom.js";
 
 const FEWEST_LINES = 3, MOST_LINES = 28;
 
-// A longer text isn't painted, and one with more lines has no numbers: the browser would be slow at each key.
+// A longer text isn't painted, and a text with more lines has no line numbers: the browser would be slow after each key.
 const LONGEST_PAINTED = 100000, MOST_NUMBERED = 20000;
 
 export class Editor {
-  /** An editor of this name; `paint` gives the parts of a text that look different, and `onchange` is called after each change. */
+  /** An editor with this label. `paint` gives the pieces of a text that look different, and `onchange` is called after each change. */
   constructor({ label, text, paint, onchange }) {
     this.paint = paint;
     this.fault = null;
@@ -35,7 +35,7 @@ export class Editor {
     this.draw();
   }
 
-  /** Marks what is wrong from this place on, up to the end. */
+  /** Marks the text from `start` to `end` as wrong. */
   mark(start, end) {
     this.fault = { start, end: Math.max(end, start + 1) };
     this.draw();
@@ -48,7 +48,7 @@ export class Editor {
     }
   }
 
-  /** Sets the caret at a place, in view. */
+  /** Puts the caret at an offset, and scrolls to it. */
   goTo(place) {
     const line = this.text.slice(0, place).split("\n").length;
     this.textarea.focus();
@@ -67,7 +67,7 @@ export class Editor {
     this.scroll();
   }
 
-  /** The text in pieces, of which each looks the same. */
+  /** The text in pieces, each of which has one look. */
   pieces(text) {
     const parts = [...this.paint(text), ...(this.fault ? [{ kind: "wrong", ...this.fault }] : [])];
     const cuts = [...new Set([0, text.length, ...parts.flatMap(({ start, end }) => [start, Math.min(end, text.length)])])].sort((a, b) => a - b);

@@ -1,4 +1,4 @@
-// The machine as the page asks it: questions go one after another to a worker, which can be stopped.
+// The machine as the page sees it. Questions go one after another to a worker, which can be stopped.
 
 /** What each status means, by its number. */
 export const STATUSES = [
@@ -9,7 +9,7 @@ export const STATUSES = [
 /** A question was given up before its answer came. */
 export class Stopped extends Error {}
 
-/** The smallest module with a memory whose addresses have 64 bits: a browser that takes it can run the machine. */
+/** The smallest module with a memory whose addresses have 64 bits. A browser that accepts it can run the machine. */
 const MEMORY_OF_64_BITS = new Uint8Array([0, 97, 115, 109, 1, 0, 0, 0, 5, 3, 1, 4, 1]);
 
 /** Whether this browser can run the machine. */
@@ -17,17 +17,17 @@ export function canRun() {
   return typeof WebAssembly === "object" && WebAssembly.validate(MEMORY_OF_64_BITS) && typeof DecompressionStream === "function";
 }
 
-/** The bytes that a text in base64 is. */
+/** The bytes that a text in base64 stands for. */
 export function bytesOf(base64) {
   return Uint8Array.from(atob(base64), (character) => character.charCodeAt(0));
 }
 
-/** The bytes of some packed ones. It fails where they are damaged. */
+/** Unpacks bytes. It fails if they are damaged. */
 export async function unpacked(bytes) {
   return new Uint8Array(await new Response(new Blob([bytes]).stream().pipeThrough(new DecompressionStream("gzip"))).arrayBuffer());
 }
 
-/** A text of one character for each byte, or of what the bytes are in UTF-8. */
+/** Reads the bytes of an answer as UTF-8. */
 const decoder = new TextDecoder();
 
 /** The proved machine in a worker. */
@@ -51,7 +51,7 @@ export class Engine {
     this.worker.onerror = (event) => this.giveUp(new Error(event.message || "the worker failed"));
   }
 
-  /** The answer to the words of a command over a job, which is a text or bytes: the status, the text, the milliseconds and the bytes of memory. */
+  /** The answer to the words of a command for a job, which is a text or bytes: the status, the text, the milliseconds that it took, and the bytes of memory. */
   ask(words, job) {
     const number = ++this.last;
     const bytes = typeof job === "string" ? new TextEncoder().encode(job) : job;
@@ -61,7 +61,7 @@ export class Engine {
     });
   }
 
-  /** Gives up all questions, and begins anew. */
+  /** Gives up all questions, and starts a new worker. */
   stop() {
     this.giveUp(new Stopped("stopped"));
   }

@@ -1,14 +1,14 @@
-// What the machine finds wrong with a job or a deck: where it stands in the text, and what the documents say of it.
+// What the machine finds wrong with a job or a deck: where it is in the text, and what the documents say about it.
 
 import { HEADER, linesOf } from "./job.js";
 import { lineAndColumn, statementAt } from "./deck.js";
 
-// Which word of a line is the one at fault, counted from 0.
+// Which field of a line is the faulty one, counted from 0.
 const WORD_AT_FAULT = {
   SlotOrder: 1, SizeNotGroups: 1, StoreFull: 1, DeviceTwice: 1, BadLabel: 3, LabelTwice: 3, ShowRange: 1, ClockFalls: 1, TooManyOrders: 1,
 };
 
-/** The least and the greatest number that may stand in a line, for each of its words that is one. */
+/** The least and the greatest value of each field of a line that is a number. */
 export const RANGES = {
   SLOT: [[0, 3]], STORE: [[32, 8192]], DEVICE: [[0, 15]], SHOW: [[0, 8191], [0, 8191]], ORDERS: [[1, 20000000]], MOVE: [[0, 15], [1, 4096]], END: [[0, 15]],
   CLOCK: [[0, 2 ** 47 - 1]], SWAP: [[0, 3], [0, 3]],
@@ -17,7 +17,7 @@ export const RANGES = {
 const NO_CHARACTER = /[^ -`|]|[#&\\]/;
 const LONGEST = { CR: 80, MT: 32768 };
 
-/** The index in the whole text at which each line of a job begins is found from its lines; a deck begins three lines below its SLOT. */
+/** The decks of a job by their slots: the index in the whole text where each begins and ends, and its first line. A deck begins three lines below its SLOT. */
 function decksOf(lines) {
   const decks = new Map();
   let place = 0, at = 0;
@@ -36,8 +36,8 @@ function decksOf(lines) {
   return decks;
 }
 
-/** The fault that the machine's answer to a job is: its name, its line and column in the job, both from 1, what stands there, and the sentence that the
- * documents have for it. One of a deck has the slot, the place in the deck, and the deck too. */
+/** The fault that the machine answers for a job: its name, its line and column in the job, both counted from 1, what is written there, and the sentence that
+ * the documents have for it. A fault of a deck also has the slot, the offset in the deck as `place`, and the deck. */
 export function faultOf(answer, text, sentences) {
   const [kind, ...words] = answer.trim().split(" ");
   if (kind === "JOB") return faultOfJob(words[0], Number(words[1]), linesOf(text), sentences);
@@ -68,22 +68,22 @@ function firstDifference(text, due) {
   return at;
 }
 
-/** The column, from 1, at which the word of this index stands in a line. */
+/** The column, counted from 1, at which the field with this index begins in a line. */
 const columnOfWord = (text, index) => 1 + text.split(" ").slice(0, index).reduce((sum, word) => sum + word.length + 1, 0);
 
-/** Which word of a line isn't a number in its range: the first of them, or 0 where each is. */
+/** Which field of a line isn't a number in its range: the index of the first of them, or 0 if there is none. */
 export function wordOfBadNumber(text) {
   const [keyword, ...words] = text.split(" ");
   const isWrong = ([least, most], at) => at < words.length && !(/^(0|[1-9]\d*)$/.test(words[at]) && least <= Number(words[at]) && Number(words[at]) <= most);
   return 1 + (RANGES[keyword] ?? []).findIndex(isWrong);
 }
 
-/** The kind of the device whose medium a line belongs to. */
+/** The kind of the device to whose medium a line belongs. */
 export function kindAbove(lines, line) {
   return lines.slice(0, line).findLast((text) => text.startsWith("DEVICE "))?.split(" ")[2] ?? "";
 }
 
-/** The column at which a line of a medium is wrong: its mark, the first byte that is no character, or the first that is too many. */
+/** The column at which a line of a medium is wrong: that of its `+` or `=`, of the first byte that isn't a character, or of the first one too many. */
 function columnInMedium(text, kind) {
   if (kind === "TP" || kind === "LP" || (text[0] === "=" && kind !== "MT") || text.length === 1) return 1;
   const stranger = text.slice(1).search(NO_CHARACTER);

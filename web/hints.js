@@ -10,10 +10,10 @@ const BYTE_13 = "the line has a byte 13, as Windows writes before each newline";
 // A missing `;` is looked for after the first PIECES pieces of a statement. No valid statement has more pieces, and few have more than FEW_PIECES.
 const PIECES = 16, FEW_PIECES = 4;
 
-/** How many blank lines before a job are taken for a slip. */
+/** How many blank lines before a job count as a slip. */
 const BLANK_LINES = 9;
 
-/** The form of each line of a job that has operands. */
+/** The form of each line of a job that has more than one field. */
 const FORMS = {
   SLOT: "SLOT p", STORE: "STORE n", DEVICE: "DEVICE d k, or DEVICE d MT label", SHOW: "SHOW a b", ORDERS: "ORDERS n", MOVE: "MOVE d n", END: "END d",
   CLOCK: "CLOCK t", SWAP: "SWAP p q",
@@ -21,7 +21,7 @@ const FORMS = {
 const SCHEDULED = ["ORDERS", "MOVE", "END", "CLOCK", "SWAP", "ENDJOB"];
 const KEYWORDS = [...Object.keys(RANGES), "DECK", "ENDDECK", "SCHEDULE", "ENDJOB"];
 
-/** Orders of the KDF9 that this machine leaves out, besides floating point, and what comes closest. */
+/** Orders of the KDF9 that this machine leaves out, besides floating point, and what comes closest to each. */
 const LEFT_OUT = [
   [/^X$/, "XD and CONT multiply whole numbers"], [/^MAX$/, "compare with - and JrLTZ"], [/^SIGN$/, "compare with JrGTZ and JrLTZ"],
   [/^DIV[DR]?$/, "DIVI divides whole numbers"], [/^ROUNDH?$/, "SHA to the right rounds"], [/^CTQ\d+$/, "no order ends a transfer"],
@@ -32,7 +32,7 @@ const capitals = (text) => `lowercase letters aren't allowed here; write ${text}
 const spaced = (text) => text.trim().split(/[ \n]+/).join(" ");
 const listed = (words) => (words.length < 2 ? words.join("") : `${words.slice(0, -1).join(", ")} or ${words.at(-1)}`);
 
-/** A hint for a fault of a job of this text, or null. */
+/** A hint for a fault of the job with this text, or null. */
 export async function hintOf(ask, fault, text) {
   return fault.deck === undefined ? hintOfJob(fault, linesOf(text)) : hintOfDeck(ask, fault);
 }
@@ -61,7 +61,7 @@ async function hintOfStatement(ask, name, deck, place) {
   return await lostSemicolon(ask, deck, statement) ?? (name === "UnknownOrder" ? hintOfName(ask, statement.text) : null);
 }
 
-/** Where a `;` is missing, if the text before a gap is a statement by itself and so is what begins after the gap; otherwise null. */
+/** Where a `;` is missing, if the text before a gap is a statement by itself and another statement begins after the gap; otherwise null. */
 async function lostSemicolon(ask, deck, { start, end }) {
   const text = withoutComments(deck).slice(start, end);
   const ends = endsOfPieces(text, PIECES).slice(0, -1);
@@ -92,7 +92,7 @@ function hintOfHeader(lines) {
   return first.trim() === "" && lines.slice(0, BLANK_LINES).includes(HEADER) ? "nothing may come before it, not even a blank line" : null;
 }
 
-/** A hint for a fault of a job of these lines, or null. */
+/** A hint for a fault of the job with these lines, or null. */
 function hintOfJob(fault, lines) {
   if (fault.name === "Header") return hintOfHeader(lines);
   if (fault.line > lines.length) return `${isInDeck(lines) ? "ENDDECK" : "ENDJOB"} is missing`;
@@ -129,7 +129,7 @@ function hintOfLine(line, expected) {
   return meant ? `did you mean ${meant}?` : `expected ${listed(expected)}`;
 }
 
-/** What may begin the line of this number of a job, in which the lines before have no fault. */
+/** What may begin the line with this number, if the lines before it have no fault. */
 function expectedAt(lines, line) {
   const before = lines[line - 2] ?? "", [word] = before.split(" ");
   if (lines.slice(0, line - 1).includes("SCHEDULE") && !isInDeck(lines.slice(0, line - 1))) {
@@ -147,5 +147,5 @@ function storeAbove(lines, line) {
   return Number(lines[at].slice(6));
 }
 
-/** Whether the lines of a job stop in a deck. */
+/** Whether these lines of a job end within a deck. */
 const isInDeck = (lines) => lines.lastIndexOf("DECK") > lines.lastIndexOf("ENDDECK");

@@ -1,4 +1,4 @@
-// The text of a job, and the same by parts: its programs with their stores, decks, devices and what is shown of them, and its schedule.
+// The text of a job, and the same job by parts: its programs with their stores, decks and devices and the words to be shown, and its schedule.
 
 export const HEADER = "KDF9 JOB 1";
 export const KINDS = { TR: "paper tape reader", TP: "paper tape punch", CR: "card reader", LP: "line printer", MT: "magnetic tape" };
@@ -15,14 +15,14 @@ ORDERS 100
 ENDJOB
 `;
 
-/** The lines of a text; after its last line end there is a line only if it isn't empty. */
+/** The lines of a text. What follows the last line end counts as a line only if it isn't empty. */
 export function linesOf(text) {
   const lines = text.split("\n");
   if (lines.at(-1) === "") lines.pop();
   return lines;
 }
 
-/** Some lines as a text in which each has its end. */
+/** These lines as a text in which each has its line end. */
 export const textOf = (lines) => lines.map((line) => `${line}\n`).join("");
 
 /** A device that a line of a job names. */
@@ -42,7 +42,7 @@ class Reader {
     this.at = 0;
   }
 
-  /** The rest of the next line, which has to begin so; null where it doesn't. */
+  /** The rest of the next line, if it has this beginning; otherwise null. */
   take(beginning) {
     const line = this.lines[this.at];
     if (line === undefined || !line.startsWith(beginning)) return null;
@@ -50,7 +50,7 @@ class Reader {
     return line.slice(beginning.length);
   }
 
-  /** The lines up to this one, which is taken too; null where it doesn't come. */
+  /** The lines up to this one, which is taken too; null if it doesn't come. */
   until(end) {
     const found = this.lines.indexOf(end, this.at);
     if (found < 0) return null;
@@ -77,7 +77,7 @@ class Reader {
   }
 }
 
-/** The parts of a job, or null where the text can't be shown by parts. What is read is written again by `writeJob` to the letter. */
+/** The parts of a job, or null if the text can't be shown by parts. `writeJob` writes exactly the text that was read. */
 export function readJob(text) {
   const reader = new Reader(text);
   if (reader.take(HEADER) !== "") return null;
@@ -93,8 +93,8 @@ export function readJob(text) {
   return reader.lines[end] === "ENDJOB" && end >= reader.at && writeJob(job) === text ? job : null;
 }
 
-/** The lines of a job by parts, each with the part that it belongs to: the names of the part, the index of its slot and of its device, and the
- * number of the line in the part, from 0. */
+/** The lines of a job by parts, each with the part that it belongs to: the name of the part, the indices of its slot and of its device, and the
+ * number of the line in the part, counted from 0. */
 export function placedLines(job) {
   const placed = [{ text: HEADER, part: "header" }];
   job.slots.forEach((slot, at) => {
@@ -119,18 +119,18 @@ export function placedLines(job) {
 /** The text of a job by parts. */
 export const writeJob = (job) => textOf(placedLines(job).map(({ text }) => text));
 
-/** The lines of a medium as they are edited: those of a tape as they stand, since they begin with + or =, and others without their +. */
+/** The lines of a medium as they are edited: those of a tape unchanged, since they begin with + or =, and all others without their +. */
 export function editedMedia({ kind, media }) {
   const lines = kind === "MT" ? media : media.map((line) => line.slice(1));
   return lines.join("\n") + (lines.at(-1) === "" ? "\n" : "");
 }
 
-/** The lines of a medium that were edited so. */
+/** The lines of a medium, from the text that was edited. */
 export function readMedia(kind, text) {
   const lines = linesOf(text);
   return kind === "MT" ? lines.map((line) => (/^[+=]/.test(line) ? line : `+${line}`)) : lines.map((line) => `+${line}`);
 }
 
-/** The runs of words that are shown, as they are edited: `3 3, 32 40`. */
+/** The ranges of words that are shown, as they are edited: `3 3, 32 40`. */
 export const editedShows = (shows) => shows.join(", ");
 export const readShows = (text) => text.split(",").map((show) => show.trim()).filter((show) => show !== "");

@@ -1,4 +1,4 @@
-// A job as it is edited: by parts, or as its whole text. Both are kept in step.
+// A job as it is edited: by parts, or as its whole text. A change in one is a change in the other.
 
 import { button, choice, freshId, labelled, make } from "./dom.js";
 import { Editor } from "./editor.js";
@@ -31,7 +31,7 @@ function paintedJob(text) {
 }
 
 export class JobView {
-  /** The view of a job in an element of the page; `onchange` is called after each change by hand. */
+  /** The view of a job in an element of the page. `onchange` is called after each change that the user makes. */
   constructor(element, onchange) {
     this.onchange = onchange;
     this.isWhole = false;
@@ -98,7 +98,7 @@ export class JobView {
     this.controls.get(`deck ${this.job.slots.length - 1}`).textarea.focus();
   }
 
-  /** Draws the parts anew, after one came or went. */
+  /** Draws the parts again, after one was added or removed. */
   redraw() {
     this.partChanged();
     this.draw();
@@ -149,7 +149,7 @@ export class JobView {
     return make("fieldset", {}, make("legend", {}, `Device ${device.number}`), fields, ...this.drawMedia(device, at, index));
   }
 
-  /** What is on a device, unless it begins with nothing. */
+  /** What is on a device, unless it begins empty. */
   drawMedia(device, at, index) {
     if ((device.kind === "TP" || device.kind === "LP") && device.media.length === 0) return [];
     const what = { TR: "The characters on the tape", CR: "The cards, one to a line", MT: "The blocks, one to a line: + before each, or = where it has its mark" };
@@ -169,7 +169,7 @@ export class JobView {
     return make("section", { class: "slot", "aria-labelledby": heading.id }, heading, editor.element);
   }
 
-  /** Shows a fault at its place, with its sentence and a hint, and a button that goes there. */
+  /** Shows a fault where it is, with its sentence, a hint, and a button that goes to it. */
   showFault(fault, hint) {
     this.forgetFault();
     if (this.isTooLong) return;
@@ -186,7 +186,7 @@ export class JobView {
     this.faulty = { control, element };
   }
 
-  /** The control in which a fault stands, and where in it. */
+  /** The control that has a fault, and where the fault is in it. */
   placeOf(fault) {
     if (!this.isByParts) return this.placeInWhole(fault);
     if (fault.deck !== undefined) {
@@ -225,7 +225,7 @@ export class JobView {
   }
 }
 
-/** The end of the statement at a place of a text, as far as it stands in the same line. */
+/** The end of the statement at an offset of a text, or of its line if that comes first. */
 function endOfStatement(text, place) {
   const length = text.slice(place).search(/;|\n/);
   return length > 0 ? place + length : place;

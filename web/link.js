@@ -1,11 +1,11 @@
-// Jobs that come and go: in a link, whose part after the # has the packed text, and as files.
+// How jobs come and go: in a link, which has the packed text after its #, and as files.
 
 import { make } from "./dom.js";
 import { bytesOf, unpacked } from "./engine.js";
 
 const PREFIX = "#job=";
 
-/** The text of a job as the end of a link. */
+/** The text of a job, packed as the end of a link. */
 export async function packedJob(text) {
   const stream = new Blob([text]).stream().pipeThrough(new CompressionStream("gzip"));
   const bytes = new Uint8Array(await new Response(stream).arrayBuffer());
@@ -17,7 +17,7 @@ export async function packedJob(text) {
 /** Whether the end of a link has a job. */
 export const hasJob = (hash) => hash.startsWith(PREFIX);
 
-/** The job that the end of a link has, or null where it is damaged. */
+/** The job that the end of a link has, or null if it is damaged. */
 export async function jobOfLink(hash) {
   try {
     const bytes = bytesOf(hash.slice(PREFIX.length).replaceAll("-", "+").replaceAll("_", "/"));

@@ -1,4 +1,4 @@
-// The names that a statement can have, and which of them one was meant that has no form.
+// The names that a statement can have, and which of them may have been meant by a statement that has no form.
 
 /** The faults of a deck that say that a statement has no form. */
 const FORMLESS = ["UnknownOrder", "Floating", "ConstantRange", "BadByte", "CommentOpen", "NoSemicolon"];
@@ -13,7 +13,7 @@ M0TOQ0 I0TOQ0 IM0TOQ0 C0TOQ0 CM0TOQ0 CI0TOQ0 Q0TOQ0 SHA0 SHL0 SHC0 SHAD0 SHLD0 S
 PRQ0 PREQ0 PWQ0 PWEQ0 CRQ0 LPQ0 LPEQ0 MFRQ0 MBRQ0 MWQ0 MLWQ0 MRWDQ0 MFSKQ0 MBSKQ0 BUSYQ0 TLOQ0 PARQ0 MBTQ0 MLBQ0 INTQ0
 J0 JP0 J0P0 JS0 JSP0 JS0P0 J0= J0# J0=Z J0#Z J0GTZ J0LTZ J0GEZ J0LEZ J0V J0NV J0TR J0NTR J0EN J0NEN J0EJ J0NEJ J0C0Z J0C0NZ J0C0NZS`.split(/\s+/);
 
-/** What other machines call something, and how it is written here. */
+/** What something is called on other machines, and how it is written here. */
 const ELSEWHERE = [
   [/^(?:PROG|PROGRAMM?E?|MAIN|START|BEGIN)(?:V\d+)?$/, "the main part begins with PROGRAM; or, if it has V-stores, with PROGRAM V0;"],
   [/^(?:ADD|PLUS)$/, "+ adds"], [/^(?:SUB|MINUS|SUBTRACT)$/, "- subtracts"], [/^(?:MUL|MULT|MPY|TIMES)$/, "XD; CONT multiplies"],
@@ -26,14 +26,14 @@ const ELSEWHERE = [
   [/^(?:PRINT|WRITE)/, "LPQ1 prints the area of Q1"],
 ];
 
-/** Whether the machine knows a statement of this text, whatever the sequence and the stores of the deck are. */
+/** Whether the machine knows a statement with this text, in whatever sequence it comes and whatever stores the deck has. */
 export async function hasForm(ask, statement) {
   const job = `KDF9 JOB 1\nSLOT 0\nSTORE 8192\nDECK\nPROGRAM;\n${statement};\nFINISH;\nENDDECK\nSCHEDULE\nENDJOB\n`;
   const { status, text } = await ask(["asm", "0"], job);
   return status === 0 || (status === 3 && !FORMLESS.includes(text.split(" ")[2]));
 }
 
-/** Whether one letter too many, too few or wrong, or two exchanged, make the difference between two texts. */
+/** Whether two texts differ by one letter too many, too few or wrong, or by two neighbouring letters exchanged. */
 export function distanceIsOne(one, other) {
   if (Math.abs(one.length - other.length) > 1 || one === other) return false;
   let at = 0;
@@ -43,7 +43,7 @@ export function distanceIsOne(one, other) {
   return rest.slice(1) === due || rest === due.slice(1) || rest.slice(1) === due.slice(1) || isExchanged;
 }
 
-/** The statements that may have been meant by one that has no form: those within one change, with its own numbers. */
+/** The statements that may have been meant by one that has no form: those that are one change away, with the numbers of that statement. */
 async function meant(ask, text) {
   const numbers = text.match(/\d+/g) ?? [], name = text.replace(/\d+/g, "0"), found = [];
   for (const form of FORMS) {

@@ -15,27 +15,27 @@ const DONE = 0, JOB_HAS_FAULT = 2, DECK_HAS_FAULT = 3;
 const MEBIBYTE = 2 ** 20;
 const OWN = "own";
 
-/** A job is looked at so many milliseconds after the last key, for its faults. */
+/** How many milliseconds after the last key the page looks for a fault of the job. */
 const PAUSE = 700;
 
 const texts = JSON.parse(byId("texts").textContent);
 const view = new JobView(byId("editors"), changed);
 let engine = null;
 let lastText = "";
-let lastRun = null; // what can be looked at call by call: the job, its report, and the layouts of its decks
+let lastRun = null; // what can be shown call by call: the job, its report, and the layouts of its decks
 let pause = 0;
 
 const ask = (words, job) => engine.ask(words, job);
 const replay = new Replay(byId("replay"), { ask, say, failed: (error) => sayFailed(error) });
 
-/** Says in the line of the page that is read aloud what has happened. */
+/** Says what has happened, in the line of the page that is read aloud. */
 function say(text, isWrong = false) {
   byId("state").textContent = isWrong ? `▸ ${text}` : text;
   byId("state").classList.toggle("wrong", isWrong);
   delete byId("state").dataset.status;
 }
 
-/** The job was changed by hand. */
+/** The user has changed the job. */
 function changed() {
   byId("example").value = OWN;
   byId("link-said").hidden = true;
@@ -44,7 +44,7 @@ function changed() {
   pause = setTimeout(lookForFault, PAUSE);
 }
 
-/** Shows the fault of the job, if it has one, while it is written. Nothing is said aloud meanwhile. */
+/** Shows the fault of the job, if it has one, while the job is being written. Nothing is read aloud then. */
 async function lookForFault() {
   if (!engine) return;
   if (engine.isBusy) {
@@ -60,14 +60,14 @@ async function lookForFault() {
   }
 }
 
-/** Why there is no answer. */
+/** Says why there is no answer. */
 function sayFailed(error) {
   if (error instanceof Stopped) say("Stopped.", true);
   else if (error instanceof NoSchedule) say(`There is no schedule: ${error.message}.`, true);
   else say(`The machine stopped: ${error.message}`, true);
 }
 
-/** Marks the fault that the answer tells, if it tells one, and gives it. */
+/** Marks the fault that the answer names, and returns it; null if it names none. */
 async function showFault({ status, text: answer }, job) {
   if (status !== JOB_HAS_FAULT && status !== DECK_HAS_FAULT) {
     view.forgetFault();
@@ -84,14 +84,14 @@ function words() {
   return command === "run" ? ["run"] : [command, byId("value").value];
 }
 
-/** Something is being reckoned, or no longer. */
+/** Shows whether the machine is at work. */
 function setBusy(isBusy) {
   byId("run").disabled = byId("schedule").disabled = isBusy || !engine;
   byId("stop").disabled = !isBusy;
   byId("results").setAttribute("aria-busy", `${isBusy}`);
 }
 
-/** Does some work with the machine, which Stop ends. */
+/** Does some work with the machine. Stop ends it. */
 async function work(text, task) {
   clearTimeout(pause);
   setBusy(true);
@@ -130,7 +130,7 @@ function sayAnswer({ status, milliseconds, memory }, fault) {
   byId("state").dataset.status = status;
 }
 
-/** The fault of a job with its hint, as it is shown, or null where there is none. */
+/** The fault of a job with its hint, as it is shown, or null if there is none. */
 async function explain(job) {
   const { status, text } = await ask(["asm", "0"], job);
   if (status !== JOB_HAS_FAULT && status !== DECK_HAS_FAULT) return null;
@@ -138,7 +138,7 @@ async function explain(job) {
   return { ...fault, hint: await hintOf(ask, fault, job) };
 }
 
-/** Looks at the last run call by call. */
+/** Shows the last run call by call. */
 function look() {
   replay.open(lastRun.text, lastRun.report, lastRun.layouts);
   byId("replay").focus();
@@ -180,7 +180,7 @@ async function writeSchedule() {
   });
 }
 
-/** Begins with another job, and with the words of its command. What is running is stopped. */
+/** Begins with another job, and with the words of its command. A run in progress is stopped. */
 function begin(text, args) {
   stop();
   view.show(text);
@@ -204,7 +204,7 @@ function chooseExample() {
   else showRecorded(chosen);
 }
 
-/** Where the machine can't run, the report that was recorded of an example. */
+/** Shows the report that was recorded of an example, if the machine can't run. */
 function showRecorded({ report }) {
   showText(report ?? "", report ? resultsOf(report, new Map()) : []);
 }
@@ -229,7 +229,7 @@ async function showLink() {
   say("The link stands below the buttons, and in the browser's line of addresses.");
 }
 
-/** Begins with the job that the link has, if it has one. */
+/** Begins with the job of the link, if the link has one. Returns whether it has. */
 async function openLink() {
   if (!hasJob(location.hash)) return false;
   const job = await jobOfLink(location.hash);
@@ -294,7 +294,7 @@ async function open() {
   if (!engine) showRecorded(texts.jobs[byId("example").value]);
 }
 
-/** Runs the job that the page was made with, and shows the run call by call. */
+/** Runs the job with which the page was made, and shows the run call by call. */
 async function openStart() {
   byId("example").value = OWN;
   begin(texts.start, ["run"]);
@@ -303,6 +303,6 @@ async function openStart() {
   if (lastRun) look();
 }
 
-// For those who look into the page by its console: the machine's answer to words over a job, its fault, and the job and the text that are shown.
+// For use from the browser's console: the machine's answer to the words of a command for a job, the fault of a job, and the job and the text that are shown.
 globalThis.kdf9 = { ask, explain, job: () => view.text, text: () => lastText };
 open();

@@ -1,5 +1,5 @@
-// A run to be looked at call by call. What is shown of a call is the machine's own report of the same job, cut after that call, with the whole store shown; so
-// it is the run itself, and nothing is reckoned here.
+// A run, shown call by call. What is shown of a call is the machine's own report of the same job, cut after that call, with the whole store shown. So it is
+// the run itself, and nothing is computed here.
 
 import { button, choice, labelled, make, table } from "./dom.js";
 import { readJob, writeJob } from "./job.js";
@@ -8,11 +8,11 @@ import { readSchedule, writeSchedule } from "./schedule.js";
 import { Timeline } from "./timeline.js";
 import { drawTimeline } from "./drawing.js";
 
-// So many entries of the journal are shown around the call, and of the words that changed so many.
+// How many entries of the journal are shown on each side of the call, and at most how many words of a program.
 const ENTRIES_AROUND = 6, MOST_WORDS = 40;
 const CHANGED = "• ";
 
-/** The job cut after a call, with the events that stand between that call and the next, and with the whole store of each program shown. */
+/** The job cut after a call, with the events between that call and the next, and with the whole store of each program shown. */
 export function cutJob(text, calls) {
   const job = readJob(text);
   const schedule = readSchedule(job.schedule);
@@ -27,7 +27,7 @@ export class Replay {
     this.element.addEventListener("keydown", (event) => this.press(event));
   }
 
-  /** Begins with the report of a job, and the layouts of its decks. */
+  /** Shows the run of a job, from its report and the layouts of its decks. */
   open(text, report, layouts) {
     Object.assign(this, { text, layouts, job: readJob(text), timeline: new Timeline(readReport(report)), wanted: null, isAsking: false, last: null });
     this.draw();
@@ -62,7 +62,7 @@ export class Replay {
     return this.timeline.nextOrder(Number(this.slot.value), this.call);
   }
 
-  /** The keys of the buttons, where none is written into. */
+  /** Does what the button of the pressed key does. */
   press(event) {
     if (!this.timeline || event.ctrlKey || event.altKey || event.metaKey) return;
     const { timeline, call } = this;
@@ -74,7 +74,7 @@ export class Replay {
     this.show(to());
   }
 
-  /** Shows the machine after a call. While the machine is asked, only the last call that is wished for is kept. */
+  /** Shows the machine after a call. While a question to the machine is open, only the call that was asked for last is kept. */
   async show(call) {
     this.wanted = this.call = Math.max(0, Math.min(call, this.timeline.total));
     this.slider.value = `${this.call}`;
@@ -112,7 +112,7 @@ export class Replay {
     this.say(said);
   }
 
-  /** What a program did with the call, in words. */
+  /** What a program did in the call, in words. */
   sentence(call, section, before) {
     const name = `program ${section.slot}`, layout = this.layouts.get(section.slot);
     if (section.orders > before.orders) {
@@ -126,7 +126,7 @@ export class Replay {
     return reason ? `${name} has been ${saidOfHold(reason)}` : `${name} can go on`;
   }
 
-  /** By what a program is held up after a call, or null. */
+  /** What holds a program up after a call, or null. */
   holdOf(slot, call) {
     const spans = this.timeline.slots.get(slot), found = spans?.find(({ start, end }) => start <= call && call < end);
     return found?.reason ?? null;
@@ -166,7 +166,7 @@ export class Replay {
     ]);
   }
 
-  /** The words that changed with the call, and those that the job shows. */
+  /** The words that changed in the call, and those that the job shows. */
   drawWords(section, before, layout) {
     const slot = this.job.slots.find(({ number }) => number === `${section.slot}`);
     const changed = new Set(changedWords(section, before).map(({ address }) => address));
@@ -190,7 +190,7 @@ export class Replay {
     return make("div", {}, make("p", {}, `${state}${transfer}.`), ...blocks);
   }
 
-  /** The entries of the journal around the call; that of the call is marked. */
+  /** The entries of the journal before and after the call. The entry for the call is marked. */
   drawJournal(call) {
     const { entries } = this.timeline;
     const at = entries.findLastIndex(({ calls, entry }) => calls < call || (calls === call && callsOf(entry) === 0));
@@ -203,7 +203,7 @@ export class Replay {
   }
 }
 
-/** The words of a section that are others than before. */
+/** The words of a section whose values have changed. */
 function changedWords(section, before) {
   return section.words.filter(({ octal }, at) => octal !== before.words[at].octal);
 }

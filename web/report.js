@@ -1,6 +1,6 @@
-// The texts that tell what programs came to: the report of a run, and the text of a program that ran alone.
+// The texts that say what became of programs: the report of a run, and the text of a program that ran alone.
 
-/** How the lines of a section are read into it. */
+/** How each line of a section is read. */
 const READERS = {
   STATE: (section, rest) => { section.state = rest; },
   ORDERS: (section, rest) => { section.orders = Number(rest); },
@@ -29,7 +29,7 @@ const emptySection = (slot) => ({
   slot, state: "", orders: 0, at: [0, 0], flags: [0, 0], nest: [], links: [], qStores: [], words: [], spools: [], devices: [],
 });
 
-/** The entries and the sections of a report, or of the text of a lone program, which has no entries. */
+/** The entries and the sections of a report, or of the text of a lone run, which has no entries. */
 export function readReport(text) {
   const lines = text.split("\n");
   const from = lines.findIndex((line, at) => at > 0 && /^(SLOT |ENDREPORT$)/.test(line));
@@ -44,12 +44,12 @@ export function readReport(text) {
   return { entries, sections };
 }
 
-/** A word of 16 octal digits as a number with its sign. */
+/** The value of a word of 16 octal digits, as a number with a sign. */
 export function numberOf(octal) {
   return BigInt.asIntN(48, BigInt(`0o${octal}`));
 }
 
-/** How many calls of the machine an entry stands for. */
+/** How many calls of the machine an entry records. */
 export function callsOf([kind, ...numbers]) {
   if (kind === "RAN" || kind === "IDLE") return numbers.at(-1);
   return kind === "BUSY" || kind === "LOV" ? 1 : 0;

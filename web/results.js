@@ -7,16 +7,16 @@ import { callsOf, numberOf, readReport, saidOf } from "./report.js";
 
 const FLAGS = ["V, the overflow flag", "TR, the test register"];
 
-// A longer text is shown up to here, and of a longer journal so many entries; the file that is saved has all.
+// How many characters of a text, entries of a journal and words of a program are shown at most. The saved file has all of them.
 const MOST_SHOWN = 100000, MOST_ENTRIES = 1000, MOST_WORDS = 1000;
 
-// A longer report isn't read, but only shown.
+// A longer report is only shown, and not read.
 const LONGEST_READ = 20000000;
 
-/** Whether a text is a report, or that of a lone program, and short enough to be read. */
+/** Whether a text is a report, or the text of a lone run, and short enough to be read. */
 export const isReadable = (text) => text.length <= LONGEST_READ && /^KDF9 (REPORT|ALONE) /.test(text);
 
-/** The layouts of the decks of a job by their slots, for the names of words. The machine lists each; a slot without a listing has none. */
+/** The layouts of the decks of a job by their slots, for the names of words. The machine lists each deck; a slot without a listing has no layout. */
 export async function layoutsOf(ask, text) {
   const layouts = new Map();
   for (const slot of readJob(text)?.slots ?? []) {
@@ -25,7 +25,7 @@ export async function layoutsOf(ask, text) {
     try {
       if (read) layouts.set(Number(slot.number), new Layout(slot.deck, read));
     } catch {
-      // The names are a help: without them a word has its address.
+      // The names are only a help: without them, a word is named by its address.
     }
   }
   return layouts;
@@ -77,14 +77,14 @@ function journalOf(entries) {
     table("Entries", ["entry", "what it says", "calls before it"], rows), ...rest);
 }
 
-/** What a text of the machine says, to be put into the page: a report, the text of a lone program, or another. */
+/** What a report or the text of a lone run says, as elements of the page; none for any other text. */
 export function resultsOf(text, layouts) {
   if (!isReadable(text)) return [];
   const { entries, sections } = readReport(text);
   return [...sections.map((section) => sectionOf(section, layouts.get(section.slot))), ...(entries.length ? [journalOf(entries)] : [])];
 }
 
-/** The text as it is shown: all of it, or its beginning where it is long. */
+/** The text as it is shown: all of it, or its beginning if it is long. */
 export function shownText(text) {
   if (text.length <= MOST_SHOWN) return { text, rest: "" };
   const [shown, all] = [MOST_SHOWN, text.length].map((number) => number.toLocaleString("en"));

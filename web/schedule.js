@@ -1,15 +1,15 @@
-// A schedule that writes itself: each transfer ends so many calls after it began. When transfers begin is read off the journals of the machine itself. A
-// schedule that is right up to some call has a journal that is right up to there, so each run shows more of what to write than the one before.
+// A schedule that writes itself: each transfer ends a given number of calls after it began. When transfers begin is read from the machine's own journals. If
+// a schedule is right up to some call, its journal is right up to that call, so each run shows more of what to write than the one before.
 
 import { linesOf, readJob, textOf, writeJob } from "./job.js";
 
 const MOST_LINES = 500000;
 const USUAL_WINDOW = 64;
 
-/** The schedule can't be written: why. */
+/** Why the schedule can't be written. */
 export class NoSchedule extends Error {}
 
-/** The calls of a schedule, and its events in order: each its line, and the number of calls before it. */
+/** The number of calls of a schedule, and its events from first to last: for each its line, and the number of calls before it. */
 export function readSchedule(text) {
   const events = [];
   let calls = 0;
@@ -32,7 +32,7 @@ export function writeSchedule({ calls, events }) {
   return textOf(lines);
 }
 
-/** The transfers that a journal tells, each with its device and the calls that were made when it had begun, and the calls of the whole run. */
+/** The transfers that a journal records, each with its device and how many calls had been made when it had begun, and the number of calls of the whole run. */
 function readTransfers(report) {
   const begun = [];
   let calls = 0;
@@ -46,15 +46,15 @@ function readTransfers(report) {
   return { begun, calls };
 }
 
-/** How long transfers take: `after` calls, or that of `devices` for one device, each a number of steps of which `every` says how many calls they have: with
- * it a word is moved in each step. */
+/** The events of a transfer. It takes as many steps as `devices` says for its device, or else `after`. A step is one call; but if `every` isn't 0, it is that many
+ * calls, and a word is moved in each step. */
 function eventsOf(transfer, { after, devices, every }) {
   const steps = devices.get(transfer.device) ?? after, length = every || 1;
   const moves = every ? Array.from({ length: steps }, (_, at) => ({ calls: transfer.calls + (at + 1) * length, line: `MOVE ${transfer.device} 1` })) : [];
   return [...moves, { calls: transfer.calls + steps * length, line: `END ${transfer.device}` }];
 }
 
-/** The text of a job by parts with a schedule in which each transfer ends as `delays` says, in place of its lines MOVE and END. */
+/** The text of a job with a schedule in which each transfer ends as `delays` says. Its own MOVE and END lines are replaced. */
 export async function scheduled(ask, text, delays) {
   const job = readJob(text);
   const { calls: total, events } = readSchedule(job.schedule);

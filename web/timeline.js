@@ -1,4 +1,4 @@
-// A journal over time. Time is counted in calls of the machine: what each program did and which transfers each device had, from call to call.
+// A journal over time: what each program did and which transfers each device had. Time is counted in calls of the machine.
 
 import { callsOf } from "./report.js";
 
@@ -10,8 +10,8 @@ export const FLYING = "flying";
 /** What is known of a program while its journal is read. */
 const program = () => ({ does: READY, since: 0, reason: null, waitsFor: new Set() });
 
-/** A run over time: for each slot and each device its spans, each from the calls before it to those before its end; the calls after which something happened
- * (`events`), and those with which a program was held up (`holds`); and the entries, each with the calls before it. */
+/** A run over time. Each slot and each device has its spans, each with the number of calls before its beginning and before its end. There are also the calls
+ * after which something happened (`events`), those that found a program held up (`holds`), and the entries, each with the number of calls before it. */
 export class Timeline {
   constructor({ entries, sections }) {
     this.total = 0;
@@ -30,7 +30,7 @@ export class Timeline {
     for (const device of [...this.flying.keys()]) this.land(device);
   }
 
-  /** The program does something else from now on; null where it is over. */
+  /** The program does something else from now on; null if it is over. */
   turn(slot, does, reason = null) {
     const it = this.programs.get(slot);
     if (it.does && this.total > it.since) this.slots.get(slot).push({ start: it.since, end: this.total, what: it.does, reason: it.reason });
@@ -55,7 +55,7 @@ export class Timeline {
     this.programs.get(slot).since = this.total;
   }
 
-  /** A program counts as held up by a group until it goes on, or the last transfer that it had under way has ended. */
+  /** A program that a group holds up counts as held up until it goes on, or until the last of its transfers in flight has ended. */
   hold(kind, slot, number) {
     const own = [...this.flying].filter(([device, flight]) => (kind === "BUSY" ? device === number : flight.slot === slot)).map(([device]) => device);
     this.turn(slot, HELD, { kind, number, since: this.total + 1, devices: own });
@@ -79,24 +79,24 @@ export class Timeline {
     this.devices.get(device)?.push({ start, end: this.total, what: FLYING, slot });
   }
 
-  /** What a program did with this call, or undefined after its end. */
+  /** What a program did in this call, or undefined after its end. */
   spanAt(spans, call) {
     return spans.find(({ start, end }) => start < call && call <= end);
   }
 
-  /** With which call a program obeyed an order after this call, or the last call. */
+  /** The next call in which a program obeys an order, or the last call if there is none. */
   nextOrder(slot, call) {
     const span = this.slots.get(slot)?.find(({ what, end }) => what === RAN && end > call);
     return span ? Math.max(span.start, call) + 1 : this.total;
   }
 
-  /** The next of some calls, which rise, or the last call. */
+  /** The first of these calls, which are in ascending sequence, that is after `call`; the last call of the run if there is none. */
   next(calls, call) {
     return calls.find((each) => each > call) ?? this.total;
   }
 }
 
-/** The columns of a picture of a row: the share of each kind of span in each column, and of a device the slot that it was for. */
+/** The columns of a row of the picture: the share of each kind of span in each column, and for a device the slot of its transfer. */
 export function columnsOf(spans, total, count) {
   const columns = Array.from({ length: count }, () => ({}));
   const length = total / count;

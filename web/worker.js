@@ -1,14 +1,14 @@
-// The machine behind a worker's messages. Each question gets a fresh instance of the module, so that no run sees another's memory. This file has
-// all that stands between the page and the proved code: the heap, sums of 128 bits, and how texts are handed in and out.
+// The worker that runs the machine. Each question gets a fresh instance of the module, so that no run sees another's memory. This file has
+// everything between the page and the proved code: the heap, 128-bit arithmetic, and how texts are handed in and out.
 
 const PAGE = 65536;
-const SMALLEST = 16; // bytes of the smallest block
+const SMALLEST = 16; // bytes in the smallest block
 const STATUS_TEXT_TOO_LONG = 6;
 
-// The rooms that are tried for a text, in bytes.
+// The sizes of room that are tried for a text, in bytes.
 const ROOMS = [1 << 20, 1 << 24, 1 << 28];
 
-/** The heap that the proved code asks for memory: blocks of 16, 32, 64 .. bytes, of which each is used again once it was given back. */
+/** The heap that the proved code asks for memory. Its blocks have 16, 32, 64 .. bytes, and a block that was given back is used again. */
 class Heap {
   constructor(memory, base) {
     this.memory = memory;
@@ -17,7 +17,7 @@ class Heap {
     this.free = new Map();
   }
 
-  /** The address of a block of at least so many bytes, or 0 where there is no memory. */
+  /** The address of a block of at least this many bytes, or 0 if there is no memory. */
   take(bytes) {
     let size = SMALLEST;
     while (size < bytes) size *= 2;
@@ -27,7 +27,7 @@ class Heap {
     return at;
   }
 
-  /** The address of a new block, for which the memory grows where it has to. */
+  /** The address of a new block. The memory grows if it has to. */
   grow(size) {
     const end = this.top + size;
     const missing = Math.ceil((end - this.memory.buffer.byteLength) / PAGE);
@@ -49,7 +49,7 @@ class Heap {
     this.free.get(size).push(at);
   }
 
-  /** The block itself where it has so many bytes, or else a larger one with the bytes that are kept. */
+  /** The block itself if it has this many bytes; otherwise a larger one, with the bytes that are kept. */
   change(at, kept, bytes) {
     if (bytes <= this.sizes.get(at)) return at;
     const to = this.take(bytes);
@@ -60,10 +60,10 @@ class Heap {
   }
 }
 
-/** A number of 128 bits with its sign, of its two halves. */
+/** A signed 128-bit number, from its two halves. */
 const wide = (low, high) => BigInt.asUintN(64, low) | (high << 64n);
 
-/** What the proved code imports: the heap, and sums of 128 bits, for which WebAssembly has no instructions. */
+/** What the proved code imports: the heap, and 128-bit arithmetic, for which WebAssembly has no instructions. */
 function imports(machine) {
   const writePair = (at, low, high) => {
     const view = new DataView(machine.memory.buffer);
@@ -71,7 +71,7 @@ function imports(machine) {
     view.setBigUint64(Number(at) + 8, BigInt.asUintN(64, high), true);
   };
   const writeWide = (at, value) => writePair(at, value, value >> 64n);
-  // An address that is no block's is never used: it stands beside the word that says that there is none.
+  // If there is no block, the first word says so, and the address in the second is never used.
   const writeBlock = (at, block) => writePair(at, block ? 1n : 0n, BigInt(block || SMALLEST));
   return {
     rattle_alloc: (out, bytes, alignment) => writeBlock(out, machine.heap.take(Number(bytes || alignment))),
@@ -84,7 +84,7 @@ function imports(machine) {
   };
 }
 
-/** The answer to the words of a command over a job, in a text of at most so many bytes. */
+/** The answer to the words of a command for a job, with a text of at most `room` bytes. */
 function answer(module, words, job, room) {
   const machine = {};
   const { exports } = new WebAssembly.Instance(module, { env: imports(machine) });
@@ -103,14 +103,14 @@ function answer(module, words, job, room) {
   const text = place(room), length = place(8);
   const slices = [...handIn(new TextEncoder().encode(words.join("\n"))), ...handIn(job)];
   const began = performance.now();
-  // The number of the status is a byte. What stands above it in the result means nothing, as wherever C returns a byte.
+  // The number of the status is a byte. The higher bits of the result mean nothing, as whenever a C function returns a byte.
   const status = exports.kdf9_run(...slices, BigInt(text), BigInt(room), BigInt(length)) & 255;
   const milliseconds = performance.now() - began;
   const written = Number(new DataView(machine.memory.buffer).getBigUint64(length, true));
   return { status, text: new Uint8Array(machine.memory.buffer).slice(text, text + written), milliseconds, memory: machine.memory.buffer.byteLength };
 }
 
-/** The answer in the smallest room that has space for it. */
+/** The answer in the smallest room that its text fits, or in the largest room if it fits none. */
 function answerInRoom(module, words, job) {
   let given;
   for (const room of ROOMS) {

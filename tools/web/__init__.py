@@ -1,1 +1,1 @@
-"""How the page is made: the machine as WebAssembly, and one file of it, the script, the style and the jobs."""
+"""How the page is made: the machine as WebAssembly, and then one file with the machine, the script, the style and the jobs."""

@@ -9,7 +9,7 @@ from building.rooms import ROOT
 WEB = ROOT / "web"
 FIRST_HOUR, EXAMPLES = "The first hour", "Examples"
 
-# The script that is begun with; the others are those that it imports.
+# The main script, which imports the others.
 MAIN = "page"
 IMPORT = re.compile(r'^import (\{[^}]*\}) from "\./(\w+)\.js";\n', re.MULTILINE)
 EXPORT = re.compile(r"^export ((?:async )?(?:function|class|const) )(\w+)", re.MULTILINE)
@@ -21,7 +21,7 @@ def read(path):
 
 
 def script(name=MAIN):
-    """The script of this name and those that it imports, as one: each is a function that is called once, and gives what it exports."""
+    """The script of this name and those that it imports, as one script. Each becomes a function that is called once and returns its exports."""
     done, exported = {}, {}
 
     def visit(each):
@@ -45,7 +45,7 @@ def script(name=MAIN):
 
 
 def sentences():
-    """What the documents say of each fault, of a job and of a deck."""
+    """What the documents say about each fault of a job and of a deck."""
     table = read("docs/JOB.md").partition("## What is wrong with a job")[2].partition("\n## ")[0]
     job = {name: f"{said[0].upper()}{said[1:]}. (docs/JOB.md)" for name, said in re.findall(r"^\| `(\w+)` \| (.*?) \|$", table, re.MULTILINE)}
     deck = {}
@@ -55,12 +55,12 @@ def sentences():
 
 
 def plain(said):
-    """Sentences without the marks that set off code."""
+    """The sentences without the backquotes around code."""
     return {name: sentence.replace("`", "") for name, sentence in said.items()}
 
 
 def jobs_of_first_hour():
-    """The jobs of the first hour, each with the answer to `run` where the page has it."""
+    """The jobs of the tour, each with the answer to `run` if the tour has it."""
     tour = read("docs/TOUR.md")
     for name, job in re.findall(r"^```job (\S+)\n(.*?)^```$", tour, re.MULTILINE | re.DOTALL):
         answer = re.search(rf"^```sh\n\./kdf9 run < {re.escape(name)}\n```\n+```answer\n(.*?)^```$", tour, re.MULTILINE | re.DOTALL)
@@ -68,7 +68,7 @@ def jobs_of_first_hour():
 
 
 def jobs_of_examples():
-    """The examples, in the order of their page, each with its words and its report."""
+    """The examples in the sequence of docs/EXAMPLES.md, each with its arguments and its report."""
     listed = re.findall(r"`([\w-]+)`", read("docs/EXAMPLES.md"))
     for name in dict.fromkeys(listed):
         if (ROOT / "examples" / f"{name}.job").is_file():
@@ -77,13 +77,13 @@ def jobs_of_examples():
 
 
 def texts(start):
-    """What the script shows, as JSON that may stand in a page; `start` is the job that is run as the page opens, or None."""
+    """What the script shows, as JSON that is safe within a page. `start` is the job that runs when the page opens, or None."""
     jobs = dict([*jobs_of_first_hour(), *jobs_of_examples()])
     return json.dumps({"jobs": jobs, "sentences": sentences(), "start": start}, ensure_ascii=False, separators=(",", ":")).replace("</", "<\\/")
 
 
 def page(module, start=None):
-    """The page, of the bytes of the module, and with a job that is run as it opens where there is one."""
+    """The page, made from the bytes of the module. If there is a job, it runs when the page opens."""
     packed = base64.b64encode(gzip.compress(module, 9, mtime=0)).decode("ascii")
     parts = {"STYLE": read("web/page.css"), "WORKER": read("web/worker.js"), "TEXTS": texts(start), "MODULE": packed, "SCRIPT": script()}
     return re.sub(r"/\* ([A-Z]+) \*/", lambda mark: parts[mark[1]], read("web/page.html"))

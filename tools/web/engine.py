@@ -1,7 +1,7 @@
 """The machine as WebAssembly, made from the proved crates.
 
-The kit's own way to WebAssembly takes nothing that reaches the heap. So the crate `page`, whose text stands in web/engine, is proved over the built libraries
-and lowered for x86-64, by a compiler that keeps the LLVM bitcode; and the kit's own clang and linker make WebAssembly of that.
+The kit's own way to make WebAssembly accepts nothing that reaches the heap. So the crate `page`, whose text is in web/engine, is proved over the built libraries
+and lowered for x86-64, with a toolchain that keeps the LLVM bitcode. The kit's own clang and linker then make WebAssembly of that.
 """
 import hashlib
 import os
@@ -17,10 +17,10 @@ SOURCES = ROOT / "web" / "engine"
 OUT = CRATES / "kdf9" / "out" / "page"
 MODULE, SUMS, LOG = OUT / "engine.wasm", OUT / "engine.sums", OUT / "engine.log"
 
-# What the proof keeps, so that after a change only what is new is proved.
+# What the proof keeps, so that after a change only what has changed is proved again.
 KEPT = OUT / "incremental"
 
-# Where each file of the crate's text stands in the crate. They have names of their own, since `rt ci` refuses a source that no crate of the list has.
+# Where each file of web/engine goes in the crate. In web/engine they have names of their own, since `rt ci` refuses a source that belongs to no crate of the list.
 PLACES = {
     "lib.rt.txt": "src/lib.rt", "Words.antt.txt": "specs/Words.antt", "Specs.antt.txt": "specs/Lib.antt", "Answer.antt.txt": "proofs/answer/Answers.antt",
     "Lines.antt.txt": "proofs/lines_of/Answers.antt", "OwnWords.antt.txt": "proofs/own_words/Invariants.antt",
@@ -30,35 +30,35 @@ CRATE, USES = "page", ["kdf_top", "kdf_io", "kdf_director"]
 
 TARGET = ["--target=wasm64-unknown-unknown", "-mcpu=lime1", "--no-default-config"]
 
-# As the kit's own clang is called for wasm64.
+# The flags with which the kit's own clang is called for wasm64.
 FLAGS = """-expand-div-rem-bits=64 -expand-fp-convert-bits=64 -trap-unreachable -disable-machine-licm -disable-postra-machine-licm
 -sink-common-insts=false""".split()
 
-# What the script of the page gives the module.
+# What the page's script provides to the module.
 IMPORTS = ["rattle_alloc", "rattle_realloc", "rattle_dealloc", "__multi3", "__ashlti3", "__lshrti3", "__ashrti3"]
-# Bytes of the stack and, at most, of all memory; and how much the compiler optimizes.
+# The bytes of the stack, the most bytes that the whole memory may have, and how much the compiler optimizes.
 STACK, MOST_MEMORY = 1 << 20, 1 << 32
 LEVEL = "-O2"
 
-# What says that the bitcode is for x86-64: the two lines of its head, and these attributes.
+# What says that the bitcode is for x86-64: the two lines at its head, and these attributes.
 HEAD = re.compile(r"^target (?:datalayout|triple) = .*$", re.MULTILINE)
 ATTRIBUTES = re.compile(r' "(probe-stack|stack-probe-size|target-cpu)"="[^"]*"')
 FOREIGN = re.compile(r"(?:declare|attributes|define).*(?:llvm\.x86|x86|target-features)")
 
 
 class NoEngine(Exception):
-    """The machine can't be made: why."""
+    """Why the machine can't be made."""
 
 
 def kit():
-    """The folder of the kit, or None where there is none."""
+    """The folder of the kit, or None if there is no kit."""
     if not shutil.which("rt"):
         return None
     return pathlib.Path(subprocess.run(["rt", "doc"], capture_output=True, text=True, check=True).stdout.strip()).parent
 
 
 def libraries():
-    """The built library of each crate that the page stands on, below those above it."""
+    """The built library of each crate that the page is built on. A crate comes before those that use it."""
     uses = {name: line.partition(":")[2].split() for name, line in read_list().items()}
     found = []
 
@@ -74,7 +74,7 @@ def libraries():
 
 
 def sums():
-    """What the module is made from, as the sum of all its files."""
+    """One checksum of all the files from which the module is made."""
     files = [SOURCES / name for name in PLACES] + [pathlib.Path(__file__)] + [folder / "stamp" for folder in libraries().values()]
     whole = hashlib.sha256()
     for file in files:
@@ -83,12 +83,12 @@ def sums():
 
 
 def is_current():
-    """Whether the module that was made last is that of the sources."""
+    """Whether the last module was made from the sources as they are now."""
     return MODULE.is_file() and SUMS.is_file() and SUMS.read_text(encoding="ascii") == sums()
 
 
 def engine(say):
-    """The module's bytes, which is made first where it isn't current; `say` tells that."""
+    """The bytes of the module. If it isn't current, it is made first, and `say` says so."""
     if not is_current():
         found = kit()
         if found is None:
@@ -116,7 +116,7 @@ def make_engine(found):
 
 
 class Room:
-    """A folder in which the module is made by the tools of a kit, which write to a log."""
+    """A folder in which the tools of a kit make the module. They write to a log."""
 
     def __init__(self, found, folder, log):
         self.kit, self.folder, self.log = found, folder, log
@@ -129,7 +129,7 @@ class Room:
             raise NoEngine(f"the machine could not be made: see {LOG.relative_to(ROOT)}") from why
 
     def prove(self):
-        """Proves the crate over the built libraries, and has its bitcode for x86-64 kept."""
+        """Proves the crate over the built libraries, and keeps its bitcode for x86-64."""
         crate = self.folder / CRATE
         for name, place in PLACES.items():
             (crate / place).parent.mkdir(parents=True, exist_ok=True)
@@ -144,7 +144,7 @@ class Room:
         self.run(self.kit / "bin/rattle", "build", *words, cwd=crate)
 
     def keep_bitcode(self):
-        """Makes a toolchain that is the kit's, but that its clang keeps the bitcode it is given."""
+        """Makes a toolchain that is the kit's, except that its clang keeps the bitcode that it is given."""
         tools = self.folder / "toolchain"
         (tools / "bin").mkdir(parents=True)
         (tools / "lib").symlink_to(self.kit / "toolchain/lib")
@@ -156,7 +156,7 @@ class Room:
         clang.chmod(0o755)
 
     def compile(self):
-        """Makes WebAssembly of the bitcode."""
+        """Makes WebAssembly from the bitcode."""
         clang, linker = self.kit / "toolchain/bin/clang", self.kit / "toolchain/bin/ld.lld"
         (self.folder / "empty.c").write_text("void empty(void) {}\n", encoding="ascii")
         (self.folder / "imports").write_text("".join(f"{name}\n" for name in IMPORTS), encoding="ascii")
@@ -171,7 +171,7 @@ class Room:
         self.run(linker, "-flavor", "wasm", "-mwasm64", *sizes, *doors, "page.o", "-o", "engine.wasm", cwd=self.folder)
 
     def retarget(self):
-        """Writes the bitcode's text for wasm64, and stops where more of it is for x86-64 than what is changed."""
+        """Writes the text of the bitcode for wasm64. It fails if anything is for x86-64 besides what it changes."""
         heads = iter(HEAD.findall((self.folder / "empty.ll").read_text(encoding="utf-8")))
         text, changed = HEAD.subn(lambda _: next(heads), (self.folder / "x64.ll").read_text(encoding="utf-8"), count=2)
         lines = [ATTRIBUTES.sub("", line) if line.startswith("attributes") else line for line in text.split("\n")]

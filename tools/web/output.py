@@ -1,4 +1,4 @@
-"""The page on standard output, and what is said where it can't be made."""
+"""Writes the page to standard output, or says why it can't be made."""
 import signal
 import sys
 
@@ -8,7 +8,7 @@ from web.engine import NoEngine, engine
 
 
 def write_page(command, job=None):
-    """Writes the page, with a job that is run as it opens where there is one, and gives the status; `command` is what was typed."""
+    """Writes the page and returns the status. If there is a job, it runs when the page opens. `command` is what was typed."""
     if sys.stdout is None or sys.stdout.isatty():
         say(f"the page is a file of some 400,000 bytes: {command} > kdf9.html")
         return 1
