@@ -22,10 +22,10 @@ WITHOUT_MEMORY64 = "const validate = WebAssembly.validate; WebAssembly.validate 
 # Lines of devices and SHOW lines, the lines of the schedule, the label of the control that has the fault, and what is said there.
 FAULTY_PARTS = [
     ("SHOW 3 99\n", "ORDERS 10", "Show the words from, to", "ShowRange: SHOW 3 99. The first address"),
-    ("DEVICE 16 TR\n", "ORDERS 10", "Device", "BadNumber: DEVICE 16 TR. A word"),
+    ("DEVICE 16 TR\n", "ORDERS 10", "Device", "BadNumber: DEVICE 16 TR. A field"),
     ("DEVICE 3 MT a\n", "ORDERS 10", "Label", "BadLabel: DEVICE 3 MT a. The label"),
     ("DEVICE 3 TR\n+OK\n+no\n", "ORDERS 10", "The characters on the tape", "Line 2, column 1: BadMedium: +no."),
-    ("DEVICE 3 MT A\n+OK\n+no\n", "ORDERS 10", "The blocks, one to a line: + before each, or = where it has its mark", "Line 2, column 2: BadMedium: +no."),
+    ("DEVICE 3 MT A\n+OK\n+no\n", "ORDERS 10", "The blocks, one to a line: + before each, or = if it has its mark", "Line 2, column 2: BadMedium: +no."),
     ("", "ORDERS 5\nMOVE 3 5000", "The lines of the schedule", "Line 2, column 8: BadNumber: MOVE 3 5000."),
     ("", "ORDERS 5\nPRINT", "The lines of the schedule", "Line 2, column 1: BadLine: PRINT."),
 ]

@@ -2,7 +2,7 @@
 
 /** What each status means, by its number. */
 export const STATUSES = [
-  "done", "the words are no command", "the job has a fault", "a deck has a fault", "the job has more than 4,194,304 bytes", "reading failed",
+  "done", "the arguments aren't a command", "the job has a fault", "a deck has a fault", "the job has more than 4,194,304 bytes", "reading failed",
   "the text is longer than the page has room for", "there was no memory",
 ];
 

@@ -5,7 +5,7 @@ import { Editor } from "./editor.js";
 import { painted } from "./deck.js";
 import { HEADER, KINDS, editedMedia, editedShows, linesOf, placedLines, readJob, readMedia, readShows, writeJob } from "./job.js";
 
-const NO_PARTS = "This text can't be shown by parts, since a line of it stands where none like it may. Here is the whole text.";
+const NO_PARTS = "This text can't be shown by parts, because one of its lines isn't allowed where it is. Here is the whole text.";
 const TOO_LONG = "This job is too long to be edited here. It can be run and saved as it is.";
 
 // A browser is slow with a longer text in an editor.
@@ -152,7 +152,7 @@ export class JobView {
   /** What is on a device, unless it begins empty. */
   drawMedia(device, at, index) {
     if ((device.kind === "TP" || device.kind === "LP") && device.media.length === 0) return [];
-    const what = { TR: "The characters on the tape", CR: "The cards, one to a line", MT: "The blocks, one to a line: + before each, or = where it has its mark" };
+    const what = { TR: "The characters on the tape", CR: "The cards, one to a line", MT: "The blocks, one to a line: + before each, or = if it has its mark" };
     const editor = new Editor({
       label: what[device.kind] ?? "What is on it", text: editedMedia(device), paint: () => [],
       onchange: (text) => { device.media = readMedia(device.kind, text); this.partChanged(); },

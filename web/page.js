@@ -226,7 +226,7 @@ async function showLink() {
   byId("link-said").hidden = false;
   history.replaceState(null, "", hash);
   byId("address").select();
-  say("The link stands below the buttons, and in the browser's line of addresses.");
+  say("The link is below the buttons, and in the browser's address bar.");
 }
 
 /** Begins with the job of the link, if the link has one. Returns whether it has. */

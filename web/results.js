@@ -37,7 +37,7 @@ const wordCells = (octal) => [make("code", {}, octal), numberOf(octal).toLocaleS
 function storyOf({ slot, state, orders, at }, layout) {
   const [life, kind] = state.split(" ");
   const next = layout?.statementOf(...at);
-  const stands = `It stands at word ${at[0]}, syllable ${at[1]}${next ? `: ${next.written}` : ""}.`;
+  const stands = `Its next order is at word ${at[0]}, syllable ${at[1]}${next ? `: ${next.written}` : ""}.`;
   const became = { LIVE: "is live", ENDED: "has ended", FAILED: `failed (${kind})` }[life] ?? state;
   return `Program ${slot} ${became}, after ${orders.toLocaleString("en")} order${orders === 1 ? "" : "s"}. ${life === "ENDED" ? "" : stands}`;
 }
@@ -72,7 +72,7 @@ function journalOf(entries) {
     calls += callsOf(entry);
     return row;
   });
-  const rest = entries.length > MOST_ENTRIES ? [make("p", {}, `${entries.length - MOST_ENTRIES} more entries stand in the report.`)] : [];
+  const rest = entries.length > MOST_ENTRIES ? [make("p", {}, `${entries.length - MOST_ENTRIES} more entries are in the report.`)] : [];
   return make("details", { open: true }, make("summary", {}, "The journal: what happened, in order"),
     table("Entries", ["entry", "what it says", "calls before it"], rows), ...rest);
 }

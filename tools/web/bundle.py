@@ -50,7 +50,7 @@ def sentences():
     job = {name: f"{said[0].upper()}{said[1:]}. (docs/JOB.md)" for name, said in re.findall(r"^\| `(\w+)` \| (.*?) \|$", table, re.MULTILINE)}
     deck = {}
     for number, name, said in re.findall(r"^### (\d+) (\w+)\n\n(.*?)\n\n", read("docs/USERCODE.md"), re.MULTILINE | re.DOTALL):
-        deck[name] = f"{' '.join(said.split()).partition(' Its place is')[0]} (docs/USERCODE.md, fault {number})"
+        deck[name] = f"{' '.join(said.split())} (docs/USERCODE.md, fault {number})"
     return {"job": plain(job), "deck": plain(deck)}
 
 
