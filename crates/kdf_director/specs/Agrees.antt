@@ -1,10 +1,10 @@
 -- How the fields of a machine agree with its slots and its journal.
-use Rattle.std.specs.Prelude.{◌≡◌, ℕ, ◌+◌, ◌*◌, ◌<◌, ◌≤◌, List, length, map}
+use Rattle.std.specs.Prelude.{◌≡◌, ℕ, ◌+◌, ◌*◌, ◌<◌, ◌≤◌, List, length, map, true}
 use Rattle.std.specs.List.{All}
 use Rattle.std.specs.Option.{option_map}
 use Rattle.kdf_journal.specs.declared.entry.Entry.{Entry}
 use Rattle.kdf_journal.specs.declared.journal.TheConstants.{CALL_LIMIT, MOVE_LIMIT}
-use Rattle.kdf_journal.specs.Counts.{calls, last_hold, moves}
+use Rattle.kdf_journal.specs.Counts.{calls, holder, last_hold, moves}
 use Rattle.kdf_lockout.specs.Groups.{Cells}
 use Rattle.kdf_transfer.specs.Slots.{Slot}
 use Rattle.kdf_relocate.specs.Windows.{windows_from}
@@ -16,15 +16,20 @@ use Rattle.kdf_director.specs.declared.slot.Loaded.{Loaded}
 use Rattle.kdf_director.specs.Following.{AreFollowing}
 use Rattle.kdf_director.specs.Legal.{IsLegal, IsTrue}
 use Rattle.kdf_director.specs.Fields.{loaded, sizes_of}
-use Rattle.kdf_director.specs.Parts.{Reach, Seat, Shared, shared_in}
-use Rattle.kdf_director.specs.Running.{reaches_in, seats_in, IsRunning}
+use Rattle.kdf_director.specs.Parts.{Reach, Seat, Shared, in_pool, shared_in}
+use Rattle.kdf_director.specs.Running.{part_at, reaches_in, seats_in, IsRunning}
 use Rattle.kdf_director.specs.Viewed.{slot_loaded}
 use Rattle.kdf_director.specs.Slots.{AreSlots}
-use Rattle.kdf_director.specs.Spots.{AreDry}
+use Rattle.kdf_director.specs.Spots.{AreDry, spot_at}
 use Rattle.kdf_director.specs.World.{need_of}
 
--- the slots are of four numbers, the programs are theirs and follow the journal over what they share, and the journal is
--- legal and true
+-- each device of the pool is whose the journal tells
+abbrev pub AreLent : List Entry → List Reach → List Seat → Shared → Type 0
+AreLent J reaches seats s =
+    (i d : ℕ) → i < length seats → in_pool (part_at reaches seats i) d ≡ true → (spot_at s.spots d).holder ≡ holder d J
+
+-- the slots are of four numbers, the programs are theirs and follow the journal over what they share, the pool lends as the journal tells, and
+-- the journal is legal and true
 pub record Agrees (slots : List Slot) (reaches : List Reach) (seats : List Seat) (s : Shared)
     (J : List Entry) : Type 0 where
   pub are : AreSlots slots
@@ -32,6 +37,7 @@ pub record Agrees (slots : List Slot) (reaches : List Reach) (seats : List Seat)
   pub numbers : map (λ (x : Seat). x.p) seats ≡ map (λ (x : Slot). x.p) slots
   pub running : IsRunning reaches seats s
   pub following : AreFollowing slots J reaches seats s
+  pub lent : AreLent J reaches seats s
   pub legal : IsLegal slots J
   pub truly : IsTrue slots J
   pub few_calls : calls J ≤ CALL_LIMIT

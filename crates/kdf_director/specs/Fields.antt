@@ -4,6 +4,8 @@ use Rattle.std.specs.List.{All, AllPairs}
 use Rattle.kdf_lockout.specs.Groups.{Cells, is_out, with_word}
 use Rattle.kdf_relocate.specs.Windows.{windows_from}
 use Rattle.kdf_relocate.specs.declared.window.Window.{Window}
+use Rattle.kdf_journal.specs.declared.kind.Kind.{Kind}
+use Rattle.kdf_transfer.specs.Devices.{blank_fixture, new_progress}
 use Rattle.kdf_transfer.specs.declared.device.Device.{Device}
 use Rattle.kdf_job.specs.Job.{JobDevice}
 use Rattle.kdf_job.specs.Shows.{shown_device}
@@ -16,8 +18,8 @@ use Rattle.kdf_director.specs.declared.slot.Loaded.{Loaded}
 use Rattle.kdf_director.specs.Parts.{Seat, Reach, Shared, owns, shared_in, window_at}
 use Rattle.kdf_director.specs.Running.{IsRunning, own_state, reaches_in, seats_in}
 use Rattle.kdf_director.specs.Slots.{AreSlots}
-use Rattle.kdf_director.specs.Spots.{AreDry, Spot, spot_at}
-use Rattle.kdf_job.specs.Slots.{numbered, fixture_on, progress_on}
+use Rattle.kdf_director.specs.Spots.{AreDry, Spot, no_spot, spot_at}
+use Rattle.kdf_job.specs.Slots.{lent_kind, numbered}
 use Rattle.kdf_director.specs.Loading.{SlotLoad, slot_of}
 
 -- the numbers of a slot's devices, and whether one of them has this number
@@ -35,19 +37,26 @@ AreApart a b = (d : ℕ) → has a d ≡ true → has b d ≡ false
 abbrev pub IsBelow : SlotLoad → SlotLoad → Type 0
 IsBelow a b = a.p < b.p
 
--- one of four slots: whole groups, which the words fit, and devices of sixteen
+-- a device of the pool has this number
+abbrev pub lends : SlotLoad → ℕ → Bool
+lends l d = is_some (lent_kind l.pool d)
+
+-- one of four slots: whole groups, which the words fit, and devices of sixteen, of which none is the pool's
 pub record IsLoad (l : SlotLoad) : Type 0 where
   pub number : l.p < 4
   pub groups : l.size % 32 ≡ 0
   pub fits : length l.words ≤ l.size
   pub below : All (λ n. n < 16) (numbers_in l.devices)
+  pub few : (d : ℕ) → lends l d ≡ true → d < 16
+  pub owned : (d : ℕ) → has l d ≡ true → lends l d ≡ false
 
--- the numbers of the slots rise, their stores fit together, and no device's number is of two slots
+-- the numbers of the slots rise, their stores fit together, no device's number is of two slots, and the pool is common
 pub record AreLoads (slots : List SlotLoad) : Type 0 where
   pub each : All IsLoad slots
   pub rising : AllPairs IsBelow slots
   pub total : sum_by (λ (l : SlotLoad). l.size) slots ≤ 31744
   pub apart : AllPairs AreApart slots
+  pub common : AllPairs (λ (a b : SlotLoad). a.pool ≡ b.pool) slots
 
 -- what was loaded
 abbrev pub loaded : Loaded → SlotLoad
@@ -57,6 +66,7 @@ loaded l =
       size = l.size;
       words = l.words.items;
       devices = map shown_device l.devices.items;
+      pool = l.pool.items;
     }
 
 -- the size of the slot with a number, 0 where it is absent
@@ -88,24 +98,40 @@ zero_cells = replicate 1024 (Some (replicate 32 0))
 
 -- a program before its first order
 abbrev pub first_seat : SlotLoad → Seat
-first_seat l = record { p = l.p; registers = new_registers; claimed = unclaimed; spooled = [] }
+first_seat l = record { p = l.p; registers = new_registers; claimed = unclaimed; spooled = []; stints = [] }
 
--- the device of a number, of the first slot that has one
-abbrev pub first_numbered : List SlotLoad → ℕ → Option JobDevice
-first_numbered [] d = None
-first_numbered (l ∷ slots) d =
-    if is_some (numbered l.devices d) then numbered l.devices d else first_numbered slots d
+-- a place without a transfer, with a device of a slot's, with a blank one of the pool, or with none
+abbrev pub own_spot : ℕ → JobDevice → Spot
+own_spot p x = record { fixture = Some x.fixture; progress = x.progress; flight = None; holder = Some p }
 
--- a place without a transfer
-abbrev pub idle_spot : Option JobDevice → Spot
-idle_spot o = record { fixture = fixture_on o; progress = progress_on o; flight = None }
+abbrev pub pool_spot : Option Kind → Spot
+pool_spot None = no_spot
+pool_spot (Some kind) =
+    record { fixture = Some (blank_fixture kind); progress = new_progress; flight = None; holder = None }
 
-abbrev pub idle_place : Option (Device × List ℕ) → Place
+abbrev pub spot_or : ℕ → Option JobDevice → Spot → Spot
+spot_or p None other = other
+spot_or p (Some x) other = own_spot p x
+
+-- the place of a number: the device of the first slot that has one, or else that of the pool, which is the first slot's
+abbrev pub first_own : List SlotLoad → ℕ → Spot → Spot
+first_own [] d other = other
+first_own (l ∷ slots) d other = spot_or l.p (numbered l.devices d) (first_own slots d other)
+
+abbrev pub pool_in : List SlotLoad → List (ℕ × Kind)
+pool_in [] = []
+pool_in (l ∷ slots) = l.pool
+
+abbrev pub idle_spot : List SlotLoad → ℕ → Spot
+idle_spot slots d = first_own slots d (pool_spot (lent_kind (pool_in slots) d))
+
+-- what is put into a place: a device, its ring, and the program whose device it is
+abbrev pub idle_place : Option (Device × List ℕ × Option ℕ) → Place
 idle_place None = Absent
-idle_place (Some x) = Idle x.0 x.1
+idle_place (Some x) = Idle x.0 x.1 x.2
 
 -- the words in the ring of a device
-abbrev pub idle_ring : Option (Device × List ℕ) → List ℕ
+abbrev pub idle_ring : Option (Device × List ℕ × Option ℕ) → List ℕ
 idle_ring None = []
 idle_ring (Some x) = x.1
 

@@ -10,16 +10,16 @@ use Rattle.kdf_director.specs.Parts.{Reach, Seat, Shared}
 use Rattle.kdf_director.specs.Running.{reach_at, seat_at}
 use Rattle.kdf_director.specs.Shared.{is_busy_in, is_pool_taken}
 
--- what held a program, whose window begins at base, is pending still
-abbrev pub is_stopped : ℕ → Shared → Option Need → Bool
-is_stopped base s None = false
-is_stopped base s (Some (Group g)) = is_out s.cells (base / 32 + g)
-is_stopped base s (Some (Device d)) = is_busy_in s d
-is_stopped base s (Some (Pool kind)) = is_pool_taken kind
+-- what held a program, which reaches so much, is pending still
+abbrev pub is_stopped : Reach → Shared → Option Need → Bool
+is_stopped reach s None = false
+is_stopped reach s (Some (Group g)) = is_out s.cells (reach.base / 32 + g)
+is_stopped reach s (Some (Device d)) = is_busy_in s d
+is_stopped reach s (Some (Pool kind)) = is_pool_taken reach.pool s kind
 
 -- a live program that nothing holds up still
 abbrev pub goes : Seat → Reach → Shared → Option Need → Bool
-goes seat reach s hold = is_live seat.registers.state && not (is_stopped reach.base s hold)
+goes seat reach s hold = is_live seat.registers.state && not (is_stopped reach s hold)
 
 -- what held program i
 abbrev pub hold_at : List (Option Need) → ℕ → Option Need

@@ -34,3 +34,6 @@ pub mod Viewed
 pub mod Fields
 pub mod Holders
 pub mod Progressed
+pub mod Stints
+pub mod Keeping
+pub mod Settled

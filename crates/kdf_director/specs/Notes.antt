@@ -1,6 +1,6 @@
 -- What is noted of an order beside how it ended.
 use Rattle.std.specs.Prelude.{true, false}
-use Rattle.kdf_processor.specs.Effect.{FreeOf, Act, Nothing, Writes, Starts, Asks, Acquires, Releases, Spools}
+use Rattle.kdf_processor.specs.Effect.{Question, FreeOf, Act, Nothing, Writes, Starts, Asks, Acquires, Releases, Spools}
 use Rattle.kdf_director.specs.declared.note.Note.{Note}
 use Rattle.kdf_director.specs.declared.note.Note.TheVariants.{Quiet, Began, Told, Took, Gave}
 
@@ -19,3 +19,8 @@ note_after (Spools stream first last) note = note
 -- the note of an order whose act this is
 abbrev pub note_of : Act → Note
 note_of act = note_after act Quiet
+
+-- a question that takes nothing from the pool
+abbrev pub IsPlain : Question → Type 0
+IsPlain (FreeOf kind) = ⊥
+IsPlain question = Unit {0}

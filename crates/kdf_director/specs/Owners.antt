@@ -1,12 +1,14 @@
 -- Which program has a device, and what is told of a device by its number.
-use Rattle.std.specs.Prelude.{◌≡◌, ℕ, ◌&&◌, nat_lt, List, Bool, false, Option, Some, None, position, slice_index_or}
+use Rattle.std.specs.Prelude.{◌≡◌, ℕ, ◌&&◌, nat_lt, List, Bool, false, Option, Some, None, is_some, position, slice_index_or}
 use Rattle.kdf_transfer.specs.Devices.{fixture_of, progress_of}
 use Rattle.kdf_transfer.specs.declared.device.Device.{Device}
+use Rattle.kdf_journal.specs.declared.kind.Kind.{Kind}
+use Rattle.kdf_job.specs.Slots.{lent_kind}
 use Rattle.kdf_processor.specs.State.{device_limit}
 use Rattle.kdf_director.specs.declared.slot.Loaded.{Loaded}
 use Rattle.kdf_director.specs.Parts.{Seat, numbers, owns}
 use Rattle.kdf_director.specs.Running.{seat_at}
-use Rattle.kdf_director.specs.Spots.{Spot}
+use Rattle.kdf_director.specs.Spots.{Spot, spot_at}
 
 -- a device as a place has it: as its transfer found it, where it has one
 abbrev pub IsDeviceOf : Spot → Option Device → Type 0
@@ -22,8 +24,12 @@ abbrev pub IsDeviceOwned : Option ℕ → Spot → Option Device → Type 0
 IsDeviceOwned None x device = device ≡ None
 IsDeviceOwned (Some owner) x device = IsDeviceOf x device
 
--- whether the program of the slot that has a device has claimed it
-abbrev pub is_claimed_by : Option ℕ → List Seat → ℕ → Bool
-is_claimed_by None seats d = false
-is_claimed_by (Some owner) seats d =
+-- a device of the pool is some program's
+abbrev pub is_lent_in : List (ℕ × Kind) → List Spot → ℕ → Bool
+is_lent_in pool spots d = is_some (lent_kind pool d) && is_some (spot_at spots d).holder
+
+-- whether the program of the slot that has a device has claimed it, or, where no slot has it, the pool has lent it
+abbrev pub is_claimed_by : Option ℕ → List Seat → List (ℕ × Kind) → List Spot → ℕ → Bool
+is_claimed_by None seats pool spots d = is_lent_in pool spots d
+is_claimed_by (Some owner) seats pool spots d =
     nat_lt d device_limit && slice_index_or (seat_at seats owner).claimed d false

@@ -5,6 +5,7 @@ use Rattle.kdf_transfer.specs.AtOnce.{written}
 use Rattle.kdf_transfer.specs.InFlight.{total_of, ended_progress}
 use Rattle.kdf_processor.specs.declared.step.Need.{Need}
 use Rattle.kdf_processor.specs.Effect.{Question}
+use Rattle.kdf_processor.specs.Lone.{is_live}
 use Rattle.kdf_processor.specs.Needs.{needs}
 use Rattle.kdf_processor.specs.Outcome.{Outcome, held_or}
 use Rattle.kdf_processor.specs.Row.{next_of}
@@ -12,19 +13,20 @@ use Rattle.kdf_processor.specs.State.{State, new_registers}
 use Rattle.kdf_processor.specs.View.{first_pending}
 use Rattle.kdf_director.specs.declared.program.Program.{Program}
 use Rattle.kdf_director.specs.declared.slot.Loaded.{Loaded}
-use Rattle.kdf_director.specs.Parts.{Part, Shared, Seat, Reach, seat_of, reach_of, part_in, has_device, own_stock}
+use Rattle.kdf_director.specs.Keeping.{IsActive, IsKept}
+use Rattle.kdf_director.specs.Parts.{Part, Shared, Seat, Reach, seat_of, reach_of, part_in, own_stock, owns}
 use Rattle.kdf_director.specs.Shared.{answer_in, view, flight_moves}
 use Rattle.kdf_director.specs.Sound.{IsSound, IsFlightOf}
 use Rattle.kdf_director.specs.Spots.{Held, Spot, spot_at, own_from}
 
 abbrev pub no_seat : Seat
-no_seat = record { p = 0; registers = new_registers; claimed = []; spooled = [] }
+no_seat = record { p = 0; registers = new_registers; claimed = []; spooled = []; stints = [] }
 
 abbrev pub seat_at : List Seat → ℕ → Seat
 seat_at seats i = slice_index_or seats i no_seat
 
 abbrev pub reach_at : List Reach → ℕ → Reach
-reach_at reaches i = slice_index_or reaches i (record { base = 0; size = 0; devices = [] })
+reach_at reaches i = slice_index_or reaches i (record { base = 0; size = 0; devices = []; pool = [] })
 
 abbrev pub reaches_in : List Window → List Loaded → List Reach
 reaches_in windows slots = map (reach_of windows) slots
@@ -70,8 +72,8 @@ pub record IsHeld (reaches : List Reach) (seats : List Seat) (d : ℕ) (x : Spot
 abbrev pub AreNumbered : List Seat → Type 0
 AreNumbered seats = (i j : ℕ) → i < j → j < length seats → (seat_at seats i).p < (seat_at seats j).p
 
--- the programs stand by their slots, the windows lie one after the other, each device is of one program, and
--- each transfer is of a program
+-- the programs stand by their slots, the windows lie one after the other, the pool is common, each program keeps what it has, and each
+-- transfer is of a program
 pub record IsRunning (reaches : List Reach) (seats : List Seat) (s : Shared) : Type 0 where
   pub sound : IsSound s
   pub numbered : AreNumbered seats
@@ -80,9 +82,11 @@ pub record IsRunning (reaches : List Reach) (seats : List Seat) (s : Shared) : T
       → (reach_at reaches i).base + (reach_at reaches i).size ≤ 32 * length s.cells
   pub apart : (i j : ℕ) → i < j → j < length seats
       → (reach_at reaches i).base + (reach_at reaches i).size ≤ (reach_at reaches j).base
-  pub devices : (i j d : ℕ) → i < length seats → j < length seats → i ≢ j
-      → has_device (part_at reaches seats i) d ≡ true → has_device (part_at reaches seats j) d ≡ false
-  pub fixtures : (i d : ℕ) → i < length seats → has_device (part_at reaches seats i) d ≡ true
+  pub common : (i j : ℕ) → i < length seats → j < length seats → (reach_at reaches i).pool ≡ (reach_at reaches j).pool
+  pub kept : (i : ℕ) → i < length seats → IsKept (part_at reaches seats i) s
+  pub active : (i : ℕ) → i < length seats → is_live (seat_at seats i).registers.state ≡ true
+      → IsActive (part_at reaches seats i) s
+  pub fixtures : (i d : ℕ) → i < length seats → owns (reach_at reaches i).devices d ≡ true
       → is_some (spot_at s.spots d).fixture ≡ true
   pub flights : (d : ℕ) (h : Held) → (spot_at s.spots d).flight ≡ Some h
       → IsHeld reaches seats d (spot_at s.spots d) h

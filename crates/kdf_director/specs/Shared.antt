@@ -1,16 +1,19 @@
 -- What is shown of the machine to one program, and what an acting call, moved words and an end leave of what all share.
-use Rattle.std.specs.Prelude.{◌≡◌, ◌<◌, ◌≤◌, length, take, drop, find, ℕ, ◌+◌, ◌-◌, ◌/◌, List, [], Bool, true, if◌then◌else◌, Option, Some, None, slice_set, is_some}
+use Rattle.std.specs.Prelude.{◌≡◌, ◌<◌, ◌≤◌, ◌&&◌, not, length, take, drop, find, ℕ, ◌+◌, ◌-◌, ◌/◌, List, [], Bool, true, false, if◌then◌else◌, Option, Some, None, slice_index_or, slice_set, is_some, unwrap_or}
+use Rattle.std.specs.List.{range_with_len}
 use Rattle.kdf_journal.specs.declared.kind.Kind.{Kind}
 use Rattle.kdf_lockout.specs.Groups.{Cells, Lent, is_out, with_word, without_groups, lent_groups, first_out_of, touched, with_groups}
 use Rattle.kdf_lockout.specs.Groups as groups
+use Rattle.kdf_transfer.specs.ByNumber.{device_count}
+use Rattle.kdf_transfer.specs.Devices.{is_kind}
 use Rattle.kdf_transfer.specs.declared.order.TransferOrder.{TransferOrder}
 use Rattle.kdf_transfer.specs.AtOnce.{is_input, has_area, addressed}
 use Rattle.kdf_transfer.specs.InFlight.{Motion, moved_by, words_of, total_of, ended_progress}
 use Rattle.kdf_processor.specs.Effect.{Question, IsBusy, IsOut, Time, FreeOf, Act, Nothing, Writes, Starts, Asks, Acquires, Releases, Spools}
 use Rattle.kdf_processor.specs.View.{View, by_itself, groups_of}
 use Rattle.kdf_director.specs.True.{one_if}
-use Rattle.kdf_director.specs.Spots.{Held, Spot, spot_at, own_from, fixture_or}
-use Rattle.kdf_director.specs.Parts.{Shared, Part, own_stock}
+use Rattle.kdf_director.specs.Spots.{Held, Spot, blank_spot, lent_spot, spot_at, own_from, fixture_or}
+use Rattle.kdf_director.specs.Parts.{Shared, Part, lent_to, own_stock}
 
 -- a group of the program's window is out
 abbrev pub is_out_of : Part → Shared → ℕ → Bool
@@ -20,16 +23,24 @@ is_out_of q s g = is_out s.cells (q.base / 32 + g)
 abbrev pub is_busy_in : Shared → ℕ → Bool
 is_busy_in s d = is_some (spot_at s.spots d).flight
 
+-- the device of a number is one of this kind in the pool, and nobody's
+abbrev pub is_free_in : List (Option Kind) → List Spot → Kind → ℕ → Bool
+is_free_in pool spots kind d = is_kind kind (slice_index_or pool d None) && not (is_some (spot_at spots d).holder)
+
+-- the least such device
+unfoldable pub free_in : List (Option Kind) → List Spot → Kind → Option ℕ
+free_in pool spots kind = find (is_free_in pool spots kind) (range_with_len 0 device_count)
+
 -- what the machine answers at a time
 abbrev pub answer_in : Part → ℕ → Shared → Question → ℕ
 answer_in q time s (IsBusy d) = one_if (is_busy_in s d)
 answer_in q time s (IsOut first last) = one_if (is_some (find (is_out_of q s) (groups_of first last)))
 answer_in q time s Time = time
-answer_in q time s (FreeOf kind) = 0
+answer_in q time s (FreeOf kind) = unwrap_or (free_in q.pool s.spots kind) 0
 
--- every device of a kind in the pool has a holder: there is no pool yet
-unfoldable pub is_pool_taken : Kind → Bool
-is_pool_taken kind = true
+-- every device of a kind in the pool has a holder
+abbrev pub is_pool_taken : List (Option Kind) → Shared → Kind → Bool
+is_pool_taken pool s kind = not (is_some (free_in pool s.spots kind))
 
 -- what is shown of a program at a time
 abbrev pub view : Part → ℕ → Shared → View
@@ -37,7 +48,7 @@ view q time s =
     record (by_itself (answer_in q time s) (own_stock q 0 s)) {
       is_out = is_out_of q s;
       is_busy = is_busy_in s;
-      is_taken = is_pool_taken;
+      is_taken = is_pool_taken q.pool s;
       mine = own_from q.p 0 s.spots;
     }
 
@@ -67,6 +78,7 @@ start_spot p o first last cells s =
           moved = 0;
         };
       });
+      holder = Some p;
     }
 
 -- what an acting call of a program leaves
@@ -79,9 +91,14 @@ after_act q s (Starts d o first last) =
       spots = slice_set s.spots d
           (start_spot q.p o (q.base + first) (q.base + last) s.cells (spot_at s.spots d));
     }
+after_act q s (Asks (FreeOf kind) answer) =
+    record s {
+      spots = slice_set s.spots (lent_to q s kind answer) (lent_spot q.p (spot_at s.spots (lent_to q s kind answer)));
+    }
 after_act q s (Asks question answer) = s
 after_act q s (Acquires d) = s
-after_act q s (Releases pooled d) = s
+after_act q s (Releases true d) = record s { spots = slice_set s.spots d (blank_spot (spot_at s.spots d)) }
+after_act q s (Releases false d) = s
 after_act q s (Spools stream first last) = s
 
 -- the places are in the store, no more than 4,096, and none of their groups is out
@@ -102,7 +119,7 @@ moved_held n None = None
 moved_held n (Some h) = Some (record { p = h.p; motion = moved_by n h.motion })
 
 abbrev pub moved_spot : ℕ → Spot → Spot
-moved_spot n x = record { fixture = x.fixture; progress = x.progress; flight = moved_held n x.flight }
+moved_spot n x = record x { flight = moved_held n x.flight }
 
 abbrev pub after_move : ℕ → ℕ → Shared → Shared
 after_move d n s = record s { spots = slice_set s.spots d (moved_spot n (spot_at s.spots d)) }
@@ -111,7 +128,7 @@ after_move d n s = record s { spots = slice_set s.spots d (moved_spot n (spot_at
 abbrev pub ended_by : Spot → Option Held → Spot
 ended_by x None = x
 ended_by x (Some h) =
-    record { fixture = x.fixture; progress = ended_progress h.motion; flight = None }
+    record x { progress = ended_progress h.motion; flight = None }
 
 abbrev pub ended_spot : Spot → Spot
 ended_spot x = ended_by x x.flight

@@ -5,7 +5,7 @@ use Rattle.kdf_journal.specs.Steps.{Step, added}
 use Rattle.kdf_transfer.specs.Devices.{fixture_of, progress_of}
 use Rattle.kdf_transfer.specs.declared.device.Device.{Device}
 use Rattle.kdf_transfer.specs.Slots.{Slot}
-use Rattle.kdf_processor.specs.State.{State, device_at, fixture_at}
+use Rattle.kdf_processor.specs.State.{State, device_at, own_fixture_at}
 use Rattle.kdf_director.specs.Slots.{start_of}
 use Rattle.kdf_director.specs.Told.{seen_of, world_after}
 use Rattle.kdf_director.specs.World.{World}
@@ -52,8 +52,8 @@ entered m s =
       room = m.room - 1;
     }
 
--- a device as a state has it: what it is, and how far it has come
+-- a device of the program's own as its state has it: what it is, and how far it has come
 abbrev pub IsDeviceAt : State → ℕ → Option Device → Type 0
-IsDeviceAt s d None = fixture_at s.stock.claims d ≡ None
+IsDeviceAt s d None = own_fixture_at s.stock.claims d ≡ None
 IsDeviceAt s d (Some device) =
-    (fixture_at s.stock.claims d ≡ Some (fixture_of device)) × (device_at s d ≡ progress_of device)
+    (own_fixture_at s.stock.claims d ≡ Some (fixture_of device)) × (device_at s d ≡ progress_of device)

@@ -39,8 +39,9 @@ pub record IsSlot (s : Slot) : Type 0 where
 abbrev pub HaveOwnDevices : Slot → Slot → Type 0
 HaveOwnDevices a b = (d : ℕ) → (device_of a d ≡ None) ⊎ (device_of b d ≡ None)
 
--- each of these is a slot, no two have one number, and no two have a device of one number
+-- each of these is a slot, no two have one number, no two have a device of one number, and the pool is common
 pub record AreSlots (slots : List Slot) : Type 0 where
   pub each : All IsSlot slots
   pub numbers : AllPairs (λ (a b : Slot). a.p ≢ b.p) slots
   pub devices : AllPairs HaveOwnDevices slots
+  pub pool : AllPairs (λ (a b : Slot). a.pool ≡ b.pool) slots

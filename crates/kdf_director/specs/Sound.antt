@@ -6,7 +6,7 @@ use Rattle.kdf_transfer.specs.InFlight.{Covers, total_of}
 use Rattle.kdf_director.specs.Physical.{has_group}
 use Rattle.kdf_transfer.specs.ByNumber.{device_count}
 use Rattle.kdf_director.specs.Spots.{Held, Spot, leases_of}
-use Rattle.kdf_director.specs.Parts.{Shared, Part, has_device}
+use Rattle.kdf_director.specs.Parts.{Shared, Part}
 
 -- each group is here, or in exactly one lease
 pub record IsSound (s : Shared) : Type 0 where
@@ -21,10 +21,10 @@ pub record IsSound (s : Shared) : Type 0 where
   pub held : (g : ℕ) → g < length s.cells → group_at s.cells g ≡ None
       → (d : ℕ) × (has_group (leases_of s.spots d) g ≡ true)
 
--- a transfer is over one of the program's devices, and its area lies in the program's window
+-- a transfer is over a device that is the program's, and its area lies in the program's window
 pub record IsFlightOf (q : Part) (d : ℕ) (s : Spot) (h : Held) : Type 0 where
   pub owner : h.p ≡ q.p
-  pub device : has_device q d ≡ true
+  pub holder : s.holder ≡ Some q.p
   pub fixture : s.fixture ≡ Some h.motion.fixture
   pub progress : s.progress ≡ h.motion.progress
   pub lease : is_some h.motion.lease ≡ has_area h.motion.order

@@ -13,20 +13,13 @@ use Rattle.kdf_processor.specs.View.{View}
 use Rattle.kdf_director.specs.declared.place.Place.TheVariants.{Absent}
 use Rattle.kdf_director.specs.declared.turn.Turn.{Turn}
 use Rattle.kdf_director.specs.Notes.{note_after}
-use Rattle.kdf_director.specs.Parts.{Part, Shared, numbers, part_after, shared_in}
+use Rattle.kdf_director.specs.Parts.{Part, Shared, part_after, part_with, shared_in}
 use Rattle.kdf_director.specs.Shared.{view, after_act}
 use Rattle.kdf_director.specs.Spots.{IsReady}
 
 abbrev pub part_of : Turn → Part
 part_of t =
-    record {
-      p = t.p;
-      base = t.window.base;
-      size = t.window.size;
-      devices = numbers t.devices.now;
-      claimed = t.claimed.now;
-      spooled = t.spooled.now.items;
-    }
+    part_with t.p t.window t.devices.now t.pool.now t.claimed.now t.spooled.now.items t.stints.now.items
 
 -- what a turn shares
 abbrev pub shared : Turn → Shared
@@ -40,6 +33,7 @@ pub record SameTurn (old new : Turn) : Type 0 where
   pub time : new.time ≡ old.time
   pub claimed : new.claimed.ghost_name ≡ old.claimed.ghost_name
   pub spooled : new.spooled.ghost_name ≡ old.spooled.ghost_name
+  pub stints : new.stints.ghost_name ≡ old.stints.ghost_name
   pub store : new.store.ghost_name ≡ old.store.ghost_name
   pub places : new.places.ghost_name ≡ old.places.ghost_name
   pub block : new.block.ghost_name ≡ old.block.ghost_name
@@ -78,9 +72,13 @@ pub record CanSpool (t : Turn) (first last : ℕ) : Type 0 where
   pub block : 8 * (last + 1 - first) ≤ vec_capacity t.block.now
   pub text : vec_len t.spooled.now < vec_capacity t.spooled.now
 
--- for what an acting call keeps; an answer needs none
+-- there is memory for one stint more
+abbrev pub CanTake : Turn → Type 0
+CanTake t = vec_len t.stints.now < vec_capacity t.stints.now
+
+-- for what an acting call keeps; another answer needs none
 abbrev pub HasRoom : Turn → Act → Type 0
-HasRoom t act = RoomFor (CanStart t) (CanSpool t) (Unit {0}) act
+HasRoom t act = RoomFor (CanStart t) (CanSpool t) (CanTake t) (Unit {0}) act
 
 -- no characters are left from an order before
 abbrev pub IsBlank : Turn → Type 0

@@ -1,13 +1,15 @@
 -- What the try of one order does: to one program, and to all.
-use Rattle.std.specs.Prelude.{◌≡◌, ◌≢◌, ◌<◌, ℕ, List, length}
+use Rattle.std.specs.Prelude.{◌≡◌, ◌≢◌, ◌<◌, ℕ, List, length, true}
 use Rattle.kdf_processor.specs.declared.step.Step.{Step}
 use Rattle.kdf_processor.specs.Outcome.{Outcome, outcome}
 use Rattle.kdf_director.specs.Seen.{tried}
 use Rattle.kdf_director.specs.declared.note.Note.{Note}
 use Rattle.kdf_director.specs.Notes.{note_of}
-use Rattle.kdf_director.specs.Parts.{Part, Seat, Reach, Shared, part_in, part_after, asked_after}
+use Rattle.kdf_director.specs.Parts.{Part, Seat, Reach, Shared, in_pool, part_in, part_after, asked_after}
 use Rattle.kdf_director.specs.Running.{seat_at, part_at, own_state, outcome_at}
+use Rattle.kdf_director.specs.Settled.{Both, both_of, holder_left, settled}
 use Rattle.kdf_director.specs.Shared.{view, after_act}
+use Rattle.kdf_director.specs.Spots.{spot_at}
 
 -- what the next order of a program comes to
 abbrev pub outcome_over : Seat → Reach → ℕ → Shared → Outcome
@@ -21,17 +23,30 @@ seat_after q s o =
       registers = o.registers;
       claimed = (part_after q s o.act).claimed;
       spooled = (part_after q s o.act).spooled;
+      stints = (part_after q s o.act).stints;
     }
 
+-- what a program and what is shared are after an outcome
+abbrev pub both_after : Part → Shared → Outcome → Both
+both_after q s o = both_of (seat_after q s o) (after_act q s o.act)
+
 -- a program tried its next order over what is shared
-pub record HasRun (reach : Reach) (time : ℕ) (before : Seat) (s : Shared) (after : Seat) (left : Shared)
+pub record HasTried (reach : Reach) (time : ℕ) (before : Seat) (s : Shared) (after : Seat) (left : Shared)
     (ended : Step) (noted : Note) : Type 0 where
   pub step : ended ≡ (outcome_over before reach time s).step
   pub note : noted ≡ note_of (outcome_over before reach time s).act
   pub program : after ≡ seat_after (part_in before reach) s (outcome_over before reach time s)
   pub shared : left ≡ after_act (part_in before reach) s (outcome_over before reach time s).act
 
--- program i of all tried its next order: its own state is that of its row, where a transfer only begins, and every other's is as it was
+-- it did so, and if it is over then, it gave up the devices that it had from the pool
+pub record HasRun (reach : Reach) (time : ℕ) (before : Seat) (s : Shared) (after : Seat) (left : Shared)
+    (ended : Step) (noted : Note) : Type 0 where
+  pub step : ended ≡ (outcome_over before reach time s).step
+  pub note : noted ≡ note_of (outcome_over before reach time s).act
+  pub both : both_of after left ≡ settled (both_after (part_in before reach) s (outcome_over before reach time s))
+
+-- Program i of all tried its next order: its own state is that of its row, where a transfer only begins, and every other's is as it was. A
+-- transfer is there where one was or began, and each device of the pool is its holder's.
 pub record HasTurned (reaches : List Reach) (time i : ℕ) (before : List Seat) (s : Shared)
     (after : List Seat) (left : Shared) (ended : Step) (noted : Note) : Type 0 where
   pub step : (asked : ℕ) → ended ≡ (outcome_at reaches before s time asked i).step
@@ -41,7 +56,9 @@ pub record HasTurned (reaches : List Reach) (time i : ℕ) (before : List Seat) 
       ≡ tried (outcome_at reaches before s time asked i) (own_state reaches before s asked i)
   pub others : (asked j : ℕ) → j < length before → j ≢ i
       → own_state reaches after left asked j ≡ own_state reaches before s asked j
-  pub shared : (asked : ℕ) →
-      left ≡ after_act (part_at reaches before i) s (outcome_at reaches before s time asked i).act
+  pub flights : (asked d : ℕ) → (spot_at left.spots d).flight
+      ≡ (spot_at (after_act (part_at reaches before i) s (outcome_at reaches before s time asked i).act).spots d).flight
+  pub holders : (d : ℕ) → in_pool (part_at reaches before i) d ≡ true
+      → (spot_at left.spots d).holder ≡ holder_left (seat_at before i).p ended noted d (spot_at s.spots d).holder
   pub count : length after ≡ length before
   pub numbers : (j : ℕ) → (seat_at after j).p ≡ (seat_at before j).p

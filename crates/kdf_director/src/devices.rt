@@ -2,13 +2,19 @@
 ghost use Rattle.std.specs.Prelude.{◌≡◌, ◌==◌, ◌&&◌, ◌<◌, ℕ, length, nat_lt, false, None, if◌then◌else◌, map, slice_index_or, IfSome, not};
 ghost use Rattle.std.specs.List.{list_any};
 ghost use Rattle.kdf_transfer.specs.declared.device.Device.{Device};
-ghost use Rattle.kdf_processor.specs.State.{device_limit};
+ghost use Rattle.kdf_job.specs.Slots.{lent_kind};
+ghost use Rattle.kdf_processor.specs.State.{device_limit, pooled_or};
 ghost use Rattle.kdf_director.specs.Parts.{fixture_owned, numbers, owns};
 ghost use Rattle.kdf_transfer.specs.Devices.{is_wanted, kind_in};
+ghost use Rattle.kdf_transfer.specs.ByNumber.{by_number};
+ghost use Rattle.kdf_director.specs.Shared.{free_in, is_free_in};
 ghost use Rattle.kdf_director.specs.Spots.{spot_of, spot_at};
 
 use crate::Place;
+use crate::places::holder_in;
+use kdf_job::kind_lent;
 use kdf_journal::Kind;
+use kdf_processor::least;
 use kdf_transfer::{Device, Wanted};
 
 /// Whether one of the devices has this number.
@@ -25,20 +31,48 @@ pub(crate) fn owns(devices: &[(u8, Device)], d: u8) -> bool
     have(devices, d)
 }
 
-/// The kind of a device of the slot that is claimed.
+/// The kind of a device of the slot.
+fn kind_owned(devices: &[(u8, Device)], places: &[Place], d: u8) -> Option<Kind>
+    requires { length places.now ≡ 16 }
+    requires number { d < 16 }
+    ensures { result ≡ kind_in (fixture_owned (numbers devices.now) (map spot_of places.now) d) }
+{
+    if owns(devices, d) {
+        places[usize::from(d)].kind()
+    } else {
+        None
+    }
+}
+
+/// The kind of a device of the pool, or else of one of the slot.
+fn kind_of(devices: &[(u8, Device)], pool: &[(u8, Kind)], places: &[Place], d: u8) -> Option<Kind>
+    requires { length places.now ≡ 16 }
+    requires number { d < 16 }
+    ensures { result ≡ kind_in (pooled_or (lent_kind pool.now d)
+        (fixture_owned (numbers devices.now) (map spot_of places.now) d)) }
+{
+    match kind_lent(pool, d) {
+        Some(kind) => Some(kind),
+        None => kind_owned(devices, places, d),
+    }
+}
+
+/// The kind of a device of the slot or of the pool that is claimed.
 pub(crate) fn kind_claimed(
     devices: &[(u8, Device)],
+    pool: &[(u8, Kind)],
     claimed: &[bool; 16],
     places: &[Place],
     d: u16,
 ) -> Option<Kind>
     requires { length places.now ≡ 16 }
     ensures kind { result ≡ (if nat_lt d device_limit && slice_index_or claimed.now d false
-        then kind_in (fixture_owned (numbers devices.now) (map spot_of places.now) d) else None) }
+        then kind_in (pooled_or (lent_kind pool.now d)
+        (fixture_owned (numbers devices.now) (map spot_of places.now) d)) else None) }
     ensures number { IfSome result (λ _. d < device_limit) }
 {
-    if d < 16 && claimed[usize::from(d)] && owns(devices, d as u8) {
-        places[usize::from(d)].kind()
+    if d < 16 && claimed[usize::from(d)] {
+        kind_of(devices, pool, places, d as u8)
     } else {
         None
     }
@@ -58,4 +92,20 @@ pub(crate) fn is_free(
         && is_wanted wanted.now (spot_at (map spot_of places.now) d).fixture)) }
 {
     owns(devices, d) && !claimed[usize::from(d)] && places[usize::from(d)].is_wanted(wanted)
+}
+
+/// The least device of this kind in the pool that is nobody's.
+pub(crate) fn first_free(pool: &[(u8, Kind)], places: &[Place], kind: Kind) -> Option<u8>
+    ensures least { result ≡ free_in (by_number (lent_kind pool.now)) (map spot_of places.now) kind }
+    ensures number { IfSome result (λ d. d < 16) }
+{
+    least(|d| is_free_in(pool, places, kind, d))
+}
+
+/// Whether a device is one of this kind in the pool, and nobody's.
+fn is_free_in(pool: &[(u8, Kind)], places: &[Place], kind: Kind, d: u8) -> bool
+    requires { d < 16 }
+    ensures { result ≡ is_free_in (by_number (lent_kind pool.now)) (map spot_of places.now) kind d }
+{
+    kind_lent(pool, d) == Some(kind) && holder_in(places, d).is_none()
 }

@@ -1,14 +1,20 @@
 //! One order of one program.
 ghost use Rattle.std.specs.Prelude.{◌≡◌, ◌+◌, ◌*◌, ◌%◌, ◌<◌, ◌≤◌, length, map, IfOk, OnOk, OnErr, []};
-ghost use Rattle.kdf_director.specs.Parts.{reach, reach_of, seat, seat_of, shared_in};
+ghost use Rattle.kdf_lockout.specs.Groups.{Cells};
+ghost use Rattle.kdf_director.specs.Keeping.{IsActive, IsKept};
+ghost use Rattle.kdf_director.specs.Parts.{part_in, reach, reach_of, seat, seat_of, shared_in};
+ghost use Rattle.kdf_director.specs.Settled.{both_of, retired, settled};
+ghost use Rattle.kdf_director.specs.Stints.{keeping_of};
 ghost use Rattle.kdf_director.specs.Running.{reaches_in, seat_at, seats_in, IsRunning};
 ghost use Rattle.kdf_director.specs.Spots.{AreDry};
 ghost use Rattle.kdf_director.specs.Turn.{HasObeyed, SameTurn, Stays};
-ghost use Rattle.kdf_director.specs.Turned.{HasRun, HasTurned};
+ghost use Rattle.kdf_director.specs.Turned.{HasRun, HasTried, HasTurned};
 ghost use Rattle.kdf_director.specs.Parts.{window_at};
 
+use crate::stint::retire;
 use crate::turn::Turn;
-use crate::{Loaded, Note, Place, Program};
+use crate::{Loaded, Note, Place, Program, Stint};
+use kdf_journal::Kind;
 use kdf_lockout::Store;
 use kdf_processor::{Life, Registers, Spooled, Step, obey_with_room};
 use kdf_relocate::Window;
@@ -37,9 +43,11 @@ fn try_next(
     window: Window,
     time: u64,
     devices: &[(u8, Device)],
+    pool: &[(u8, Kind)],
     registers: &mut Registers,
     claimed: &mut [bool; 16],
     spooled: &mut Vec<Spooled>,
+    stints: &mut Vec<Stint>,
     store: &mut Store,
     places: &mut Vec<Place>,
 ) -> Result<(Step, Note), AllocError>
@@ -49,23 +57,54 @@ fn try_next(
     requires in_store { window.base + window.size ≤ 32 * length store.old }
     requires sixteen { length places.old.items ≡ 16 }
     requires dry { AreDry places.old.items }
-    ensures ran { IfOk result (λ x. HasRun (reach window devices.now) time
-        (seat p registers.old claimed.old spooled.old.items) (shared_in store.old places.old.items)
-        (seat p registers.new claimed.new spooled.new.items)
+    requires kept { IsKept (part_in (seat p registers.old claimed.old spooled.old.items (map keeping_of stints.old.items))
+        (reach window devices.now pool.now)) (shared_in store.old places.old.items) }
+    requires active { IsActive (part_in (seat p registers.old claimed.old spooled.old.items (map keeping_of stints.old.items))
+        (reach window devices.now pool.now)) (shared_in store.old places.old.items) }
+    ensures tried { IfOk result (λ x. HasTried (reach window devices.now pool.now) time
+        (seat p registers.old claimed.old spooled.old.items (map keeping_of stints.old.items))
+        (shared_in store.old places.old.items)
+        (seat p registers.new claimed.new spooled.new.items (map keeping_of stints.new.items))
         (shared_in store.new places.new.items) x.0 x.1) }
-    ensures err { OnErr result ((seat p registers.new claimed.new spooled.new.items
-        ≡ seat p registers.old claimed.old spooled.old.items)
+    ensures err { OnErr result ((seat p registers.new claimed.new spooled.new.items (map keeping_of stints.new.items)
+        ≡ seat p registers.old claimed.old spooled.old.items (map keeping_of stints.old.items))
         × (shared_in store.new places.new.items ≡ shared_in store.old places.old.items)) }
     ensures dry { AreDry places.new.items }
 {
     let mut block = Vec::new(alloc);
     let mut turn = Turn::new(
-        alloc, p, window, time, devices, claimed, spooled, store, places, &mut block,
+        alloc, p, window, time, devices, pool, claimed, spooled, stints, store, places, &mut block,
     );
     obey_next(registers, &mut turn)
 }
 
-/// Tries the next order of a program at a time over what is shared, all its memory being taken first. At Err all is unchanged.
+/// Takes the devices of a program that is over out of their places, those of the first to the last of its stints that are lent still.
+fn retire_all(alloc: Global, program: &mut Program, places: &mut Vec<Place>)
+    ensures { (cells : Cells) → both_of (seat_of program.new) (shared_in cells places.new.items)
+        ≡ retired (length program.old.stints.items)
+        (both_of (seat_of program.old) (shared_in cells places.old.items)) }
+    ensures hold { program.new.hold ≡ program.old.hold }
+    ensures dry { AreDry places.old.items → AreDry places.new.items }
+{
+    for i in 0..program.stints.len() {
+        retire(alloc, &mut program.stints[i], places);
+    }
+}
+
+/// Where an order ended a program, or failed, the devices that it has from the pool leave their places.
+fn settle(alloc: Global, program: &mut Program, places: &mut Vec<Place>)
+    ensures { (cells : Cells) → both_of (seat_of program.new) (shared_in cells places.new.items)
+        ≡ settled (both_of (seat_of program.old) (shared_in cells places.old.items)) }
+    ensures hold { program.new.hold ≡ program.old.hold }
+    ensures dry { AreDry places.old.items → AreDry places.new.items }
+{
+    if !matches!(program.registers.state, Life::Live) {
+        retire_all(alloc, program, places);
+    }
+}
+
+/// Tries the next order of a program at a time over what is shared, all its memory being taken first, and where that ended it, takes back what it
+/// had from the pool. At Err all is unchanged.
 pub(crate) fn run(
     alloc: Global,
     windows: &[Window; 4],
@@ -82,6 +121,10 @@ pub(crate) fn run(
         + (window_at windows.now slot.now.p).size ≤ 32 * length store.old }
     requires sixteen { length places.old.items ≡ 16 }
     requires dry { AreDry places.old.items }
+    requires kept { IsKept (part_in (seat_of program.old) (reach_of windows.now slot.now))
+        (shared_in store.old places.old.items) }
+    requires active { IsActive (part_in (seat_of program.old) (reach_of windows.now slot.now))
+        (shared_in store.old places.old.items) }
     ensures ran { IfOk result (λ x. HasRun (reach_of windows.now slot.now) time
         (seat_of program.old) (shared_in store.old places.old.items)
         (seat_of program.new) (shared_in store.new places.new.items) x.0 x.1) }
@@ -91,18 +134,22 @@ pub(crate) fn run(
     ensures dry { AreDry places.new.items }
 {
     let window = window_of(windows, slot.p);
-    try_next(
+    let tried = try_next(
         alloc,
         program.p,
         window,
         time,
         &slot.devices,
+        &slot.pool,
         &mut program.registers,
         &mut program.claimed,
         &mut program.spooled,
+        &mut program.stints,
         store,
         places,
-    )
+    )?;
+    settle(alloc, program, places);
+    Ok(tried)
 }
 
 /// The window of a slot; one without a word where there is no such slot.

@@ -3,13 +3,14 @@ ghost use Rattle.std.specs.Prelude.{◌≡◌, ◌≤◌, length, map, All, AllP
 ghost use Rattle.std.specs.List.{range_with_len};
 ghost use Rattle.std.specs.Vec.{vec_capacity};
 ghost use Rattle.kdf_job.specs.Shows.{shown_device, shown_slot};
+ghost use Rattle.kdf_job.specs.Slots.{lent_kind};
 ghost use Rattle.kdf_job.specs.WellFormed.{AreSlots};
 ghost use Rattle.kdf_place.specs.declared.image.Image.{Image};
 ghost use Rattle.kdf_relocate.specs.Windows.{have_windows, windows_from, IsBefore, IsInStore};
 ghost use Rattle.kdf_director.specs.declared.program.Program.{Program};
 ghost use Rattle.kdf_director.specs.declared.slot.Loaded.{Loaded};
 ghost use Rattle.kdf_director.specs.Loading.{HaveImages, load_of, loads};
-ghost use Rattle.kdf_director.specs.Fields.{AreLoads, IsLoaded, first_numbered, first_seat, idle_place, idle_ring, idle_spot, loaded, size_at, sizes_of};
+ghost use Rattle.kdf_director.specs.Fields.{AreLoads, IsLoaded, first_seat, idle_place, idle_ring, idle_spot, loaded, pool_in, pool_spot, size_at, sizes_of};
 ghost use Rattle.kdf_director.specs.Parts.{seat_of};
 ghost use Rattle.kdf_transfer.specs.ByNumber.{by_number};
 ghost use Rattle.kdf_director.specs.Running.{seats_in};
@@ -17,7 +18,8 @@ ghost use Rattle.kdf_director.specs.Spots.{AreDry, spot_of};
 
 use crate::fill::filled_store;
 use crate::{Loaded, Place, Program};
-use kdf_job::{SlotJob, device_numbered};
+use kdf_job::{SlotJob, device_numbered, kind_lent};
+use kdf_journal::Kind;
 use kdf_lockout::Store;
 use kdf_place::Image;
 use kdf_processor::Registers;
@@ -87,11 +89,13 @@ fn load_slot(alloc: Global, slot: &SlotJob, image: &Image) -> Result<Loaded, All
 {
     let words = Vec::from_slice(alloc, &image.words)?;
     let devices = copies(alloc, &slot.devices)?;
+    let pool = Vec::from_slice(alloc, &slot.pool)?;
     Ok(Loaded {
         p: slot.p,
         size: slot.size,
         words,
         devices,
+        pool,
     })
 }
 
@@ -173,13 +177,14 @@ fn first_program(alloc: Global, slot: &Loaded) -> Program
         registers: Registers::new(),
         claimed: [false; 16],
         spooled: Vec::new(alloc),
+        stints: Vec::new(alloc),
         hold: None,
     }
 }
 
-/// The places of all devices, without a transfer.
+/// The places of all devices and of the pool's, without a transfer.
 fn places(alloc: Global, slots: &[Loaded]) -> Result<Vec<Place>, AllocError>
-    ensures spots { IfOk result (λ v. map spot_of v.items ≡ by_number (λ d. idle_spot (first_numbered (map loaded slots.now) d))) }
+    ensures spots { IfOk result (λ v. map spot_of v.items ≡ by_number (idle_spot (map loaded slots.now))) }
     ensures dry { IfOk result (λ v. AreDry v.items) }
 {
     let idle = idle_all(alloc, slots)?;
@@ -188,25 +193,50 @@ fn places(alloc: Global, slots: &[Loaded]) -> Result<Vec<Place>, AllocError>
     Ok(places)
 }
 
-/// A copy of the first slot's device of a number, and a ring for it.
-fn idle_of(alloc: Global, slots: &[Loaded], d: u8) -> Result<Option<(Device, Ring)>, AllocError>
-    ensures spot { IfOk result (λ o. spot_of (idle_place o) ≡ idle_spot (first_numbered (map loaded slots.now) d)) }
+/// What stands in a place that has no transfer: a device, its ring, and the program whose device it is, if it is one's.
+type Standing = (Device, Ring, Option<u8>);
+
+/// What stands in the place of a number: a copy of the first slot's device of that number, or else a blank one of the pool.
+fn idle_of(alloc: Global, slots: &[Loaded], d: u8) -> Result<Option<Standing>, AllocError>
+    ensures spot { IfOk result (λ o. spot_of (idle_place o) ≡ idle_spot (map loaded slots.now) d) }
     ensures ring { IfOk result (λ o. idle_ring o ≡ []) }
 {
     for slot in slots.iter() {
         if let Some(device) = device_numbered(&slot.devices, d) {
             let device = device.1.copy(alloc)?;
             let ring = Ring::new(alloc)?;
-            return Ok(Some((device, ring)));
+            return Ok(Some((device, ring, Some(slot.p))));
         }
     }
-    Ok(None)
+    pooled_of(alloc, slots, d)
 }
 
-/// Copies of all devices, by number.
-fn idle_all(alloc: Global, slots: &[Loaded]) -> Result<Vec<Option<(Device, Ring)>>, AllocError>
+/// A blank device of the pool's kind of a number, if the pool has one.
+fn pooled_of(alloc: Global, slots: &[Loaded], d: u8) -> Result<Option<Standing>, AllocError>
+    ensures spot { IfOk result (λ o. spot_of (idle_place o)
+        ≡ pool_spot (lent_kind (pool_in (map loaded slots.now)) d)) }
+    ensures ring { IfOk result (λ o. idle_ring o ≡ []) }
+{
+    match kind_lent(pool_in(slots), d) {
+        Some(kind) => Ok(Some((Device::blank(alloc, kind), Ring::new(alloc)?, None))),
+        None => Ok(None),
+    }
+}
+
+/// The pool, which all slots have in common.
+pub(crate) fn pool_in(slots: &[Loaded]) -> &[(u8, Kind)]
+    ensures { result.now ≡ pool_in (map loaded slots.now) }
+{
+    match slots.first() {
+        Some(slot) => &slot.pool,
+        None => &[],
+    }
+}
+
+/// What stands in each place, by number.
+fn idle_all(alloc: Global, slots: &[Loaded]) -> Result<Vec<Option<Standing>>, AllocError>
     ensures spots { IfOk result (λ v. map (λ o. spot_of (idle_place o)) v.items
-        ≡ map (λ d. idle_spot (first_numbered (map loaded slots.now) d)) (range_with_len 0 16)) }
+        ≡ map (idle_spot (map loaded slots.now)) (range_with_len 0 16)) }
     ensures rings { IfOk result (λ v. map idle_ring v.items ≡ map (λ _. []) (range_with_len 0 16)) }
 {
     let mut idle = Vec::new(alloc);
@@ -217,17 +247,21 @@ fn idle_all(alloc: Global, slots: &[Loaded]) -> Result<Vec<Option<(Device, Ring)
 }
 
 /// The place of a device that has no transfer.
-fn place_of(found: Option<(Device, Ring)>) -> Place
+fn place_of(found: Option<Standing>) -> Place
     ensures { result ≡ idle_place found }
 {
     match found {
-        Some((device, ring)) => Place::Idle { device, ring },
+        Some((device, ring, holder)) => Place::Idle {
+            device,
+            ring,
+            holder,
+        },
         None => Place::Absent,
     }
 }
 
 /// Puts the devices into their places. There is room: from here on nothing fails.
-fn put_all(places: &mut Vec<Place>, idle: Vec<Option<(Device, Ring)>>)
+fn put_all(places: &mut Vec<Place>, idle: Vec<Option<Standing>>)
     requires empty { places.old.items ≡ [] }
     requires room { vec_len idle ≤ vec_capacity places.old }
     ensures { places.new.items ≡ map idle_place idle.items }

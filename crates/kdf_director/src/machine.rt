@@ -2,13 +2,13 @@
 ghost use Rattle.std.specs.Prelude.{◌≡◌, ℕ, ◌+◌, ◌<◌, ◌≤◌, length, map, true, false, is_some, None, IfOk, IfSome, IsSomeAnd, OnErr, []};
 ghost use Rattle.std.specs.List.{All};
 ghost use Rattle.std.specs.Option.{option_copied, option_map};
-ghost use Rattle.kdf_journal.specs.Counts.{calls, clock, pending};
+ghost use Rattle.kdf_journal.specs.Counts.{calls, clock, holder, pending};
 ghost use Rattle.kdf_journal.specs.Steps.{Ends, Moves, Sets, Swaps};
 ghost use Rattle.kdf_job.specs.Shows.{shown_slot};
 ghost use Rattle.kdf_job.specs.WellFormed.{AreSlots};
 ghost use Rattle.kdf_place.specs.declared.image.Image.{Image};
 ghost use Rattle.kdf_processor.specs.Claims.{is_claimed};
-ghost use Rattle.kdf_processor.specs.State.{State, begin, fixture_at, word_at};
+ghost use Rattle.kdf_processor.specs.State.{State, begin, fixture_at, is_pooled, own_fixture_at, word_at};
 ghost use Rattle.kdf_director.specs.Advance.{Advance, Enters, OthersStay};
 ghost use Rattle.kdf_director.specs.Legal.{IsLegal, IsTrue};
 ghost use Rattle.kdf_director.specs.Lends.{IsLent, IsStored, window_in};
@@ -236,24 +236,26 @@ impl Machine {
         texts_of(&self.programs, p)
     }
 
-    /// The device of this number, as it is seen; None where no slot has one.
+    /// The device of this number, as it is seen; None where no slot has one, also for a number of the pool.
     pub fn device(&self, d: u8) -> Option<&Device>
         ensures own { (p : ℕ) → IfSome (state_of self.now p) (λ state.
-            is_some (fixture_at state.stock.claims d) ≡ true → IsDeviceAt state d (option_copied result)) }
-        ensures none { All (λ (state : State). fixture_at state.stock.claims d ≡ None) self.now.states
+            is_some (own_fixture_at state.stock.claims d) ≡ true → IsDeviceAt state d (option_copied result)) }
+        ensures none { All (λ (state : State). own_fixture_at state.stock.claims d ≡ None) self.now.states
             → result ≡ None }
     {
         device_in(&self.slots, &self.devices, d)
     }
 
-    /// Whether the device of this number is claimed, by the program that has it.
+    /// Whether the device of this number is claimed, by the program that has it; for one of the pool, whether it has a holder.
     pub fn claimed(&self, d: u8) -> bool
         ensures own { (p : ℕ) → IfSome (state_of self.now p) (λ state.
-            is_some (fixture_at state.stock.claims d) ≡ true → result ≡ is_claimed state.stock.claims d) }
+            is_some (own_fixture_at state.stock.claims d) ≡ true → result ≡ is_claimed state.stock.claims d) }
+        ensures pool { (p : ℕ) → IfSome (state_of self.now p) (λ state.
+            is_pooled state.stock.claims d ≡ true → result ≡ is_some (holder d self.now.journal)) }
         ensures none { All (λ (state : State). fixture_at state.stock.claims d ≡ None) self.now.states
             → result ≡ false }
     {
-        is_claimed_in(&self.slots, &self.programs, d)
+        is_claimed_in(&self.slots, &self.programs, &self.devices, d)
     }
 
     /// What happened so far. At each moment it is legal, and each program's own state is what is seen of its lone run.

@@ -9,6 +9,7 @@ ghost use Rattle.kdf_director.specs.Parts.{reach_of, seat_of, shared_in, window_
 ghost use Rattle.kdf_director.specs.Running.{reaches_in, seat_at, seats_in, IsRunning};
 ghost use Rattle.kdf_director.specs.Shared.{is_busy_in};
 
+use crate::devices::first_free;
 use crate::dispatch::window_of;
 use crate::{Loaded, Place, Program};
 use kdf_lockout::Store;
@@ -55,25 +56,24 @@ fn place_in(window: Window, group: u16) -> usize
 }
 
 /// Whether what held a program is pending still.
-#[tactic(auto, unfolding(crate::specs::Shared::is_pool_taken))]
 fn is_stopped(
     windows: &[Window; 4],
-    p: u8,
+    slot: &Loaded,
     store: &Store,
     places: &[Place],
     hold: Option<Need>,
 ) -> bool
-    requires near { IsNearHold (window_at windows.now p).size hold }
-    requires at_group { (window_at windows.now p).base % 32 ≡ 0 }
-    requires in_store { (window_at windows.now p).base + (window_at windows.now p).size
-        ≤ 32 * length store.now }
-    ensures { result ≡ is_stopped (window_at windows.now p).base (shared_in store.now places.now) hold }
+    requires near { IsNearHold (window_at windows.now slot.now.p).size hold }
+    requires at_group { (window_at windows.now slot.now.p).base % 32 ≡ 0 }
+    requires in_store { (window_at windows.now slot.now.p).base
+        + (window_at windows.now slot.now.p).size ≤ 32 * length store.now }
+    ensures { result ≡ is_stopped (reach_of windows.now slot.now) (shared_in store.now places.now) hold }
 {
     match hold {
         None => false,
-        Some(Need::Group(g)) => is_out_at(store, place_in(window_of(windows, p), g)),
+        Some(Need::Group(g)) => is_out_at(store, place_in(window_of(windows, slot.p), g)),
         Some(Need::Device(d)) => is_busy_at(store, places, d),
-        Some(Need::Pool(_)) => true,
+        Some(Need::Pool(kind)) => first_free(&slot.pool, places, kind).is_none(),
     }
 }
 
@@ -93,7 +93,7 @@ fn goes(
     ensures { result ≡ goes (seat_of program.now) (reach_of windows.now slot.now)
         (shared_in store.now places.now) program.now.hold }
 {
-    is_on(program.registers.state) && !is_stopped(windows, slot.p, store, places, program.hold)
+    is_on(program.registers.state) && !is_stopped(windows, slot, store, places, program.hold)
 }
 
 /// Which of the programs is in this slot.

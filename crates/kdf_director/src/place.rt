@@ -1,5 +1,5 @@
 //! The place of a device.
-ghost use Rattle.std.specs.Prelude.{◌≡◌, ◌+◌, ◌/◌, None, Some, Option, if◌then◌else◌, OnOk};
+ghost use Rattle.std.specs.Prelude.{◌≡◌, ◌+◌, ◌/◌, None, Some, Option, if◌then◌else◌, IfSome, OnOk, true};
 ghost use Rattle.std.specs.Option.{option_map};
 ghost use Rattle.kdf_transfer.specs.Devices.{is_wanted, test_of};
 ghost use Rattle.kdf_transfer.specs.InFlight.{lent_at};
@@ -9,15 +9,21 @@ use kdf_journal::Kind;
 use kdf_lockout::Lease;
 use kdf_transfer::{Device, Ring, Test, Transfer, TransferOrder, Wanted};
 use kdf_word::Word;
-use std::alloc::AllocError;
+use std::alloc::{AllocError, Global};
+use std::mem;
 
 /// The place of a device.
 pub enum Place {
-    /// No slot has a device of this number.
+    /// Neither a slot nor the pool has a device of this number.
     Absent,
-    /// A device without a transfer, and the ring of its next one, which is empty.
-    Idle { device: Device, ring: Ring },
-    /// A device with a transfer of slot `p`.
+    /// A device without a transfer, the ring of its next one, which is empty, and the program whose device it is: that of its slot, or the one
+    /// to which the pool lent it.
+    Idle {
+        device: Device,
+        ring: Ring,
+        holder: Option<u8>,
+    },
+    /// A device with a transfer of slot `p`, whose device it is.
     Busy { p: u8, transfer: Transfer },
 }
 
@@ -25,7 +31,8 @@ impl Place {
     ghost use Rattle.std.specs.Option.{option_copied};
     ghost use Rattle.kdf_director.specs.Owners.{IsDeviceOf};
     ghost use Rattle.kdf_director.specs.Shared.{moved_spot};
-    ghost use Rattle.kdf_director.specs.Spots.{Held, spot_of, spot_kind, is_flying, is_of, lease_held, ring_in, IsReady};
+    ghost use Rattle.kdf_director.specs.Spots.{Held, can_leave, left_spot, lent_spot, spot_of, spot_kind, is_flying, is_of, lease_held, ring_in, IsReady};
+    ghost use Rattle.kdf_transfer.specs.Devices.{fixture_of, progress_of};
 
     /// The kind of the device, if there is one.
     pub fn kind(&self) -> Option<Kind>
@@ -77,6 +84,47 @@ impl Place {
         match self {
             Place::Absent | Place::Idle { .. } => false,
             Place::Busy { p: owner, .. } => *owner == p,
+        }
+    }
+
+    /// The program whose device it is, if it is one's.
+    pub fn holder(&self) -> Option<u8>
+        ensures { result ≡ (spot_of self.now).holder }
+    {
+        match self {
+            Place::Absent => None,
+            Place::Idle { holder, .. } => *holder,
+            Place::Busy { p, .. } => Some(*p),
+        }
+    }
+
+    /// Lends the device, which has no transfer, to program `p`.
+    pub fn lend(&mut self, p: u8)
+        requires { can_leave (spot_of self.old) ≡ true }
+        ensures spot { spot_of self.new ≡ lent_spot p (spot_of self.old) }
+        ensures ring { ring_in self.new ≡ ring_in self.old }
+    {
+        match self {
+            Place::Absent | Place::Busy { .. } => {}
+            Place::Idle { holder, .. } => *holder = Some(p),
+        }
+    }
+
+    /// Takes the device out, if there is one and it has no transfer. A blank one of the same kind takes its place, which is nobody's.
+    pub fn take_back(&mut self, alloc: Global) -> Option<Device>
+        ensures spot { spot_of self.new ≡ left_spot (spot_of self.old) }
+        ensures ring { ring_in self.new ≡ ring_in self.old }
+        ensures fixture { option_map fixture_of result
+            ≡ (if can_leave (spot_of self.old) then (spot_of self.old).fixture else None) }
+        ensures progress { IfSome result (λ x. progress_of x ≡ (spot_of self.old).progress) }
+    {
+        match self {
+            Place::Absent | Place::Busy { .. } => None,
+            Place::Idle { device, holder, .. } => {
+                let blank = Device::blank(alloc, device.kind());
+                *holder = None;
+                Some(mem::replace(device, blank))
+            }
         }
     }
 

@@ -1,18 +1,19 @@
 //! What is asked of all places.
-ghost use Rattle.std.specs.Prelude.{◌≡◌, ◌<◌, ◌&&◌, length, nat_lt, IfSome, true, false, not, None, Option, map, slice_index_or, OnOk, if◌then◌else◌};
+ghost use Rattle.std.specs.Prelude.{◌≡◌, ◌<◌, ◌&&◌, length, nat_lt, IfSome, true, false, not, None, Option, map, slice_index_or, slice_set, OnOk, if◌then◌else◌};
 ghost use Rattle.std.specs.Option.{option_map};
 ghost use Rattle.kdf_transfer.specs.Devices.{test_of};
 ghost use Rattle.kdf_processor.specs.View.{head};
 ghost use Rattle.kdf_transfer.specs.ByNumber.{device_count};
 ghost use Rattle.kdf_director.specs.Physical.{word_out};
-ghost use Rattle.kdf_director.specs.Spots.{Held, own_from, spot_of, spot_at, spot_kind, is_flying, leases_of, AreDry, IsReady};
+ghost use Rattle.kdf_transfer.specs.Devices.{fixture_of, progress_of};
+ghost use Rattle.kdf_director.specs.Spots.{Held, can_leave, left_spot, lent_spot, own_from, spot_of, spot_at, spot_kind, is_flying, leases_of, AreDry, IsReady};
 ghost use Rattle.kdf_director.specs.declared.place.Place.TheVariants.{Absent};
 
 use crate::Place;
 use kdf_processor::Test;
-use kdf_transfer::{Transfer, TransferOrder};
+use kdf_transfer::{Device, Transfer, TransferOrder};
 use kdf_word::Word;
-use std::alloc::AllocError;
+use std::alloc::{AllocError, Global};
 
 /// The word at a place of the store whose group is out.
 pub(crate) fn word_lent(places: &[Place], place: usize) -> Word
@@ -45,6 +46,49 @@ pub(crate) fn make_ready_at(
         place.make_ready(order)
     } else {
         Ok(())
+    }
+}
+
+/// Lends a device that has no transfer to program `p`.
+pub(crate) fn lend_at(places: &mut Vec<Place>, d: usize, p: u8)
+    requires there { d < length places.old.items }
+    requires idle { can_leave (spot_at (map spot_of places.old.items) d) ≡ true }
+    ensures spots { map spot_of places.new.items ≡ slice_set (map spot_of places.old.items) d
+        (lent_spot p (spot_at (map spot_of places.old.items) d)) }
+    ensures dry { AreDry places.old.items → AreDry places.new.items }
+    ensures len { length places.new.items ≡ length places.old.items }
+{
+    let place = &mut places[d];
+    place.lend(p);
+}
+
+/// Takes a device out of its place, if there is one and it has no transfer.
+pub(crate) fn take_back_at(alloc: Global, places: &mut Vec<Place>, d: usize) -> Option<Device>
+    ensures spots { map spot_of places.new.items ≡ slice_set (map spot_of places.old.items) d
+        (left_spot (spot_at (map spot_of places.old.items) d)) }
+    ensures dry { AreDry places.old.items → AreDry places.new.items }
+    ensures len { length places.new.items ≡ length places.old.items }
+    ensures fixture { option_map fixture_of result
+        ≡ (if can_leave (spot_at (map spot_of places.old.items) d)
+        then (spot_at (map spot_of places.old.items) d).fixture else None) }
+    ensures progress { IfSome result
+        (λ x. progress_of x ≡ (spot_at (map spot_of places.old.items) d).progress) }
+{
+    if d < places.len() {
+        let place = &mut places[d];
+        place.take_back(alloc)
+    } else {
+        None
+    }
+}
+
+/// The program whose device it is, if it is one's.
+pub(crate) fn holder_in(places: &[Place], d: u8) -> Option<u8>
+    ensures { result ≡ (spot_at (map spot_of places.now) d).holder }
+{
+    match places.get(usize::from(d)) {
+        Some(place) => place.holder(),
+        None => None,
     }
 }
 

@@ -1,6 +1,7 @@
 //! What a machine shows of its programs and of their devices.
 ghost use Rattle.std.specs.Prelude.{◌≡◌, ◌==◌, find, length, map, IfSome};
 ghost use Rattle.std.specs.Option.{option_copied, option_map};
+ghost use Rattle.kdf_director.specs.Fields.{loaded, pool_in};
 ghost use Rattle.kdf_director.specs.Owners.{IsDeviceOf, IsDeviceOwned, is_claimed_by, owner_in};
 ghost use Rattle.kdf_director.specs.Parts.{window_at};
 ghost use Rattle.kdf_director.specs.Running.{seats_in};
@@ -8,7 +9,10 @@ ghost use Rattle.kdf_director.specs.Spots.{spot_at, spot_of};
 
 use crate::devices::owns;
 use crate::dispatch::window_of;
+use crate::load::pool_in;
+use crate::places::holder_in;
 use crate::{Loaded, Place, Program};
+use kdf_job::kind_lent;
 use kdf_processor::{Registers, Spooled};
 use kdf_relocate::Window;
 use kdf_transfer::Device;
@@ -70,14 +74,20 @@ fn device_at(places: &[Place], d: u8) -> Option<&Device>
     }
 }
 
-/// Whether the program that has the device of this number has claimed it.
-pub(crate) fn is_claimed_in(slots: &[Loaded], programs: &[Program], d: u8) -> bool
+/// Whether the program that has the device of this number has claimed it; where no slot has one, whether the pool has lent it.
+pub(crate) fn is_claimed_in(
+    slots: &[Loaded],
+    programs: &[Program],
+    places: &[Place],
+    d: u8,
+) -> bool
     requires { length slots.now ≡ length programs.now }
-    ensures { result ≡ is_claimed_by (owner_in slots.now d) (seats_in programs.now) d }
+    ensures { result ≡ is_claimed_by (owner_in slots.now d) (seats_in programs.now)
+        (pool_in (map loaded slots.now)) (map spot_of places.now) d }
 {
     match owner_of(slots, d) {
         Some(owner) => d < 16 && programs[owner].claimed[usize::from(d)],
-        None => false,
+        None => kind_lent(pool_in(slots), d).is_some() && holder_in(places, d).is_some(),
     }
 }
 

@@ -1,4 +1,5 @@
 //! Slots as they were loaded.
+use kdf_journal::Kind;
 use kdf_transfer::Device;
 use kdf_word::Word;
 
@@ -13,4 +14,6 @@ pub struct Loaded {
     pub words: Vec<Word>,
     /// Its devices with their numbers, 0 to 15.
     pub devices: Vec<(u8, Device)>,
+    /// The devices of the pool, with their numbers, 0 to 15, and their kinds.
+    pub pool: Vec<(u8, Kind)>,
 }

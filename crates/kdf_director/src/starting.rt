@@ -65,7 +65,11 @@ fn begin_place(
     ensures store { store.new ≡ start_cells order area.first area.last store.old }
 {
     match place {
-        Place::Idle { device, ring } => {
+        Place::Idle {
+            device,
+            ring,
+            holder: _,
+        } => {
             let lease = take_lease(store, order, area);
             let transfer = Transfer::begin(device, order, area, lease, block, ring);
             Place::Busy { p, transfer }
@@ -82,7 +86,11 @@ fn give_up(place: Place, store: &mut Store)
 {
     match place {
         Place::Absent => {}
-        Place::Idle { device: _, ring: _ } => {}
+        Place::Idle {
+            device: _,
+            ring: _,
+            holder: _,
+        } => {}
         Place::Busy { p: _, transfer } => {
             let (_, lease, _) = transfer.cancel();
             put_back(store, lease);
@@ -131,13 +139,25 @@ fn end_place(place: Place, store: &mut Store) -> Place
     ensures store { store.new ≡ back_cells (last_lease (spot_of place).flight) store.old }
 {
     match place {
-        Place::Busy { p: _, transfer } => {
+        Place::Busy { p, transfer } => {
             let (device, lease, ring) = transfer.end();
             put_back(store, lease);
-            Place::Idle { device, ring }
+            Place::Idle {
+                device,
+                ring,
+                holder: Some(p),
+            }
         }
         Place::Absent => Place::Absent,
-        Place::Idle { device, ring } => Place::Idle { device, ring },
+        Place::Idle {
+            device,
+            ring,
+            holder,
+        } => Place::Idle {
+            device,
+            ring,
+            holder,
+        },
     }
 }
 
@@ -179,7 +199,11 @@ fn cancel(place: Place, store: &mut Store)
 {
     match place {
         Place::Absent => {}
-        Place::Idle { device: _, ring: _ } => {}
+        Place::Idle {
+            device: _,
+            ring: _,
+            holder: _,
+        } => {}
         Place::Busy { p: _, transfer } => {
             let (_, lease, _) = transfer.cancel();
             put_back(store, lease);

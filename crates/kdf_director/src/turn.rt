@@ -1,13 +1,17 @@
-//! The port of one program of the machine for one order: a window of the store, and the devices of its slot.
+//! The port of one program of the machine for one order: a window of the store, the devices of its slot, and those that the pool lends.
 ghost use Rattle.std.specs.Prelude.{◌≡◌, ◌+◌, ◌*◌, ◌%◌, ◌<◌, ◌≤◌, length};
 ghost use Rattle.kdf_director.specs.True.{one_if};
+ghost use Rattle.kdf_director.specs.Keeping.{IsActive, IsKept};
+ghost use Rattle.kdf_director.specs.Parts.{part_with, shared_in};
 ghost use Rattle.kdf_director.specs.Spots.{AreDry};
 
-use crate::devices::{is_free, kind_claimed};
-use crate::places::{first_of, make_ready_at, test_in};
+use crate::devices::{first_free, is_free, kind_claimed};
+use crate::places::{first_of, lend_at, make_ready_at, take_back_at, test_in};
 use crate::starting::start_at;
+use crate::stint::hand_in;
 use crate::text::text_of;
-use crate::{Note, Place};
+use crate::{Loan, Note, Place, Stint};
+use kdf_job::kind_lent;
 use kdf_journal::Kind;
 use kdf_lockout::Store;
 use kdf_processor::{Port, Reserve, Spooled, Test, Wanted, least};
@@ -25,8 +29,10 @@ pub struct Turn<'a> {
     window: Window,
     time: u64,
     devices: &'a [(u8, Device)],
+    pool: &'a [(u8, Kind)],
     claimed: &'a mut [bool; 16],
     spooled: &'a mut Vec<Spooled>,
+    stints: &'a mut Vec<Stint>,
     store: &'a mut Store,
     places: &'a mut Vec<Place>,
     /// Memory for the characters that an order moves.
@@ -37,18 +43,22 @@ pub struct Turn<'a> {
     ghost in_store: { window.base + window.size ≤ 32 * length store.now },
     ghost sixteen: { length places.now.items ≡ 16 },
     ghost dry: { AreDry places.now.items },
+    ghost kept: { IsKept (part_with p window devices.now pool.now claimed.now spooled.now.items stints.now.items)
+        (shared_in store.now places.now.items) },
+    ghost active: { IsActive (part_with p window devices.now pool.now claimed.now spooled.now.items stints.now.items)
+        (shared_in store.now places.now.items) },
 }
 
 impl<'a> Turn<'a> {
     ghost use Rattle.std.specs.Prelude.{find, IfSome, IfNone};
-    ghost use Rattle.kdf_processor.specs.Claims.{free_for, is_free};
+    ghost use Rattle.kdf_processor.specs.Claims.{can_take, free_for, is_free};
     ghost use Rattle.kdf_processor.specs.Effect.{Acquires, Asks, Question};
     ghost use Rattle.kdf_processor.specs.View.{groups_of};
-    ghost use Rattle.kdf_director.specs.Parts.{numbers, own_claims};
+    ghost use Rattle.kdf_director.specs.Parts.{own_claims};
     ghost use Rattle.kdf_director.specs.Shared.{is_busy_in, is_out_of};
     ghost use Rattle.kdf_director.specs.Turn.{part_of, shared, Acts};
-    ghost use Rattle.kdf_director.specs.declared.note.Note.TheVariants.{Quiet, Told};
-    ghost use Rattle.kdf_director.specs.Notes.{note_of};
+    ghost use Rattle.kdf_director.specs.declared.note.Note.TheVariants.{Quiet};
+    ghost use Rattle.kdf_director.specs.Notes.{IsPlain};
 
     /// The view of slot `p` over this window, with these devices.
     pub fn new(
@@ -57,8 +67,10 @@ impl<'a> Turn<'a> {
         window: Window,
         time: u64,
         devices: &'a [(u8, Device)],
+        pool: &'a [(u8, Kind)],
         claimed: &'a mut [bool; 16],
         spooled: &'a mut Vec<Spooled>,
+        stints: &'a mut Vec<Stint>,
         store: &'a mut Store,
         places: &'a mut Vec<Place>,
         block: &'a mut Vec<u8>,
@@ -67,14 +79,12 @@ impl<'a> Turn<'a> {
         requires in_store { window.base + window.size ≤ 32 * length store.old }
         requires sixteen { length places.old.items ≡ 16 }
         requires dry { AreDry places.old.items }
-        ensures part { part_of result ≡ record {
-          p = p;
-          base = window.base;
-          size = window.size;
-          devices = numbers devices.now;
-          claimed = claimed.old;
-          spooled = spooled.old.items;
-        } }
+        requires kept { IsKept (part_with p window devices.now pool.now claimed.old spooled.old.items stints.old.items)
+            (shared_in store.old places.old.items) }
+        requires active { IsActive (part_with p window devices.now pool.now claimed.old spooled.old.items stints.old.items)
+            (shared_in store.old places.old.items) }
+        ensures part { part_of result
+            ≡ part_with p window devices.now pool.now claimed.old spooled.old.items stints.old.items }
         ensures time { result.time ≡ time }
         ensures store { result.store.now ≡ store.old }
         ensures places { result.places.now ≡ places.old }
@@ -82,6 +92,7 @@ impl<'a> Turn<'a> {
         ensures note { result.note ≡ Quiet }
         ensures same_claimed { result.claimed.ghost_name ≡ claimed.entry.ghost_name }
         ensures same_spooled { result.spooled.ghost_name ≡ spooled.entry.ghost_name }
+        ensures same_stints { result.stints.ghost_name ≡ stints.entry.ghost_name }
         ensures same_store { result.store.ghost_name ≡ store.entry.ghost_name }
         ensures same_places { result.places.ghost_name ≡ places.entry.ghost_name }
         ensures same_block { result.block.ghost_name ≡ block.entry.ghost_name }
@@ -92,8 +103,10 @@ impl<'a> Turn<'a> {
             window,
             time,
             devices,
+            pool,
             claimed,
             spooled,
+            stints,
             store,
             places,
             block,
@@ -167,10 +180,17 @@ impl<'a> Turn<'a> {
         Some(device)
     }
 
+    /// Whether a device is one of this kind in the pool that the program hasn't claimed.
+    fn can_take(&self, d: u8, kind: Kind) -> bool
+        requires { d < 16 }
+        ensures { result ≡ can_take (own_claims (part_of self.now) (shared self.now)) kind d }
+    {
+        kind_lent(self.pool, d) == Some(kind) && !self.claimed[usize::from(d)]
+    }
+
     /// Notes an answer.
     fn tell(&mut self, answer: u64)
-        ensures { (question : Question) → note_of (Asks question answer) ≡ Told answer
-            → Acts self.old (Asks question answer) self.new }
+        ensures { (question : Question) → IsPlain question → Acts self.old (Asks question answer) self.new }
     {
         self.note = Note::Told(answer);
     }
@@ -217,7 +237,7 @@ impl Port for Turn<'_> {
     }
 
     fn held(&self, device: u16) -> Option<Kind> {
-        kind_claimed(self.devices, self.claimed, self.places, device)
+        kind_claimed(self.devices, self.pool, self.claimed, self.places, device)
     }
 
     fn busy(&self, device: u8) -> bool {
@@ -279,21 +299,38 @@ impl Port for Turn<'_> {
         self.claim(&Wanted::Kinded(kind))
     }
 
-    fn may_take(&self, _kind: Kind) -> bool {
-        false
+    fn may_take(&self, kind: Kind) -> bool {
+        least(|d| self.can_take(d, kind)).is_some()
     }
 
-    #[tactic(auto, unfolding(crate::specs::Shared::is_pool_taken))]
-    fn pool_free(&self, _kind: Kind) -> bool {
-        false
+    fn pool_free(&self, kind: Kind) -> bool {
+        first_free(self.pool, self.places, kind).is_some()
     }
 
-    fn take_pool(&mut self, _kind: Kind) -> u8 {
-        unreachable!()
+    fn take_pool(&mut self, kind: Kind) -> u8 {
+        let d = match first_free(self.pool, self.places, kind) {
+            Some(d) => d,
+            None => unreachable!(),
+        };
+        let p = self.p;
+        lend_at(self.places, usize::from(d), p);
+        self.claimed[usize::from(d)] = true;
+        self.stints.push_reserved(Stint {
+            d,
+            loan: Loan::Lent,
+        });
+        self.note = Note::Took(d);
+        d
     }
 
     fn give_back(&mut self, device: u8) {
         self.claimed[usize::from(device)] = false;
+        if kind_lent(self.pool, device).is_some() {
+            if let Some(left) = take_back_at(self.alloc, self.places, usize::from(device)) {
+                hand_in(self.stints, device, left);
+            }
+            self.note = Note::Gave(device);
+        }
     }
 
     fn spool(&mut self, stream: u8, first: u16, last: u16) {
@@ -304,7 +341,7 @@ impl Port for Turn<'_> {
     }
 
     ghost stays = { λ _. record {
-      same = record { time = refl; claimed = refl; spooled = refl; store = refl; places = refl; block = refl };
+      same = record { time = refl; claimed = refl; spooled = refl; stints = refl; store = refl; places = refl; block = refl };
       part = refl;
       shared = refl;
       note = refl;
@@ -314,12 +351,12 @@ impl Port for Turn<'_> {
 impl Reserve for Turn<'_> {
     ghost use Rattle.std.specs.Prelude.{refl};
     ghost use Rattle.kdf_processor.proofs.Rooms.{little_room};
-    ghost use Rattle.kdf_director.specs.Turn.{CanSpool, CanStart, IsBlank, Stays};
+    ghost use Rattle.kdf_director.specs.Turn.{CanSpool, CanStart, CanTake, IsBlank, Stays};
 
     ghost keeps = { Stays };
 
     ghost itself = { λ _. record {
-      same = record { time = refl; claimed = refl; spooled = refl; store = refl; places = refl; block = refl };
+      same = record { time = refl; claimed = refl; spooled = refl; stints = refl; store = refl; places = refl; block = refl };
       part = refl;
       shared = refl;
       note = refl;
@@ -327,7 +364,7 @@ impl Reserve for Turn<'_> {
 
     ghost ready = { IsBlank };
 
-    ghost little = { λ t act blank little. little_room (CanStart t) (CanSpool t) (Unit {0}) act tt little };
+    ghost little = { λ t act blank little. little_room (CanStart t) (CanSpool t) (CanTake t) (Unit {0}) act tt little };
 
     fn reserve_transfer(
         &mut self,
@@ -338,6 +375,10 @@ impl Reserve for Turn<'_> {
     ) -> Result<(), AllocError> {
         self.block.reserve(characters_in(first, last))?;
         make_ready_at(self.places, usize::from(device), order)
+    }
+
+    fn reserve_stint(&mut self) -> Result<(), AllocError> {
+        self.stints.reserve(1)
     }
 
     fn reserve_text(&mut self, first: u16, last: u16) -> Result<(), AllocError> {

@@ -1,0 +1,69 @@
+//! The stints of a program: the devices that it took from the pool.
+ghost use Rattle.std.specs.Prelude.{◌≡◌, ◌≢◌, length, map, slice_set, true};
+ghost use Rattle.std.specs.List.{AllPairs};
+ghost use Rattle.kdf_transfer.specs.Devices.{fixture_of, progress_of};
+ghost use Rattle.kdf_director.specs.Settled.{kept_from, leaves};
+ghost use Rattle.kdf_director.specs.Spots.{spot_at, spot_of, AreDry};
+ghost use Rattle.kdf_director.specs.Stints.{Back, Keeping, is_open, is_open_of, keeping_of, with_loan};
+
+use crate::Place;
+use crate::places::take_back_at;
+use kdf_transfer::Device;
+use std::alloc::Global;
+
+/// Where the device of a stint is.
+#[derive(Drop)]
+pub enum Loan {
+    /// In the place of its number.
+    Lent,
+    /// With the program, which is over and hasn't given it back.
+    Left(Device),
+    /// With the program, which gave it back.
+    Back(Device),
+}
+
+/// That a program took a device from the pool.
+#[derive(Drop)]
+pub struct Stint {
+    /// The number of the device.
+    pub d: u8,
+    pub loan: Loan,
+}
+
+/// Takes the device of a stint of a program that is over out of its place, if it is lent still and has no transfer.
+pub(crate) fn retire(alloc: Global, stint: &mut Stint, places: &mut Vec<Place>)
+    ensures stint { keeping_of stint.new
+        ≡ kept_from (keeping_of stint.old) (spot_at (map spot_of places.old.items) stint.old.d) }
+    ensures spots { map spot_of places.new.items
+        ≡ slice_set (map spot_of places.old.items) stint.old.d
+        (leaves (keeping_of stint.old) (spot_at (map spot_of places.old.items) stint.old.d)) }
+    ensures dry { AreDry places.old.items → AreDry places.new.items }
+    ensures len { length places.new.items ≡ length places.old.items }
+{
+    if let Loan::Lent = stint.loan {
+        if let Some(device) = take_back_at(alloc, places, usize::from(stint.d)) {
+            stint.loan = Loan::Left(device);
+        }
+    }
+}
+
+/// The stint of a device that wasn't given back, the last where there are several, keeps the device, which is given back.
+pub(crate) fn hand_in(stints: &mut Vec<Stint>, d: u8, device: Device)
+    requires one { AllPairs (λ (x y : Keeping). is_open x.loan ≡ true → is_open y.loan ≡ true → x.device ≢ y.device)
+        (map keeping_of stints.old.items) }
+    ensures { map keeping_of stints.new.items
+        ≡ map (with_loan d (Back (fixture_of device) (progress_of device))) (map keeping_of stints.old.items) }
+{
+    if let Some(i) = stints.iter().rposition(|stint| stint.is_open(d)) {
+        stints[i].loan = Loan::Back(device);
+    }
+}
+
+impl Stint {
+    /// Whether it is of this device, which wasn't given back.
+    fn is_open(&self, d: u8) -> bool
+        ensures { result ≡ is_open_of d (keeping_of self.now) }
+    {
+        self.d == d && !matches!(self.loan, Loan::Back(_))
+    }
+}
