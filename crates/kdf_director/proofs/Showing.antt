@@ -1,7 +1,7 @@
 -- What a part of the machine shows.
 use Rattle.std.specs.Prelude.{Ok, Err, not, unwrap_or, []}
 use Rattle.std.proofs.Common.{◌≡◌, ℕ, ◌+◌, ◌/◌, ◌%◌, ◌<◌, ◌≤◌, Bool, true, false, List, length, get_or, map, ◌&&◌, ltb, Option, Some, None, is_some, is_none, cond, refl, sym, ap, ap₂, ◌∙◌, ⊎_elim, arith}
-use Rattle.std.proofs.lemmas.Bool.{cases_lt, and_parts, lt-ltb, ltb-true}
+use Rattle.std.proofs.lemmas.Bool.{cases_lt, and_parts, eq-eqb, eqb-true, lt-ltb, ltb-true}
 use Rattle.std.proofs.lemmas.List.{get_or_past, get_or-map, length-map}
 use Rattle.std.proofs.lemmas.List.FromFn.{get_or-map-range_with_len}
 use Rattle.kdf_lockout.specs.Groups.{Cells, Lent, group_at, is_out, word_here}
@@ -12,14 +12,16 @@ use Rattle.kdf_director.specs.Physical.{own_words}
 use Rattle.kdf_transfer.specs.ByNumber.{device_count}
 use Rattle.kdf_journal.specs.declared.kind.Kind.TheVariants.{Tr, Tp, Cr, Lp, Mt}
 use Rattle.kdf_director.specs.Physical as physical
-use Rattle.kdf_processor.specs.State.{word_in, device_in, fixture_at}
+use Rattle.kdf_processor.specs.State.{word_in, device_in, fixture_at, own_fixture_at, pooled_or}
 use Rattle.kdf_processor.specs.Claims.{kind_at, claim, is_claimed}
 use Rattle.kdf_director.specs.declared.place.Place.{Place}
 use Rattle.kdf_director.specs.declared.place.Place.TheVariants.{Absent}
-use Rattle.kdf_director.specs.Spots.{spot_at, spot_of, no_spot, leases_of, spot_kind}
+use Rattle.kdf_director.specs.Spots.{spot_at, spot_of, no_spot, is_holder, leases_of, spot_kind}
 use Rattle.kdf_transfer.specs.declared.wanted.Wanted.{Wanted}
 use Rattle.kdf_transfer.specs.declared.wanted.Wanted.TheVariants.{Kinded, Labelled}
-use Rattle.kdf_director.specs.Parts.{Shared, Part, owns, fixture_owned, own_stock, own_fixture, own_progress, own_claims, has_device}
+use Rattle.kdf_director.specs.Keeping.{IsActive, IsKept}
+use Rattle.kdf_director.specs.Parts.{Shared, Part, owns, fixture_owned, own_stock, own_fixture, own_progress, own_claims, has_device, pool_kind}
+use Rattle.kdf_director.specs.Stints.{left_in}
 use Rattle.kdf_transfer.proofs.Numbers.{limit_is, number_at}
 
 -- a word of the program
@@ -42,9 +44,9 @@ pub ok_is : {E V : Type 0} (b : Bool) (e : E) (w v : V) → b ≡ false → w �
 ok_is true e w v not same = cc
 ok_is false e w v not same = ap Ok same
 
--- what a device of a number is to the program
-pub own_fixture_at : (q : Part) (s : Shared) (d : ℕ) → d < device_count → fixture_at (own_claims q s) d ≡ own_fixture q s.spots d
-own_fixture_at q s d lt = number_at (own_fixture q s.spots) d None lt
+-- what a device of a number of its own is to the program
+pub own_is : (q : Part) (s : Shared) (d : ℕ) → d < device_count → own_fixture_at (own_claims q s) d ≡ own_fixture q s.spots d
+own_is q s d lt = number_at (own_fixture q s.spots) d None lt
 
 pub none_kind : (k : Kind) → is_kind k None ≡ true → ⊥
 none_kind Tr is = cc
@@ -53,13 +55,44 @@ none_kind Cr is = cc
 none_kind Lp is = cc
 none_kind Mt is = cc
 
-fixture_has : (b : Bool) (f : Option Fixture) (k : Kind) → is_kind k (kind_in (cond b f None)) ≡ true → b ≡ true
-fixture_has true f k is = refl
-fixture_has false f k is = absurd (none_kind k is)
-
 claim_true : (b : Bool) (o : Option Kind) (k : Kind) → is_kind k (cond b o None) ≡ true → (b ≡ true) × (is_kind k o ≡ true)
 claim_true true o k is = (refl, is)
 claim_true false o k is = absurd (none_kind k is)
+
+some_kind : (o : Option Fixture) (k : Kind) → is_kind k (kind_in o) ≡ true → is_some o ≡ true
+some_kind None k is = absurd (none_kind k is)
+some_kind (Some f) k is = refl
+
+pub holder_is : (p : ℕ) (o : Option ℕ) → is_holder p o ≡ true → o ≡ Some p
+holder_is p None is = cc
+holder_is p (Some r) is = ap Some (eqb-true r p is)
+
+pub is_its : (p : ℕ) (o : Option ℕ) → o ≡ Some p → is_holder p o ≡ true
+is_its p o is = ap (is_holder p) is ∙ eq-eqb p p refl
+
+owned_some : (b : Bool) (f : Option Fixture) → is_some (cond b f None) ≡ true → b ≡ true
+owned_some true f is = refl
+owned_some false f is = cc
+
+-- where there is a device of a number to the program, it is the one in the place
+pub fixture_there : (q : Part) (s : Shared) (d : ℕ) → IsKept q s → d < device_count → is_some (fixture_at (own_claims q s) d) ≡ true → fixture_at (own_claims q s) d ≡ (spot_at s.spots d).fixture
+fixture_there q s d kept lt some = by_pool (pool_kind q d) refl
+  where
+    by_pool : (o : Option Kind) → pool_kind q d ≡ o → fixture_at (own_claims q s) d ≡ (spot_at s.spots d).fixture
+    by_pool (Some k) is = ap (λ o. pooled_or o (own_fixture_at (own_claims q s) d)) is ∙ sym (kept.there d k is)
+    by_pool None is =
+        let at : fixture_at (own_claims q s) d ≡ own_fixture q s.spots d = ap (λ o. pooled_or o (own_fixture_at (own_claims q s) d)) is ∙ own_is q s d lt in
+        at ∙ ap (λ b. cond b (spot_at s.spots d).fixture None) (owned_some (owns q.devices d) (spot_at s.spots d).fixture (ap is_some (sym at) ∙ some))
+
+-- and it is the program's where it is claimed
+marked_holder : (q : Part) (s : Shared) (d : ℕ) → IsKept q s → IsActive q s → d < device_count → is_some (fixture_at (own_claims q s) d) ≡ true → get_or q.claimed d false ≡ true → (spot_at s.spots d).holder ≡ Some q.p
+marked_holder q s d kept active lt some marked = by_pool (pool_kind q d) refl
+  where
+    by_pool : (o : Option Kind) → pool_kind q d ≡ o → (spot_at s.spots d).holder ≡ Some q.p
+    by_pool (Some k) is = holder_is q.p (spot_at s.spots d).holder (sym (active.marks d (ap is_some is)) ∙ marked)
+    by_pool None is =
+        let at : fixture_at (own_claims q s) d ≡ own_fixture q s.spots d = ap (λ o. pooled_or o (own_fixture_at (own_claims q s) d)) is ∙ own_is q s d lt in
+        kept.owned d (owned_some (owns q.devices d) (spot_at s.spots d).fixture (ap is_some (sym at) ∙ some))
 
 -- a device that is claimed, of some kind, is one of the program's
 pub claim_small : (q : Part) (s : Shared) (d : ℕ) (k : Kind) → is_kind k (claim (own_claims q s) d) ≡ true → d < device_count
@@ -67,26 +100,37 @@ claim_small q s d k is =
     let lt : d < 16 = ltb-true d 16 (and_parts _ _ (claim_true (ltb d 16 && get_or q.claimed d false) (kind_at (own_claims q s) d) k is).0).0 in
     omega (arith, limit_is)
 
-pub claim_kind : (q : Part) (s : Shared) (d : ℕ) (k : Kind) → is_kind k (claim (own_claims q s) d) ≡ true → is_kind k (kind_in (own_fixture q s.spots d)) ≡ true
-claim_kind q s d k is =
-    ap (λ f. is_kind k (kind_in f)) (sym (own_fixture_at q s d (claim_small q s d k is)))
-    ∙ (claim_true (ltb d 16 && get_or q.claimed d false) (kind_at (own_claims q s) d) k is).1
+claim_marked : (q : Part) (s : Shared) (d : ℕ) (k : Kind) → is_kind k (claim (own_claims q s) d) ≡ true → get_or q.claimed d false ≡ true
+claim_marked q s d k is = (and_parts _ _ (claim_true (ltb d 16 && get_or q.claimed d false) (kind_at (own_claims q s) d) k is).0).1
 
-pub claim_has : (q : Part) (s : Shared) (d : ℕ) (k : Kind) → is_kind k (claim (own_claims q s) d) ≡ true → has_device q d ≡ true
-claim_has q s d k is = fixture_has (has_device q d) (spot_at s.spots d).fixture k (claim_kind q s d k is)
+claim_kind : (q : Part) (s : Shared) (d : ℕ) (k : Kind) → is_kind k (claim (own_claims q s) d) ≡ true → is_kind k (kind_at (own_claims q s) d) ≡ true
+claim_kind q s d k is = (claim_true (ltb d 16 && get_or q.claimed d false) (kind_at (own_claims q s) d) k is).1
 
--- and of that kind in its place
-pub claim_spot : (q : Part) (s : Shared) (d : ℕ) (k : Kind) → is_kind k (claim (own_claims q s) d) ≡ true → is_kind k (spot_kind (spot_at s.spots d)) ≡ true
-claim_spot q s d k is =
-    ap (λ b. is_kind k (kind_in (cond b (spot_at s.spots d).fixture None))) (sym (claim_has q s d k is)) ∙ claim_kind q s d k is
+-- what it is stands in its place
+pub claim_fixture : (q : Part) (s : Shared) (d : ℕ) (k : Kind) → IsKept q s → is_kind k (claim (own_claims q s) d) ≡ true → (is_some (fixture_at (own_claims q s) d) ≡ true) × (fixture_at (own_claims q s) d ≡ (spot_at s.spots d).fixture)
+claim_fixture q s d k kept is =
+    let some = some_kind (fixture_at (own_claims q s) d) k (claim_kind q s d k is) in
+    (some, fixture_there q s d kept (claim_small q s d k is) some)
+
+pub claim_holder : (q : Part) (s : Shared) (d : ℕ) (k : Kind) → IsKept q s → IsActive q s → is_kind k (claim (own_claims q s) d) ≡ true → (spot_at s.spots d).holder ≡ Some q.p
+claim_holder q s d k kept active is =
+    marked_holder q s d kept active (claim_small q s d k is) (claim_fixture q s d k kept is).0 (claim_marked q s d k is)
+
+pub claim_has : (q : Part) (s : Shared) (d : ℕ) (k : Kind) → IsKept q s → IsActive q s → is_kind k (claim (own_claims q s) d) ≡ true → has_device q (spot_at s.spots d) ≡ true
+claim_has q s d k kept active is = is_its q.p (spot_at s.spots d).holder (claim_holder q s d k kept active is)
+
+-- and of that kind
+pub claim_spot : (q : Part) (s : Shared) (d : ℕ) (k : Kind) → IsKept q s → is_kind k (claim (own_claims q s) d) ≡ true → is_kind k (spot_kind (spot_at s.spots d)) ≡ true
+claim_spot q s d k kept is =
+    ap (λ f. is_kind k (kind_in f)) (sym (claim_fixture q s d k kept is).1) ∙ claim_kind q s d k is
 
 some_claim : (b : Bool) (o : Option Kind) → is_some (cond b o None) ≡ true → (b ≡ true) × (is_some o ≡ true)
 some_claim true o is = (refl, is)
 some_claim false o is = cc
 
-some_owned : (b : Bool) (f : Option Fixture) → is_some (kind_in (cond b f None)) ≡ true → b ≡ true
-some_owned true f is = refl
-some_owned false f is = cc
+some_fixture : (o : Option Fixture) → is_some (kind_in o) ≡ true → is_some o ≡ true
+some_fixture None is = cc
+some_fixture (Some f) is = refl
 
 -- a device that is claimed is one of the program's
 pub claimed_small : (q : Part) (s : Shared) (d : ℕ) → is_claimed (own_claims q s) d ≡ true → d < device_count
@@ -94,21 +138,23 @@ claimed_small q s d is =
     let lt : d < 16 = ltb-true d 16 (and_parts _ _ (some_claim (ltb d 16 && get_or q.claimed d false) (kind_at (own_claims q s) d) is).0).0 in
     omega (arith, limit_is)
 
-pub claimed_has : (q : Part) (s : Shared) (d : ℕ) → is_claimed (own_claims q s) d ≡ true → has_device q d ≡ true
-claimed_has q s d is =
-    some_owned (has_device q d) (spot_at s.spots d).fixture
-    (ap (λ f. is_some (kind_in f)) (sym (own_fixture_at q s d (claimed_small q s d is)))
-    ∙ (some_claim (ltb d 16 && get_or q.claimed d false) (kind_at (own_claims q s) d) is).1)
+pub claimed_holder : (q : Part) (s : Shared) (d : ℕ) → IsKept q s → IsActive q s → is_claimed (own_claims q s) d ≡ true → (spot_at s.spots d).holder ≡ Some q.p
+claimed_holder q s d kept active is =
+    let parts = some_claim (ltb d 16 && get_or q.claimed d false) (kind_at (own_claims q s) d) is in
+    marked_holder q s d kept active (claimed_small q s d is) (some_fixture (fixture_at (own_claims q s) d) parts.1) (and_parts _ _ parts.0).1
+
+pub claimed_has : (q : Part) (s : Shared) (d : ℕ) → IsKept q s → IsActive q s → is_claimed (own_claims q s) d ≡ true → has_device q (spot_at s.spots d) ≡ true
+claimed_has q s d kept active is = is_its q.p (spot_at s.spots d).holder (claimed_holder q s d kept active is)
 
 by_claim : (b : Bool) (x y : Option Kind) → (b ≡ true → x ≡ y) → cond b x None ≡ cond b y None
 by_claim true x y same = same refl
 by_claim false x y same = refl
 
 -- what is claimed, by the places
-pub claim_is : (q : Part) (s : Shared) (d : ℕ) → claim (own_claims q s) d ≡ cond (ltb d 16 && get_or q.claimed d false) (kind_in (fixture_owned q.devices s.spots d)) None
+pub claim_is : (q : Part) (s : Shared) (d : ℕ) → claim (own_claims q s) d ≡ cond (ltb d 16 && get_or q.claimed d false) (kind_in (pooled_or (pool_kind q d) (fixture_owned q.devices s.spots d))) None
 claim_is q s d =
-    by_claim (ltb d 16 && get_or q.claimed d false) (kind_at (own_claims q s) d) (kind_in (fixture_owned q.devices s.spots d))
-    (λ is. let lt : d < 16 = ltb-true d 16 (and_parts _ _ is).0 in ap kind_in (own_fixture_at q s d (omega (arith, limit_is))))
+    by_claim (ltb d 16 && get_or q.claimed d false) (kind_at (own_claims q s) d) (kind_in (pooled_or (pool_kind q d) (fixture_owned q.devices s.spots d)))
+    (λ is. let lt : d < 16 = ltb-true d 16 (and_parts _ _ is).0 in ap (λ f. kind_in (pooled_or (pool_kind q d) f)) (own_is q s d (omega (arith, limit_is))))
 
 -- a device that is wanted and isn't claimed
 pub free_is : (w : Wanted) (f : Option Fixture) (has claimed : Bool) → (has && (not claimed && is_wanted w f)) ≡ (is_wanted w (cond has f None) && not (is_some (cond claimed (kind_in (cond has f None)) None)))
@@ -138,15 +184,44 @@ free_is w (Some f) true true = and_false (is_wanted w (Some f))
     and_false true = refl
     and_false false = refl
 
-pub free_shown : (q : Part) (s : Shared) (d : ℕ) (w : Wanted) → d < 16 → (owns q.devices d && (not (get_or q.claimed d false) && is_wanted w (spot_at s.spots d).fixture)) ≡ (is_wanted w (fixture_at (own_claims q s) d) && not (is_claimed (own_claims q s) d))
-free_shown q s d w lt =
+-- a device that the slot owns is none of the pool's
+not_pooled : (q : Part) (s : Shared) (d : ℕ) → IsKept q s → owns q.devices d ≡ true → pool_kind q d ≡ None
+not_pooled q s d kept has = none_some (pool_kind q d) (kept.apart d has)
+  where
+    none_some : (o : Option Kind) → is_some o ≡ false → o ≡ None
+    none_some None is = refl
+    none_some (Some k) is = cc
+
+pub free_shown : (q : Part) (s : Shared) (d : ℕ) (w : Wanted) → IsKept q s → d < 16 → (owns q.devices d && (not (get_or q.claimed d false) && is_wanted w (spot_at s.spots d).fixture)) ≡ (is_wanted w (own_fixture_at (own_claims q s) d) && not (is_claimed (own_claims q s) d))
+free_shown q s d w kept lt =
     free_is w (spot_at s.spots d).fixture (owns q.devices d) (get_or q.claimed d false)
-    ∙ ap₂ (λ f b. is_wanted w f && not (is_some (cond (b && get_or q.claimed d false) (kind_in f) None)))
-    (sym (own_fixture_at q s d (omega (arith, limit_is)))) (sym (lt-ltb d 16 lt))
+    ∙ by_owned (owns q.devices d) refl
+  where
+    small : d < device_count
+    small = omega (arith, limit_is)
+
+    none_here : (w : Wanted) (x : Bool) → (is_wanted w None && x) ≡ false
+    none_here (Kinded Tr) x = refl
+    none_here (Kinded Tp) x = refl
+    none_here (Kinded Cr) x = refl
+    none_here (Kinded Lp) x = refl
+    none_here (Kinded Mt) x = refl
+    none_here (Labelled label) x = refl
+
+    by_owned : (b : Bool) → owns q.devices d ≡ b → (is_wanted w (cond (owns q.devices d) (spot_at s.spots d).fixture None) && not (is_some (cond (get_or q.claimed d false) (kind_in (cond (owns q.devices d) (spot_at s.spots d).fixture None)) None))) ≡ (is_wanted w (own_fixture_at (own_claims q s) d) && not (is_claimed (own_claims q s) d))
+    by_owned true has =
+        ap₂ (λ f b. is_wanted w f && not (is_some (cond (b && get_or q.claimed d false) (kind_in f) None)))
+        (sym (own_is q s d small)) (sym (lt-ltb d 16 lt))
+        ∙ ap (λ o. is_wanted w (own_fixture_at (own_claims q s) d) && not (is_some (cond (ltb d 16 && get_or q.claimed d false) (kind_in (pooled_or o (own_fixture_at (own_claims q s) d))) None))) (sym (not_pooled q s d kept has))
+    by_owned false not_own =
+        ap (λ b. is_wanted w (cond b (spot_at s.spots d).fixture None) && not (is_some (cond (get_or q.claimed d false) (kind_in (cond b (spot_at s.spots d).fixture None)) None))) not_own
+        ∙ none_here w (not (is_some (cond (get_or q.claimed d false) (kind_in None) None)))
+        ∙ sym (none_here w (not (is_claimed (own_claims q s) d)))
+        ∙ ap (λ f. is_wanted w f && not (is_claimed (own_claims q s) d)) (sym (own_is q s d small ∙ ap (λ b. cond b (spot_at s.spots d).fixture None) not_own))
 
 -- the progress of one of its devices
-pub own_device : (q : Part) (n : ℕ) (s : Shared) (d : ℕ) → d < device_count → has_device q d ≡ true → device_in (own_stock q n s) d ≡ (spot_at s.spots d).progress
-own_device q n s d lt has = number_at (own_progress q s.spots) d new_progress lt ∙ ap (λ b. cond b (spot_at s.spots d).progress new_progress) has
+pub own_device : (q : Part) (n : ℕ) (s : Shared) (d : ℕ) → d < device_count → has_device q (spot_at s.spots d) ≡ true → device_in (own_stock q n s) d ≡ (spot_at s.spots d).progress
+own_device q n s d lt has = number_at (own_progress q s.spots) d new_progress lt ∙ ap (λ b. cond b (spot_at s.spots d).progress (left_in q.stints d)) has
 
 -- a place of the list, as a spot
 pub spot_there : (places : List Place) (d : ℕ) → spot_at (map spot_of places) d ≡ spot_of (get_or places d Absent)
