@@ -5,7 +5,7 @@ ghost use Rattle.kdf_director.specs.Keeping.{IsActive, IsKept};
 ghost use Rattle.kdf_director.specs.Parts.{part_with, shared_in};
 ghost use Rattle.kdf_director.specs.Spots.{AreDry};
 
-use crate::devices::{first_free, is_free, kind_claimed};
+use crate::devices::{first_free, is_free, is_lent_kind, kind_claimed};
 use crate::places::{first_of, lend_at, make_ready_at, take_back_at, test_in};
 use crate::starting::start_at;
 use crate::stint::hand_in;
@@ -185,7 +185,7 @@ impl<'a> Turn<'a> {
         requires { d < 16 }
         ensures { result ≡ can_take (own_claims (part_of self.now) (shared self.now)) kind d }
     {
-        kind_lent(self.pool, d) == Some(kind) && !self.claimed[usize::from(d)]
+        is_lent_kind(self.pool, d, kind) && !self.claimed[usize::from(d)]
     }
 
     /// Notes an answer.
