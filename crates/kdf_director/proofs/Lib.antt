@@ -77,4 +77,4 @@ pub mod Calls
 pub mod Living
 pub mod InOrder
 pub mod Placed
-pub mod Loans
+pub mod Handing

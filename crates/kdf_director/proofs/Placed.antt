@@ -26,3 +26,10 @@ nothing_left places d past =
 
 pub none_there : (places : List Place) (d : ℕ) → length places ≤ d → spot_at (map spot_of places) d ≡ no_spot
 none_there places d past = get_or_past (map spot_of places) d no_spot (let e = length-map places spot_of in omega arith)
+
+-- a place that shows the same is put back
+pub same_spots : (places : List Place) (d : ℕ) (old new : Place) → old ≡ get_or places d Absent → spot_of new ≡ spot_of old → map spot_of (set places d new) ≡ map spot_of places
+same_spots places d old new was same =
+    map-set spot_of places d new
+    ∙ ap (set (map spot_of places) d) (same ∙ ap spot_of was ∙ sym (spot_there places d))
+    ∙ set-get_or (map spot_of places) d no_spot

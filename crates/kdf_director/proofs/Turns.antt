@@ -1,5 +1,5 @@
 -- A turn over a machine shows what the machine's own definitions say.
-use Rattle.std.proofs.Common.{◌≡◌, ℕ, Bool, List, refl, ap, ap₂, sym, ◌∙◌, map, get_or, set}
+use Rattle.std.proofs.Common.{◌≡◌, ℕ, Bool, List, refl, ap, ap₂, ◌∙◌, map}
 use Rattle.kdf_processor.specs.declared.registers.Registers.{Registers}
 use Rattle.kdf_processor.specs.declared.step.Step.{Step}
 use Rattle.kdf_director.specs.declared.note.Note.{Note}
@@ -9,12 +9,9 @@ use Rattle.kdf_processor.specs.Outcome.{Outcome, outcome}
 use Rattle.kdf_processor.specs.declared.spooled.Spooled.{Spooled}
 use Rattle.kdf_lockout.specs.Groups.{Cells}
 use Rattle.kdf_director.specs.declared.place.Place.{Place}
-use Rattle.kdf_director.specs.declared.place.Place.TheVariants.{Absent}
 use Rattle.kdf_director.specs.declared.turn.Turn.{Turn}
-use Rattle.kdf_director.specs.Spots.{Spot, no_spot, spot_of}
+use Rattle.kdf_director.specs.Spots.{Spot, spot_of}
 use Rattle.kdf_director.specs.Turned.{outcome_over, seat_after, HasTried}
-use Rattle.kdf_director.proofs.Showing.{spot_there}
-use Rattle.std.proofs.lemmas.List.{map-set, set-get_or}
 use Rattle.kdf_director.specs.Notes.{note_after}
 use Rattle.kdf_director.specs.Parts.{Part, Reach, Shared, part_after, part_in, seat, shared_in}
 use Rattle.kdf_director.specs.Shared.{view, after_act}
@@ -98,10 +95,3 @@ left_back t u p r left claimed claimed' spooled spooled' stints stints' reach s 
       ∙ ap (seat p r claimed spooled) (ap (map keeping_of) stints_are ∙ ap (λ (x : Part). x.stints) part),
       shared_back u cells places s cells_are places_are (stays.shared ∙ shared_is),
     )
-
--- a place that shows the same is put back
-pub same_spots : (places : List Place) (d : ℕ) (old new : Place) → old ≡ get_or places d Absent → spot_of new ≡ spot_of old → map spot_of (set places d new) ≡ map spot_of places
-same_spots places d old new was same =
-    map-set spot_of places d new
-    ∙ ap (set (map spot_of places) d) (same ∙ ap spot_of was ∙ sym (spot_there places d))
-    ∙ set-get_or (map spot_of places) d no_spot
