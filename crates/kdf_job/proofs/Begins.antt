@@ -14,6 +14,7 @@ blank_sound = record {
     rising = tt {0};
     fits = omega arith;
     apart = tt {0};
+    none = λ k d lt. absurd (omega arith);
   };
   schedule = record {
     each = λ k d lt. absurd (omega arith);

@@ -6,6 +6,7 @@ pub mod Slots
 pub mod Steps
 pub mod Begins
 pub mod Told
+pub mod Pools
 pub mod Finished
 pub mod Passing
 pub mod MadeTexts

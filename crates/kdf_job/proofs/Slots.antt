@@ -10,7 +10,8 @@ use Rattle.std.proofs.lemmas.List.Sums.{sum_by-append}
 use Rattle.std.proofs.lemmas.Map.Keys.{IsDistinct-push}
 use Rattle.kdf_job.specs.Job.{JobDevice, SlotJob}
 use Rattle.kdf_job.specs.Draft.{numbers_of, words_in}
-use Rattle.kdf_job.specs.WellFormed.{AreRising, AreSlots, IsSlot}
+use Rattle.kdf_job.specs.Kept.{AreTold}
+use Rattle.kdf_job.specs.WellFormed.{AreRising, IsSlot}
 
 abbrev pub ps : List SlotJob → List ℕ
 ps slots = map (λ (s : SlotJob). s.p) slots
@@ -34,13 +35,14 @@ all_front : {X : Type 0} (P : X → Type 0) (xs : List X) (x : X) → All P (xs 
 all_front P xs x all = λ k d lt. subst P (get_or_append_left xs (x ∷ []) d k lt) (all k d (let n = length-append xs (x ∷ []) in omega arith))
 
 -- another slot in place of the last
-pub slots_changed : (front : List SlotJob) (s t : SlotJob) → AreSlots (front ++ s ∷ []) → t.p ≡ s.p → t.size ≡ s.size → IsSlot t → IsDistinct nat_eq (numbers_of (front ++ t ∷ []))
-    → AreSlots (front ++ t ∷ [])
-slots_changed front s t was p size slot apart = record {
+pub slots_changed : (front : List SlotJob) (s t : SlotJob) → AreTold (front ++ s ∷ []) → t.p ≡ s.p → t.size ≡ s.size → IsSlot t → IsDistinct nat_eq (numbers_of (front ++ t ∷ [])) → t.pool ≡ []
+    → AreTold (front ++ t ∷ [])
+slots_changed front s t was p size slot apart none = record {
   each = All-push IsSlot front t (all_front IsSlot front s was.each) slot;
   rising = subst AreRising (ps_last front s ∙ ap (λ (q : ℕ). ps front ++ q ∷ []) (sym p) ∙ sym (ps_last front t)) was.rising;
   fits = let e = words_last front s in let f = words_last front t in let g = was.fits in omega arith;
   apart = apart;
+  none = All-push (λ (x : SlotJob). x.pool ≡ []) front t (all_front (λ (x : SlotJob). x.pool ≡ []) front s was.none) none;
 }
 
 pub numbers_same : (front : List SlotJob) (s t : SlotJob) → ds t.devices ≡ ds s.devices → numbers_of (front ++ t ∷ []) ≡ numbers_of (front ++ s ∷ [])
@@ -60,18 +62,19 @@ rising_push [] q p r lt = (lt, tt {0})
 rising_push (a ∷ []) q p r lt = (r.0, (lt, tt {0}))
 rising_push (a ∷ b ∷ qs) q p r lt = (r.0, rising_push (b ∷ qs) q p r.1 lt)
 
-pub slots_first : (t : SlotJob) → IsSlot t → t.devices ≡ [] → AreSlots (t ∷ [])
+pub slots_first : (t : SlotJob) → IsSlot t → t.devices ≡ [] → t.pool ≡ [] → AreTold (t ∷ [])
 unfolding IsDistinct
-slots_first t slot none = record {
+slots_first t slot none unlent = record {
   each = All-push IsSlot [] t (λ k d lt. absurd (omega arith)) slot;
   rising = tt {0};
   fits = let most = slot.most in omega arith;
   apart = subst (IsDistinct nat_eq) (sym (numbers_last [] t ∙ ap (λ (xs : List JobDevice). ds xs) none)) (tt {0});
+  none = All-push (λ (x : SlotJob). x.pool ≡ []) [] t (λ k d lt. absurd (omega arith)) unlent;
 }
 
-pub slots_more : (front : List SlotJob) (s t : SlotJob) → AreSlots (front ++ s ∷ []) → s.p < t.p → IsSlot t → t.devices ≡ [] → words_in (front ++ s ∷ []) + t.size ≤ 31744
-    → AreSlots ((front ++ s ∷ []) ++ t ∷ [])
-slots_more front s t was p slot none fits =
+pub slots_more : (front : List SlotJob) (s t : SlotJob) → AreTold (front ++ s ∷ []) → s.p < t.p → IsSlot t → t.devices ≡ [] → t.pool ≡ [] → words_in (front ++ s ∷ []) + t.size ≤ 31744
+    → AreTold ((front ++ s ∷ []) ++ t ∷ [])
+slots_more front s t was p slot none unlent fits =
     let all = front ++ s ∷ [] in
     record {
       each = All-push IsSlot all t was.each slot;
@@ -80,6 +83,7 @@ slots_more front s t was p slot none fits =
           subst AreRising (ap (λ (xs : List ℕ). xs ++ t.p ∷ []) (sym (ps_last front s)) ∙ sym (ps_last all t)) (rising_push (ps front) s.p t.p r p);
       fits = let e = words_last all t in omega arith;
       apart = subst (IsDistinct nat_eq) (sym (numbers_none all t none)) was.apart;
+      none = All-push (λ (x : SlotJob). x.pool ≡ []) all t was.none unlent;
     }
   where
     numbers_none : (all : List SlotJob) (t : SlotJob) → t.devices ≡ [] → numbers_of (all ++ t ∷ []) ≡ numbers_of all

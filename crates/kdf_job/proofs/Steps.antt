@@ -6,8 +6,8 @@ use Rattle.std.proofs.lemmas.Bool.Decides.{nat_tests}
 use Rattle.std.proofs.Math.Seq.{get_or-append_seam}
 use Rattle.kdf_job.specs.Job.{SlotJob}
 use Rattle.kdf_job.specs.Draft.{SlotDraft, Draft, all_devices, new_slot, numbers_of, slot_fault, slot_of, slots_told, words_in}
-use Rattle.kdf_job.specs.Kept.{IsBegun, IsKept, IsPlaced}
-use Rattle.kdf_job.specs.WellFormed.{AreSlots, IsSchedule, IsSlot}
+use Rattle.kdf_job.specs.Kept.{AreTold, IsBegun, IsKept, IsPlaced}
+use Rattle.kdf_job.specs.WellFormed.{IsSchedule, IsSlot}
 use Rattle.kdf_job.proofs.Slots.{apart_more, ds, numbers_last, numbers_more, numbers_same, slots_changed, slots_first, slots_more, words_last}
 
 -- the slot in which the line stands is another, with the same devices
@@ -16,12 +16,12 @@ pub slot_told : (words : ℕ) (numbers : List ℕ) (d e : Draft) (s t : SlotDraf
 slot_told words numbers d e s t was slots old new events p size same slot placed =
     let before : slots_told d ≡ d.slots ++ slot_of s ∷ [] = rw old refl in
     let after : slots_told e ≡ d.slots ++ slot_of t ∷ [] = rw (slots, new) refl in
-    let sound : AreSlots (d.slots ++ slot_of s ∷ []) = subst AreSlots before was.slots in
+    let sound : AreTold (d.slots ++ slot_of s ∷ []) = subst AreTold before was.slots in
     let ns : numbers_of (d.slots ++ slot_of t ∷ []) ≡ numbers_of (d.slots ++ slot_of s ∷ []) = numbers_same d.slots (slot_of s) (slot_of t) same in
     record {
       sum = was.sum ∙ ap words_in before ∙ words_last d.slots (slot_of s) ∙ ap (λ (n : ℕ). words_in d.slots + n) (sym size) ∙ sym (words_last d.slots (slot_of t)) ∙ ap words_in (sym after);
       all = was.all ∙ ap numbers_of before ∙ sym ns ∙ ap numbers_of (sym after);
-      slots = subst AreSlots (sym after) (slots_changed d.slots (slot_of s) (slot_of t) sound p size slot (subst (IsDistinct nat_eq) (sym ns) sound.apart));
+      slots = subst AreTold (sym after) (slots_changed d.slots (slot_of s) (slot_of t) sound p size slot (subst (IsDistinct nat_eq) (sym ns) sound.apart) refl);
       schedule = subst IsSchedule (sym events) was.schedule;
       begun = rw new (tt {0});
       placed = placed;
@@ -34,13 +34,13 @@ pub device_told : (words n : ℕ) (numbers : List ℕ) (d e : Draft) (s t : Slot
 device_told words n numbers d e s t was slots old new events p size more free slot placed =
     let before : slots_told d ≡ d.slots ++ slot_of s ∷ [] = rw old refl in
     let after : slots_told e ≡ d.slots ++ slot_of t ∷ [] = rw (slots, new) refl in
-    let sound : AreSlots (d.slots ++ slot_of s ∷ []) = subst AreSlots before was.slots in
+    let sound : AreTold (d.slots ++ slot_of s ∷ []) = subst AreTold before was.slots in
     let ns : numbers_of (d.slots ++ slot_of t ∷ []) ≡ numbers_of (d.slots ++ slot_of s ∷ []) ++ n ∷ [] = numbers_more d.slots (slot_of s) (slot_of t) n more in
     let open_ : list_any (nat_eq n) (numbers_of (d.slots ++ slot_of s ∷ [])) ≡ false = subst (λ (xs : List SlotJob). list_any (nat_eq n) (numbers_of xs) ≡ false) before free in
     record {
       sum = was.sum ∙ ap words_in before ∙ words_last d.slots (slot_of s) ∙ ap (λ (m : ℕ). words_in d.slots + m) (sym size) ∙ sym (words_last d.slots (slot_of t)) ∙ ap words_in (sym after);
       all = ap (λ (xs : List ℕ). xs ++ n ∷ []) (was.all ∙ ap numbers_of before) ∙ sym ns ∙ ap numbers_of (sym after);
-      slots = subst AreSlots (sym after) (slots_changed d.slots (slot_of s) (slot_of t) sound p size slot (subst (IsDistinct nat_eq) (sym ns) (apart_more _ n sound.apart open_)));
+      slots = subst AreTold (sym after) (slots_changed d.slots (slot_of s) (slot_of t) sound p size slot (subst (IsDistinct nat_eq) (sym ns) (apart_more _ n sound.apart open_)) refl);
       schedule = subst IsSchedule (sym events) was.schedule;
       begun = rw new (tt {0});
       placed = placed;
@@ -56,17 +56,18 @@ new_is_slot p n few least most groups = record {
   deck = omega arith;
   devices = λ k d lt. absurd (omega arith);
   shows = λ k d lt. absurd (omega arith);
+  lent = λ k d lt. absurd (omega arith);
 }
 
-begun_slots : (d : Draft) (slot : Option SlotDraft) (p n : ℕ) → d.slot ≡ slot → AreSlots (slots_told d) → IsBegun d.slots d.slot → slot_fault p d.slot ≡ None → p ≤ 3 → 32 ≤ n → n ≤ 8192
-    → n % 32 ≡ 0 → words_in (slots_told d) + n ≤ 31744 → AreSlots (slots_told d ++ slot_of (new_slot p n) ∷ [])
+begun_slots : (d : Draft) (slot : Option SlotDraft) (p n : ℕ) → d.slot ≡ slot → AreTold (slots_told d) → IsBegun d.slots d.slot → slot_fault p d.slot ≡ None → p ≤ 3 → 32 ≤ n → n ≤ 8192
+    → n % 32 ≡ 0 → words_in (slots_told d) + n ≤ 31744 → AreTold (slots_told d ++ slot_of (new_slot p n) ∷ [])
 begun_slots d None p n is was begun above few least most groups fits =
     let none : d.slots ≡ [] = rw is at begun in
-    rw (is, none) (slots_first (slot_of (new_slot p n)) (new_is_slot p n few least most groups) refl)
+    rw (is, none) (slots_first (slot_of (new_slot p n)) (new_is_slot p n few least most groups) refl refl)
 begun_slots d (Some s) p n is was begun above few least most groups fits =
     let after : slots_told d ≡ d.slots ++ slot_of s ∷ [] = rw is refl in
     let lt : s.p < p = let h : slot_fault p (Some s) ≡ None = rw is at above in grind (arith, nat_tests) in
-    rw after (slots_more d.slots (slot_of s) (slot_of (new_slot p n)) (subst AreSlots after was) lt (new_is_slot p n few least most groups) refl (rw after at fits))
+    rw after (slots_more d.slots (slot_of s) (slot_of (new_slot p n)) (subst AreTold after was) lt (new_is_slot p n few least most groups) refl refl (rw after at fits))
 
 pub store_told : (words p n : ℕ) (numbers : List ℕ) (d e : Draft) → IsKept words numbers d → e.slots ≡ slots_told d → e.slot ≡ Some (new_slot p n) → e.events ≡ d.events → slot_fault p d.slot ≡ None
     → p ≤ 3 → 32 ≤ n → n ≤ 8192 → n % 32 ≡ 0 → words + n ≤ 31744 → IsPlaced e.place e.slot → IsKept (words + n) numbers e
@@ -76,7 +77,7 @@ store_told words p n numbers d e was slots new events above few least most group
     record {
       sum = ap (λ (m : ℕ). m + n) was.sum ∙ sym (words_last (slots_told d) (slot_of (new_slot p n))) ∙ ap words_in (sym after);
       all = was.all ∙ sym (append-nil (numbers_of (slots_told d))) ∙ sym (numbers_last (slots_told d) (slot_of (new_slot p n))) ∙ ap numbers_of (sym after);
-      slots = subst AreSlots (sym after) (begun_slots d d.slot p n refl was.slots was.begun above few least most groups told);
+      slots = subst AreTold (sym after) (begun_slots d d.slot p n refl was.slots was.begun above few least most groups told);
       schedule = subst IsSchedule (sym events) was.schedule;
       begun = rw new (tt {0});
       placed = placed;
@@ -86,7 +87,7 @@ store_told words p n numbers d e was slots new events above few least most group
 pub current_slot : (words : ℕ) (numbers : List ℕ) (d : Draft) (s : SlotDraft) → IsKept words numbers d → d.slot ≡ Some s → IsSlot (slot_of s)
 current_slot words numbers d s was is =
     let before : slots_told d ≡ d.slots ++ slot_of s ∷ [] = rw is refl in
-    all_last IsSlot d.slots (slot_of s) (subst AreSlots before was.slots).each
+    all_last IsSlot d.slots (slot_of s) (subst AreTold before was.slots).each
   where
     all_last : {X : Type 0} (P : X → Type 0) (xs : List X) (x : X) → All P (xs ++ x ∷ []) → P x
     all_last P xs x all = subst P (get_or-append_seam xs x [] x) (all (length xs) x (let n = length-append xs (x ∷ []) in omega arith))

@@ -59,6 +59,7 @@ show_kept words numbers d s a b was is faultless =
       deck = now.deck;
       devices = now.devices;
       shows = All-push (IsShow s.size) s.shows (a, b) now.shows range;
+      lent = now.lent;
     })
     (rw is refl)
   where
@@ -87,6 +88,7 @@ deck_kept words numbers d s line was is fits =
       deck = let m = length-append (s.deck ++ line) (10 ∷ []) in let n = length-append s.deck line in omega arith;
       devices = now.devices;
       shows = now.shows;
+      lent = now.lent;
     })
     (rw is refl)
 
@@ -124,6 +126,7 @@ device_kept words numbers d s n kind label was is few free =
       deck = now.deck;
       devices = subst (All (λ (x : ℕ). x < 16)) (sym more) (All-push (λ (x : ℕ). x < 16) (ds (all_devices s)) n now.devices (omega arith));
       shows = now.shows;
+      lent = now.lent;
     })
     (rw is refl)
 
@@ -223,6 +226,7 @@ medium_kept words numbers d s marked text was is some =
       deck = now.deck;
       devices = subst (All (λ (x : ℕ). x < 16)) (sym same) now.devices;
       shows = now.shows;
+      lent = now.lent;
     })
     (rw is refl)
 

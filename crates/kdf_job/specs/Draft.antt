@@ -48,7 +48,14 @@ all_devices s = s.devices ++ option_to_list s.device
 
 abbrev pub slot_of : SlotDraft → SlotJob
 slot_of s =
-    record { p = s.p; size = s.size; deck = s.deck; devices = all_devices s; shows = s.shows }
+    record {
+      p = s.p;
+      size = s.size;
+      deck = s.deck;
+      devices = all_devices s;
+      shows = s.shows;
+      pool = [];
+    }
 
 -- all slots so far
 abbrev pub slots_told : Draft → List SlotJob
@@ -107,7 +114,7 @@ with_line form d =
 
 -- the job that the lines tell
 abbrev pub job_of : Draft → Job
-job_of d = record { slots = slots_told d; events = d.events }
+job_of d = record { slots = slots_told d; events = d.events; pool = [] }
 
 -- ---- what is wrong with a line
 

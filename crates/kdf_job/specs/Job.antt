@@ -1,5 +1,6 @@
--- A job: its slots, each with its deck and its devices, and the schedule.
+-- A job: its slots, each with its deck and its devices, the schedule, and the pool.
 use Rattle.std.specs.Prelude.{ℕ, List}
+use Rattle.kdf_journal.specs.declared.kind.Kind.{Kind}
 use Rattle.kdf_schedule.specs.declared.event.Event.{Event}
 use Rattle.kdf_transfer.specs.Devices.{Fixture, Progress}
 
@@ -9,16 +10,18 @@ pub record JobDevice : Type 0 where
   pub fixture : Fixture
   pub progress : Progress
 
--- a slot: its number, the size of its store, the text of its deck, its devices, and the first and the last address
--- of each run of words that the report shows
+-- a slot: its number, the size of its store, the text of its deck, its devices, the first and the last address of
+-- each run of words that the report shows, and the numbers and kinds of the devices that are lent out
 pub record SlotJob : Type 0 where
   pub p : ℕ
   pub size : ℕ
   pub deck : List ℕ
   pub devices : List JobDevice
   pub shows : List (ℕ × ℕ)
+  pub pool : List (ℕ × Kind)
 
--- the slots and the schedule
+-- the slots, the schedule, and the devices that are lent out
 pub record Job : Type 0 where
   pub slots : List SlotJob
   pub events : List Event
+  pub pool : List (ℕ × Kind)

@@ -1,10 +1,12 @@
 -- What is kept beside the lines of a job while it is read, and what holds of them.
-use Rattle.std.specs.Prelude.{◌≡◌, ℕ, ◌≤◌, true, List, [], Option, Some, None, is_some}
+use Rattle.std.specs.Prelude.{◌≡◌, ℕ, ◌≤◌, true, List, [], map, Option, Some, None, All, nat_eq, is_some}
+use Rattle.std.specs.List.{IsDistinct}
 use Rattle.kdf_job.specs.declared.place.Place.{Place}
 use Rattle.kdf_job.specs.declared.place.Place.TheVariants.{First, BehindHeader, BehindSlot}
 use Rattle.kdf_job.specs.Draft.{SlotDraft, Draft, numbers_of, slot_fault, slots_told, words_in}
 use Rattle.kdf_job.specs.Job.{SlotJob}
-use Rattle.kdf_job.specs.WellFormed.{AreSlots, IsSchedule}
+use Rattle.kdf_job.specs.WellFormed.{AreRising, IsSchedule, IsSlot}
+use Rattle.kdf_job.specs.Limits.{most_words_together}
 
 -- the first slot is behind no other
 abbrev pub IsBegun : List SlotJob → Option SlotDraft → Type 0
@@ -18,11 +20,19 @@ IsPlaced BehindHeader slot = Unit {0}
 IsPlaced (BehindSlot p) slot = (p ≤ 3) × (slot_fault p slot ≡ None)
 IsPlaced _ slot = is_some slot ≡ true
 
+-- the slots so far, none of which knows of a pool
+pub record AreTold (slots : List SlotJob) : Type 0 where
+  pub each : All IsSlot slots
+  pub rising : AreRising (map (λ (s : SlotJob). s.p) slots)
+  pub fits : words_in slots ≤ most_words_together
+  pub apart : IsDistinct nat_eq (numbers_of slots)
+  pub none : All (λ (s : SlotJob). s.pool ≡ []) slots
+
 -- the sum of the sizes and the numbers of the devices are those of the slots, and all is well formed so far
 pub record IsKept (words : ℕ) (numbers : List ℕ) (d : Draft) : Type 0 where
   pub sum : words ≡ words_in (slots_told d)
   pub all : numbers ≡ numbers_of (slots_told d)
-  pub slots : AreSlots (slots_told d)
+  pub slots : AreTold (slots_told d)
   pub schedule : IsSchedule d.events
   pub begun : IsBegun d.slots d.slot
   pub placed : IsPlaced d.place d.slot

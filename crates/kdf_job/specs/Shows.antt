@@ -63,10 +63,16 @@ shown_slot s =
       deck = s.deck.items;
       devices = map shown_device s.devices.items;
       shows = s.shows.items;
+      pool = s.pool.items;
     }
 
 abbrev pub shown_job : ReadJob → Job
-shown_job j = record { slots = map shown_slot j.slots.items; events = j.events.items }
+shown_job j =
+    record {
+      slots = map shown_slot j.slots.items;
+      events = j.events.items;
+      pool = j.pool.items;
+    }
 
 -- what a line of a device tells
 abbrev pub told_device : Option (Result DeviceLine JobFault) → Told

@@ -1,6 +1,7 @@
 -- The slot as which a job's slot is loaded with the words of its image.
 use Rattle.std.specs.Prelude.{ℕ, ◌==◌, List, [], find, Option, Some, None}
 use Rattle.std.specs.Option.{option_map}
+use Rattle.kdf_journal.specs.declared.kind.Kind.{Kind}
 use Rattle.kdf_transfer.specs.ByNumber.{by_number}
 use Rattle.kdf_transfer.specs.Devices.{Fixture, Progress, new_progress}
 use Rattle.kdf_transfer.specs.Slots.{Slot}
@@ -18,18 +19,23 @@ abbrev pub progress_on : Option JobDevice → Progress
 progress_on None = new_progress
 progress_on (Some x) = x.progress
 
--- a slot of this number and size: these words at the front of its store, and these devices by number
-abbrev pub slot_with : ℕ → ℕ → List ℕ → List JobDevice → Slot
-slot_with p size words devices =
+-- the kind of the first device of a number, of those that are lent out
+abbrev pub lent_kind : List (ℕ × Kind) → ℕ → Option Kind
+lent_kind pool d = option_map (λ (x : ℕ × Kind). x.1) (find (λ (x : ℕ × Kind). x.0 == d) pool)
+
+-- a slot of this number and size: these words at the front of its store, and these devices and those of the pool by
+-- number
+abbrev pub slot_with : ℕ → ℕ → List ℕ → List JobDevice → List (ℕ × Kind) → Slot
+slot_with p size words devices pool =
     record {
       p = p;
       size = size;
       words = words;
       fixtures = by_number (λ d. fixture_on (numbered devices d));
       devices = by_number (λ d. progress_on (numbered devices d));
-      pool = [];
+      pool = by_number (lent_kind pool);
     }
 
 -- a slot of a job with these words
 abbrev pub slot_of : SlotJob → List ℕ → Slot
-slot_of s words = slot_with s.p s.size words s.devices
+slot_of s words = slot_with s.p s.size words s.devices s.pool

@@ -1,6 +1,8 @@
 -- What holds of every job that is read.
-use Rattle.std.specs.Prelude.{◌≡◌, ℕ, ◌%◌, ◌<◌, ◌≤◌, List, [], ◌∷◌, length, map, All, nat_eq}
+use Rattle.std.specs.Prelude.{◌≡◌, ℕ, ◌%◌, ◌<◌, ◌≤◌, Bool, true, false, List, [], ◌∷◌, ◌++◌, length, map, All, AllPairs, nat_eq}
 use Rattle.std.specs.List.{IsDistinct}
+use Rattle.kdf_journal.specs.declared.kind.Kind.{Kind}
+use Rattle.kdf_journal.specs.declared.kind.Kind.TheVariants.{Tp, Lp}
 use Rattle.kdf_schedule.specs.declared.event.Event.{Event}
 use Rattle.kdf_schedule.specs.declared.event.Event.TheVariants.{Clock}
 use Rattle.kdf_schedule.specs.Calls.{order_count}
@@ -14,6 +16,16 @@ use Rattle.kdf_job.specs.Limits.{group, most_words, most_words_together, device_
 abbrev pub IsShow : ℕ → ℕ × ℕ → Type 0
 IsShow size x = (x.0 ≤ x.1) × (x.1 < size)
 
+-- a punch or a printer
+abbrev pub is_writer : Kind → Bool
+is_writer Tp = true
+is_writer Lp = true
+is_writer _ = false
+
+-- a device that may be lent out
+abbrev pub IsLent : ℕ × Kind → Type 0
+IsLent x = (x.0 < device_limit) × (is_writer x.1 ≡ true)
+
 pub record IsSlot (s : SlotJob) : Type 0 where
   pub number : s.p < 4
   pub least : group ≤ s.size
@@ -22,6 +34,7 @@ pub record IsSlot (s : SlotJob) : Type 0 where
   pub deck : length s.deck ≤ TEXT_LIMIT
   pub devices : All (λ n. n < device_limit) (map (λ (x : JobDevice). x.d) s.devices)
   pub shows : All (IsShow s.size) s.shows
+  pub lent : All (λ (x : ℕ × Kind). IsLent x) s.pool
 
 abbrev pub AreRising : List ℕ → Type 0
 AreRising [] = Unit {0}
@@ -34,12 +47,19 @@ IsRising t [] = Unit {0}
 IsRising t (Clock u ∷ events) = (t ≤ u) × IsRising u events
 IsRising t (event ∷ events) = IsRising t events
 
--- the numbers of the slots rise, their stores fit together, and no device's number stands twice
+-- the numbers of the devices of a pool
+abbrev pub numbers_in : List (ℕ × Kind) → List ℕ
+numbers_in pool = map (λ (x : ℕ × Kind). x.0) pool
+
+-- the numbers of the slots rise, their stores fit together, no device's number stands twice, and all slots have the
+-- same pool, of whose numbers none stands twice or is that of a slot's device
 pub record AreSlots (slots : List SlotJob) : Type 0 where
   pub each : All IsSlot slots
   pub rising : AreRising (map (λ (s : SlotJob). s.p) slots)
   pub fits : words_in slots ≤ most_words_together
   pub apart : IsDistinct nat_eq (numbers_of slots)
+  pub common : AllPairs (λ (a b : SlotJob). a.pool ≡ b.pool) slots
+  pub owned : All (λ (s : SlotJob). IsDistinct nat_eq (numbers_of slots ++ numbers_in s.pool)) slots
 
 pub record IsSchedule (events : List Event) : Type 0 where
   pub each : All IsInRange events
@@ -52,3 +72,4 @@ pub record IsJob (j : Job) : Type 0 where
   pub some : 1 ≤ length j.slots
   pub slots : AreSlots j.slots
   pub schedule : IsSchedule j.events
+  pub pool : All (λ (s : SlotJob). s.pool ≡ j.pool) j.slots

@@ -268,6 +268,7 @@ impl Draft {
         Ok(Job {
             slots: self.slots,
             events: self.schedule.events,
+            pool: Vec::new(alloc),
         })
     }
 }

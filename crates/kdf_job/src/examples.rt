@@ -108,8 +108,10 @@ pub fn jobs()
             deck = codes "A" ++ 10 ∷ [];
             devices = [];
             shows = (0, 31) ∷ [];
+            pool = [];
           } ∷ [];
           events = event.Clock 1 ∷ [];
+          pool = [];
         } }
     ensures line_behind { job_fault (text (codes "KDF9 JOB 1" ∷ codes "SLOT 2" ∷ codes "STORE 32"
         ∷ codes "DECK" ∷ codes "ENDDECK" ∷ codes "SCHEDULE" ∷ codes "ENDJOB" ∷ [] ∷ []))

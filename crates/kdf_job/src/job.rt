@@ -4,8 +4,9 @@ ghost use Rattle.std.specs.Option.{option_map};
 ghost use Rattle.kdf_transfer.specs.Devices.{fixture_of, progress_of};
 ghost use Rattle.kdf_job.specs.Job.{JobDevice};
 ghost use Rattle.kdf_job.specs.Shows.{shown_device};
-ghost use Rattle.kdf_job.specs.Slots.{fixture_on, numbered};
+ghost use Rattle.kdf_job.specs.Slots.{fixture_on, lent_kind, numbered};
 
+use kdf_journal::Kind;
 use kdf_schedule::Event;
 use kdf_transfer::Device;
 
@@ -19,6 +20,8 @@ pub struct Job {
     pub slots: Vec<SlotJob>,
     /// The schedule, at most 500,000 events with at most 20,000,000 orders.
     pub events: Vec<Event>,
+    /// The punches and printers that are lent out, each with its number, 0 to 15, in the order of their lines.
+    pub pool: Vec<(u8, Kind)>,
 }
 
 /// What a job says of one slot.
@@ -34,6 +37,8 @@ pub struct SlotJob {
     pub devices: Vec<(u8, Device)>,
     /// The first and the last address of each run of words that the report shows.
     pub shows: Vec<(u16, u16)>,
+    /// The pool of the job, the same in each slot. No slot has a device of its numbers.
+    pub pool: Vec<(u8, Kind)>,
 }
 
 impl SlotJob {
@@ -58,6 +63,18 @@ pub fn device_numbered(devices: &[(u8, Device)], d: u8) -> Option<&(u8, Device)>
     for device in devices.iter() {
         if device.0 == d {
             return Some(device);
+        }
+    }
+    None
+}
+
+/// The kind of the pool's device of this number, the first where several have it; None where none has it.
+pub fn kind_lent(pool: &[(u8, Kind)], d: u8) -> Option<Kind>
+    ensures { result ≡ lent_kind pool.now d }
+{
+    for device in pool.iter() {
+        if device.0 == d {
+            return Some(device.1);
         }
     }
     None

@@ -19,7 +19,7 @@ mod slot_draft;
 mod taking;
 
 pub use fault::{JobError, JobFault};
-pub use job::{Job, SlotJob, TEXT_LIMIT, device_numbered};
+pub use job::{Job, SlotJob, TEXT_LIMIT, device_numbered, kind_lent};
 use line_error::LineError;
 pub use made::generated;
 use place::Place;

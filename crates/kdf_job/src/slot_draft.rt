@@ -148,6 +148,7 @@ impl SlotDraft {
             deck: self.deck,
             devices: self.devices,
             shows: self.shows,
+            pool: Vec::new(alloc),
         })
     }
 }
