@@ -8,7 +8,7 @@ use Rattle.std.proofs.lemmas.List.Elements.{All-head, All-tail}
 use Rattle.kdf_journal.specs.declared.kind.Kind.{Kind}
 use Rattle.kdf_journal.specs.declared.kind.Kind.TheVariants.{Tp}
 use Rattle.kdf_transfer.specs.AtOnce.{device_after, order_words}
-use Rattle.kdf_transfer.specs.Devices.{Fixture, Progress, is_kind, new_progress}
+use Rattle.kdf_transfer.specs.Devices.{Fixture, Progress, blank_fixture, is_kind, new_progress}
 use Rattle.kdf_transfer.specs.declared.order.TransferOrder.{TransferOrder}
 use Rattle.kdf_transfer.proofs.OfKind.{exact}
 use Rattle.kdf_processor.specs.Claims.{can_take, is_claimed, least_pooled, may_take, taken}
@@ -16,7 +16,7 @@ use Rattle.kdf_processor.specs.Effect.{Question, FreeOf, Effect, Starting, Askin
 use Rattle.kdf_processor.specs.Needs.{next_effect}
 use Rattle.kdf_processor.specs.Row.{answered, handed, perform, released, row, transferred}
 use Rattle.kdf_transfer.specs.Slots.{Slot}
-use Rattle.kdf_processor.specs.State.{Claims, Lending, State, Stock, device_in, device_limit, fixture_at, is_pooled, lending_of, lendings, pool_fixture, pool_kind_at, stocked, word_at}
+use Rattle.kdf_processor.specs.State.{Claims, Lending, State, Stock, device_in, device_limit, fixture_at, is_pooled, lending_of, lendings, pool_kind_at, stocked, word_at}
 use Rattle.kdf_processor.specs.Stints.{IsLent, lendings_after, moved_on, on_stint}
 use Rattle.kdf_processor.proofs.Fit.{IsFit, found, next_fit}
 
@@ -100,7 +100,7 @@ module _ (s : State) (lent : IsLent s) where
   other_device d e o first last None ne = refl
   other_device d e o first last (Some f) ne = get_or-set_other k.devices d e _ new_progress ne
 
-  same_device : (d : ℕ) (o : TransferOrder) (first last : ℕ) (kind : Kind) → pool_kind_at k.claims d ≡ Some kind → d < length k.devices → device_in (transferred d o first last (fixture_at k.claims d) k) d ≡ device_after o first last (order_words o first last k.store) (pool_fixture kind) (device_in k d)
+  same_device : (d : ℕ) (o : TransferOrder) (first last : ℕ) (kind : Kind) → pool_kind_at k.claims d ≡ Some kind → d < length k.devices → device_in (transferred d o first last (fixture_at k.claims d) k) d ≡ device_after o first last (order_words o first last k.store) (blank_fixture kind) (device_in k d)
   same_device d o first last kind is low = rw is (get_or-set_same k.devices d _ new_progress low)
 
   moved : (d : ℕ) (o : TransferOrder) (first last : ℕ) (e : ℕ) (l : Option Progress) → is_pooled k.claims e ≡ true → lending_of (transferred d o first last (fixture_at k.claims d) k) (record { device = e; left = l }) ≡ on_stint d (moved_on o first last k.store) (lending_of k (record { device = e; left = l }))

@@ -14,7 +14,7 @@ IsSmall (Asks (FreeOf kind) answer) = ⊥
 IsSmall (Spools stream first last) = ⊥
 IsSmall _ = Unit {0}
 
--- an act that may take a device from the pool
+-- an act that neither begins a transfer nor spools: it may take a device from the pool
 abbrev pub IsTaking : Act → Type 0
 IsTaking (Starts d o first last) = ⊥
 IsTaking (Spools stream first last) = ⊥

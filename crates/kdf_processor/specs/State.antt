@@ -3,7 +3,7 @@ use Rattle.std.specs.Prelude.{ℕ, ◌-◌, List, [], ◌++◌, Bool, false, Opt
 use Rattle.kdf_qstore.specs.Triples.{zero_triples}
 use Rattle.kdf_journal.specs.declared.kind.Kind.{Kind}
 use Rattle.kdf_journal.specs.declared.kind.Kind.TheVariants.{Tp}
-use Rattle.kdf_transfer.specs.Devices.{Fixture, Progress, new_progress}
+use Rattle.kdf_transfer.specs.Devices.{Fixture, Progress, blank_fixture, new_progress}
 use Rattle.kdf_transfer.specs.Slots.{Slot}
 use Rattle.kdf_processor.specs.declared.registers.Life.TheVariants.{Live}
 use Rattle.kdf_processor.specs.declared.registers.Registers.{Registers}
@@ -69,13 +69,9 @@ pool_kind_at c d = slice_index_or c.pool d None
 abbrev pub is_pooled : Claims → ℕ → Bool
 is_pooled c d = is_some (pool_kind_at c d)
 
--- what a device of the pool is: a punch or a printer
-abbrev pub pool_fixture : Kind → Fixture
-pool_fixture kind = record { kind = kind; label = 0; codes = []; cards = [] }
-
 -- a device of the pool, or else this one
 abbrev pub pooled_or : Option Kind → Option Fixture → Option Fixture
-pooled_or (Some kind) own = Some (pool_fixture kind)
+pooled_or (Some kind) own = Some (blank_fixture kind)
 pooled_or None own = own
 
 -- what a device is, where the program or the pool has one of this number; no number is both's

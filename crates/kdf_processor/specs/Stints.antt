@@ -1,13 +1,14 @@
 -- What an order makes of the stints of a program, which stand in the order in which their devices were taken.
-use Rattle.std.specs.Prelude.{◌≡◌, ◌≢◌, ◌<◌, ◌==◌, ◌&&◌, not, ℕ, true, false, List, [], ◌∷◌, ◌++◌, length, map, None, if◌then◌else◌, slice_index_or}
+use Rattle.std.specs.Prelude.{◌≡◌, ◌≢◌, ◌<◌, ◌==◌, ◌&&◌, not, ℕ, Bool, true, false, List, [], ◌∷◌, ◌++◌, length, map, None, if◌then◌else◌, slice_index_or}
 use Rattle.std.specs.List.{All, AllPairs}
 use Rattle.kdf_transfer.specs.AtOnce.{device_after, order_words}
+use Rattle.kdf_transfer.specs.declared.device.Device.{Device}
 use Rattle.kdf_transfer.specs.declared.order.TransferOrder.{TransferOrder}
 use Rattle.kdf_processor.specs.Claims.{taken}
 use Rattle.kdf_processor.specs.Effect.{Question, FreeOf, Effect, Starting, Asking, Returning}
-use Rattle.kdf_transfer.specs.Devices.{new_progress}
+use Rattle.kdf_transfer.specs.Devices.{blank_fixture, fixture_of, new_progress, progress_of}
 use Rattle.kdf_transfer.specs.Slots.{Slot}
-use Rattle.kdf_processor.specs.State.{Lending, State, Stint, device_at, device_limit, is_pooled, pool_fixture, stocked}
+use Rattle.kdf_processor.specs.State.{Lending, State, Stint, device_at, device_limit, is_pooled, stocked}
 
 -- what is done to the stint of a device that isn't given back
 abbrev pub on_stint : ℕ → (Lending → Lending) → Lending → Lending
@@ -17,7 +18,7 @@ on_stint d f x = if x.device == d && not x.given then f x else x
 abbrev pub moved_on : TransferOrder → (first last : ℕ) → List ℕ → Lending → Lending
 moved_on o first last store x =
     record x {
-      progress = device_after o first last (order_words o first last store) (pool_fixture x.kind) x.progress;
+      progress = device_after o first last (order_words o first last store) (blank_fixture x.kind) x.progress;
     }
 
 -- The stints after an order. One that takes from the pool begins a stint without a block, at place 0 and with flag 0; one that gives
@@ -36,6 +37,13 @@ lendings_after answer (Returning true d after) s xs = map (on_stint d (λ x. rec
 lendings_after answer (Starting d o first last after) s xs =
     map (on_stint d (moved_on o first last s.stock.store)) xs
 lendings_after answer e s xs = xs
+
+-- a stint is told by the number of its device, whether that was given back, and the device itself
+pub record IsStint (x : Lending) (d : ℕ) (given : Bool) (device : Device) : Type 0 where
+  pub number : d ≡ x.device
+  pub given : given ≡ x.given
+  pub fixture : fixture_of device ≡ blank_fixture x.kind
+  pub progress : progress_of device ≡ x.progress
 
 -- What holds of the stints of a program: its places and its marks are sixteen; a device of the pool that isn't claimed has moved nothing; each stint is
 -- of a device of the pool, which is claimed until it is given back; and no two that aren't given back are of one device.

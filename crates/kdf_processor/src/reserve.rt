@@ -1,7 +1,8 @@
 //! Ports that take memory before an order is obeyed.
 ghost use Rattle.std.specs.Prelude.{◌≡◌, ℕ, OnOk};
-ghost use Rattle.kdf_processor.specs.Ahead.{IsTaking};
-ghost use Rattle.kdf_processor.specs.Effect.{Act, Starts, Spools};
+ghost use Rattle.kdf_journal.specs.declared.kind.Kind.{Kind};
+ghost use Rattle.kdf_processor.specs.Ahead.{IsSmall};
+ghost use Rattle.kdf_processor.specs.Effect.{Act, Starts, Asks, FreeOf, Spools};
 
 use crate::Port;
 use kdf_transfer::TransferOrder;
@@ -35,9 +36,17 @@ pub trait Reserve: Port {
         ensures shows { Self.shows self.new ≡ Self.shows self.old }
         ensures room { OnOk result ((stream : ℕ) → Self.room self.new (Spools stream first last)) };
 
+    /// Takes the memory that a stint wants. Without it nothing else has changed either.
+    fn reserve_stint(&mut self) -> Result<(), AllocError>
+        requires { ready self.old }
+        ensures keeps { keeps self.old self.new }
+        ensures shows { Self.shows self.new ≡ Self.shows self.old }
+        ensures ready { ready self.new }
+        ensures room { OnOk result ((kind : Kind) (answer : ℕ) → Self.room self.new (Asks (FreeOf kind) answer)) };
+
     /// A port that nothing was done to is as it was.
     ghost itself: { (p : Self) → keeps p p };
 
     /// No other act wants memory.
-    ghost little: { (p : Self) (act : Act) → ready p → IsTaking act → Self.room p act };
+    ghost little: { (p : Self) (act : Act) → ready p → IsSmall act → Self.room p act };
 }

@@ -107,7 +107,7 @@ fn take_ahead<P: Reserve>(port: &mut P, ahead: Ahead) -> Result<(), AllocError>
             last,
         } => port.reserve_transfer(device, order, first, last),
         Ahead::Spools { first, last, .. } => port.reserve_text(first, last),
-        Ahead::Takes => Ok(()),
+        Ahead::Takes => port.reserve_stint(),
         Ahead::Else => Ok(()),
     }
 }

@@ -31,6 +31,10 @@ pub record Progress : Type 0 where
 abbrev pub new_progress : Progress
 new_progress = record { place = 0; flag = false; mark = false; blocks = []; recorded = [] }
 
+-- what a device of a kind is that has no medium and no label
+abbrev pub blank_fixture : Kind → Fixture
+blank_fixture kind = record { kind = kind; label = 0; codes = []; cards = [] }
+
 -- devices of each kind
 abbrev pub reader : ReaderState → Device
 reader r = Tr r

@@ -2,7 +2,7 @@
 ghost use Rattle.std.specs.Prelude.{◌≡◌, ◌+◌, ◌%◌, ◌^◌, ◌<◌, ◌≤◌, true, All, length, reverse, slice_get, IfOk, OnOk, Some};
 ghost use Rattle.std.specs.Option.{option_copied};
 ghost use Rattle.kdf_transfer.specs.AtOnce.{blocks_out, finished, given, is_input, kind_of, words_in};
-ghost use Rattle.kdf_transfer.specs.Devices.{fixture_of, has_label, is_wanted, progress_of, room_of, test_of};
+ghost use Rattle.kdf_transfer.specs.Devices.{blank_fixture, fixture_of, has_label, is_wanted, new_progress, progress_of, room_of, test_of};
 ghost use Rattle.kdf_transfer.specs.Spare.{HasSpare};
 
 use crate::finished::{finish_cards, finish_printer, finish_punch, finish_reader, finish_tape};
@@ -29,6 +29,20 @@ pub enum Device {
 }
 
 impl Device {
+    /// A device of a kind that has moved nothing, and has no medium and no label. It takes no memory.
+    pub fn blank(alloc: Global, kind: Kind) -> Device
+        ensures fixture { fixture_of result ≡ blank_fixture kind }
+        ensures progress { progress_of result ≡ new_progress }
+    {
+        match kind {
+            Kind::Tr => Device::Tr(Reader::new(Vec::new(alloc))),
+            Kind::Tp => Device::Tp(Punch::new(alloc)),
+            Kind::Cr => Device::Cr(Cards::new(Vec::new(alloc))),
+            Kind::Lp => Device::Lp(Printer::new(alloc)),
+            Kind::Mt => Device::Mt(MagTape::new(Word::new(0), Vec::new(alloc))),
+        }
+    }
+
     /// Its kind.
     pub fn kind(&self) -> Kind
         ensures { result ≡ (fixture_of self.now).kind }
