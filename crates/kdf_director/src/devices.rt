@@ -33,7 +33,7 @@ pub(crate) fn owns(devices: &[(u8, Device)], d: u8) -> bool
 
 /// The kind of a device of the slot.
 fn kind_owned(devices: &[(u8, Device)], places: &[Place], d: u8) -> Option<Kind>
-    requires { length places.now ≡ 16 }
+    requires sixteen { length places.now ≡ 16 }
     requires number { d < 16 }
     ensures { result ≡ kind_in (fixture_owned (numbers devices.now) (map spot_of places.now) d) }
 {
@@ -46,7 +46,7 @@ fn kind_owned(devices: &[(u8, Device)], places: &[Place], d: u8) -> Option<Kind>
 
 /// The kind of a device of the pool, or else of one of the slot.
 fn kind_of(devices: &[(u8, Device)], pool: &[(u8, Kind)], places: &[Place], d: u8) -> Option<Kind>
-    requires { length places.now ≡ 16 }
+    requires sixteen { length places.now ≡ 16 }
     requires number { d < 16 }
     ensures { result ≡ kind_in (pooled_or (lent_kind pool.now d)
         (fixture_owned (numbers devices.now) (map spot_of places.now) d)) }
