@@ -78,3 +78,5 @@ pub mod Calling
 pub mod Calls
 pub mod Living
 pub mod InOrder
+pub mod Lent
+pub mod Placing
