@@ -1,33 +1,33 @@
 -- What an order that acts makes of what is shown of a program.
-use Rattle.std.proofs.Common.{◌≡◌, ◌≢◌, ℕ, ◌+◌, ◌-◌, ◌*◌, ◌/◌, ◌%◌, ◌<◌, ◌≤◌, ◌⊎◌, inl, inr, true, false, List, [], length, set, Option, Some, None, is_some, is_none, cond, refl, sym, ap, ap₂, ◌∙◌, ⊎_elim, arith}
+use Rattle.std.proofs.Common.{◌≡◌, ◌≢◌, ℕ, ◌+◌, ◌-◌, ◌*◌, ◌/◌, ◌%◌, ◌<◌, ◌≤◌, ◌⊎◌, inl, inr, Bool, true, false, List, length, map, set, Option, Some, None, is_some, is_none, cond, refl, sym, ap, ap₂, ◌∙◌, ⊎_elim, arith}
 use Rattle.std.proofs.Math.Path.{fun_ext}
 use Rattle.std.proofs.lemmas.Bool.{cases_Bool, cases_eq, eq-eqb, ne_eqb, false_from_ne_true}
 use Rattle.std.proofs.lemmas.List.{get_or-set_same, get_or-set_other}
 use Rattle.kdf_lockout.specs.Groups.{Cells, group_at, is_out, with_word, without_groups, lent_groups, words_in}
 use Rattle.kdf_lockout.proofs.Ranges.{none_in_range}
 use Rattle.kdf_transfer.specs.declared.order.TransferOrder.{TransferOrder}
-use Rattle.kdf_transfer.specs.Devices.{Fixture, Progress, new_progress}
+use Rattle.kdf_transfer.specs.Devices.{Fixture, Progress}
 use Rattle.kdf_transfer.specs.AtOnce.{has_area}
 use Rattle.kdf_director.specs.Seen.{begun}
 use Rattle.kdf_director.specs.Physical.{own_words, has_group, with_lease}
 use Rattle.kdf_transfer.specs.ByNumber.{device_count, by_number}
-use Rattle.kdf_processor.specs.declared.spooled.Spooled.{Spooled}
 use Rattle.kdf_director.specs.Physical as physical
 use Rattle.kdf_director.proofs.PhysicalLemmas as words
 use Rattle.kdf_processor.specs.State.{Stock, Claims}
 use Rattle.kdf_processor.specs.Effect.{Writes, Starts}
-use Rattle.kdf_director.specs.Spots.{Spot, no_spot, spot_at, lease_held, leases_of, fixture_or}
-use Rattle.kdf_director.specs.Parts.{Shared, Part, has_device, own_fixture, own_progress, own_stock, own_claims}
+use Rattle.kdf_director.specs.Spots.{Spot, no_spot, spot_at, is_holder, lease_held, leases_of, fixture_or}
+use Rattle.kdf_director.specs.Stints.{left_in, stint_of}
+use Rattle.kdf_director.specs.Parts.{Shared, Part, has_device, owns, own_fixture, own_progress, own_stock, own_claims}
 use Rattle.kdf_lockout.specs.Groups.{touched}
 use Rattle.kdf_director.specs.Shared.{start_lease, start_spot, after_act, IsFreeArea}
 use Rattle.kdf_director.specs.Sound.{IsSound}
 
 -- a stock by its parts
-abbrev pub stock : Claims → List Spooled → ℕ → List ℕ → List Progress → Stock
-stock c texts n ws ds = record { claims = c; spooled = texts; asked = n; stints = []; store = ws; devices = ds }
+abbrev pub stock : Part → Claims → ℕ → List ℕ → List Progress → Stock
+stock q c n ws ds = record { claims = c; spooled = q.spooled; asked = n; stints = map stint_of q.stints; store = ws; devices = ds }
 
 abbrev pub claims : Part → List (Option Fixture) → Claims
-claims q fs = record { size = q.size; claimed = q.claimed; fixtures = fs; pool = [] }
+claims q fs = record { size = q.size; claimed = q.claimed; fixtures = fs; pool = q.pool }
 
 some_of : (o : Option (List ℕ)) → is_none o ≡ false → o ≡ Some (words_in o)
 some_of None h = cc
@@ -39,7 +39,7 @@ writes_own q n s a w sound fits lt here =
     let inside : (q.base + a) / 32 < length s.cells = omega arith in
     let is = some_of (group_at s.cells ((q.base + a) / 32)) here in
     let within : (q.base + a) % 32 < length (words_in (group_at s.cells ((q.base + a) / 32))) = (let e = sound.whole ((q.base + a) / 32) _ is in omega arith) in
-    ap (λ ws. stock (own_claims q s) q.spooled n ws (by_number (own_progress q s.spots)))
+    ap (λ ws. stock q (own_claims q s) n ws (by_number (own_progress q s.spots)))
     (words.own_words_changed q.base q.size a w s.cells (with_word s.cells (q.base + a) w) (leases_of s.spots) (leases_of s.spots)
     (λ x. words.word_of-put_word s.cells (leases_of s.spots) (words_in (group_at s.cells ((q.base + a) / 32))) (q.base + a) w x is inside within))
 
@@ -50,7 +50,7 @@ writes_other q r n s a w sound fits lt here apart =
     let is = some_of (group_at s.cells ((q.base + a) / 32)) here in
     let within : (q.base + a) % 32 < length (words_in (group_at s.cells ((q.base + a) / 32))) = (let e = sound.whole ((q.base + a) / 32) _ is in omega arith) in
     let outside : (q.base + a < r.base) ⊎ (r.base + r.size ≤ q.base + a) = ⊎_elim (λ (h : q.base + q.size ≤ r.base). inl (omega arith)) (λ (h : r.base + r.size ≤ q.base). inr (omega arith)) apart in
-    ap (λ ws. stock (own_claims r s) r.spooled n ws (by_number (own_progress r s.spots)))
+    ap (λ ws. stock r (own_claims r s) n ws (by_number (own_progress r s.spots)))
     (words.own_words_other r.base r.size (q.base + a) w s.cells (with_word s.cells (q.base + a) w) (leases_of s.spots) (leases_of s.spots) outside
     (λ x. words.word_of-put_word s.cells (leases_of s.spots) (words_in (group_at s.cells ((q.base + a) / 32))) (q.base + a) w x is inside within))
 
@@ -68,43 +68,42 @@ leases-set spots d x lt =
     ∙ sym (ap (λ b. cond b (lease_held x.flight) (leases_of spots e)) (ne_eqb e d ne)))
     (cases_eq e d))
 
+where_true : {X : Type 0} (b : Bool) (x y z : X) → (b ≡ true → x ≡ y) → cond b x z ≡ cond b y z
+where_true true x y z same = same refl
+where_true false x y z same = refl
+
 -- the devices of a program, where one spot is another that shows the same
-pub fixtures-set : (r : Part) (spots : List Spot) (d : ℕ) (x : Spot) → d < length spots → (has_device r d ≡ true → x.fixture ≡ (spot_at spots d).fixture) → own_fixture r (set spots d x) ≡ own_fixture r spots
+pub fixtures-set : (r : Part) (spots : List Spot) (d : ℕ) (x : Spot) → d < length spots → (owns r.devices d ≡ true → x.fixture ≡ (spot_at spots d).fixture) → own_fixture r (set spots d x) ≡ own_fixture r spots
 fixtures-set r spots d x lt same =
     fun_ext
     (λ e. ⊎_elim
     (λ (is : e ≡ d).
-    ⊎_elim
-    (λ (has : has_device r d ≡ true).
-    ap (λ k. cond (has_device r k) (spot_at (set spots d x) k).fixture None) is
-    ∙ ap (λ (y : Spot). cond (has_device r d) y.fixture None) (get_or-set_same spots d x no_spot lt)
-    ∙ ap (λ y. cond (has_device r d) y None) (same has)
-    ∙ sym (ap (λ k. cond (has_device r k) (spot_at spots k).fixture None) is))
-    (λ (not : has_device r d ≡ false).
-    ap (λ k. cond (has_device r k) (spot_at (set spots d x) k).fixture None) is
-    ∙ ap (λ b. cond b (spot_at (set spots d x) d).fixture None) not
-    ∙ sym (ap (λ k. cond (has_device r k) (spot_at spots k).fixture None) is ∙ ap (λ b. cond b (spot_at spots d).fixture None) not))
-    (cases_Bool (has_device r d)))
-    (λ (ne : e ≢ d). ap (λ (y : Spot). cond (has_device r e) y.fixture None) (get_or-set_other spots d e x no_spot ne))
+    ap (λ k. cond (owns r.devices k) (spot_at (set spots d x) k).fixture None) is
+    ∙ ap (λ (y : Spot). cond (owns r.devices d) y.fixture None) (get_or-set_same spots d x no_spot lt)
+    ∙ where_true (owns r.devices d) x.fixture (spot_at spots d).fixture None same
+    ∙ sym (ap (λ k. cond (owns r.devices k) (spot_at spots k).fixture None) is))
+    (λ (ne : e ≢ d). ap (λ (y : Spot). cond (owns r.devices e) y.fixture None) (get_or-set_other spots d e x no_spot ne))
     (cases_eq e d))
 
-pub progress-set : (r : Part) (spots : List Spot) (d : ℕ) (x : Spot) → d < length spots → (has_device r d ≡ true → x.progress ≡ (spot_at spots d).progress) → own_progress r (set spots d x) ≡ own_progress r spots
-progress-set r spots d x lt same =
+-- how far the device of a place has come
+abbrev pub progress_in : Part → ℕ → Spot → Progress
+progress_in r d x = cond (has_device r x) x.progress (left_in r.stints d)
+
+pub progress-same : (r : Part) (d : ℕ) (x y : Spot) → x.holder ≡ y.holder → (has_device r y ≡ true → x.progress ≡ y.progress) → progress_in r d x ≡ progress_in r d y
+progress-same r d x y holder same =
+    ap (λ h. cond (is_holder r.p h) x.progress (left_in r.stints d)) holder
+    ∙ where_true (has_device r y) x.progress y.progress (left_in r.stints d) same
+
+pub progress-set : (r : Part) (spots : List Spot) (d : ℕ) (x : Spot) → d < length spots → x.holder ≡ (spot_at spots d).holder → (has_device r (spot_at spots d) ≡ true → x.progress ≡ (spot_at spots d).progress) → own_progress r (set spots d x) ≡ own_progress r spots
+progress-set r spots d x lt holder same =
     fun_ext
     (λ e. ⊎_elim
     (λ (is : e ≡ d).
-    ⊎_elim
-    (λ (has : has_device r d ≡ true).
-    ap (λ k. cond (has_device r k) (spot_at (set spots d x) k).progress new_progress) is
-    ∙ ap (λ (y : Spot). cond (has_device r d) y.progress new_progress) (get_or-set_same spots d x no_spot lt)
-    ∙ ap (λ y. cond (has_device r d) y new_progress) (same has)
-    ∙ sym (ap (λ k. cond (has_device r k) (spot_at spots k).progress new_progress) is))
-    (λ (not : has_device r d ≡ false).
-    ap (λ k. cond (has_device r k) (spot_at (set spots d x) k).progress new_progress) is
-    ∙ ap (λ b. cond b (spot_at (set spots d x) d).progress new_progress) not
-    ∙ sym (ap (λ k. cond (has_device r k) (spot_at spots k).progress new_progress) is ∙ ap (λ b. cond b (spot_at spots d).progress new_progress) not))
-    (cases_Bool (has_device r d)))
-    (λ (ne : e ≢ d). ap (λ (y : Spot). cond (has_device r e) y.progress new_progress) (get_or-set_other spots d e x no_spot ne))
+    ap (own_progress r (set spots d x)) is
+    ∙ ap (progress_in r d) (get_or-set_same spots d x no_spot lt)
+    ∙ progress-same r d x (spot_at spots d) holder same
+    ∙ sym (ap (own_progress r spots) is))
+    (λ (ne : e ≢ d). ap (progress_in r e) (get_or-set_other spots d e x no_spot ne))
     (cases_eq e d))
 
 -- a group that is out is in no lease of those that begin
@@ -182,13 +181,13 @@ module _ (s : Shared) (q : Part) (d : ℕ) (o : TransferOrder) (first last : ℕ
               (cases_eq e d))
 
   -- what is shown of any program stays where a transfer begins
-  pub starts_own : (r : Part) (n : ℕ) → (has_device r d ≡ true → is_some (spot_at s.spots d).fixture ≡ true) → own_stock r n later ≡ own_stock r n s
-  starts_own r n there =
+  pub starts_own : (spot_at s.spots d).holder ≡ Some q.p → (r : Part) (n : ℕ) → (owns r.devices d ≡ true → is_some (spot_at s.spots d).fixture ≡ true) → own_stock r n later ≡ own_stock r n s
+  starts_own holder r n there =
       let words_same : own_words r.base r.size later.cells (leases_of later.spots) ≡ own_words r.base r.size s.cells (leases_of s.spots) = words.own_words_same r.base r.size s.cells later.cells (leases_of s.spots) (leases_of later.spots) start_word in
       let fixtures : own_fixture r later.spots ≡ own_fixture r s.spots = fixtures-set r s.spots d (start_spot q.p o f l s.cells (spot_at s.spots d)) lt (λ has. or_some (spot_at s.spots d).fixture (there has)) in
-      let progress : own_progress r later.spots ≡ own_progress r s.spots = progress-set r s.spots d (start_spot q.p o f l s.cells (spot_at s.spots d)) lt (λ has. refl) in
-      ap₂ (λ fs ws. stock (claims r (by_number fs)) r.spooled n ws (by_number (own_progress r later.spots))) fixtures words_same
-      ∙ ap (λ ps. stock (own_claims r s) r.spooled n (own_words r.base r.size s.cells (leases_of s.spots)) (by_number ps)) progress
+      let progress : own_progress r later.spots ≡ own_progress r s.spots = progress-set r s.spots d (start_spot q.p o f l s.cells (spot_at s.spots d)) lt (sym holder) (λ has. refl) in
+      ap₂ (λ fs ws. stock r (claims r (by_number fs)) n ws (by_number (own_progress r later.spots))) fixtures words_same
+      ∙ ap (λ ps. stock r (own_claims r s) n (own_words r.base r.size s.cells (leases_of s.spots)) (by_number ps)) progress
     where
       or_some : (x : Option Fixture) → is_some x ≡ true → Some (fixture_or x) ≡ x
       or_some None h = cc

@@ -1,28 +1,31 @@
 -- A machine whose program obeyed an order, or was held, stays as a machine is, and shows just that.
 use Rattle.std.specs.Prelude.{find, unwrap_or}
 use Rattle.std.specs.List.{AllPairs}
-use Rattle.std.proofs.Common.{◌≡◌, ◌≢◌, ℕ, suc, ◌<◌, true, false, List, [], ◌∷◌, length, get_or, map, Some, None, is_some, cond, refl, sym, ap, ap₂, ◌∙◌, ⊎_elim, arith}
+use Rattle.std.proofs.Common.{◌≡◌, ◌≢◌, ℕ, suc, ◌<◌, true, false, List, [], ◌∷◌, length, get_or, map, Option, Some, None, is_some, cond, refl, sym, ap, ap₂, ◌∙◌, subst, ⊎_elim, arith}
 use Rattle.std.proofs.lemmas.Bool.{cases_eq, eq-eqb, ne_eqb}
 use Rattle.kdf_journal.specs.declared.entry.Entry.{Entry}
 use Rattle.kdf_journal.specs.declared.journal.TheConstants.{CALL_LIMIT}
-use Rattle.kdf_journal.specs.Counts.{calls, clock}
+use Rattle.kdf_journal.specs.declared.kind.Kind.{Kind}
+use Rattle.kdf_journal.specs.Counts.{calls, clock, holder}
 use Rattle.kdf_journal.specs.Steps.{Note, Obeys, added}
 use Rattle.kdf_journal.proofs.Added.{calls-added, moves-added}
 use Rattle.kdf_processor.specs.declared.step.Step.{Step as Ending}
 use Rattle.kdf_processor.specs.declared.step.Step.TheVariants as ending
-use Rattle.kdf_processor.specs.Effect.{Question, Act, Nothing, Writes, Starts, Asks, Acquires, Releases, Spools, FreeOf}
-use Rattle.kdf_processor.specs.Needs.{needs}
+use Rattle.kdf_processor.specs.Effect.{Question, Act, Nothing, Writes, Starts, Asks, Acquires, Releases, Spools, FreeOf, Effect, Failing, Ending as Finishing}
+use Rattle.kdf_processor.specs.Needs.{needs, next_effect}
+use Rattle.kdf_processor.specs.Row.{done_by}
 use Rattle.kdf_processor.specs.Outcome.{Outcome}
 use Rattle.kdf_transfer.specs.Slots.{Slot}
 use Rattle.kdf_processor.specs.State.{State}
 use Rattle.kdf_director.specs.Advance.{Obeyed, note_told, states_after}
-use Rattle.kdf_director.specs.Agrees.{Agrees}
+use Rattle.kdf_director.specs.Agrees.{Agrees, AreLent}
 use Rattle.kdf_director.specs.Following.{asked_at}
 use Rattle.kdf_director.specs.Legal.{Meets, note_for, note_of, note_of_outcome}
 use Rattle.kdf_director.specs.Next.{next}
 use Rattle.kdf_director.specs.Notes as notes
-use Rattle.kdf_director.specs.Parts.{Reach, Seat, Shared}
-use Rattle.kdf_director.specs.Running.{outcome_at, hold_of, own_state, seat_at, IsRunning}
+use Rattle.kdf_director.specs.Parts.{Reach, Seat, Shared, in_pool}
+use Rattle.kdf_director.specs.Running.{outcome_at, hold_of, own_state, part_at, seat_at, IsRunning}
+use Rattle.kdf_director.specs.Settled.{holder_left}
 use Rattle.kdf_director.specs.Seen.{begun_row, seen}
 use Rattle.kdf_director.specs.Shown.{Shown, state_at, state_in, world_of}
 use Rattle.kdf_director.specs.Viewed.{states_in}
@@ -37,11 +40,12 @@ use Rattle.kdf_director.specs.declared.note.Note.{Note as Noted}
 use Rattle.kdf_director.proofs.Entering.{shows}
 use Rattle.kdf_director.proofs.Followed.{outcome_is, turn_follows}
 use Rattle.kdf_director.proofs.Judging.{hold_same}
+use Rattle.kdf_director.proofs.Lent.{IsGoing, holder_then}
 use Rattle.kdf_director.proofs.Judged.{legal_added, true_added}
 use Rattle.kdf_director.proofs.Obeying.{obeys-others, obeys-seen}
 use Rattle.kdf_director.proofs.OnCourse.{legal-course}
 use Rattle.kdf_director.proofs.SeenJournals.{same-need, same-note}
-use Rattle.kdf_director.proofs.Worlds.{next-world, next_slot}
+use Rattle.kdf_director.proofs.Worlds.{next-world, next_on, next_slot}
 
 -- ---- states by slots
 
@@ -121,6 +125,12 @@ told_act k (Spools stream first last) ending.Ends = refl
 told_act k (Spools stream first last) ending.Done = refl
 told_act k (Spools stream first last) (ending.Held need) = refl
 
+-- what an effect comes to is no hold
+done_going : (answer : Question → ℕ) (e : Effect) (s : State) → IsGoing (done_by answer e s).step
+done_going answer (Failing kind) s = tt
+done_going answer (Finishing after) s = tt
+done_going answer e s = tt
+
 -- ---- a machine
 module _ (slots : List Slot) (reaches : List Reach) (seats : List Seat) (s : Shared) (J : List Entry) (room : ℕ) (a : Agrees slots reaches seats s J) (i : ℕ) (lt : i < length seats) where
   abbrev p : ℕ
@@ -146,7 +156,7 @@ module _ (slots : List Slot) (reaches : List Reach) (seats : List Seat) (s : Sha
   pub need_is : is_some (slot_of slots p) ≡ true → first_need (world_of m) p ≡ hold_of reaches seats s i
   need_is there =
       by_state there
-      ∙ sym (hold_same slots J reaches seats s a.running a.following i lt (legal-course slots J a.are a.legal p))
+      ∙ sym (hold_same slots J reaches seats s a.running a.following i lt (legal-course slots J a.are a.legal p) a.lent)
 
   -- it is next, and nothing holds it up
   module _ (turn : next (world_of m) slots J ≡ Some p) (free : hold_of reaches seats s i ≡ None) where
@@ -159,7 +169,7 @@ module _ (slots : List Slot) (reaches : List Reach) (seats : List Seat) (s : Sha
     free_lone : first_need (lone_world slots J) p ≡ None
     free_lone =
         sym (same-need slots J p)
-        ∙ sym (hold_same slots J reaches seats s a.running a.following i lt (legal-course slots J a.are a.legal p))
+        ∙ sym (hold_same slots J reaches seats s a.running a.following i lt (legal-course slots J a.are a.legal p) a.lent)
         ∙ free
 
     abbrev noted : Note
@@ -185,9 +195,24 @@ module _ (slots : List Slot) (reaches : List Reach) (seats : List Seat) (s : Sha
           ap₂ (λ e b. note_told (seat_at seats' i).registers.ran e b) (turned.step (asked_at seats J i)) (turned.note (asked_at seats J i))
           ∙ ap (λ k. note_told k o.step (notes.note_of o.act)) count
           ∙ told_act o.registers.ran o.act o.step
-          ∙ ap note_of_outcome (outcome_is slots J reaches seats s a.are a.legal a.running a.following i lt noted meets)
+          ∙ ap note_of_outcome (outcome_is slots J reaches seats s a.are a.legal a.running a.following a.lent i lt noted meets)
           ∙ ap (λ (x : State). note_of x answer) (a.following.each i lt).is_seen
           ∙ same-note slots J p answer free_lone
+
+      -- it isn't held, and it was live
+      going : IsGoing ended
+      going = subst IsGoing (sym (turned.step (asked_at seats J i) ∙ ap (λ (x : Outcome). x.step) (outcome_is slots J reaches seats s a.are a.legal a.running a.following a.lent i lt noted meets))) (done_going answer (next_effect (own_state reaches seats s (asked_at seats J i) i)) (own_state reaches seats s (asked_at seats J i) i))
+
+      -- each device of the pool is whose the journal tells then
+      lent_then : AreLent (added J (Obeys p noted)) reaches seats' s'
+      lent_then j d within pooled =
+          let count' = turned.count in
+          let inside : j < length seats = omega arith in
+          let its : in_pool (part_at reaches seats i) d ≡ true = ap (λ (ks : List (Option Kind)). is_some (get_or ks d None)) (a.running.common i j lt inside) ∙ pooled in
+          turned.holders d its
+          ∙ ap (holder_left p ended beside d) (a.lent i d lt its)
+          ∙ sym (holder_then p (seat_at seats' i).registers.ran d J ended beside going (next_on (lone_world slots J) slots J p turn_lone))
+          ∙ ap (λ x. holder d (added J (Obeys p x))) told
 
       pub agrees_obeyed : Agrees slots reaches seats' s' (added J (Obeys p noted))
       agrees_obeyed =
@@ -196,7 +221,8 @@ module _ (slots : List Slot) (reaches : List Reach) (seats : List Seat) (s : Sha
             four = a.four;
             numbers = numbers ∙ a.numbers;
             running = run;
-            following = turn_follows slots J reaches seats s a.are a.legal a.running a.following i lt noted meets seats' s' ended beside turned;
+            following = turn_follows slots J reaches seats s a.are a.legal a.running a.following a.lent i lt noted meets seats' s' ended beside turned;
+            lent = lent_then;
             legal = legal_added slots J (Obeys p noted) a.legal meets;
             truly = true_added slots J (Obeys p noted) a.legal a.truly meets;
             few_calls = omega (arith, calls-added J (Obeys p noted));

@@ -1,6 +1,6 @@
 -- A machine in which an event is entered stays as a machine is.
 use Rattle.std.specs.Option.{option_map}
-use Rattle.std.proofs.Common.{◌≡◌, ℕ, ◌+◌, ◌-◌, ◌<◌, ◌≤◌, List, [], ◌∷◌, length, map, Option, refl, sym, ap, ◌∙◌, subst, arith}
+use Rattle.std.proofs.Common.{◌≡◌, ℕ, ◌+◌, ◌-◌, ◌<◌, ◌≤◌, List, [], ◌∷◌, length, map, Option, Some, None, refl, sym, ap, ◌∙◌, subst, arith}
 use Rattle.std.proofs.Math.Path.{fun_ext}
 use Rattle.std.proofs.lemmas.List.{ext_get_or, get_or-map, length-map}
 use Rattle.std.proofs.lemmas.List.FromFn.{length-map-range_with_len, get_or-map-range_with_len}
@@ -8,7 +8,7 @@ use Rattle.kdf_journal.specs.declared.entry.Entry.{Entry}
 use Rattle.kdf_journal.specs.declared.journal.TheConstants.{MOVE_LIMIT}
 use Rattle.kdf_journal.specs.Counts.{clock, last_hold, moves}
 use Rattle.kdf_journal.specs.Steps.{Step, Moves, Ends, Sets, Swaps, added}
-use Rattle.kdf_journal.proofs.Added.{calls_by, calls-added, hold_by, last_hold-added, moves_by, moves-added}
+use Rattle.kdf_journal.proofs.Added.{calls_by, calls-added, hold_by, holder-quiet, last_hold-added, moves_by, moves-added}
 use Rattle.kdf_lockout.specs.Groups.{Cells}
 use Rattle.kdf_relocate.specs.declared.window.Window.{Window}
 use Rattle.kdf_transfer.specs.Slots.{Slot}
@@ -17,21 +17,22 @@ use Rattle.kdf_processor.specs.declared.step.Need.{Need}
 use Rattle.kdf_director.specs.declared.place.Place.{Place}
 use Rattle.kdf_director.specs.declared.program.Program.{Program}
 use Rattle.kdf_director.specs.declared.slot.Loaded.{Loaded}
-use Rattle.kdf_director.specs.Agrees.{Agrees, HaveHolds, IsReady}
+use Rattle.kdf_director.specs.Agrees.{Agrees, AreLent, HaveHolds, IsReady}
 use Rattle.kdf_director.specs.Following.{AreFollowing, asked_at}
 use Rattle.kdf_director.specs.Legal.{Meets}
 use Rattle.kdf_transfer.specs.ByNumber.{device_count}
 use Rattle.kdf_director.specs.Parts.{Reach, Seat, Shared, shared_in}
 use Rattle.kdf_director.specs.Running.{no_seat, own_state, reaches_in, seats_in, IsRunning}
-use Rattle.kdf_director.specs.Shared.{after_end, after_move}
+use Rattle.kdf_director.specs.Shared.{after_end, after_move, ended_by, ended_spot, moved_spot}
 use Rattle.kdf_director.specs.Shown.{entered, states_seen}
 use Rattle.kdf_director.specs.Viewed.{slot_loaded, states_in, viewed}
-use Rattle.kdf_director.specs.Spots.{AreDry}
+use Rattle.kdf_director.specs.Spots.{AreDry, Held, Spot, spot_at}
 use Rattle.kdf_director.specs.Told.{lone_world, seen_of}
 use Rattle.kdf_director.specs.World.{need_of}
-use Rattle.kdf_director.proofs.Flown.{ended_running, flown_running}
+use Rattle.kdf_director.proofs.Flown.{ended_holder, ended_running, flown_running}
 use Rattle.kdf_director.proofs.Lasting.{ended_follows, flown_follows, exchanged_follows, set_follows}
 use Rattle.kdf_director.proofs.Judged.{legal_added, true_added}
+use Rattle.kdf_director.proofs.Placing.{same_at}
 use Rattle.kdf_transfer.proofs.Numbers.{limit_is}
 
 pub map_twice : {X Y Z : Type 0} (f : Y → Z) (g : X → Y) (xs : List X) → map f (map g xs) ≡ map (λ x. f (g x)) xs
@@ -62,14 +63,15 @@ module _ (slots : List Slot) (reaches : List Reach) (seats : List Seat) (s : Sha
       ∙ map_twice (seen_of slots J) (λ (x : Slot). x.p) slots
 
   -- ---- an event more
-  more : (st : Step) (s' : Shared) → Meets (lone_world slots J) slots J st → calls_by st ≡ 0 → moves J + moves_by st ≤ MOVE_LIMIT → IsRunning reaches seats s' → AreFollowing slots (added J st) reaches seats s' → Agrees slots reaches seats s' (added J st)
-  more st s' meets none few running following =
+  more : (st : Step) (s' : Shared) → Meets (lone_world slots J) slots J st → calls_by st ≡ 0 → moves J + moves_by st ≤ MOVE_LIMIT → IsRunning reaches seats s' → AreFollowing slots (added J st) reaches seats s' → AreLent (added J st) reaches seats s' → Agrees slots reaches seats s' (added J st)
+  more st s' meets none few running following lent =
       record {
         are = a.are;
         four = a.four;
         numbers = a.numbers;
         running = running;
         following = following;
+        lent = lent;
         legal = legal_added slots J st a.legal meets;
         truly = true_added slots J st a.legal a.truly meets;
         few_calls = (let c = a.few_calls in omega (arith, calls-added J st, none));
@@ -80,19 +82,23 @@ module _ (slots : List Slot) (reaches : List Reach) (seats : List Seat) (s : Sha
   moved d n lt few =
       let small : d < device_count = omega (arith, limit_is) in
       more (Moves d n) (after_move d n s) tt refl few (flown_running reaches seats s d a.running small n) (flown_follows slots J reaches seats s a.are a.legal a.running a.following d small n)
+      (λ i e within pooled. same_at (λ (x : Spot). x.holder) s.spots d e (moved_spot n (spot_at s.spots d)) refl ∙ a.lent i e within pooled ∙ sym (holder-quiet e J (Moves d n) refl (λ q. refl)))
 
   pub ended : (d : ℕ) → d < 16 → Agrees slots reaches seats (after_end d s) (added J (Ends d))
   ended d lt =
       let small : d < device_count = omega (arith, limit_is) in
       more (Ends d) (after_end d s) tt refl (let few = a.few_moves in omega arith) (ended_running reaches seats s d a.running small) (ended_follows slots J reaches seats s a.are a.legal a.running a.following d small)
+      (λ i e within pooled. same_at (λ (x : Spot). x.holder) s.spots d e (ended_spot (spot_at s.spots d)) (ended_holder (spot_at s.spots d) (spot_at s.spots d).flight) ∙ a.lent i e within pooled ∙ sym (holder-quiet e J (Ends d) refl (λ q. refl)))
 
   pub timed : (t : ℕ) → clock J ≤ t → Agrees slots reaches seats s (added J (Sets t))
   timed t rises =
       more (Sets t) s rises refl (let few = a.few_moves in omega arith) a.running (set_follows slots J reaches seats s a.are a.legal a.running a.following t)
+      (λ i e within pooled. a.lent i e within pooled ∙ sym (holder-quiet e J (Sets t) refl (λ q. refl)))
 
   pub exchanged : (p q : ℕ) → (p < 4) × (q < 4) → Agrees slots reaches seats s (added J (Swaps p q))
   exchanged p q slots_are =
       more (Swaps p q) s slots_are refl (let few = a.few_moves in omega arith) a.running (exchanged_follows slots J reaches seats s a.are a.legal a.running a.following p q)
+      (λ i e within pooled. a.lent i e within pooled ∙ sym (holder-quiet e J (Swaps p q) refl (λ q. refl)))
 
 -- the holds stay where a step names no program
 holds_more : (programs : List Program) (J : List Entry) (st : Step) → ((p : ℕ) → hold_by p (last_hold p J) st ≡ last_hold p J) → HaveHolds programs J → HaveHolds programs (added J st)

@@ -9,13 +9,14 @@ use Rattle.kdf_transfer.proofs.Words.{some-moved, covers-moved}
 use Rattle.kdf_transfer.specs.ByNumber.{device_count}
 use Rattle.kdf_processor.specs.declared.registers.Registers.{Registers}
 use Rattle.kdf_processor.specs.State.{State}
-use Rattle.kdf_director.specs.Spots.{Held, Spot, no_spot, spot_at}
+use Rattle.kdf_director.specs.Spots.{Held, Spot, is_holder, no_spot, spot_at}
 use Rattle.kdf_director.specs.Parts.{Part, Seat, Reach, Shared, own_stock}
 use Rattle.kdf_director.specs.Shared.{moved_spot, moved_held, after_move, ended_spot, ended_by, after_end, last_lease, back_cells, IsBack}
 use Rattle.kdf_director.specs.Running.{seat_at, part_at, own_state, moved_own, ended_own, IsHeld, IsRunning}
 use Rattle.kdf_director.specs.Sound.{IsFlightOf}
 use Rattle.kdf_director.proofs.Landing.{moves_own, moves_other}
 use Rattle.kdf_director.proofs.TurnEnding.{sound-move, sound-end, end_own, end_other, length-end, back-end}
+use Rattle.kdf_director.proofs.Placing.{active_by, kept_by, same_at}
 use Rattle.kdf_director.proofs.Running.{running_by}
 use Rattle.kdf_director.proofs.Same.{same_part}
 use Rattle.kdf_director.proofs.Turning.{state, parts_apart, numbers_apart}
@@ -27,7 +28,7 @@ flight-moved q d n x h is =
     let t = h.motion in
     record {
       owner = is.owner;
-      device = is.device;
+      holder = is.holder;
       fixture = is.fixture;
       progress = is.progress;
       lease = some-moved (is_input t.order) (take n (drop t.moved (moves_of t))) t.lease ∙ is.lease;
@@ -40,13 +41,17 @@ flight-moved q d n x h is =
 -- where a device has no transfer, nothing moves
 pub none_moved : (s : Shared) (d n : ℕ) → (spot_at s.spots d).flight ≡ None → after_move d n s ≡ s
 none_moved s d n idle =
-    let same : moved_spot n (spot_at s.spots d) ≡ spot_at s.spots d = ap (λ f. let x : Spot = record { fixture = (spot_at s.spots d).fixture; progress = (spot_at s.spots d).progress; flight = f } in x) (ap (moved_held n) idle ∙ sym idle) in
+    let same : moved_spot n (spot_at s.spots d) ≡ spot_at s.spots d = ap (λ f. let x : Spot = record { fixture = (spot_at s.spots d).fixture; progress = (spot_at s.spots d).progress; flight = f; holder = (spot_at s.spots d).holder } in x) (ap (moved_held n) idle ∙ sym idle) in
     ap (λ ss. let x : Shared = record { cells = s.cells; spots = ss } in x) (ap (set s.spots d) same ∙ set-get_or s.spots d no_spot)
 
 pub none_ended : (s : Shared) (d : ℕ) → (spot_at s.spots d).flight ≡ None → after_end d s ≡ s
 none_ended s d idle =
     ap₂ (λ f y. let x : Shared = record { cells = back_cells (last_lease f) s.cells; spots = set s.spots d y } in x) idle (ap (ended_by (spot_at s.spots d)) idle)
     ∙ ap (λ ss. let x : Shared = record { cells = s.cells; spots = ss } in x) (set-get_or s.spots d no_spot)
+
+pub ended_holder : (x : Spot) (o : Option Held) → (ended_by x o).holder ≡ x.holder
+ended_holder x None = refl
+ended_holder x (Some h) = refl
 
 pub chosen : (p q : ℕ) (x y : State) → p ≡ q → cond (eqb p q) x y ≡ x
 chosen p q x y e = ap (λ b. cond b x y) (eq-eqb p q e)
@@ -57,6 +62,13 @@ passed p q x y e = ap (λ b. cond b x y) (ne_eqb p q e)
 module _ (reaches : List Reach) (seats : List Seat) (s : Shared) (d : ℕ) (run : IsRunning reaches seats s) (small : d < device_count) where
   inside : d < length s.spots
   inside = let e = run.sound.spots in omega arith
+
+  -- whose each device is stays
+  pub moved_holder : (n e : ℕ) → (spot_at (after_move d n s).spots e).holder ≡ (spot_at s.spots e).holder
+  moved_holder n e = same_at (λ (x : Spot). x.holder) s.spots d e (moved_spot n (spot_at s.spots d)) refl
+
+  pub last_holder : (e : ℕ) → (spot_at (after_end d s).spots e).holder ≡ (spot_at s.spots e).holder
+  last_holder e = same_at (λ (x : Spot). x.holder) s.spots d e (ended_spot (spot_at s.spots d)) (ended_holder (spot_at s.spots d) (spot_at s.spots d).flight)
 
   -- a transfer is of program i, or its owner is another
   module _ (i : ℕ) (lt : i < length seats) (h : Held) (flies : (spot_at s.spots d).flight ≡ Some h) where
@@ -112,6 +124,8 @@ module _ (reaches : List Reach) (seats : List Seat) (s : Shared) (d : ℕ) (run 
           (λ (same : e ≡ d). ap (λ k. is_some (spot_at (after_move d n s).spots k).fixture) same ∙ ap (λ (x : Spot). is_some x.fixture) (get_or-set_same s.spots d _ no_spot inside) ∙ (ap (λ k. is_some (spot_at s.spots k).fixture) (sym same) ∙ some))
           (λ (ne : e ≢ d). ap (λ (x : Spot). is_some x.fixture) (get_or-set_other s.spots d e _ no_spot ne) ∙ some)
           (cases_eq e d))
+          (λ i lt. kept_by (part_at reaches seats i) s (after_move d n s) (run.kept i lt) (moved_holder n) (λ e. same_at (λ (x : Spot). x.fixture) s.spots d e (moved_spot n (spot_at s.spots d)) refl) (λ e none. same_at (λ (x : Spot). x.progress) s.spots d e (moved_spot n (spot_at s.spots d)) refl))
+          (λ i lt live. active_by (part_at reaches seats i) s (after_move d n s) (run.active i lt live) (moved_holder n))
           (λ e k flies'. ⊎_elim
           (λ (same : e ≡ d).
           let here : spot_at (after_move d n s).spots e ≡ moved_spot n (spot_at s.spots d) = ap (spot_at (after_move d n s).spots) same ∙ get_or-set_same s.spots d _ no_spot inside in
@@ -148,7 +162,7 @@ module _ (reaches : List Reach) (seats : List Seat) (s : Shared) (d : ℕ) (run 
           ∙ sym (chosen h.p (part_at reaches seats i).p _ _ is.0))
           (λ (ne : (held i lt h flies).by ≢ i).
           let of = held i lt h flies in
-          ap (state r) (end_other s (owner i lt h flies) d h run.sound small flies of.flight m (part_at reaches seats i) (apart i lt h flies ne) (run.devices of.by i d of.there lt ne of.flight.device))
+          ap (state r) (end_other s (owner i lt h flies) d h run.sound small flies of.flight m (part_at reaches seats i) (apart i lt h flies ne) (ap (is_holder (part_at reaches seats i).p) of.flight.holder ∙ ne_eqb (owner i lt h flies).p (part_at reaches seats i).p (numbers_apart reaches seats s of.by i run of.there lt ne)))
           ∙ sym (passed h.p (part_at reaches seats i).p _ _ (others i lt h flies ne)))
           (cases_eq (held i lt h flies).by i)
 
@@ -176,6 +190,12 @@ module _ (reaches : List Reach) (seats : List Seat) (s : Shared) (d : ℕ) (run 
           ap (λ k. is_some (spot_at (after_end d s).spots k).fixture) same ∙ ap (λ (x : Spot). is_some x.fixture) (get_or-set_same s.spots d _ no_spot inside ∙ y_is) ∙ (ap (λ k. is_some (spot_at s.spots k).fixture) (sym same) ∙ some))
           (λ (ne : e ≢ d). ap (λ (x : Spot). is_some x.fixture) (get_or-set_other s.spots d e _ no_spot ne) ∙ some)
           (cases_eq e d))
+          (λ i lt. kept_by (part_at reaches seats i) s (after_end d s) (run.kept i lt) last_holder (λ e. same_at (λ (x : Spot). x.fixture) s.spots d e (ended_spot (spot_at s.spots d)) (ap (λ (x : Spot). x.fixture) y_is))
+          (λ e none. ⊎_elim
+          (λ (same : e ≡ d). cc (sym (ap (λ k. (spot_at s.spots k).holder) same ∙ of.flight.holder) ∙ none))
+          (λ (ne : e ≢ d). ap (λ (x : Spot). x.progress) (get_or-set_other s.spots d e _ no_spot ne))
+          (cases_eq e d)))
+          (λ i lt live. active_by (part_at reaches seats i) s (after_end d s) (run.active i lt live) last_holder)
           (λ e k flies'. ⊎_elim
           (λ (same : e ≡ d).
           let none = ap (λ i. (spot_at (after_end d s).spots i).flight) same ∙ ap (λ (x : Spot). x.flight) (get_or-set_same s.spots d (ended_spot (spot_at s.spots d)) no_spot inside ∙ y_is) in

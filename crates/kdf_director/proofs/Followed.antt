@@ -1,6 +1,6 @@
 -- The programs go on following the journal through an order of one of them.
 use Rattle.std.specs.List.{range_with_len}
-use Rattle.std.proofs.Common.{◌≡◌, ◌≢◌, ℕ, ◌+◌, ◌-◌, ◌*◌, ◌/◌, ◌%◌, ◌<◌, ◌≤◌, true, false, List, [], length, length-append, get_or, set, map, take, drop, Option, Some, None, is_some, is_none, cond, refl, sym, ap, ap₂, ◌∙◌, subst, ⊎_elim, arith, length-take, length-drop}
+use Rattle.std.proofs.Common.{◌≡◌, ◌≢◌, ℕ, ◌+◌, ◌-◌, ◌*◌, ◌/◌, ◌%◌, ◌<◌, ◌≤◌, Bool, true, false, List, [], length, length-append, get_or, set, map, take, drop, Option, Some, None, is_some, is_none, cond, refl, sym, ap, ap₂, ◌∙◌, subst, ⊎_elim, arith, length-take, length-drop}
 use Rattle.std.proofs.lemmas.Bool.{cases_Bool, cases_eq, eq-eqb, ne_eqb}
 use Rattle.std.proofs.lemmas.List.{ext_get_or, get_or-map, get_or-set_same, get_or-set_other, get_or-take, get_or-drop}
 use Rattle.std.proofs.lemmas.List.FromFn.{length-map-range_with_len, get_or-map-range_with_len}
@@ -10,11 +10,14 @@ use Rattle.kdf_journal.specs.Steps.{Note, Obeys, added}
 use Rattle.kdf_journal.proofs.Added.{answer_in_note, answers_by, answers-added, pending_by, pending-added}
 use Rattle.kdf_lockout.specs.Groups.{Cells, group_at, is_out, lent_groups, lent_word, touched, word_here, words_in}
 use Rattle.kdf_transfer.specs.declared.order.TransferOrder.{TransferOrder}
-use Rattle.kdf_transfer.specs.AtOnce.{has_area, order_words}
+use Rattle.kdf_journal.specs.declared.kind.Kind.{Kind}
+use Rattle.kdf_transfer.specs.AtOnce.{has_area, kind_of, order_words}
 use Rattle.kdf_transfer.specs.Devices.{Fixture}
 use Rattle.kdf_transfer.specs.InFlight.{area_words, lent_at}
 use Rattle.kdf_processor.specs.declared.registers.Registers.{Registers}
 use Rattle.kdf_processor.specs.Effect.{Question, Effect, Failing, Ending, Changing, Fetching, Keeping, Testing, Starting, Asking, Claiming, Returning, Spooling, FreeOf}
+use Rattle.kdf_processor.specs.declared.step.Need.TheVariants.{Device}
+use Rattle.kdf_processor.specs.Lone.{is_live}
 use Rattle.kdf_processor.specs.Needs.{effect_needs, next_effect}
 use Rattle.kdf_processor.specs.Outcome.{Outcome, held_or}
 use Rattle.kdf_processor.specs.Row.{done_by, next_of}
@@ -30,8 +33,9 @@ use Rattle.kdf_director.specs.True.{truth}
 use Rattle.kdf_director.specs.World.{first_need}
 use Rattle.kdf_transfer.specs.ByNumber.{device_count}
 use Rattle.kdf_director.specs.Physical as physical
-use Rattle.kdf_director.specs.Spots.{Held, Spot, no_spot, spot_at, fixture_or, leases_of, own_from}
-use Rattle.kdf_director.specs.Parts.{Part, Seat, Reach, Shared, asked_after, has_device, own_progress, own_stock}
+use Rattle.kdf_director.specs.Agrees.{AreLent}
+use Rattle.kdf_director.specs.Spots.{Held, Spot, blank_spot, lent_spot, no_spot, spot_at, fixture_or, leases_of, own_from}
+use Rattle.kdf_director.specs.Parts.{Part, Seat, Reach, Shared, asked_after, has_device, lent_to, own_claims, own_progress, own_stock}
 use Rattle.kdf_director.specs.Shared.{view, after_act, start_lease, start_spot}
 use Rattle.kdf_director.specs.Running.{seat_at, part_at, own_state, hold_of, outcome_at, answers_at, IsRunning}
 use Rattle.kdf_director.specs.Turned.{HasTurned}
@@ -45,16 +49,19 @@ use Rattle.kdf_director.proofs.Inside.{IsInside, next_inside}
 use Rattle.kdf_director.proofs.Judging.{busy_same, free_same, done_alike, group_same, hold_same, out_same}
 use Rattle.kdf_director.proofs.Lasting.{answers_same}
 use Rattle.kdf_director.proofs.Lawful.{IsLawful}
+use Rattle.kdf_director.proofs.LegalFacts.{legal_alive}
 use Rattle.kdf_director.proofs.Linking.{follow_part, linked_none, linked_set}
 use Rattle.kdf_director.proofs.Obeying.{obeys-flights, obeys-others, obeys-seen}
 use Rattle.kdf_director.proofs.Judged.{free_need}
 use Rattle.kdf_director.proofs.OnCourse.{IsOnCourse, apart-mine, free, legal-course}
 use Rattle.kdf_director.proofs.SeenJournals.{same-need, same-note}
 use Rattle.kdf_director.proofs.SeenStates.{seen_apart, seen_device_at, seen_number, seen_word_at}
-use Rattle.kdf_director.proofs.Showing.{here_word, own_device, own_fixture_at, own_word}
+use Rattle.kdf_director.proofs.Placing.{same_at}
+use Rattle.kdf_director.proofs.Showing.{claim_fixture, here_word, own_device, own_word}
 use Rattle.kdf_transfer.proofs.Numbers.{length-numbers}
 use Rattle.kdf_director.proofs.Trying.{IsPart, start_free, start_has, start_idle, start_small}
 use Rattle.kdf_director.proofs.Turning as turn
+use Rattle.kdf_director.proofs.Worlds.{next_on}
 
 -- a word of the groups that a lease takes
 lent_here : (cells : Cells) (from n x : ℕ) → from + n ≤ length cells → from ≤ x / 32 → x / 32 < from + n → lent_word (lent_groups cells from n) x ≡ word_here cells x
@@ -87,7 +94,7 @@ asked_told n answer (Returning true d after) s = omega arith
 asked_told n answer (Returning false d after) s = omega arith
 asked_told n answer (Spooling stream first last after) s = omega arith
 
-module _ (slots : List Slot) (J : List Entry) (reaches : List Reach) (seats : List Seat) (s : Shared) (are : AreSlots slots) (legal : IsLegal slots J) (run : IsRunning reaches seats s) (old : AreFollowing slots J reaches seats s) (i : ℕ) (lt : i < length seats) (note : Note) (meets : Meets (lone_world slots J) slots J (Obeys (seat_at seats i).p note)) where
+module _ (slots : List Slot) (J : List Entry) (reaches : List Reach) (seats : List Seat) (s : Shared) (are : AreSlots slots) (legal : IsLegal slots J) (run : IsRunning reaches seats s) (old : AreFollowing slots J reaches seats s) (lent : AreLent J reaches seats s) (i : ℕ) (lt : i < length seats) (note : Note) (meets : Meets (lone_world slots J) slots J (Obeys (seat_at seats i).p note)) where
   abbrev q : Part
   q = part_at reaches seats i
 
@@ -119,14 +126,25 @@ module _ (slots : List Slot) (J : List Entry) (reaches : List Reach) (seats : Li
   course = legal-course slots J are legal p
 
   part : IsPart q s
-  part = turn.is_part reaches seats s i run lt
+  part = turn.is_part reaches seats s i run lt is_on
+
+  -- it is live
+  is_on : is_live (seat_at seats i).registers.state ≡ true
+  is_on =
+      ap (λ (r : Registers). is_live r.state) (registers_own ∙ ap (λ (x : State). x.registers) fol.is_seen)
+      ∙ legal_alive slots J legal p
+      ∙ next_on (lone_world slots J) slots J p meets.0
+    where
+      registers_own : (seat_at seats i).registers ≡ mine.registers
+      unfolding own_state
+      registers_own = refl
 
   none_holds : first_need (lone_world slots J) p ≡ None
   none_holds = free_need (first_need (lone_world slots J) p) meets.1
 
   -- nothing holds it up, in the machine either
   none : hold_of reaches seats s i ≡ None
-  none = hold_same slots J reaches seats s run old i lt course ∙ same_needs ∙ none_holds
+  none = hold_same slots J reaches seats s run old i lt course lent ∙ same_needs ∙ none_holds
     where
       same_needs : first_need (seen_world slots J) p ≡ first_need (lone_world slots J) p
       same_needs = same-need slots J p
@@ -148,7 +166,7 @@ module _ (slots : List Slot) (J : List Entry) (reaches : List Reach) (seats : Li
       (subst (λ k. IsInside k (next_effect mine)) size_is (next_inside mine))
       (out_same slots J reaches seats s run old i lt course)
       (busy_same slots J reaches seats s run old i lt course)
-      (free_same slots J reaches seats s run old i lt course)
+      (free_same slots J reaches seats s run old i lt course lent)
       refl
 
   -- its state behind the order
@@ -200,7 +218,7 @@ module _ (slots : List Slot) (J : List Entry) (reaches : List Reach) (seats : Li
   free_mine = turn.free reaches seats 0 s i run lt none
 
   -- a device and a word of its own
-  device_own : (d : ℕ) → d < device_count → has_device q d ≡ true → device_at mine d ≡ (spot_at s.spots d).progress
+  device_own : (d : ℕ) → d < device_count → has_device q (spot_at s.spots d) ≡ true → device_at mine d ≡ (spot_at s.spots d).progress
   unfolding own_state
   device_own d small has = own_device q n s d small has
 
@@ -210,7 +228,7 @@ module _ (slots : List Slot) (J : List Entry) (reaches : List Reach) (seats : Li
 
   -- the transfer that begins
   module _ (d : ℕ) (o : TransferOrder) (first last : ℕ) (after : Registers) (lawful : IsLawful (own_stock q 0 s).claims (Starting d o first last after)) (clear : first_pending (view q 0 s) (effect_needs (own_from p 0 s.spots) (Starting d o first last after)) ≡ None) where
-    has : has_device q d ≡ true
+    has : has_device q (spot_at s.spots d) ≡ true
     has = start_has q 0 s d o first last after (own_from p 0 s.spots) part lawful clear
 
     small : d < device_count
@@ -228,9 +246,11 @@ module _ (slots : List Slot) (J : List Entry) (reaches : List Reach) (seats : Li
     fixture_is : fixture_at l.stock.claims d ≡ Some (fixture_or (spot_at s.spots d).fixture)
     fixture_is =
         ap (λ c. fixture_at c d) (sym claims_same ∙ own_claims_is)
-        ∙ own_fixture_at q s d small
-        ∙ ap (λ b. cond b (spot_at s.spots d).fixture None) has
-        ∙ or_some (spot_at s.spots d).fixture (part.there d has)
+        ∙ same.1
+        ∙ or_some (spot_at s.spots d).fixture (ap is_some (sym same.1) ∙ same.0)
+      where
+        same : (is_some (fixture_at (own_claims q s) d) ≡ true) × (fixture_at (own_claims q s) d ≡ (spot_at s.spots d).fixture)
+        same = claim_fixture q s d (kind_of o) part.kept lawful.0
 
     in_devices : d < length l.stock.devices
     in_devices = let k = small in let m = number_same in omega arith
@@ -321,9 +341,27 @@ module _ (slots : List Slot) (J : List Entry) (reaches : List Reach) (seats : Li
   abbrev left : Effect → Shared
   left e = after_act q s (done_by answer e mine).act
 
+  -- what is taken from the pool or given back has no transfer then, as before
+  flight_lent : (kind : Kind) (after : Registers) (d : ℕ) → (spot_at (left (Asking (FreeOf kind) after)).spots d).flight ≡ (spot_at s.spots d).flight
+  flight_lent kind after d = let t = lent_to q s kind (answer (FreeOf kind)) in same_at (λ (x : Spot). x.flight) s.spots t d (lent_spot q.p (spot_at s.spots t)) refl
+
+  flight_back : (x : ℕ) (after : Registers) → first_pending (view q 0 s) (effect_needs (own_from p 0 s.spots) (Returning true x after)) ≡ None → (d : ℕ) → (spot_at (left (Returning true x after)).spots d).flight ≡ (spot_at s.spots d).flight
+  flight_back x after clear d = same_at (λ (y : Spot). y.flight) s.spots x d (blank_spot (spot_at s.spots x)) (sym (idle_back (is_some (spot_at s.spots x).flight) refl))
+    where
+      none_of : (o : Option Held) → is_some o ≡ false → o ≡ None
+      none_of None h = refl
+      none_of (Some h) is = cc
+
+      idle_back : (b : Bool) → is_some (spot_at s.spots x).flight ≡ b → (spot_at s.spots x).flight ≡ None
+      idle_back true is = cc (sym (ap (λ b. cond b (Some (Device x)) None) is) ∙ clear)
+      idle_back false is = none_of (spot_at s.spots x).flight is
+
   linked_by : (e : Effect) → IsLawful (own_stock q 0 s).claims e → first_pending (view q 0 s) (effect_needs (own_from p 0 s.spots) e) ≡ None → (d : ℕ) → Linked q d (spot_at (left e).spots d).flight (flights_after fs l e d)
   linked_by (Starting d o first last after) lawful clear = linked_new d o first last after lawful clear
-  linked_by e lawful clear = fol.linked
+  linked_by (Asking (FreeOf kind) after) lawful clear d = subst (λ f. Linked q d f (fs d)) (sym (flight_lent kind after d)) (fol.linked d)
+  linked_by (Returning true x after) lawful clear d = subst (λ f. Linked q d f (fs d)) (sym (flight_back x after clear d)) (fol.linked d)
+  linked_by (Returning false x after) lawful clear d = fol.linked d
+  linked_by e lawful clear d = fol.linked d
 
   -- of another program
   other_by : (x : Part) (own : State) → IsFollowing slots J x own s → q.p ≢ x.p → (e : Effect) → IsLawful (own_stock q 0 s).claims e → first_pending (view q 0 s) (effect_needs (own_from p 0 s.spots) e) ≡ None → (d : ℕ) → Linked x d (spot_at (left e).spots d).flight (flights_of slots J x.p d)
@@ -331,7 +369,10 @@ module _ (slots : List Slot) (J : List Entry) (reaches : List Reach) (seats : Li
       linked_set x s.spots d (start_spot q.p o (q.base + first) (q.base + last) s.cells (spot_at s.spots d)) (flights_of slots J x.p) (flights_of slots J x.p) (inside d o first last after lawful clear) follows.linked (λ e ne'. refl)
       (subst (Linked x d (start_spot q.p o (q.base + first) (q.base + last) s.cells (spot_at s.spots d)).flight)
       (sym (linked_none x d (flights_of slots J x.p d) (subst (λ y. Linked x d y (flights_of slots J x.p d)) (idle d o first last after lawful clear) (follows.linked d)))) ne)
-  other_by x own follows ne e lawful clear = follows.linked
+  other_by x own follows ne (Asking (FreeOf kind) after) lawful clear d = subst (λ f. Linked x d f (flights_of slots J x.p d)) (sym (flight_lent kind after d)) (follows.linked d)
+  other_by x own follows ne (Returning true y after) lawful clear d = subst (λ f. Linked x d f (flights_of slots J x.p d)) (sym (flight_back y after clear d)) (follows.linked d)
+  other_by x own follows ne (Returning false y after) lawful clear d = follows.linked d
+  other_by x own follows ne e lawful clear d = follows.linked d
 
   busy_by : (e : Effect) → IsLawful (own_stock q 0 s).claims e → first_pending (view q 0 s) (effect_needs (own_from p 0 s.spots) e) ≡ None → (k d : ℕ) → is_some (spot_at (left e).spots d).flight ≡ is_some (pending_behind p k d (pending d J) e)
   busy_by (Starting x o first last after) lawful clear k d =
@@ -348,6 +389,9 @@ module _ (slots : List Slot) (J : List Entry) (reaches : List Reach) (seats : Li
     where
       new : Spot
       new = start_spot q.p o (q.base + first) (q.base + last) s.cells (spot_at s.spots x)
+  busy_by (Asking (FreeOf kind) after) lawful clear k d = ap is_some (flight_lent kind after d) ∙ old.busy d
+  busy_by (Returning true x after) lawful clear k d = ap is_some (flight_back x after clear d) ∙ old.busy d
+  busy_by (Returning false x after) lawful clear k d = old.busy d
   busy_by e lawful clear k d = old.busy d
 
   -- all programs, behind the turn
@@ -363,7 +407,7 @@ module _ (slots : List Slot) (J : List Entry) (reaches : List Reach) (seats : Li
             (λ (ne : j ≢ i). others j within ne)
             (cases_eq j i)));
         busy = λ d.
-            ap (λ (x : Shared). is_some (spot_at x.spots d).flight) shared_is
+            ap is_some (flight_is d)
             ∙ busy_by (next_effect mine) lawful_mine free_mine (l.registers.ran + 1) d
             ∙ sym (ap is_some (pending-added d J (Obeys p note)
             ∙ ap (λ x. pending_by d (pending d J) (Obeys p x)) meets.2
@@ -371,8 +415,8 @@ module _ (slots : List Slot) (J : List Entry) (reaches : List Reach) (seats : Li
             ∙ ap (pending_behind p (l.registers.ran + 1) d (pending d J)) (sym next_is)));
       }
     where
-      shared_is : s' ≡ left (next_effect mine)
-      shared_is = turned.shared n ∙ ap (λ (o : Outcome). after_act q s o.act) outcome_is
+      flight_is : (d : ℕ) → (spot_at s'.spots d).flight ≡ (spot_at (left (next_effect mine)).spots d).flight
+      flight_is d = turned.flights n d ∙ ap (λ (o : Outcome). (spot_at (after_act q s o.act).spots d).flight) outcome_is
 
       its : IsFollowing slots J' q (own_state reaches seats' s' (asked_at seats J' i) i) s'
       its =
@@ -382,7 +426,7 @@ module _ (slots : List Slot) (J : List Entry) (reaches : List Reach) (seats : Li
                 ∙ turned.own n
                 ∙ tried_is;
             linked = λ d.
-                subst (λ (x : Shared). Linked q d (spot_at x.spots d).flight (flights_of slots J' p d)) (sym shared_is)
+                subst (λ f. Linked q d f (flights_of slots J' p d)) (sym (flight_is d))
                 (subst (λ gs. Linked q d (spot_at (left (next_effect mine)).spots d).flight (gs d)) (sym (obeys-flights slots J p note legal meets are))
                 (subst (λ e. Linked q d (spot_at (left (next_effect mine)).spots d).flight (flights_after fs l e d)) next_is
                 (linked_by (next_effect mine) lawful_mine free_mine d)));
@@ -401,7 +445,7 @@ module _ (slots : List Slot) (J : List Entry) (reaches : List Reach) (seats : Li
                 ∙ (old.each j within).is_seen
                 ∙ sym (ap₂ seen stay.1 stay.0);
             linked = λ d.
-                subst (λ (x : Shared). Linked (part_at reaches seats j) d (spot_at x.spots d).flight (flights_of slots J' (seat_at seats j).p d)) (sym shared_is)
+                subst (λ f. Linked (part_at reaches seats j) d f (flights_of slots J' (seat_at seats j).p d)) (sym (flight_is d))
                 (subst (λ gs. Linked (part_at reaches seats j) d (spot_at (left (next_effect mine)).spots d).flight (gs d)) (sym stay.1)
                 (other_by (part_at reaches seats j) (own_state reaches seats s (asked_at seats J j) j) (old.each j within) apart (next_effect mine) lawful_mine free_mine d));
           }

@@ -2,8 +2,9 @@
 -- has transfers, what holds it up, and what it is answered.
 use Rattle.std.specs.Prelude.{find, map, unwrap_or}
 use Rattle.std.specs.List.{filter, range_with_len}
-use Rattle.std.proofs.Common.{◌≡◌, ◌≢◌, ℕ, zero, suc, ◌+◌, ◌*◌, ◌/◌, ◌<◌, ◌≤◌, Bool, true, false, ◌||◌, List, [], ◌∷◌, length, Option, Some, None, is_some, is_none, cond, refl, sym, ap, ◌∙◌, subst, ⊎_elim, arith, not}
+use Rattle.std.proofs.Common.{◌≡◌, ◌≢◌, ℕ, zero, suc, ◌+◌, ◌*◌, ◌/◌, ◌<◌, ◌≤◌, Bool, true, false, ◌||◌, ◌&&◌, List, [], ◌∷◌, length, get_or, Option, Some, None, is_some, is_none, cond, refl, sym, ap, ◌∙◌, subst, ⊎_elim, arith, not}
 use Rattle.std.proofs.lemmas.Bool.{cases_Bool, cases_eq, cases_lt, or_right, and_parts, and_from, eq-eqb, ne_eqb, le-leb, lt-ltb, leb-true, ltb-true}
+use Rattle.std.proofs.Math.Path.{fun_ext}
 use Rattle.std.proofs.lemmas.List.{get_or_past}
 use Rattle.kdf_journal.specs.declared.entry.Entry.{Entry}
 use Rattle.kdf_journal.specs.Counts.{clock, pending, answers, ran, holder}
@@ -15,20 +16,22 @@ use Rattle.kdf_processor.specs.declared.step.Need.TheVariants.{Group, Device, Po
 use Rattle.kdf_processor.specs.Effect.{Question, IsBusy, IsOut, Time, Effect, Asking, FreeOf}
 use Rattle.kdf_processor.specs.Needs.{needs}
 use Rattle.kdf_processor.specs.Row.{done_by}
+use Rattle.kdf_transfer.specs.Devices.{is_kind}
 use Rattle.kdf_transfer.specs.Slots.{Slot}
 use Rattle.kdf_processor.specs.State.{State}
 use Rattle.kdf_transfer.specs.ByNumber.{device_count}
 use Rattle.kdf_processor.specs.View.{groups_of, is_pending}
 use Rattle.kdf_director.specs.Flights.{Flight, touches}
 use Rattle.kdf_director.specs.Seen.{touched_below}
-use Rattle.kdf_director.specs.Told.{flights_of, is_pending_after, mine_after, own, seen_of, seen_world, free_after}
+use Rattle.kdf_director.specs.Told.{flights_of, is_free_after, is_pending_after, mine_after, own, seen_of, seen_world, free_after}
 use Rattle.kdf_director.specs.Told as told
 use Rattle.kdf_director.specs.True.{known}
 use Rattle.kdf_director.specs.World.{first_need}
 use Rattle.kdf_director.specs.Physical.{has_group}
 use Rattle.kdf_director.specs.Spots.{Held, Spot, no_spot, spot_at, is_of, lease_held, leases_of, own_from}
 use Rattle.kdf_director.specs.Parts.{Part, Seat, Reach, Shared}
-use Rattle.kdf_director.specs.Shared.{view, is_pool_taken}
+use Rattle.kdf_director.specs.Agrees.{AreLent}
+use Rattle.kdf_director.specs.Shared.{view, free_in, is_free_in}
 use Rattle.kdf_director.specs.Sound.{IsFlightOf}
 use Rattle.kdf_director.specs.Running.{seat_at, part_at, own_state, hold_of, answers_at, IsHeld, IsRunning}
 use Rattle.kdf_director.specs.Following.{IsLink, Linked, IsFollowing, AreFollowing, asked_at}
@@ -37,7 +40,7 @@ use Rattle.kdf_director.proofs.Linking.{linked_own}
 use Rattle.kdf_director.proofs.OnCourse.{IsOnCourse}
 use Rattle.kdf_director.proofs.Turning.{numbers_apart}
 use Rattle.kdf_journal.specs.declared.kind.Kind.{Kind}
-use Rattle.kdf_processor.proofs.Frees.{none_of_pool}
+use Rattle.kdf_processor.proofs.Frees.{none_of_kind}
 use Rattle.kdf_processor.proofs.RowFacts.{pool_lone}
 use Rattle.kdf_director.specs.Slots.{start}
 
@@ -229,24 +232,10 @@ module _ (slots : List Slot) (J : List Entry) (reaches : List Reach) (seats : Li
       both_ways _ _ (out_touched g near)
       (λ is. let d = touched_some device_count fs g is in touched_out d.0 g d.1)
 
-  -- there is no pool yet
-  no_pool : (start slots q.p).stock.claims.pool ≡ []
+  -- its pool is the one that it was loaded with
+  same_pool : (start slots q.p).stock.claims.pool ≡ q.pool
   unfolding own own_state
-  no_pool = sym (pool_lone (start slots q.p) (answers q.p J) (ran q.p J)) ∙ sym (ap (λ (x : State). x.stock.claims.pool) fol.is_seen)
-
-  none_free : (kind : Kind) → free_after slots J q.p kind ≡ None
-  unfolding free_after
-  none_free kind = none_of_pool kind (start slots q.p).stock.claims.pool (λ d. not (is_some (holder d J))) no_pool (range_with_len 0 device_count)
-
-  none_left : (kind : Kind) → is_pool_taken kind ≡ true
-  unfolding is_pool_taken
-  none_left kind = refl
-
-  -- so a need is pending in the machine exactly where it is by the journal
-  pub pending_same : (t : ℕ) (n : Need) → IsNear q.size n → is_pending (view q t s) n ≡ is_pending_after slots J q.p n
-  pending_same t (Group g) near = group_same g near
-  pending_same t (Device d) near = old.busy d
-  pending_same t (Pool kind) near = none_left kind ∙ sym (ap (λ o. not (is_some o)) (none_free kind))
+  same_pool = sym (pool_lone (start slots q.p) (answers q.p J) (ran q.p J)) ∙ sym (ap (λ (x : State). x.stock.claims.pool) fol.is_seen)
 
   -- its transfers are on the same devices
   pub mine_same : own_from q.p 0 s.spots ≡ mine_after J q.p
@@ -267,23 +256,50 @@ module _ (slots : List Slot) (J : List Entry) (reaches : List Reach) (seats : Li
   unfolding own_state
   size_is n = refl
 
-  -- what holds it up
-  pub hold_same : hold_of reaches seats s i ≡ first_need (seen_world slots J) q.p
-  unfolding hold_of first_need
-  hold_same =
-      find_near q.size (is_pending (view q 0 s)) (is_pending_after slots J q.p) (pending_same 0)
-      (needs (own_state reaches seats s 0 i) (own_from q.p 0 s.spots))
-      (subst (λ n. AreNear n (needs (own_state reaches seats s 0 i) (own_from q.p 0 s.spots))) (size_is 0) (needs_near (own_state reaches seats s 0 i) (own_from q.p 0 s.spots)))
-      ∙ ap (find (is_pending_after slots J q.p)) (needs_are 0 (own_from q.p 0 s.spots) ∙ ap (needs (seen_of slots J q.p)) mine_same)
-
-  -- and what it is answered
+  -- what it is answered
   pub busy_same : (d : ℕ) → answers_at reaches seats (clock J) s i (IsBusy d) ≡ known (is_pending_after slots J q.p) (clock J) (free_after slots J q.p) (IsBusy d)
   busy_same d = ap (λ b. cond b 1 0) (old.busy d)
-
-  pub free_same : (kind : Kind) → answers_at reaches seats (clock J) s i (FreeOf kind) ≡ known (is_pending_after slots J q.p) (clock J) (free_after slots J q.p) (FreeOf kind)
-  free_same kind = ap (λ (o : Option ℕ). unwrap_or o 0) (sym (none_free kind))
 
   pub out_same : (first last : ℕ) → AreNear q.size (map Group (groups_of first last)) → answers_at reaches seats (clock J) s i (IsOut first last) ≡ known (is_pending_after slots J q.p) (clock J) (free_after slots J q.p) (IsOut first last)
   out_same first last near =
       ap (λ b. cond b 1 0)
       (any_near q.size (λ g. is_out s.cells (q.base / 32 + g)) (touched_below device_count fs) group_same (groups_of first last) near)
+
+  -- ---- where the pool lends as the journal tells
+  module _ (lent : AreLent J reaches seats s) where
+    -- a device of the pool is free in the machine where it is by the journal
+    free_at : (kind : Kind) (d : ℕ) (o : Option Kind) → get_or q.pool d None ≡ o → is_free_after slots J q.p kind d ≡ is_free_in q.pool s.spots kind d
+    free_at kind d None is =
+        ap (λ ks. is_kind kind (get_or ks d None) && not (is_some (holder d J))) same_pool
+        ∙ ap (λ k. is_kind kind k && not (is_some (holder d J))) is
+        ∙ none_here (not (is_some (holder d J)))
+        ∙ sym (none_here (not (is_some (spot_at s.spots d).holder)))
+        ∙ sym (ap (λ k. is_kind kind k && not (is_some (spot_at s.spots d).holder)) is)
+      where
+        none_here : (b : Bool) → (is_kind kind None && b) ≡ false
+        none_here b = ap (λ x. x && b) (none_of_kind kind)
+    free_at kind d (Some k) is =
+        ap (λ ks. is_kind kind (get_or ks d None) && not (is_some (holder d J))) same_pool
+        ∙ ap (λ h. is_kind kind (get_or q.pool d None) && not (is_some h)) (sym (lent i d lt (ap is_some is)))
+
+    pub free_is : (kind : Kind) → free_after slots J q.p kind ≡ free_in q.pool s.spots kind
+    unfolding free_after free_in
+    free_is kind = ap (λ test. find test (range_with_len 0 device_count)) (fun_ext (λ d. free_at kind d (get_or q.pool d None) refl))
+
+    -- so a need is pending in the machine exactly where it is by the journal
+    pub pending_same : (t : ℕ) (n : Need) → IsNear q.size n → is_pending (view q t s) n ≡ is_pending_after slots J q.p n
+    pending_same t (Group g) near = group_same g near
+    pending_same t (Device d) near = old.busy d
+    pending_same t (Pool kind) near = ap (λ (o : Option ℕ). not (is_some o)) (sym (free_is kind))
+
+    -- what holds it up
+    pub hold_same : hold_of reaches seats s i ≡ first_need (seen_world slots J) q.p
+    unfolding hold_of first_need
+    hold_same =
+        find_near q.size (is_pending (view q 0 s)) (is_pending_after slots J q.p) (pending_same 0)
+        (needs (own_state reaches seats s 0 i) (own_from q.p 0 s.spots))
+        (subst (λ n. AreNear n (needs (own_state reaches seats s 0 i) (own_from q.p 0 s.spots))) (size_is 0) (needs_near (own_state reaches seats s 0 i) (own_from q.p 0 s.spots)))
+        ∙ ap (find (is_pending_after slots J q.p)) (needs_are 0 (own_from q.p 0 s.spots) ∙ ap (needs (seen_of slots J q.p)) mine_same)
+
+    pub free_same : (kind : Kind) → answers_at reaches seats (clock J) s i (FreeOf kind) ≡ known (is_pending_after slots J q.p) (clock J) (free_after slots J q.p) (FreeOf kind)
+    free_same kind = ap (λ (o : Option ℕ). unwrap_or o 0) (sym (free_is kind))

@@ -21,9 +21,9 @@ use Rattle.kdf_director.specs.Sound.{IsSound, IsFlightOf}
 use Rattle.kdf_director.proofs.Acting.{stock, claims, leases-set, fixtures-set, progress-set}
 use Rattle.kdf_director.proofs.Puts.{shift, AreWithin, within-drop, within-take, within-addressed, shift-addressed, shift-drop, shift-take, has-with, full-with, IsLentAlone, HasAll, puts_own, puts_other}
 
-pub spot_moved : (p n : ℕ) (t t' : Motion) → t' ≡ moved_by n t → (let x : Spot = record { fixture = Some t'.fixture; progress = t'.progress; flight = Some (record { p = p; motion = t' }) } in x) ≡ moved_spot n (spot_of (Busy p t))
+pub spot_moved : (p n : ℕ) (t t' : Motion) → t' ≡ moved_by n t → (let x : Spot = record { fixture = Some t'.fixture; progress = t'.progress; flight = Some (record { p = p; motion = t' }); holder = Some p } in x) ≡ moved_spot n (spot_of (Busy p t))
 unfolding moved_by
-spot_moved p n t t' is = ap (λ (m : Motion). let x : Spot = record { fixture = Some m.fixture; progress = m.progress; flight = Some (record { p = p; motion = m }) } in x) is
+spot_moved p n t t' is = ap (λ (m : Motion). let x : Spot = record { fixture = Some m.fixture; progress = m.progress; flight = Some (record { p = p; motion = m }); holder = Some p } in x) is
 
 -- a lease after some words
 pub has-put : (ms : List (ℕ × ℕ)) (l : Lent) (g : ℕ) → has_group (Some (put_words ms l)) g ≡ has_group (Some l) g
@@ -183,16 +183,16 @@ module _ (s : Shared) (q : Part) (d : ℕ) (h : Held) (n : ℕ) (sound : IsSound
   same_fixtures r = fixtures-set r s.spots d (moved_spot n x) inside (λ has. refl)
 
   same_progress : (r : Part) → own_progress r (after_move d n s).spots ≡ own_progress r s.spots
-  same_progress r = progress-set r s.spots d (moved_spot n x) inside (λ has. refl)
+  same_progress r = progress-set r s.spots d (moved_spot n x) inside refl (λ has. refl)
 
   -- what is shown of the program after n words
-  pub moves_own : (m : ℕ) → own_stock q m (after_move d n s) ≡ stock (own_claims q s) q.spooled m (written (flight_moves q.base n t) (own_words q.base q.size s.cells (leases_of s.spots))) (by_number (own_progress q s.spots))
+  pub moves_own : (m : ℕ) → own_stock q m (after_move d n s) ≡ stock q (own_claims q s) m (written (flight_moves q.base n t) (own_words q.base q.size s.cells (leases_of s.spots))) (by_number (own_progress q s.spots))
   moves_own m =
-      ap₂ (λ fs ws. stock (claims q (by_number fs)) q.spooled m ws (by_number (own_progress q (after_move d n s).spots))) (same_fixtures q) move_words_own
-      ∙ ap (λ ps. stock (own_claims q s) q.spooled m (written (flight_moves q.base n t) (own_words q.base q.size s.cells (leases_of s.spots))) (by_number ps)) (same_progress q)
+      ap₂ (λ fs ws. stock q (claims q (by_number fs)) m ws (by_number (own_progress q (after_move d n s).spots))) (same_fixtures q) move_words_own
+      ∙ ap (λ ps. stock q (own_claims q s) m (written (flight_moves q.base n t) (own_words q.base q.size s.cells (leases_of s.spots))) (by_number ps)) (same_progress q)
 
   -- and of another
   pub moves_other : (m : ℕ) (r : Part) → (q.base + q.size ≤ r.base) ⊎ (r.base + r.size ≤ q.base) → own_stock r m (after_move d n s) ≡ own_stock r m s
   moves_other m r apart =
-      ap₂ (λ fs ws. stock (claims r (by_number fs)) r.spooled m ws (by_number (own_progress r (after_move d n s).spots))) (same_fixtures r) (move_words_other r apart)
-      ∙ ap (λ ps. stock (own_claims r s) r.spooled m (own_words r.base r.size s.cells (leases_of s.spots)) (by_number ps)) (same_progress r)
+      ap₂ (λ fs ws. stock r (claims r (by_number fs)) m ws (by_number (own_progress r (after_move d n s).spots))) (same_fixtures r) (move_words_other r apart)
+      ∙ ap (λ ps. stock r (own_claims r s) m (own_words r.base r.size s.cells (leases_of s.spots)) (by_number ps)) (same_progress r)

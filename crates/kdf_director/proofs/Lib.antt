@@ -26,6 +26,8 @@ pub mod WorkedSwaps
 pub mod Holding
 pub mod WorkedSlots
 pub mod Acting
+pub mod Loans
+pub mod Pooling
 pub mod TurnBeginning
 pub mod Closing
 pub mod TurnEnding
@@ -78,3 +80,5 @@ pub mod Living
 pub mod InOrder
 pub mod Placed
 pub mod Handing
+pub mod Lent
+pub mod Placing

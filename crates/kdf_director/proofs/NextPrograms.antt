@@ -171,17 +171,17 @@ module _ (slots : List Slot) (reaches : List Reach) (seats : List Seat) (s : Sha
       w = world_after slots J states
 
       -- what held it is pending by its fields where it is by the journal
-      stopped_by : (i : ℕ) → i < length seats → (o : Option Hold) → IsNearHold (reach_at reaches i).size (option_map need_of o) → is_stopped (reach_at reaches i).base s (option_map need_of o) ≡ stands (dispatched slots w) (p i) o
+      stopped_by : (i : ℕ) → i < length seats → (o : Option Hold) → IsNearHold (reach_at reaches i).size (option_map need_of o) → is_stopped (reach_at reaches i) s (option_map need_of o) ≡ stands (dispatched slots w) (p i) o
       stopped_by i lt None near = refl
       stopped_by i lt (Some (ByGroup g)) near = group_same slots J reaches seats s a.running a.following i lt (legal-course slots J a.are a.legal (p i)) g near
       stopped_by i lt (Some (ByDevice d)) near = a.following.busy d
-      stopped_by i lt (Some (ByPool kind)) near = pending_same slots J reaches seats s a.running a.following i lt (legal-course slots J a.are a.legal (p i)) 0 (Pool kind) tt
+      stopped_by i lt (Some (ByPool kind)) near = pending_same slots J reaches seats s a.running a.following i lt (legal-course slots J a.are a.legal (p i)) a.lent 0 (Pool kind) tt
 
       goes_same : (i : ℕ) → i < length seats → goes_at reaches seats holds s i ≡ can_go (dispatched slots w) J (p i)
       unfolding can_go
       goes_same i lt =
           ap₂ (λ b c. b && not c) (live_same i lt)
-          (ap (is_stopped (reach_at reaches i).base s) (hold_is i lt) ∙ stopped_by i lt (last_hold (p i) J) (near_at i lt))
+          (ap (is_stopped (reach_at reaches i) s) (hold_is i lt) ∙ stopped_by i lt (last_hold (p i) J) (near_at i lt))
 
       -- a slot whose program goes on by the journal is some program's
       only_programs : (k : ℕ) → can_go (dispatched slots w) J k ≡ true → is_some (slot_of slots k) ≡ true
@@ -258,7 +258,7 @@ module _ (slots : List Slot) (reaches : List Reach) (seats : List Seat) (s : Sha
       is_next i is =
           let x = is_found (priorities J) i (find (can_go (dispatched slots w) J) (priorities J)) refl (sym (first_placed (priorities J)) ∙ is) in (
             x.0,
-            (and_parts (is_live (seat_at seats i).registers.state) (not (is_stopped (reach_at reaches i).base s (hold_at holds i))) (goes_same i x.0 ∙ x.2)).0,
+            (and_parts (is_live (seat_at seats i).registers.state) (not (is_stopped (reach_at reaches i) s (hold_at holds i))) (goes_same i x.0 ∙ x.2)).0,
             x.1,
           )
 

@@ -15,7 +15,11 @@ use Rattle.kdf_processor.specs.declared.spooled.Spooled.{Spooled}
 use Rattle.kdf_processor.specs.Claims.{is_claimed}
 use Rattle.kdf_processor.specs.Lone.{is_live}
 use Rattle.kdf_transfer.specs.Slots.{Slot}
-use Rattle.kdf_processor.specs.State.{State, fixture_at, word_at}
+use Rattle.kdf_journal.specs.Counts.{holder}
+use Rattle.kdf_journal.specs.declared.kind.Kind.{Kind}
+use Rattle.kdf_job.specs.Slots.{lent_kind}
+use Rattle.kdf_transfer.specs.ByNumber.{by_number}
+use Rattle.kdf_processor.specs.State.{State, fixture_at, is_pooled, own_fixture_at, word_at}
 use Rattle.kdf_director.specs.Agrees.{IsReady}
 use Rattle.kdf_director.specs.Following.{asked_at}
 use Rattle.kdf_director.specs.Going.{any_on}
@@ -151,17 +155,41 @@ module _ (slots : List Loaded) (windows : List Window) (store : Cells) (programs
           subst (λ xs. IsDeviceOwned (owner_in xs d) (spot_at (map spot_of places) d) o) same
           (subst (λ ps. IsDeviceOwned (owner_in slots' d) (spot_at (map spot_of ps) d) o) same' is)
 
-      pub device_shown : (p : ℕ) → IfSome (state_of m p) (λ (x : State). is_some (fixture_at x.stock.claims d) ≡ true → IsDeviceAt x d o)
+      pub device_shown : (p : ℕ) → IfSome (state_of m p) (λ (x : State). is_some (own_fixture_at x.stock.claims d) ≡ true → IsDeviceAt x d o)
       device_shown p = if_some (state_of m p) _ (λ x there some. device_own windows slots xs ps s J room many ready.agrees d p x o there some owned)
 
-      pub device_absent : All (λ (x : State). fixture_at x.stock.claims d ≡ None) m.states → o ≡ None
+      pub device_absent : All (λ (x : State). own_fixture_at x.stock.claims d ≡ None) m.states → o ≡ None
       device_absent none = device_none windows slots xs ps s J room many ready.agrees d o none owned
 
-    pub claimed_shown : (p : ℕ) (is : Bool) → is ≡ is_claimed_by (owner_in slots d) ps d → IfSome (state_of m p) (λ (x : State). is_some (fixture_at x.stock.claims d) ≡ true → is ≡ is_claimed x.stock.claims d)
-    claimed_shown p is same = if_some (state_of m p) _ (λ x there some. same ∙ claimed_own windows slots xs ps s J room many ready.agrees d p x there some)
+    -- the pool is that of the first slot
+    abbrev pool : List (ℕ × Kind)
+    pool = pool_in (map loaded slots)
 
-    pub claimed_absent : All (λ (x : State). fixture_at x.stock.claims d ≡ None) m.states → is_claimed_by (owner_in slots d) ps d ≡ false
-    claimed_absent none = claimed_none windows slots xs ps s J room many ready.agrees d none
+    lends : (i : ℕ) → i < length ps → (reach_at (reaches_in windows slots) i).pool ≡ by_number (lent_kind pool)
+    lends i lt = ready.agrees.running.common i 0 lt (omega arith) ∙ first_pool slots (let e = many in omega arith)
+      where
+        first_pool : (ls : List Loaded) → 0 < length ls → (reach_at (reaches_in windows ls) 0).pool ≡ by_number (lent_kind (pool_in (map loaded ls)))
+        first_pool [] some = absurd (omega arith)
+        first_pool (l ∷ ls) some = refl
+
+    none_lent : length ps ≡ 0 → pool ≡ []
+    none_lent none = of_none slots (let e = many in omega arith)
+      where
+        of_none : (ls : List Loaded) → length ls ≡ 0 → pool_in (map loaded ls) ≡ []
+        of_none [] e = refl
+        of_none (l ∷ ls) e = absurd (omega arith)
+
+    abbrev claims_it : Bool
+    claims_it = is_claimed_by (owner_in slots d) ps pool (map spot_of places) d
+
+    pub claimed_shown : (p : ℕ) (is : Bool) → is ≡ claims_it → IfSome (state_of m p) (λ (x : State). is_some (own_fixture_at x.stock.claims d) ≡ true → is ≡ is_claimed x.stock.claims d)
+    claimed_shown p is same = if_some (state_of m p) _ (λ x there some. same ∙ claimed_own windows slots xs ps s J room many ready.agrees d pool p x there some)
+
+    pub pool_shown : (p : ℕ) (is : Bool) → is ≡ claims_it → IfSome (state_of m p) (λ (x : State). is_pooled x.stock.claims d ≡ true → is ≡ is_some (holder d J))
+    pool_shown p is same = if_some (state_of m p) _ (λ x there pooled. same ∙ claimed_pooled windows slots xs ps s J room many ready.agrees d pool lends p x there pooled)
+
+    pub claimed_absent : All (λ (x : State). fixture_at x.stock.claims d ≡ None) m.states → is_claimed_by (owner_in slots d) ps pool (map spot_of places) d ≡ false
+    claimed_absent none = claimed_none windows slots xs ps s J room many ready.agrees d pool lends none_lent none
 
     pub transfer_shown : (t : Option Motion) → t ≡ option_map (λ (h : Held). h.motion) (spot_at (map spot_of places) d).flight → IsLent m d (pending d J) t
     transfer_shown t is = lent windows slots ps s J room many ready.agrees ready.placed d t is

@@ -6,9 +6,10 @@ use Rattle.std.proofs.lemmas.Bool.{cases_eq, eq-eqb, ne_eqb}
 use Rattle.std.proofs.lemmas.List.{ext_get_or, get_or-map, get_or-set_same, get_or-set_other, length-map, length-set}
 use Rattle.kdf_journal.specs.declared.entry.Entry.{Entry}
 use Rattle.kdf_journal.specs.declared.journal.TheConstants.{CALL_LIMIT}
+use Rattle.kdf_journal.specs.declared.kind.Kind.{Kind}
 use Rattle.kdf_journal.specs.Counts.{answers, calls, clock, last_hold}
 use Rattle.kdf_journal.specs.Steps.{Note, Step, Obeys, Holds, Waits, added}
-use Rattle.kdf_journal.proofs.Added.{calls-added, hold_by, last_hold-added, moves-added}
+use Rattle.kdf_journal.proofs.Added.{calls-added, hold_by, holder-quiet, last_hold-added, moves-added}
 use Rattle.kdf_processor.specs.declared.step.Need.{Need}
 use Rattle.kdf_processor.specs.declared.step.Step.{Step as Ending}
 use Rattle.kdf_processor.specs.declared.step.Step.TheVariants as ending
@@ -24,10 +25,11 @@ use Rattle.kdf_director.specs.declared.machine.Progress.TheVariants as progress
 use Rattle.kdf_director.specs.declared.note.Note.{Note as Noted}
 use Rattle.kdf_director.specs.Advance.{Advance, note_told}
 use Rattle.kdf_director.specs.Agrees.{Agrees}
-use Rattle.kdf_director.specs.Following.{AreFollowing, IsFollowing, asked_at}
+use Rattle.kdf_director.specs.Following.{AreFollowing, IsFollowing, Linked, asked_at}
 use Rattle.kdf_director.specs.Legal.{Meets, note_of}
 use Rattle.kdf_director.specs.Next.{any_live, next}
-use Rattle.kdf_director.specs.Parts.{Part, Reach, Seat, Shared, asked_after}
+use Rattle.kdf_director.specs.Parts.{Part, Reach, Seat, Shared, asked_after, in_pool}
+use Rattle.kdf_director.specs.Settled.{holder_left}
 use Rattle.kdf_director.specs.Running.{no_seat, answers_at, hold_of, outcome_at, own_state, part_at, seat_at, IsRunning}
 use Rattle.kdf_director.specs.Shared.{after_act}
 use Rattle.kdf_director.specs.Shown.{Shown, state_at, world_of}
@@ -35,7 +37,7 @@ use Rattle.kdf_director.specs.Viewed.{states_in}
 use Rattle.kdf_director.specs.Slots.{slot_of}
 use Rattle.kdf_director.specs.Spots.{spot_at}
 use Rattle.kdf_director.specs.Taken.{HasTaken, hold_left, progress_of, step_told}
-use Rattle.kdf_director.specs.Told.{lone_world, own, seen_of}
+use Rattle.kdf_director.specs.Told.{flights_of, lone_world, own, seen_of}
 use Rattle.kdf_director.specs.True.{truth}
 use Rattle.kdf_director.specs.World.{first_need, need_of}
 use Rattle.kdf_director.specs.World as world
@@ -117,6 +119,7 @@ module _ (slots : List Slot) (reaches : List Reach) (seats : List Seat) (s : Sha
           numbers = a.numbers;
           running = a.running;
           following = waited_follows slots J reaches seats s a.are a.legal a.running a.following;
+          lent = λ j d within pooled. a.lent j d within pooled ∙ sym (holder-quiet d J Waits refl (λ q. refl));
           legal = legal_added slots J Waits a.legal meets_wait;
           truly = true_added slots J Waits a.legal a.truly meets_wait;
           few_calls = omega (arith, calls-added J Waits);
@@ -231,8 +234,8 @@ module _ (slots : List Slot) (reaches : List Reach) (seats : List Seat) (s : Sha
         unfolding outcome_at
         outcome_held n = ap (λ o. held_or (seat_at seats i).registers o (next_of (own_state reaches seats s n i) (answers_at reaches seats (clock J) s i))) held
 
-        same_shared : s' ≡ s
-        same_shared = t.turned.shared 0 ∙ ap (λ (o : Outcome). after_act q s o.act) (outcome_held 0)
+        same_flight : (d : ℕ) → (spot_at s'.spots d).flight ≡ (spot_at s.spots d).flight
+        same_flight d = t.turned.flights 0 d ∙ ap (λ (o : Outcome). (spot_at (after_act q s o.act).spots d).flight) (outcome_held 0)
 
         tried_held : (n : ℕ) → tried (record { step = ending.Held need; registers = (seat_at seats i).registers; act = Nothing }) (own_state reaches seats s n i) ≡ own_state reaches seats s n i
         unfolding own_state
@@ -258,7 +261,7 @@ module _ (slots : List Slot) (reaches : List Reach) (seats : List Seat) (s : Sha
         meets_hold = (
           next-world (own slots J) (state_at m) slots J ∙ turn,
           ap (option_map world.hold_of) (sym (same-need slots J p)
-              ∙ sym (hold_same slots J reaches seats s a.running a.following i lt (legal-course slots J a.are a.legal p))
+              ∙ sym (hold_same slots J reaches seats s a.running a.following i lt (legal-course slots J a.are a.legal p) a.lent)
               ∙ held),
         )
 
@@ -273,8 +276,11 @@ module _ (slots : List Slot) (reaches : List Reach) (seats : List Seat) (s : Sha
                   follow_part slots (added J st) (part_at reaches seats j) (part_at reaches seats' j) (own_state reaches seats' s' (asked_at seats' (added J st) j) j) s' (t.turned.numbers j) refl
                   (subst (λ (x : State). IsFollowing slots (added J st) (part_at reaches seats j) x s')
                   (sym (ap (λ k. own_state reaches seats' s' (length (answers k (added J st))) j) (t.turned.numbers j) ∙ same_own (asked_at seats (added J st) j) j inside))
-                  (subst (IsFollowing slots (added J st) (part_at reaches seats j) (own_state reaches seats s (asked_at seats (added J st) j) j)) (sym same_shared) (still.each j inside)));
-              busy = λ d. ap (λ (x : Shared). is_some (spot_at x.spots d).flight) same_shared ∙ still.busy d;
+                  (record {
+                    is_seen = (still.each j inside).is_seen;
+                    linked = λ d. subst (λ f. Linked (part_at reaches seats j) d f (flights_of slots (added J st) (seat_at seats j).p d)) (sym (same_flight d)) ((still.each j inside).linked d);
+                  }));
+              busy = λ d. ap is_some (same_flight d) ∙ still.busy d;
             }
 
         agrees_held : Agrees slots reaches seats' s' (added J st)
@@ -285,6 +291,14 @@ module _ (slots : List Slot) (reaches : List Reach) (seats : List Seat) (s : Sha
               numbers = same_numbers ∙ a.numbers;
               running = run;
               following = follows;
+              lent = λ j d within pooled.
+                  let count = t.turned.count in
+                  let inside : j < length seats = omega arith in
+                  let its : in_pool (part_at reaches seats i) d ≡ true = ap (λ (ks : List (Option Kind)). is_some (get_or ks d None)) (a.running.common i j lt inside) ∙ pooled in
+                  t.turned.holders d its
+                  ∙ ap (λ e. holder_left p e t.noted d (spot_at s.spots d).holder) ended_is
+                  ∙ a.lent i d lt its
+                  ∙ sym (holder-quiet d J st refl (λ q. refl));
               legal = legal_added slots J st a.legal meets_hold;
               truly = true_added slots J st a.legal a.truly meets_hold;
               few_calls = omega (arith, calls-added J st);
