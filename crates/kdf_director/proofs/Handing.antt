@@ -1,12 +1,11 @@
 -- The stints of a program, of which one changes.
-use Rattle.std.proofs.Common.{◌≡◌, ◌≢◌, ℕ, ◌<◌, ◌≤◌, Bool, true, false, cond, ◌&&◌, List, length, get_or, map, set, Option, Some, None, is_some, refl, sym, ap, ◌∙◌, ⊎_elim, arith}
+use Rattle.std.proofs.Common.{◌≡◌, ◌≢◌, ℕ, ◌<◌, ◌≤◌, Bool, true, false, cond, ◌&&◌, ◌-◌, List, length, get_or, map, set, sym, ap, ◌∙◌, ⊎_elim, arith}
 use Rattle.std.specs.List.{AllPairs}
 use Rattle.std.proofs.lemmas.Bool.{and_parts, cases_Bool, cases_eq, cases_lt, eqb-true}
-use Rattle.std.proofs.lemmas.List.{ext_get_or, get_or-map, get_or-set_other, get_or-set_same, length-map, length-set}
-use Rattle.kdf_transfer.specs.Devices.{Fixture, Progress}
-use Rattle.kdf_director.specs.Settled.{kept_from, leaves}
-use Rattle.kdf_director.specs.Spots.{Spot, can_leave}
-use Rattle.kdf_director.specs.Stints.{Keeping, Loan, Lent, Left, is_lent, is_open, is_open_of, no_keeping, with_loan}
+use Rattle.std.proofs.lemmas.List.{ext_get_or, get_or-map, get_or-set_other, get_or-set_same, length-map, length-set, map-set}
+use Rattle.kdf_director.specs.declared.stint.Loan.{Loan as KeptLoan}
+use Rattle.kdf_director.specs.declared.stint.Stint.{Stint}
+use Rattle.kdf_director.specs.Stints.{Keeping, Loan, is_open, is_open_of, keeping_of, loan_of, no_keeping, with_loan}
 
 -- no two stints that weren't given back are of one device
 abbrev pub AreApart : List Keeping → Type 0
@@ -63,9 +62,23 @@ set_none d loan xs none =
     let lj : j < length xs = let e = length-map xs (with_loan d loan) in omega arith in
     get_or-map (with_loan d loan) xs j no_keeping no_keeping lj ∙ stays d loan (get_or xs j no_keeping) (none j lj))
 
--- a device that is lent leaves its place, and its stint keeps it, or there is none that can
-pub kept_is : (d : ℕ) (x : Spot) (f : Fixture) (p : Progress) → Some f ≡ cond (can_leave x) x.fixture None → p ≡ x.progress → (let y : Keeping = record { device = d; loan = Left f p } in y) ≡ kept_from (record { device = d; loan = Lent }) x
-kept_is d x f p is same = cc
+-- one more that isn't open
+pub shut_more : (stints : List Stint) (d i : ℕ) (x : Stint) → 0 < i → i ≤ length stints → x ≡ get_or stints (i - 1) x → is_open_of d (keeping_of x) ≡ false → ((j : ℕ) → i ≤ j → j < length stints → is_open_of d (get_or (map keeping_of stints) j no_keeping) ≡ false) → (j : ℕ) → i - 1 ≤ j → j < length stints → is_open_of d (get_or (map keeping_of stints) j no_keeping) ≡ false
+shut_more stints d i x more within here not later j low lt =
+    ⊎_elim
+    (λ (below : j < i).
+    let same : j ≡ i - 1 = omega arith in
+    ap (is_open_of d) (get_or-map keeping_of stints j x no_keeping lt ∙ ap (λ k. keeping_of (get_or stints k x)) same ∙ ap keeping_of (sym here)) ∙ not)
+    (λ (above : i ≤ j). later j above lt)
+    (cases_lt j i)
 
-pub none_kept : (d : ℕ) (x : Spot) → None ≡ cond (can_leave x) x.fixture None → (let y : Keeping = record { device = d; loan = Lent } in y) ≡ kept_from (record { device = d; loan = Lent }) x
-none_kept d x is = cc
+-- the device of the stint i is given back
+pub handed_in : (stints : List Stint) (d i : ℕ) (loan : KeptLoan) (x y : Stint) → AreApart (map keeping_of stints) → i < length stints → is_open_of d (get_or (map keeping_of stints) i no_keeping) ≡ true → x ≡ get_or stints i y → map keeping_of (set stints i (record x { loan = loan })) ≡ map (with_loan d (loan_of loan)) (map keeping_of stints)
+handed_in stints d i loan x y apart lt is here =
+    map-set keeping_of stints i (record x { loan = loan })
+    ∙ ap (set (map keeping_of stints) i) (ap (λ (k : Keeping). let z : Keeping = record { device = k.device; loan = loan_of loan } in z) (ap keeping_of here ∙ sym (get_or-map keeping_of stints i y no_keeping lt)))
+    ∙ sym (set_open d (loan_of loan) (map keeping_of stints) i apart (omega (arith, length-map stints keeping_of)) is)
+
+pub none_handed : (stints : List Stint) (d : ℕ) (loan : Loan) → ((i : ℕ) → i < length stints → is_open_of d (get_or (map keeping_of stints) i no_keeping) ≡ false) → map keeping_of stints ≡ map (with_loan d loan) (map keeping_of stints)
+none_handed stints d loan none =
+    sym (set_none d loan (map keeping_of stints) (λ i lt. none i (omega (arith, length-map stints keeping_of))))

@@ -82,3 +82,5 @@ pub mod Placed
 pub mod Handing
 pub mod Lent
 pub mod Placing
+pub mod TurnKeeping
+pub mod Retired

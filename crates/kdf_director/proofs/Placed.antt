@@ -1,11 +1,11 @@
 -- The places of the devices, of which one changes.
-use Rattle.std.proofs.Common.{◌≡◌, ℕ, ◌≤◌, List, length, get_or, map, set, Some, None, refl, sym, ap, ◌∙◌, arith}
-use Rattle.std.proofs.lemmas.List.{get_or_past, length-map, map-set, set-get_or, set_past}
+use Rattle.std.proofs.Common.{◌≡◌, ℕ, List, get_or, map, set, Some, sym, ap, ◌∙◌}
+use Rattle.std.proofs.lemmas.List.{map-set, set-get_or}
 use Rattle.kdf_transfer.specs.InFlight.{Motion, moved_by}
 use Rattle.kdf_director.specs.declared.place.Place.{Place}
 use Rattle.kdf_director.specs.declared.place.Place.TheVariants.{Absent, Busy}
 use Rattle.kdf_director.specs.Shared.{moved_spot}
-use Rattle.kdf_director.specs.Spots.{Spot, left_spot, no_spot, spot_at, spot_of}
+use Rattle.kdf_director.specs.Spots.{Spot, no_spot, spot_at, spot_of}
 use Rattle.kdf_director.proofs.Showing.{spot_there}
 
 -- words of its transfer have moved
@@ -18,14 +18,6 @@ pub set_spot : (places : List Place) (d : ℕ) (old new : Place) (f : Spot → S
 set_spot places d old new f was is =
     map-set spot_of places d new
     ∙ ap (set (map spot_of places) d) (is ∙ ap f (ap spot_of was ∙ sym (spot_there places d)))
-
--- where there is no place there is nothing that can leave it
-pub nothing_left : (places : List Place) (d : ℕ) → length places ≤ d → map spot_of places ≡ set (map spot_of places) d (left_spot (spot_at (map spot_of places) d))
-nothing_left places d past =
-    sym (set_past (map spot_of places) d (left_spot (spot_at (map spot_of places) d)) (let e = length-map places spot_of in omega arith))
-
-pub none_there : (places : List Place) (d : ℕ) → length places ≤ d → spot_at (map spot_of places) d ≡ no_spot
-none_there places d past = get_or_past (map spot_of places) d no_spot (let e = length-map places spot_of in omega arith)
 
 -- a place that shows the same is put back
 pub same_spots : (places : List Place) (d : ℕ) (old new : Place) → old ≡ get_or places d Absent → spot_of new ≡ spot_of old → map spot_of (set places d new) ≡ map spot_of places
