@@ -84,3 +84,4 @@ pub mod Lent
 pub mod Placing
 pub mod TurnKeeping
 pub mod Retired
+pub mod Pools

@@ -148,7 +148,7 @@ module _ (q : Part) (s : Shared) (t : ℕ) (inside : t < length s.spots) (kept :
         there = at_spot s.spots t (lent_spot q.p (spot_at s.spots t)) inside (λ e y. (k : Kind) → pool_kind q e ≡ Some k → y.fixture ≡ Some (blank_fixture k)) (kept.there t) (λ e ne. kept.there e);
         fresh = at_spot s.spots t (lent_spot q.p (spot_at s.spots t)) inside (λ e y. in_pool q e ≡ true → y.holder ≡ None → y.progress ≡ new_progress) (λ _ none. cc none) (λ e ne. kept.fresh e);
         pooled = All-push (λ (x : Keeping). in_pool q x.device ≡ true) q.stints (record { device = t; loan = Lent }) kept.pooled free.pooled;
-        kinds = All-push (λ (x : Keeping). IsOfKind (pool_kind q x.device) x.loan) q.stints (record { device = t; loan = Lent }) kept.kinds tt;
+        kinds = All-push (λ (x : Keeping). IsOfKind (pool_kind q x.device) x.loan) q.stints (record { device = t; loan = Lent }) kept.kinds refl;
         has = at_spot s.spots t (lent_spot q.p (spot_at s.spots t)) inside (λ e y. in_pool q e ≡ true → is_holder q.p y.holder ≡ lends (q.stints ++ record { device = t; loan = Lent } ∷ []) e)
             (λ _. eq-eqb q.p q.p refl ∙ sym (lends_push q.stints t t ∙ ap₂ (λ a b. a || b) not_lent (eq-eqb t t refl)))
             (λ e ne pooled. kept.has e pooled ∙ sym (lends_push q.stints t e ∙ ap (λ b. lends q.stints e || b) (ne_eqb t e (λ same. ne (sym same))) ∙ or_none (lends q.stints e)));

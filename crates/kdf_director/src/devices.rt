@@ -110,8 +110,16 @@ fn is_free_in(pool: &[(u8, Kind)], places: &[Place], kind: Kind, d: u8) -> bool
     is_lent_kind(pool, d, kind) && holder_in(places, d).is_none()
 }
 
+/// Whether the pool's device of this number is of this kind, and isn't claimed.
+pub(crate) fn is_left(pool: &[(u8, Kind)], claimed: &[bool; 16], d: u8, kind: Kind) -> bool
+    requires { d < 16 }
+    ensures { result ≡ (is_kind kind (lent_kind pool.now d) && not (slice_index_or claimed.now d false)) }
+{
+    is_lent_kind(pool, d, kind) && !claimed[usize::from(d)]
+}
+
 /// Whether the pool's device of this number, if it has one, is of this kind.
-pub(crate) fn is_lent_kind(pool: &[(u8, Kind)], d: u8, kind: Kind) -> bool
+fn is_lent_kind(pool: &[(u8, Kind)], d: u8, kind: Kind) -> bool
     ensures { result ≡ is_kind kind (lent_kind pool.now d) }
 {
     match kind_lent(pool, d) {
