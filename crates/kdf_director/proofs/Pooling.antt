@@ -103,13 +103,24 @@ kept-same r s d x cells lt kept holder fixture progress =
 pub active-same : (r : Part) (s : Shared) (d : ℕ) (x : Spot) (cells : Cells) → d < length s.spots → IsActive r s → x.holder ≡ (spot_at s.spots d).holder → IsActive r (record { cells = cells; spots = set s.spots d x })
 active-same r s d x cells lt active holder = active-spot r s d x cells lt active (ap (is_holder r.p) holder)
 
--- neither speaks of what a program spooled, nor of the words, and the first of no marks
-pub kept-marked : (q : Part) (s : Shared) (claimed : List Bool) (spooled : List Spooled) (cells : Cells) → IsKept q s → IsKept (record q { claimed = claimed; spooled = spooled }) (record s { cells = cells })
-kept-marked q s claimed spooled cells kept =
+-- neither speaks of the words, or of what a program spooled; the first speaks of no marks
+pub kept-cells : (q : Part) (s : Shared) (cells : Cells) → IsKept q s → IsKept q (record s { cells = cells })
+kept-cells q s cells kept =
     record { few = kept.few; apart = kept.apart; owned = kept.owned; there = kept.there; fresh = kept.fresh; pooled = kept.pooled; kinds = kept.kinds; has = kept.has; one = kept.one }
 
-pub active-spooled : (q : Part) (s : Shared) (spooled : List Spooled) (cells : Cells) → IsActive q s → IsActive (record q { spooled = spooled }) (record s { cells = cells })
-active-spooled q s spooled cells active = record { sized = active.sized; marks = active.marks; none_left = active.none_left }
+pub kept-marked : (q : Part) (s : Shared) (claimed : List Bool) → IsKept q s → IsKept (record q { claimed = claimed }) s
+kept-marked q s claimed kept =
+    record { few = kept.few; apart = kept.apart; owned = kept.owned; there = kept.there; fresh = kept.fresh; pooled = kept.pooled; kinds = kept.kinds; has = kept.has; one = kept.one }
+
+pub kept-spooled : (q : Part) (s : Shared) (spooled : List Spooled) → IsKept q s → IsKept (record q { spooled = spooled }) s
+kept-spooled q s spooled kept =
+    record { few = kept.few; apart = kept.apart; owned = kept.owned; there = kept.there; fresh = kept.fresh; pooled = kept.pooled; kinds = kept.kinds; has = kept.has; one = kept.one }
+
+pub active-cells : (q : Part) (s : Shared) (cells : Cells) → IsActive q s → IsActive q (record s { cells = cells })
+active-cells q s cells active = record { sized = active.sized; marks = active.marks; none_left = active.none_left }
+
+pub active-spooled : (q : Part) (s : Shared) (spooled : List Spooled) → IsActive q s → IsActive (record q { spooled = spooled }) s
+active-spooled q s spooled active = record { sized = active.sized; marks = active.marks; none_left = active.none_left }
 
 -- the mark of a device that isn't the pool's
 pub active-marked : (q : Part) (s : Shared) (d : ℕ) (is : Bool) → in_pool q d ≡ false → IsActive q s → IsActive (record q { claimed = set q.claimed d is }) s
