@@ -277,16 +277,13 @@ module _ (q : Part) (s : Shared) (d : ℕ) (sound : IsSound s) (kept : IsKept q 
   gone_open : list_any (is_open_of d) q.stints ≡ true
   gone_open = lends_open q.stints d (sym (kept.has d its.pooled) ∙ is_its q.p x.holder its.holder)
 
-  -- it is as it was when it was new, but for what it moved
-  pub gone_kind : IsOfKind (pool_kind q d) (back_from x) × ((fixture : Fixture) → fixture ≡ fixture_or x.fixture → option_map blank_fixture (pool_kind q d) ≡ Some fixture)
-  gone_kind = (of (fixture_or x.fixture) refl, of)
+  -- it is a blank one of its kind, but for what it moved
+  pub gone_kind : option_map blank_fixture (pool_kind q d) ≡ Some (fixture_or x.fixture)
+  gone_kind = of (pool_kind q d) refl its.pooled
     where
-      by_kind : (o : Option Kind) → pool_kind q d ≡ o → is_some o ≡ true → option_map blank_fixture o ≡ Some (fixture_or x.fixture)
-      by_kind None is some = cc
-      by_kind (Some k) is some = sym (ap (λ f. Some (fixture_or f)) (kept.there d k is))
-
-      of : (fixture : Fixture) → fixture ≡ fixture_or x.fixture → option_map blank_fixture (pool_kind q d) ≡ Some fixture
-      of fixture is = by_kind (pool_kind q d) refl its.pooled ∙ ap Some (sym is)
+      of : (o : Option Kind) → pool_kind q d ≡ o → is_some o ≡ true → option_map blank_fixture o ≡ Some (fixture_or x.fixture)
+      of None is some = cc
+      of (Some k) is some = sym (ap (λ f. Some (fixture_or f)) (kept.there d k is))
 
   module _ (claimed : List Bool) (loan : Loan) (of_kind : IsOfKind (pool_kind q d) loan) (not_lent : is_lent loan ≡ false) where
     pub gone_kept : IsKept (giver claimed d loan q) (emptied d s)
@@ -329,7 +326,7 @@ module _ (q : Part) (s : Shared) (d : ℕ) (sound : IsSound s) (kept : IsKept q 
   gone_progress active =
       number-set (own_progress q s.spots) (own_progress (giver (set q.claimed d false) d (back_from x) q) (emptied d s).spots) d new_progress gone_small
       (ap (progress_in (giver (set q.claimed d false) d (back_from x) q) d) (get_or-set_same s.spots d (blank_spot x) no_spot gone_inside)
-      ∙ none_kept (map (with_loan d (back_from x)) q.stints) d (none_left (set q.claimed d false) (back_from x) gone_kind.0 refl refl active))
+      ∙ none_kept (map (with_loan d (back_from x)) q.stints) d (none_left (set q.claimed d false) (back_from x) gone_kind refl refl active))
       (λ e ne.
       ap (progress_in (giver (set q.claimed d false) d (back_from x) q) e) (get_or-set_other s.spots d e (blank_spot x) no_spot ne)
       ∙ ap (λ p. cond (has_device q (spot_at s.spots e)) (spot_at s.spots e).progress p) (left_there q.stints d e (back_from x) ne))

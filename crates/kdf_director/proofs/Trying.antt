@@ -205,7 +205,7 @@ module _ (q : Part) (t : ℕ) (s : Shared) (r : Registers) (own : List ℕ) (sou
   acts_kept (Claiming d after) lawful free = kept-marked q s (set q.claimed d true) part.kept
   acts_kept (Returning true d after) lawful free =
       let its = give_its q t s d after part lawful free in
-      gone_kept q s d sound part.kept its (set q.claimed d false) (back_from (spot_at s.spots d)) (gone_kind q s d sound part.kept its).0 refl
+      gone_kept q s d sound part.kept its (set q.claimed d false) (back_from (spot_at s.spots d)) (gone_kind q s d sound part.kept its) refl
   acts_kept (Returning false d after) lawful free = kept-marked q s (set q.claimed d false) part.kept
   acts_kept (Spooling stream first last after) lawful free = kept-spooled q s (spooled_after q s stream first last) part.kept
   acts_kept e lawful free = part.kept
@@ -218,7 +218,7 @@ module _ (q : Part) (t : ℕ) (s : Shared) (r : Registers) (own : List ℕ) (sou
   acts_active (Claiming d after) lawful free = active-marked q s d true (own_apart q s d part.kept lawful) part.active
   acts_active (Returning true d after) lawful free =
       let its = give_its q t s d after part lawful free in
-      gone_active q s d sound part.kept its (set q.claimed d false) (back_from (spot_at s.spots d)) (gone_kind q s d sound part.kept its).0 refl refl part.active
+      gone_active q s d sound part.kept its (set q.claimed d false) (back_from (spot_at s.spots d)) (gone_kind q s d sound part.kept its) refl refl part.active
   acts_active (Returning false d after) lawful free = active-marked q s d false (sym lawful.0) part.active
   acts_active (Spooling stream first last after) lawful free = active-spooled q s (spooled_after q s stream first last) part.active
   acts_active e lawful free = part.active
