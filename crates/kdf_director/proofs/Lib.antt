@@ -28,6 +28,7 @@ pub mod WorkedSlots
 pub mod Acting
 pub mod Loans
 pub mod Pooling
+pub mod Retiring
 pub mod TurnBeginning
 pub mod Closing
 pub mod TurnEnding

@@ -44,7 +44,7 @@ open_lent true (Left f p) not = cc
 open_lent true (Back f p) not = refl
 open_lent false l not = refl
 
-and_none : (b c : Bool) → c ≡ false → (b && c) ≡ false
+pub and_none : (b c : Bool) → c ≡ false → (b && c) ≡ false
 and_none true c none = none
 and_none false c none = refl
 
@@ -59,42 +59,42 @@ none_kept (x ∷ xs) d none =
 -- the device that it keeps
 pub left_here : (xs : List Keeping) (d : ℕ) (f : Fixture) (p : Progress) → list_any (is_open_of d) xs ≡ true → left_in (map (with_loan d (Left f p)) xs) d ≡ p
 left_here [] d f p is = cc
-left_here (x ∷ xs) d f p is = of (is_open_of d x) refl
+left_here (x ∷ xs) d f p is = of (is_open_of d x) refl (left_here xs d f p)
   where
     rest : List Keeping
     rest = map (with_loan d (Left f p)) xs
 
-    of : (b : Bool) → is_open_of d x ≡ b → left_in (with_loan d (Left f p) x ∷ rest) d ≡ p
-    of true its =
+    of : (b : Bool) → is_open_of d x ≡ b → (list_any (is_open_of d) xs ≡ true → left_in rest d ≡ p) → left_in (with_loan d (Left f p) x ∷ rest) d ≡ p
+    of true its later =
         ap (λ b. left_in (cond b (record x { loan = Left f p }) x ∷ rest) d) its
         ∙ ap (λ b. progress_left (cond (b && true) (Some (let y : Keeping = record x { loan = Left f p } in y)) (find (λ (y : Keeping). eqb y.device d && is_left y.loan) rest))) (and_parts _ _ its).0
-    of false no =
-        ap (λ b. left_in (cond b (record x { loan = Left f p }) x ∷ rest) d) no
-        ∙ ap (λ b. progress_left (cond b (Some x) (find (λ (y : Keeping). eqb y.device d && is_left y.loan) rest))) (open_left (eqb x.device d) x.loan no)
-        ∙ left_here xs d f p (sym (ap (λ b. b || list_any (is_open_of d) xs) no) ∙ is)
+    of false other later =
+        ap (λ b. left_in (cond b (record x { loan = Left f p }) x ∷ rest) d) other
+        ∙ ap (λ b. progress_left (cond b (Some x) (find (λ (y : Keeping). eqb y.device d && is_left y.loan) rest))) (open_left (eqb x.device d) x.loan other)
+        ∙ later (sym (ap (λ b. b || list_any (is_open_of d) xs) other) ∙ is)
 
 -- another
 pub left_there : (xs : List Keeping) (d e : ℕ) (loan : Loan) → e ≢ d → left_in (map (with_loan d loan) xs) e ≡ left_in xs e
 left_there [] d e loan ne = refl
-left_there (x ∷ xs) d e loan ne = of (is_open_of d x) refl
+left_there (x ∷ xs) d e loan ne = of (is_open_of d x) refl (left_there xs d e loan ne)
   where
     rest : List Keeping
     rest = map (with_loan d loan) xs
 
-    of : (b : Bool) → is_open_of d x ≡ b → left_in (with_loan d loan x ∷ rest) e ≡ left_in (x ∷ xs) e
-    of true its =
+    by_head : (b : Bool) → left_in rest e ≡ left_in xs e → progress_left (cond b (Some x) (find (λ (y : Keeping). eqb y.device e && is_left y.loan) rest)) ≡ progress_left (cond b (Some x) (find (λ (y : Keeping). eqb y.device e && is_left y.loan) xs))
+    by_head true later = refl
+    by_head false later = later
+
+    of : (b : Bool) → is_open_of d x ≡ b → left_in rest e ≡ left_in xs e → left_in (with_loan d loan x ∷ rest) e ≡ left_in (x ∷ xs) e
+    of true its later =
         let off : eqb x.device e ≡ false = ne_eqb x.device e (λ same. ne (sym same ∙ eqb-true x.device d (and_parts _ _ its).0)) in
         ap (λ b. left_in (cond b (record x { loan = loan }) x ∷ rest) e) its
         ∙ ap (λ b. progress_left (cond (b && is_left loan) (Some (let y : Keeping = record x { loan = loan } in y)) (find (λ (y : Keeping). eqb y.device e && is_left y.loan) rest))) off
-        ∙ left_there xs d e loan ne
+        ∙ later
         ∙ sym (ap (λ b. progress_left (cond (b && is_left x.loan) (Some x) (find (λ (y : Keeping). eqb y.device e && is_left y.loan) xs))) off)
-    of false no =
-        ap (λ b. left_in (cond b (record x { loan = loan }) x ∷ rest) e) no
-        ∙ by_head (eqb x.device e && is_left x.loan)
-
-    by_head : (b : Bool) → progress_left (cond b (Some x) (find (λ (y : Keeping). eqb y.device e && is_left y.loan) rest)) ≡ progress_left (cond b (Some x) (find (λ (y : Keeping). eqb y.device e && is_left y.loan) xs))
-    by_head true = refl
-    by_head false = left_there xs d e loan ne
+    of false other later =
+        ap (λ b. left_in (cond b (record x { loan = loan }) x ∷ rest) e) other
+        ∙ by_head (eqb x.device e && is_left x.loan) later
 
 -- ---- which devices are in their places
 
@@ -113,7 +113,7 @@ lends_here xs d loan none =
     (All-map (λ (x : Keeping). (eqb x.device d && is_lent x.loan) ≡ false) (with_loan d loan) xs
     (λ k z lt. by_open (λ y. (eqb y.device d && is_lent y.loan) ≡ false) d loan (get_or xs k z)
     (λ _. and_none (eqb (get_or xs k z).device d) (is_lent loan) none)
-    (λ no. open_lent (eqb (get_or xs k z).device d) (get_or xs k z).loan no)))
+    (λ other. open_lent (eqb (get_or xs k z).device d) (get_or xs k z).loan other)))
 
 pub lends_there : (xs : List Keeping) (d e : ℕ) (loan : Loan) → e ≢ d → lends (map (with_loan d loan) xs) e ≡ lends xs e
 lends_there [] d e loan ne = refl
@@ -171,18 +171,18 @@ apart_with xs d loan one i j z low lt =
     (λ a b. by_device (get_or xs i z) (get_or xs j z) (one i j z low far (opened (get_or xs i z) a) (opened (get_or xs j z) b))))
   where
     opened : (x : Keeping) → is_open (with_loan d loan x).loan ≡ true → is_open x.loan ≡ true
-    opened x = by_open (λ y. is_open y.loan ≡ true → is_open x.loan ≡ true) d loan x (λ its _. (and_parts _ _ its).1) (λ _ is. is)
+    opened x = by_open (λ y. is_open y.loan ≡ true → is_open x.loan ≡ true) d loan x (λ its _. (and_parts (eqb x.device d) (is_open x.loan) its).1) (λ _ is. is)
 
     by_device : (x y : Keeping) → x.device ≢ y.device → (with_loan d loan x).device ≢ (with_loan d loan y).device
     by_device x y ne same = ne (sym (device_with d loan x) ∙ same ∙ device_with d loan y)
 
 -- an open stint of a program that has kept none is of a device in its place
 pub open_others : (xs : List Keeping) (d : ℕ) → All IsNotLeft xs → lends xs d ≡ false → All (λ (x : Keeping). is_open x.loan ≡ true → x.device ≢ d) xs
-open_others [] d none no = All-nil (λ (x : Keeping). is_open x.loan ≡ true → x.device ≢ d)
-open_others (x ∷ xs) d none no =
-    let parts = or_parts (eqb x.device d && is_lent x.loan) (lends xs d) no in
+open_others [] d none unlent = All-nil (λ (x : Keeping). is_open x.loan ≡ true → x.device ≢ d)
+open_others (x ∷ xs) d none unlent =
+    let parts = or_parts (eqb x.device d && is_lent x.loan) (lends xs d) unlent in
     All-cons (λ (y : Keeping). is_open y.loan ≡ true → y.device ≢ d) x xs
-    (λ open same. cc (sym parts.0 ∙ and_from (eqb x.device d) (is_lent x.loan) (eq-eqb x.device d same) (lent x.loan (All-head IsNotLeft x xs none) open)))
+    (λ unreturned same. cc (sym parts.0 ∙ and_from (eqb x.device d) (is_lent x.loan) (eq-eqb x.device d same) (lent x.loan (All-head IsNotLeft x xs none) unreturned)))
     (open_others xs d (All-tail IsNotLeft x xs none) parts.1)
   where
     lent : (l : Loan) → is_left l ≡ false → is_open l ≡ true → is_lent l ≡ true
@@ -193,11 +193,11 @@ open_others (x ∷ xs) d none no =
 pub apart_push : (xs : List Keeping) (d : ℕ) → AllPairs AreApart xs → All (λ (x : Keeping). is_open x.loan ≡ true → x.device ≢ d) xs → AllPairs AreApart (xs ++ record { device = d; loan = Lent } ∷ [])
 apart_push xs d one others =
     all_pairs_push AreApart xs (record { device = d; loan = Lent }) one
-    (λ k z lt open _. others k z lt open)
+    (λ k z lt unreturned _. others k z lt unreturned)
 
 -- where no two open stints are of one device, another loan of one is that of its device
 pub set_one : (xs : List Keeping) (n : ℕ) (z : Keeping) (loan : Loan) → AllPairs AreApart xs → n < length xs → is_open (get_or xs n z).loan ≡ true → set xs n (record (get_or xs n z) { loan = loan }) ≡ map (with_loan (get_or xs n z).device loan) xs
-set_one xs n z loan one lt open =
+set_one xs n z loan one lt unreturned =
     ext_get_or z _ _
     (length-set xs n new ∙ sym (length-map xs w))
     (λ i within.
@@ -206,7 +206,7 @@ set_one xs n z loan one lt open =
     (λ (same : i ≡ n).
     ap (λ k. get_or (set xs n new) k z) same ∙ get_or-set_same xs n new z lt
     ∙ sym (ap (λ k. get_or (map w xs) k z) same ∙ get_or-map w xs n z z lt
-    ∙ ap (λ b. cond b new (get_or xs n z)) (and_from (eqb d d) (is_open (get_or xs n z).loan) (eq-eqb d d refl) open)))
+    ∙ ap (λ b. cond b new (get_or xs n z)) (and_from (eqb d d) (is_open (get_or xs n z).loan) (eq-eqb d d refl) unreturned)))
     (λ (ne : i ≢ n).
     get_or-set_other xs n i new z ne
     ∙ sym (get_or-map w xs i z z small ∙ ap (λ b. cond b (record (get_or xs i z) { loan = loan }) (get_or xs i z)) (others i small ne)))
@@ -228,6 +228,6 @@ set_one xs n z loan one lt open =
         let same = eqb-true (get_or xs i z).device d (and_parts _ _ its).0 in
         let its_open = (and_parts _ _ its).1 in
         ⊎_elim
-        (λ (low : i < n). one i n z low lt its_open open same)
-        (λ (high : n ≤ i). one n i z (omega arith) small open its_open (sym same))
+        (λ (low : i < n). one i n z low lt its_open unreturned same)
+        (λ (high : n ≤ i). one n i z (omega arith) small unreturned its_open (sym same))
         (cases_lt i n))

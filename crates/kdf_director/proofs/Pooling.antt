@@ -103,13 +103,24 @@ kept-same r s d x cells lt kept holder fixture progress =
 pub active-same : (r : Part) (s : Shared) (d : ℕ) (x : Spot) (cells : Cells) → d < length s.spots → IsActive r s → x.holder ≡ (spot_at s.spots d).holder → IsActive r (record { cells = cells; spots = set s.spots d x })
 active-same r s d x cells lt active holder = active-spot r s d x cells lt active (ap (is_holder r.p) holder)
 
--- neither speaks of what a program spooled, nor of the words, and the first of no marks
-pub kept-marked : (q : Part) (s : Shared) (claimed : List Bool) (spooled : List Spooled) (cells : Cells) → IsKept q s → IsKept (record q { claimed = claimed; spooled = spooled }) (record s { cells = cells })
-kept-marked q s claimed spooled cells kept =
+-- neither speaks of the words, or of what a program spooled; the first speaks of no marks
+pub kept-cells : (q : Part) (s : Shared) (cells : Cells) → IsKept q s → IsKept q (record s { cells = cells })
+kept-cells q s cells kept =
     record { few = kept.few; apart = kept.apart; owned = kept.owned; there = kept.there; fresh = kept.fresh; pooled = kept.pooled; kinds = kept.kinds; has = kept.has; one = kept.one }
 
-pub active-spooled : (q : Part) (s : Shared) (spooled : List Spooled) (cells : Cells) → IsActive q s → IsActive (record q { spooled = spooled }) (record s { cells = cells })
-active-spooled q s spooled cells active = record { sized = active.sized; marks = active.marks; none_left = active.none_left }
+pub kept-marked : (q : Part) (s : Shared) (claimed : List Bool) → IsKept q s → IsKept (record q { claimed = claimed }) s
+kept-marked q s claimed kept =
+    record { few = kept.few; apart = kept.apart; owned = kept.owned; there = kept.there; fresh = kept.fresh; pooled = kept.pooled; kinds = kept.kinds; has = kept.has; one = kept.one }
+
+pub kept-spooled : (q : Part) (s : Shared) (spooled : List Spooled) → IsKept q s → IsKept (record q { spooled = spooled }) s
+kept-spooled q s spooled kept =
+    record { few = kept.few; apart = kept.apart; owned = kept.owned; there = kept.there; fresh = kept.fresh; pooled = kept.pooled; kinds = kept.kinds; has = kept.has; one = kept.one }
+
+pub active-cells : (q : Part) (s : Shared) (cells : Cells) → IsActive q s → IsActive q (record s { cells = cells })
+active-cells q s cells active = record { sized = active.sized; marks = active.marks; none_left = active.none_left }
+
+pub active-spooled : (q : Part) (s : Shared) (spooled : List Spooled) → IsActive q s → IsActive (record q { spooled = spooled }) s
+active-spooled q s spooled active = record { sized = active.sized; marks = active.marks; none_left = active.none_left }
 
 -- the mark of a device that isn't the pool's
 pub active-marked : (q : Part) (s : Shared) (d : ℕ) (is : Bool) → in_pool q d ≡ false → IsActive q s → IsActive (record q { claimed = set q.claimed d is }) s
@@ -260,16 +271,13 @@ module _ (q : Part) (s : Shared) (d : ℕ) (inside : d < length s.spots) (kept :
   abbrev was : Spot
   was = spot_at s.spots d
 
-  -- it is as it was when it was new, but for what it moved
-  pub back_kind : IsOfKind (pool_kind q d) (back_from was) × ((fixture : Fixture) → fixture ≡ fixture_or was.fixture → option_map blank_fixture (pool_kind q d) ≡ Some fixture)
-  back_kind = (of (fixture_or was.fixture) refl, of)
+  -- it is a blank one of its kind, but for what it moved
+  pub back_kind : option_map blank_fixture (pool_kind q d) ≡ Some (fixture_or was.fixture)
+  back_kind = of (pool_kind q d) refl its.pooled
     where
-      by_kind : (o : Option Kind) → pool_kind q d ≡ o → is_some o ≡ true → option_map blank_fixture o ≡ Some (fixture_or was.fixture)
-      by_kind None is some = cc
-      by_kind (Some k) is some = sym (ap (λ f. Some (fixture_or f)) (kept.there d k is))
-
-      of : (fixture : Fixture) → fixture ≡ fixture_or was.fixture → option_map blank_fixture (pool_kind q d) ≡ Some fixture
-      of fixture is = by_kind (pool_kind q d) refl its.pooled ∙ ap Some (sym is)
+      of : (o : Option Kind) → pool_kind q d ≡ o → is_some o ≡ true → option_map blank_fixture o ≡ Some (fixture_or was.fixture)
+      of None is some = cc
+      of (Some k) is some = sym (ap (λ f. Some (fixture_or f)) (kept.there d k is))
 
   module _ (claimed : List Bool) (loan : Loan) (of_kind : IsOfKind (pool_kind q d) loan) (not_lent : is_lent loan ≡ false) where
     pub given_kept : IsKept (giver claimed d loan q) (emptied d s)
@@ -324,7 +332,8 @@ module _ (q : Part) (s : Shared) (d : ℕ) (sound : IsSound s) (kept : IsKept q 
   gone_open : list_any (is_open_of d) q.stints ≡ true
   gone_open = lends_open q.stints d (sym (kept.has d its.pooled) ∙ is_its q.p x.holder its.holder)
 
-  pub gone_kind : IsOfKind (pool_kind q d) (back_from x) × ((fixture : Fixture) → fixture ≡ fixture_or x.fixture → option_map blank_fixture (pool_kind q d) ≡ Some fixture)
+  -- it is a blank one of its kind, but for what it moved
+  pub gone_kind : option_map blank_fixture (pool_kind q d) ≡ Some (fixture_or x.fixture)
   gone_kind = back_kind q s d gone_inside kept its
 
   module _ (claimed : List Bool) (loan : Loan) (of_kind : IsOfKind (pool_kind q d) loan) (not_lent : is_lent loan ≡ false) where
@@ -342,7 +351,7 @@ module _ (q : Part) (s : Shared) (d : ℕ) (sound : IsSound s) (kept : IsKept q 
   gone_progress active =
       number-set (own_progress q s.spots) (own_progress (giver (set q.claimed d false) d (back_from x) q) (emptied d s).spots) d new_progress gone_small
       (ap (progress_in (giver (set q.claimed d false) d (back_from x) q) d) (get_or-set_same s.spots d (blank_spot x) no_spot gone_inside)
-      ∙ none_kept (map (with_loan d (back_from x)) q.stints) d (none_left (set q.claimed d false) (back_from x) gone_kind.0 refl refl active))
+      ∙ none_kept (map (with_loan d (back_from x)) q.stints) d (none_left (set q.claimed d false) (back_from x) gone_kind refl refl active))
       (λ e ne.
       ap (progress_in (giver (set q.claimed d false) d (back_from x) q) e) (get_or-set_other s.spots d e (blank_spot x) no_spot ne)
       ∙ ap (λ p. cond (has_device q (spot_at s.spots e)) (spot_at s.spots e).progress p) (left_there q.stints d e (back_from x) ne))
