@@ -73,3 +73,6 @@ returns c =
       shared = ap (λ ss. let s : Shared = record { cells = t.store.now; spots = ss } in s) (shows at);
       note = refl;
     }
+
+pub invariant_of-self-clause-dry : goal.invariant_of-self-clause-dry
+invariant_of-self-clause-dry c = c.take_back_at.ensures.dry c.args.self.now.dry

@@ -74,3 +74,6 @@ returns-clause-recorded c =
       shared = take_shared (part_of t) (shared t) c.args.kind answer c.least_free-d.result (map spot_of c.lend_at.new.places.items) lent (shows at);
       note = ap Took (sym (ap (λ o. unwrap_or o 0) c.least_free-d.ensures.least));
     }
+
+pub invariant_of-self-clause-dry : goal.invariant_of-self-clause-dry
+invariant_of-self-clause-dry c = c.lend_at.ensures.dry c.args.self.now.dry
