@@ -79,5 +79,10 @@ pub mod Calling
 pub mod Calls
 pub mod Living
 pub mod InOrder
+pub mod Placed
+pub mod Handing
 pub mod Lent
 pub mod Placing
+pub mod TurnKeeping
+pub mod Retired
+pub mod Pools

@@ -9,7 +9,8 @@ use Rattle.kdf_journal.specs.declared.kind.Kind.{Kind}
 use Rattle.kdf_transfer.specs.Devices.{Fixture, new_progress, is_kind, kind_in, is_wanted}
 use Rattle.kdf_director.specs.True.{one_if}
 use Rattle.kdf_director.specs.Physical.{own_words}
-use Rattle.kdf_transfer.specs.ByNumber.{device_count}
+use Rattle.kdf_transfer.specs.ByNumber.{by_number, device_count}
+use Rattle.kdf_job.specs.Slots.{lent_kind}
 use Rattle.kdf_journal.specs.declared.kind.Kind.TheVariants.{Tr, Tp, Cr, Lp, Mt}
 use Rattle.kdf_director.specs.Physical as physical
 use Rattle.kdf_processor.specs.State.{word_in, device_in, fixture_at, own_fixture_at, pooled_or}
@@ -155,6 +156,13 @@ pub claim_is : (q : Part) (s : Shared) (d : ℕ) → claim (own_claims q s) d �
 claim_is q s d =
     by_claim (ltb d 16 && get_or q.claimed d false) (kind_at (own_claims q s) d) (kind_in (pooled_or (pool_kind q d) (fixture_owned q.devices s.spots d)))
     (λ is. let lt : d < 16 = ltb-true d 16 (and_parts _ _ is).0 in ap (λ f. kind_in (pooled_or (pool_kind q d) f)) (own_is q s d (omega (arith, limit_is))))
+
+-- and where the pool is that of a slot
+pub claim_lent : (q : Part) (s : Shared) (pool : List (ℕ × Kind)) (d : ℕ) → q.pool ≡ by_number (lent_kind pool) → claim (own_claims q s) d ≡ cond (ltb d 16 && get_or q.claimed d false) (kind_in (pooled_or (lent_kind pool d) (fixture_owned q.devices s.spots d))) None
+claim_lent q s pool d is =
+    claim_is q s d
+    ∙ by_claim (ltb d 16 && get_or q.claimed d false) (kind_in (pooled_or (pool_kind q d) (fixture_owned q.devices s.spots d))) (kind_in (pooled_or (lent_kind pool d) (fixture_owned q.devices s.spots d)))
+    (λ h. let lt : d < 16 = ltb-true d 16 (and_parts _ _ h).0 in ap (λ o. kind_in (pooled_or o (fixture_owned q.devices s.spots d))) (ap (λ ps. get_or ps d None) is ∙ number_at (lent_kind pool) d None (omega (arith, limit_is))))
 
 -- a device that is wanted and isn't claimed
 pub free_is : (w : Wanted) (f : Option Fixture) (has claimed : Bool) → (has && (not claimed && is_wanted w f)) ≡ (is_wanted w (cond has f None) && not (is_some (cond claimed (kind_in (cond has f None)) None)))
