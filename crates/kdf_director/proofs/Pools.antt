@@ -1,12 +1,12 @@
 -- The devices of the pool that are nobody's.
 use Rattle.std.specs.Prelude.{find, not, unwrap_or}
 use Rattle.std.specs.List.{range_with_len}
-use Rattle.std.proofs.Common.{◌≡◌, ℕ, ◌<◌, ◌&&◌, ltb, Bool, true, false, List, get_or, map, Option, Some, None, is_some, is_none, cond, refl, sym, ap, ◌∙◌, arith}
+use Rattle.std.proofs.Common.{◌≡◌, ℕ, ◌<◌, ◌&&◌, ltb, Bool, true, false, List, get_or, map, Option, Some, None, is_some, is_none, cond, refl, sym, ap, ap₂, ◌∙◌, arith}
 use Rattle.std.proofs.lemmas.Bool.{and_from, and_parts, lt-ltb}
 use Rattle.kdf_journal.specs.declared.kind.Kind.{Kind}
 use Rattle.kdf_journal.specs.declared.kind.Kind.TheVariants as kind
 use Rattle.kdf_transfer.specs.ByNumber.{by_number, device_count}
-use Rattle.kdf_transfer.specs.Devices.{Fixture, blank_fixture, is_kind, kind_in}
+use Rattle.kdf_transfer.specs.Devices.{Fixture, Progress, blank_fixture, is_kind, kind_in}
 use Rattle.kdf_transfer.proofs.Numbers.{limit_is, number_at}
 use Rattle.kdf_transfer.proofs.OfKind.{exact}
 use Rattle.kdf_job.specs.Slots.{lent_kind}
@@ -16,33 +16,28 @@ use Rattle.kdf_processor.proofs.Fit.{found}
 use Rattle.kdf_director.specs.declared.place.Place.{Place}
 use Rattle.kdf_director.specs.declared.place.Place.TheVariants.{Absent, Idle, Busy}
 use Rattle.kdf_director.specs.Keeping.{IsActive, IsKept}
-use Rattle.kdf_director.specs.Parts.{Part, Shared, in_pool, lent_to, own_claims, pool_kind}
+use Rattle.kdf_director.specs.Parts.{Part, Shared, back_from, in_pool, lent_to, own_claims, pool_kind}
 use Rattle.kdf_director.specs.Shared.{free_in, is_free_in}
-use Rattle.kdf_director.specs.Spots.{Spot, can_leave, is_holder, spot_at, spot_of}
+use Rattle.kdf_director.specs.Spots.{Spot, blank_spot, can_leave, fixture_or, is_holder, left_spot, spot_at, spot_of}
+use Rattle.kdf_director.specs.Stints.{Loan, Back}
 use Rattle.kdf_director.proofs.Showing.{spot_there}
 
-none_not : {X : Type 0} (o : Option X) → is_none o ≡ not (is_some o)
-none_not None = refl
-none_not (Some x) = refl
+pub not_taken : (b : Bool) → b ≡ not (not b)
+not_taken true = refl
+not_taken false = refl
+
+pub none_is : (b : Bool) (o o' : Option ℕ) → is_some o ≡ not b → o ≡ o' → b ≡ not (is_some o')
+none_is b o o' is same = not_taken b ∙ ap not (sym is) ∙ ap (λ x. not (is_some x)) same
 
 -- one is free, by the pool of a slot
-pub free_by : (pool : List (ℕ × Kind)) (spots : List Spot) (kind : Kind) (d : ℕ) → d < 16 → (is_kind kind (lent_kind pool d) && is_none (spot_at spots d).holder) ≡ is_free_in (by_number (lent_kind pool)) spots kind d
+pub free_by : (pool : List (ℕ × Kind)) (spots : List Spot) (kind : Kind) (d : ℕ) → d < 16 → (is_kind kind (lent_kind pool d) && not (is_some (spot_at spots d).holder)) ≡ is_free_in (by_number (lent_kind pool)) spots kind d
 free_by pool spots kind d lt =
-    ap (λ b. is_kind kind (lent_kind pool d) && b) (none_not (spot_at spots d).holder)
-    ∙ ap (λ o. is_kind kind o && not (is_some (spot_at spots d).holder)) (sym (number_at (lent_kind pool) d None (omega (arith, limit_is))))
+    ap (λ o. is_kind kind o && not (is_some (spot_at spots d).holder)) (sym (number_at (lent_kind pool) d None (omega (arith, limit_is))))
 
 -- the least one
 pub least_free : (pool : List (Option Kind)) (spots : List Spot) (kind : Kind) → find (is_free_in pool spots kind) (range_with_len 0 16) ≡ free_in pool spots kind
 unfolding free_in
 least_free pool spots kind = ap (λ n. find (is_free_in pool spots kind) (range_with_len 0 n)) (sym limit_is)
-
--- what isn't taken whole has one
-pub some_free : (o : Option ℕ) → not (is_some o) ≡ false → None ≡ o → ⊥
-some_free o taken none = cc
-
-pub not_taken : (b : Bool) → b ≡ not (not b)
-not_taken true = refl
-not_taken false = refl
 
 -- the one that is free is of the kind, and nobody's
 none_some : {X : Type 0} (o : Option X) → not (is_some o) ≡ true → o ≡ None
@@ -109,3 +104,24 @@ pub lent_is : (q : Part) (s : Shared) (kind : Kind) (d : ℕ) → IsActive q s �
 lent_is q s kind d active lt is =
     ap (λ o. lent_to q s kind (unwrap_or o 0)) is
     ∙ ap (λ b. cond b d (unwrap_or (least_pooled (own_claims q s) kind) 0)) (can_take_free q s kind d active lt is)
+
+-- ---- a device that goes back
+
+pub not_busy : {X : Type 0} (o : Option X) → is_some o ≡ false → o ≡ None
+not_busy None is = refl
+not_busy (Some x) is = cc
+
+pub back_is : (x : Spot) (f : Fixture) (p : Progress) → can_leave x ≡ true → Some f ≡ cond (can_leave x) x.fixture None → p ≡ x.progress → Back f p ≡ back_from x
+back_is x f p leaves is same =
+    ap₂ Back (ap fixture_or (is ∙ ap (λ b. cond b x.fixture None) leaves)) same
+
+pub left_is : (x : Spot) → can_leave x ≡ true → left_spot x ≡ blank_spot x
+left_is x leaves = ap (λ b. cond b (blank_spot x) x) leaves
+
+-- one of the pool without a transfer can leave its place
+pub leaves_there : (q : Part) (s : Shared) (d : ℕ) → IsKept q s → in_pool q d ≡ true → (spot_at s.spots d).flight ≡ None → can_leave (spot_at s.spots d) ≡ true
+leaves_there q s d kept pooled idle = of_kind (pool_kind q d) refl
+  where
+    of_kind : (o : Option Kind) → pool_kind q d ≡ o → can_leave (spot_at s.spots d) ≡ true
+    of_kind None is = cc (sym (ap is_some is) ∙ pooled)
+    of_kind (Some k) is = leave_is (spot_at s.spots d) (blank_fixture k) (kept.there d k is) idle

@@ -14,7 +14,9 @@ use Rattle.kdf_job.specs.Slots.{lent_kind}
 use Rattle.kdf_journal.specs.declared.kind.Kind.TheVariants.{Tr, Tp, Cr, Lp, Mt}
 use Rattle.kdf_director.specs.Physical as physical
 use Rattle.kdf_processor.specs.State.{word_in, device_in, fixture_at, own_fixture_at, pooled_or}
-use Rattle.kdf_processor.specs.Claims.{kind_at, claim, is_claimed}
+use Rattle.kdf_processor.specs.Claims.{kind_at, claim, free_for, is_claimed, is_free}
+use Rattle.kdf_processor.proofs.Fit.{found}
+use Rattle.std.specs.List.{range_with_len}
 use Rattle.kdf_director.specs.declared.place.Place.{Place}
 use Rattle.kdf_director.specs.declared.place.Place.TheVariants.{Absent}
 use Rattle.kdf_director.specs.Spots.{spot_at, spot_of, no_spot, is_holder, leases_of, spot_kind}
@@ -226,6 +228,12 @@ free_shown q s d w kept lt =
         ∙ none_here w (not (is_some (cond (get_or q.claimed d false) (kind_in None) None)))
         ∙ sym (none_here w (not (is_claimed (own_claims q s) d)))
         ∙ ap (λ f. is_wanted w f && not (is_claimed (own_claims q s) d)) (sym (own_is q s d small ∙ ap (λ b. cond b (spot_at s.spots d).fixture None) not_own))
+
+-- what is found so is the slot's
+pub free_owned : (q : Part) (s : Shared) (w : Wanted) (d : ℕ) → IsKept q s → d < 16 → free_for w (own_claims q s) ≡ Some d → owns q.devices d ≡ true
+unfolding free_for
+free_owned q s w d kept lt is =
+    (and_parts _ _ (free_shown q s d w kept lt ∙ found (is_free w (own_claims q s)) (range_with_len 0 16) d is)).0
 
 -- the progress of one of its devices
 pub own_device : (q : Part) (n : ℕ) (s : Shared) (d : ℕ) → d < device_count → has_device q (spot_at s.spots d) ≡ true → device_in (own_stock q n s) d ≡ (spot_at s.spots d).progress
