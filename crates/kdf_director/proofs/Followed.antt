@@ -128,16 +128,16 @@ module _ (slots : List Slot) (J : List Entry) (reaches : List Reach) (seats : Li
   part : IsPart q s
   part = turn.is_part reaches seats s i run lt is_on
 
+  registers_own : (seat_at seats i).registers ≡ mine.registers
+  unfolding own_state
+  registers_own = refl
+
   -- it is live
   is_on : is_live (seat_at seats i).registers.state ≡ true
   is_on =
       ap (λ (r : Registers). is_live r.state) (registers_own ∙ ap (λ (x : State). x.registers) fol.is_seen)
       ∙ legal_alive slots J legal p
       ∙ next_on (lone_world slots J) slots J p meets.0
-    where
-      registers_own : (seat_at seats i).registers ≡ mine.registers
-      unfolding own_state
-      registers_own = refl
 
   none_holds : first_need (lone_world slots J) p ≡ None
   none_holds = free_need (first_need (lone_world slots J) p) meets.1
