@@ -3,10 +3,10 @@ use Rattle.std.specs.Prelude.{find, IfSome, IsSomeAnd}
 use Rattle.std.specs.List.{All}
 use Rattle.std.specs.Option.{option_copied, option_map}
 use denote.Ref.{Bor}
-use Rattle.std.proofs.Common.{◌≡◌, ℕ, ◌+◌, ◌*◌, ◌<◌, ◌≤◌, Bool, true, false, eqb, List, length, map, Option, Some, None, is_some, refl, sym, ap, ◌∙◌, subst}
+use Rattle.std.proofs.Common.{◌≡◌, ℕ, ◌+◌, ◌*◌, ◌<◌, ◌≤◌, Bool, true, false, eqb, List, [], ◌∷◌, length, map, Option, Some, None, is_some, refl, sym, ap, ◌∙◌, subst, arith}
 use Rattle.std.proofs.lemmas.List.{length-map}
 use Rattle.kdf_journal.specs.declared.entry.Entry.{Entry}
-use Rattle.kdf_journal.specs.Counts.{pending}
+use Rattle.kdf_journal.specs.Counts.{holder, pending}
 use Rattle.kdf_lockout.specs.Groups.{Cells}
 use Rattle.kdf_relocate.specs.declared.window.Window.{Window}
 use Rattle.kdf_transfer.specs.InFlight.{Motion}
@@ -15,12 +15,12 @@ use Rattle.kdf_processor.specs.declared.spooled.Spooled.{Spooled}
 use Rattle.kdf_processor.specs.Claims.{is_claimed}
 use Rattle.kdf_processor.specs.Lone.{is_live}
 use Rattle.kdf_transfer.specs.Slots.{Slot}
-use Rattle.kdf_journal.specs.Counts.{holder}
 use Rattle.kdf_journal.specs.declared.kind.Kind.{Kind}
 use Rattle.kdf_job.specs.Slots.{lent_kind}
 use Rattle.kdf_transfer.specs.ByNumber.{by_number}
 use Rattle.kdf_processor.specs.State.{State, fixture_at, is_pooled, own_fixture_at, word_at}
 use Rattle.kdf_director.specs.Agrees.{IsReady}
+use Rattle.kdf_director.specs.Fields.{loaded, pool_in}
 use Rattle.kdf_director.specs.Following.{asked_at}
 use Rattle.kdf_director.specs.Going.{any_on}
 use Rattle.kdf_director.specs.Lends.{IsLent, IsStored, window_in}
@@ -28,7 +28,7 @@ use Rattle.kdf_director.specs.Next.{any_live}
 use Rattle.kdf_director.specs.Owners.{IsDeviceOwned, is_claimed_by, owner_in}
 use Rattle.kdf_director.specs.Parts.{Reach, Seat, Shared, seat_of, shared_in, window_at}
 use Rattle.kdf_director.specs.Physical.{word_at_place}
-use Rattle.kdf_director.specs.Running.{own_state, reaches_in, seat_at, seats_in}
+use Rattle.kdf_director.specs.Running.{own_state, reach_at, reaches_in, seat_at, seats_in}
 use Rattle.kdf_director.specs.Shown.{IsDeviceAt, Shown, state_of}
 use Rattle.kdf_director.specs.Viewed.{slot_loaded, viewed}
 use Rattle.kdf_director.specs.Slots.{slot_of}
@@ -40,7 +40,7 @@ use Rattle.kdf_director.proofs.ByNumber.{find_map}
 use Rattle.kdf_director.proofs.Calling.{any_map}
 use Rattle.kdf_director.proofs.Lending.{below, in_store, lent, stored, windows_same, word_own}
 use Rattle.kdf_director.proofs.NextPrograms.{any_same}
-use Rattle.kdf_director.proofs.OwnDevices.{claimed_none, claimed_own, device_none, device_own}
+use Rattle.kdf_director.proofs.OwnDevices.{claimed_none, claimed_own, claimed_pooled, device_none, device_own}
 use Rattle.kdf_director.proofs.OwnStates.{told_of}
 use Rattle.kdf_transfer.proofs.Numbers.{limit_is}
 
@@ -179,7 +179,7 @@ module _ (slots : List Loaded) (windows : List Window) (store : Cells) (programs
         of_none [] e = refl
         of_none (l ∷ ls) e = absurd (omega arith)
 
-    abbrev claims_it : Bool
+    abbrev pub claims_it : Bool
     claims_it = is_claimed_by (owner_in slots d) ps pool (map spot_of places) d
 
     pub claimed_shown : (p : ℕ) (is : Bool) → is ≡ claims_it → IfSome (state_of m p) (λ (x : State). is_some (own_fixture_at x.stock.claims d) ≡ true → is ≡ is_claimed x.stock.claims d)
