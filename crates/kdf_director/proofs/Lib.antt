@@ -78,3 +78,4 @@ pub mod Living
 pub mod InOrder
 pub mod Lent
 pub mod Placing
+pub mod StintsShown

@@ -18,7 +18,7 @@ use Rattle.kdf_transfer.specs.Slots.{Slot}
 use Rattle.kdf_journal.specs.declared.kind.Kind.{Kind}
 use Rattle.kdf_job.specs.Slots.{lent_kind}
 use Rattle.kdf_transfer.specs.ByNumber.{by_number}
-use Rattle.kdf_processor.specs.State.{State, fixture_at, is_pooled, own_fixture_at, word_at}
+use Rattle.kdf_processor.specs.State.{State, fixture_at, is_pooled, lending_of, lendings, own_fixture_at, word_at}
 use Rattle.kdf_director.specs.Agrees.{IsReady}
 use Rattle.kdf_director.specs.Fields.{loaded, pool_in}
 use Rattle.kdf_director.specs.Following.{asked_at}
@@ -26,9 +26,9 @@ use Rattle.kdf_director.specs.Going.{any_on}
 use Rattle.kdf_director.specs.Lends.{IsLent, IsStored, window_in}
 use Rattle.kdf_director.specs.Next.{any_live}
 use Rattle.kdf_director.specs.Owners.{IsDeviceOwned, is_claimed_by, owner_in}
-use Rattle.kdf_director.specs.Parts.{Reach, Seat, Shared, seat_of, shared_in, window_at}
+use Rattle.kdf_director.specs.Parts.{Reach, Seat, Shared, own_stock, seat_of, shared_in, window_at}
 use Rattle.kdf_director.specs.Physical.{word_at_place}
-use Rattle.kdf_director.specs.Running.{own_state, reach_at, reaches_in, seat_at, seats_in}
+use Rattle.kdf_director.specs.Running.{own_state, part_at, reach_at, reaches_in, seat_at, seats_in}
 use Rattle.kdf_director.specs.Shown.{IsDeviceAt, Shown, state_of}
 use Rattle.kdf_director.specs.Viewed.{slot_loaded, viewed}
 use Rattle.kdf_director.specs.Slots.{slot_of}
@@ -41,7 +41,9 @@ use Rattle.kdf_director.proofs.Calling.{any_map}
 use Rattle.kdf_director.proofs.Lending.{below, in_store, lent, stored, windows_same, word_own}
 use Rattle.kdf_director.proofs.NextPrograms.{any_same}
 use Rattle.kdf_director.proofs.OwnDevices.{claimed_none, claimed_own, claimed_pooled, device_none, device_own}
-use Rattle.kdf_director.proofs.OwnStates.{told_of}
+use Rattle.kdf_director.proofs.OwnStates.{found_state, none_state, told_of}
+use Rattle.kdf_director.specs.Stints.{keeping_of, stint_of}
+use Rattle.kdf_director.specs.declared.stint.Stint.{Stint}
 use Rattle.kdf_transfer.proofs.Numbers.{limit_is}
 
 -- what holds of a state that is there
@@ -125,6 +127,45 @@ module _ (slots : List Loaded) (windows : List Window) (store : Cells) (programs
   -- ---- words
   pub sixteen : length places ≡ 16
   sixteen = sym (length-map places spot_of) ∙ ready.agrees.running.sound.spots ∙ limit_is
+
+  -- ---- stints
+  module _ (p : ℕ) where
+    abbrev program : Option Program
+    program = find (λ (x : Program). eqb x.p p) programs
+
+    -- a program that is there, with its stints
+    stints_at : (x : Program) → program ≡ Some x → (i : ℕ) × (i < length ps) × (seat_at ps i ≡ seat_of x) × (state_of m p ≡ Some (own_state rs ps s (asked_at ps J i) i))
+    stints_at x is = found_state xs rs ps s J room ready.agrees p (seat_of x) (found p ∙ ap (option_map seat_of) is)
+
+    stints_own : (i n : ℕ) → (own_state rs ps s n i).stock ≡ own_stock (part_at rs ps i) n s
+    unfolding own_state
+    stints_own i n = refl
+
+    count_is : (x : Program) (y : State) → program ≡ Some x → state_of m p ≡ Some y → length (lendings y.stock) ≡ length x.stints.items
+    unfolding lendings
+    count_is x y is there =
+        let at = stints_at x is in
+        let same : own_state rs ps s (asked_at ps J at.0) at.0 ≡ y = one_state (sym at.3 ∙ there) in
+        ap (λ (z : State). length (lendings z.stock)) (sym same)
+        ∙ ap (λ k. length (lendings k)) (stints_own at.0 (asked_at ps J at.0))
+        ∙ length-map (map stint_of (seat_at ps at.0).stints) (lending_of (own_stock (part_at rs ps at.0) (asked_at ps J at.0) s))
+        ∙ length-map (seat_at ps at.0).stints stint_of
+        ∙ ap (λ (z : Seat). length z.stints) at.2
+        ∙ length-map x.stints.items keeping_of
+      where
+        one_state : {a b : State} → Some a ≡ Some b → a ≡ b
+        one_state e = cc
+
+    pub stints_shown : (xs' : List Stint) → is_some (state_of m p) ≡ true → IfSome program (λ (x : Program). xs' ≡ x.stints.items) → IsSomeAnd (state_of m p) (λ (y : State). length xs' ≡ length (lendings y.stock))
+    stints_shown xs' is told = by_both program refl (state_of m p) refl is told
+      where
+        by_both : (o : Option Program) → program ≡ o → (k : Option State) → state_of m p ≡ k → is_some k ≡ true → IfSome o (λ (x : Program). xs' ≡ x.stints.items) → IsSomeAnd k (λ (y : State). length xs' ≡ length (lendings y.stock))
+        by_both o e None f is told = cc
+        by_both None e (Some y) f is told = cc (sym is ∙ ap is_some (sym f ∙ no_state e))
+        by_both (Some x) e (Some y) f is told = ap length told ∙ sym (count_is x y e f)
+
+        no_state : program ≡ None → state_of m p ≡ None
+        no_state none = none_state xs rs ps s J room ready.agrees p (found p ∙ ap (option_map seat_of) none)
 
   module _ (p address : ℕ) (there : IsSomeAnd (state_of m p) (λ (x : State). address < x.stock.claims.size)) (window : Window) (is : window ≡ window_at windows p) where
     pub word_below : address < window.size

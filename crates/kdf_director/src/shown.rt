@@ -1,8 +1,10 @@
 //! What a machine shows of its programs and of their devices.
-ghost use Rattle.std.specs.Prelude.{◌≡◌, ◌==◌, find, length, map, IfSome};
+ghost use Rattle.std.specs.Prelude.{◌≡◌, ◌==◌, find, is_some, length, map, not, true, IfSome};
+ghost use Rattle.kdf_transfer.specs.Devices.{fixture_of, progress_of};
+ghost use Rattle.kdf_director.specs.Stints.{is_lent, is_open, loan_of};
 ghost use Rattle.std.specs.Option.{option_copied, option_map};
 ghost use Rattle.kdf_director.specs.Fields.{loaded, pool_in};
-ghost use Rattle.kdf_director.specs.Owners.{IsDeviceOf, IsDeviceOwned, is_claimed_by, owner_in};
+ghost use Rattle.kdf_director.specs.Owners.{IsDeviceOf, IsDeviceOwned, fixture_told, is_claimed_by, owner_in, progress_told};
 ghost use Rattle.kdf_director.specs.Parts.{window_at};
 ghost use Rattle.kdf_director.specs.Running.{seats_in};
 ghost use Rattle.kdf_director.specs.Spots.{spot_at, spot_of};
@@ -11,7 +13,7 @@ use crate::devices::owns;
 use crate::dispatch::window_of;
 use crate::load::pool_in;
 use crate::places::holder_in;
-use crate::{Loaded, Place, Program};
+use crate::{Loaded, Loan, Place, Program, Stint};
 use kdf_job::kind_lent;
 use kdf_processor::{Registers, Spooled};
 use kdf_relocate::Window;
@@ -43,6 +45,38 @@ pub(crate) fn texts_of(programs: &[Program], p: u8) -> &[Spooled]
     match program_of(programs, p) {
         Some(program) => program.spooled.as_slice(),
         None => &[],
+    }
+}
+
+/// The stints of the program of slot `p`, in the order in which the devices were taken; none where there is no such slot.
+pub(crate) fn stints_of(programs: &[Program], p: u8) -> &[Stint]
+    ensures { IfSome (find (λ (x : Program). x.p == p) programs.now)
+        (λ program. result.now ≡ program.stints.items) }
+{
+    match program_of(programs, p) {
+        Some(program) => program.stints.as_slice(),
+        None => &[],
+    }
+}
+
+/// The number of a stint's device, whether it was given back, and the device, as its transfer found it where it has one.
+pub(crate) fn stint_told<'a>(stint: &'a Stint, places: &'a [Place]) -> (u8, bool, &'a Device)
+    requires { is_lent (loan_of stint.now.loan) ≡ true
+        → is_some (spot_at (map spot_of places.now) stint.now.d).fixture ≡ true }
+    ensures number { result.0 ≡ stint.now.d }
+    ensures given { result.1 ≡ not (is_open (loan_of stint.now.loan)) }
+    ensures fixture { fixture_of result.2.now
+        ≡ fixture_told (loan_of stint.now.loan) (spot_at (map spot_of places.now) stint.now.d) }
+    ensures progress { progress_of result.2.now
+        ≡ progress_told (loan_of stint.now.loan) (spot_at (map spot_of places.now) stint.now.d) }
+{
+    match &stint.loan {
+        Loan::Left(device) => (stint.d, false, device),
+        Loan::Back(device) => (stint.d, true, device),
+        Loan::Lent => match device_at(places, stint.d) {
+            Some(device) => (stint.d, false, device),
+            None => unreachable!(),
+        },
     }
 }
 
