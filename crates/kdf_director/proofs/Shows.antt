@@ -1,9 +1,9 @@
 -- What the fields of a machine show of it.
-use Rattle.std.specs.Prelude.{find, IfSome, IsSomeAnd}
+use Rattle.std.specs.Prelude.{find, slice_get, IfSome, IsSomeAnd}
 use Rattle.std.specs.List.{All}
 use Rattle.std.specs.Option.{option_copied, option_map}
 use denote.Ref.{Bor}
-use Rattle.std.proofs.Common.{◌≡◌, ℕ, ◌+◌, ◌*◌, ◌<◌, ◌≤◌, Bool, true, false, eqb, List, [], ◌∷◌, length, map, Option, Some, None, is_some, refl, sym, ap, ◌∙◌, subst, arith}
+use Rattle.std.proofs.Common.{◌≡◌, ℕ, ◌+◌, ◌*◌, ◌<◌, ◌≤◌, Bool, true, false, eqb, List, [], ◌∷◌, length, get_or, map, Option, Some, None, is_some, refl, sym, ap, ◌∙◌, subst, arith}
 use Rattle.std.proofs.lemmas.List.{length-map}
 use Rattle.kdf_journal.specs.declared.entry.Entry.{Entry}
 use Rattle.kdf_journal.specs.Counts.{holder, pending}
@@ -25,7 +25,7 @@ use Rattle.kdf_director.specs.Following.{asked_at}
 use Rattle.kdf_director.specs.Going.{any_on}
 use Rattle.kdf_director.specs.Lends.{IsLent, IsStored, window_in}
 use Rattle.kdf_director.specs.Next.{any_live}
-use Rattle.kdf_director.specs.Owners.{IsDeviceOwned, is_claimed_by, owner_in}
+use Rattle.kdf_director.specs.Owners.{HasLent, IsDeviceOwned, IsTold, is_claimed_by, owner_in}
 use Rattle.kdf_director.specs.Parts.{Reach, Seat, Shared, own_stock, seat_of, shared_in, window_at}
 use Rattle.kdf_director.specs.Physical.{word_at_place}
 use Rattle.kdf_director.specs.Running.{own_state, part_at, reach_at, reaches_in, seat_at, seats_in}
@@ -42,7 +42,10 @@ use Rattle.kdf_director.proofs.Lending.{below, in_store, lent, stored, windows_s
 use Rattle.kdf_director.proofs.NextPrograms.{any_same}
 use Rattle.kdf_director.proofs.OwnDevices.{claimed_none, claimed_own, claimed_pooled, device_none, device_own}
 use Rattle.kdf_director.proofs.OwnStates.{found_state, none_state, told_of}
-use Rattle.kdf_director.specs.Stints.{keeping_of, stint_of}
+use Rattle.kdf_director.proofs.StintsShown.{stint_in_own, there_lent_any}
+use Rattle.kdf_director.specs.Keeping.{IsKept}
+use Rattle.kdf_director.specs.Stints.{Keeping, is_lent, keeping_of, no_keeping, stint_of}
+use Rattle.kdf_processor.specs.Stints.{IsStint}
 use Rattle.kdf_director.specs.declared.stint.Stint.{Stint}
 use Rattle.kdf_transfer.proofs.Numbers.{limit_is}
 
@@ -156,16 +159,70 @@ module _ (slots : List Loaded) (windows : List Window) (store : Cells) (programs
         one_state : {a b : State} → Some a ≡ Some b → a ≡ b
         one_state e = cc
 
-    pub stints_shown : (xs' : List Stint) → is_some (state_of m p) ≡ true → IfSome program (λ (x : Program). xs' ≡ x.stints.items) → IsSomeAnd (state_of m p) (λ (y : State). length xs' ≡ length (lendings y.stock))
-    stints_shown xs' is told = by_both program refl (state_of m p) refl is told
-      where
-        by_both : (o : Option Program) → program ≡ o → (k : Option State) → state_of m p ≡ k → is_some k ≡ true → IfSome o (λ (x : Program). xs' ≡ x.stints.items) → IsSomeAnd k (λ (y : State). length xs' ≡ length (lendings y.stock))
-        by_both o e None f is told = cc
-        by_both None e (Some y) f is told = cc (sym is ∙ ap is_some (sym f ∙ no_state e))
-        by_both (Some x) e (Some y) f is told = ap length told ∙ sym (count_is x y e f)
+    no_state : program ≡ None → state_of m p ≡ None
+    no_state none = none_state xs rs ps s J room ready.agrees p (found p ∙ ap (option_map seat_of) none)
 
-        no_state : program ≡ None → state_of m p ≡ None
-        no_state none = none_state xs rs ps s J room ready.agrees p (found p ∙ ap (option_map seat_of) none)
+    -- what holds of a program that is there and of its state
+    by_both : (P : Program → Type 0) (Q : State → Type 0) → ((x : Program) (y : State) → program ≡ Some x → state_of m p ≡ Some y → P x → Q y) → (o : Option Program) → program ≡ o → (k : Option State) → state_of m p ≡ k → is_some k ≡ true → IfSome o P → IsSomeAnd k Q
+    by_both P Q then o e None f is told = cc
+    by_both P Q then None e (Some y) f is told = cc (sym f ∙ no_state e)
+    by_both P Q then (Some x) e (Some y) f is told = then x y e f told
+
+    pub stints_shown : (xs' : List Stint) → is_some (state_of m p) ≡ true → IfSome program (λ (x : Program). xs' ≡ x.stints.items) → IsSomeAnd (state_of m p) (λ (y : State). length xs' ≡ length (lendings y.stock))
+    stints_shown xs' is told =
+        by_both (λ (x : Program). xs' ≡ x.stints.items) (λ (y : State). length xs' ≡ length (lendings y.stock))
+        (λ x y e f same. ap length same ∙ sym (count_is x y e f)) program refl (state_of m p) refl is told
+
+    kept_at : (x : Program) (e : program ≡ Some x) → IsKept (part_at rs ps (stints_at x e).0) s
+    kept_at x e = ready.agrees.running.kept (stints_at x e).0 (stints_at x e).1
+
+    same_stints : (x : Program) (e : program ≡ Some x) → (part_at rs ps (stints_at x e).0).stints ≡ map keeping_of x.stints.items
+    same_stints x e = ap (λ (z : Seat). z.stints) (stints_at x e).2
+
+    -- one of its stints
+    module _ (i : ℕ) (below : IsSomeAnd (state_of m p) (λ (y : State). i < length (lendings y.stock))) where
+      pub stint_there : IsSomeAnd program (λ (x : Program). i < length x.stints.items)
+      stint_there = by_state program refl (state_of m p) refl below
+        where
+          by_state : (o : Option Program) → program ≡ o → (k : Option State) → state_of m p ≡ k → IsSomeAnd k (λ (y : State). i < length (lendings y.stock)) → IsSomeAnd o (λ (x : Program). i < length x.stints.items)
+          by_state o e None f lt = absurd lt
+          by_state None e (Some y) f lt = cc (sym f ∙ no_state e)
+          by_state (Some x) e (Some y) f lt = omega (arith, count_is x y e f)
+
+      pub stint_lent : IfSome program (λ (x : Program). HasLent (map spot_of places) (map keeping_of x.stints.items))
+      stint_lent = by_program program refl
+        where
+          by_program : (o : Option Program) → program ≡ o → IfSome o (λ (x : Program). HasLent (map spot_of places) (map keeping_of x.stints.items))
+          by_program None e = tt
+          by_program (Some x) e =
+              subst (HasLent (map spot_of places)) (same_stints x e)
+              (λ j k lt lent. all_lent x e j k lt lent)
+            where
+              all_lent : (x : Program) (e : program ≡ Some x) (j : ℕ) (k : Keeping) → j < length (part_at rs ps (stints_at x e).0).stints → is_lent (get_or (part_at rs ps (stints_at x e).0).stints j k).loan ≡ true → is_some (spot_at (map spot_of places) (get_or (part_at rs ps (stints_at x e).0).stints j k).device).fixture ≡ true
+              all_lent x e j k lt lent =
+                  there_lent_any (part_at rs ps (stints_at x e).0) s (kept_at x e) j k lt lent
+
+      pub stint_shown : (d : ℕ) (given : Bool) (device : Device) → IfSome program (λ (x : Program). IsTold (map spot_of places) (get_or (map keeping_of x.stints.items) i no_keeping) d given device) → IsSomeAnd (state_of m p) (λ (y : State). IfSome (slice_get (lendings y.stock) i) (λ l. IsStint l d given device))
+      stint_shown d given device told =
+          by_both (λ (x : Program). IsTold (map spot_of places) (get_or (map keeping_of x.stints.items) i no_keeping) d given device) (λ (y : State). IfSome (slice_get (lendings y.stock) i) (λ l. IsStint l d given device))
+          (λ x y e f is. stint_of_program x y e f is) program refl (state_of m p) refl (some_state (state_of m p) below) told
+        where
+          some_state : (k : Option State) → IsSomeAnd k (λ (y : State). i < length (lendings y.stock)) → is_some k ≡ true
+          some_state None lt = absurd lt
+          some_state (Some y) lt = refl
+
+          one_state : {a b : State} → Some a ≡ Some b → a ≡ b
+          one_state e = cc
+
+          stint_of_program : (x : Program) (y : State) → program ≡ Some x → state_of m p ≡ Some y → IsTold (map spot_of places) (get_or (map keeping_of x.stints.items) i no_keeping) d given device → IfSome (slice_get (lendings y.stock) i) (λ l. IsStint l d given device)
+          stint_of_program x y e f is =
+              let at = stints_at x e in
+              let q = part_at rs ps at.0 in
+              let n = asked_at ps J at.0 in
+              let same : own_state rs ps s n at.0 ≡ y = one_state (sym at.3 ∙ f) in
+              subst (λ (z : State). IfSome (slice_get (lendings z.stock) i) (λ l. IsStint l d given device)) same
+              (subst (λ k. IfSome (slice_get (lendings k) i) (λ l. IsStint l d given device)) (sym (stints_own at.0 n))
+              (stint_in_own q n s (kept_at x e) i d given device (subst (λ zs. IsTold (map spot_of places) (get_or zs i no_keeping) d given device) (sym (same_stints x e)) is)))
 
   module _ (p address : ℕ) (there : IsSomeAnd (state_of m p) (λ (x : State). address < x.stock.claims.size)) (window : Window) (is : window ≡ window_at windows p) where
     pub word_below : address < window.size

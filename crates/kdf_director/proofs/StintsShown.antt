@@ -1,25 +1,24 @@
 -- The stints of a program are those of its state.
-use Rattle.std.proofs.Common.{◌≡◌, ◌≢◌, ℕ, zero, suc, ◌<◌, ◌≤◌, Bool, true, false, ◌&&◌, eqb, not, List, [], ◌∷◌, length, get_or, map, Option, Some, None, is_some, cond, refl, sym, ap, ◌∙◌, ⊎_elim, arith}
+use Rattle.std.proofs.Common.{◌≡◌, ◌≢◌, ℕ, zero, suc, ◌<◌, ◌≤◌, Bool, true, false, ◌&&◌, eqb, not, List, [], ◌∷◌, length, get_or, map, Option, Some, None, is_some, cond, refl, sym, ap, ◌∙◌, subst, ⊎_elim, arith}
 use Rattle.std.specs.List.{AllPairs, list_any}
 use Rattle.std.specs.Option.{option_map}
-use Rattle.std.proofs.lemmas.Bool.{and_parts, cases_Bool, cases_eq, eq-eqb, eqb-true, ne_eqb}
+use Rattle.std.proofs.lemmas.Bool.{and_parts, cases_Bool, cases_eq, cases_lt, eq-eqb, eqb-true}
 use Rattle.kdf_journal.specs.declared.kind.Kind.{Kind}
 use Rattle.kdf_journal.specs.declared.kind.Kind.TheVariants.{Tp}
-use Rattle.std.specs.Prelude.{find, unwrap_or}
+use Rattle.std.specs.Prelude.{find, slice_get, unwrap_or, IfSome}
+use Rattle.std.proofs.lemmas.List.{length-map}
+use Rattle.std.proofs.lemmas.Option.{slice_get-get_or, slice_get-map, slice_get_past}
 use Rattle.kdf_transfer.specs.Devices.{Fixture, Progress, blank_fixture, fixture_of, new_progress, progress_of}
 use Rattle.kdf_transfer.specs.declared.device.Device.{Device}
-use Rattle.kdf_processor.specs.State.{device_in, lending_of}
+use Rattle.kdf_processor.specs.State.{device_in, lending_of, lendings}
 use Rattle.kdf_processor.specs.Stints.{IsStint}
 use Rattle.kdf_director.specs.Keeping.{IsKept}
-use Rattle.kdf_director.specs.Owners.{fixture_told, progress_told}
+use Rattle.kdf_director.specs.Owners.{IsTold, fixture_told, progress_told}
 use Rattle.kdf_director.specs.Parts.{Part, Shared, has_device, in_pool, own_progress, own_stock, pool_kind}
 use Rattle.kdf_director.specs.Spots.{fixture_or, spot_at}
-use Rattle.kdf_director.specs.Stints.{Keeping, IsOfKind, Loan, Lent, Left, Back, is_left, is_lent, is_open, kept_by, left_in, lends, progress_back, progress_left, stint_of}
+use Rattle.kdf_director.specs.Stints.{Keeping, IsOfKind, Loan, Lent, Left, Back, is_left, is_lent, is_open, kept_by, left_in, lends, no_keeping, progress_back, progress_left, stint_of}
 use Rattle.kdf_director.proofs.Firsts.{any_none, any_there}
 use Rattle.kdf_transfer.proofs.Numbers.{number_at}
-
-abbrev no_keeping : Keeping
-no_keeping = record { device = 0; loan = Lent }
 
 abbrev AreApart : Keeping → Keeping → Type 0
 AreApart x y = is_open x.loan ≡ true → is_open y.loan ≡ true → x.device ≢ y.device
@@ -155,11 +154,32 @@ module _ (q : Part) (n : ℕ) (s : Shared) (kept : IsKept q s) (i : ℕ) (lt : i
   given_is (Left f p) = refl
   given_is (Back f p) = refl
 
-  pub is_stint : (d : ℕ) (given : Bool) (device : Device) → d ≡ x.device → given ≡ not (is_open x.loan) → fixture_of device ≡ fixture_told x.loan (spot_at s.spots x.device) → progress_of device ≡ progress_told x.loan (spot_at s.spots x.device) → IsStint (lending_of (own_stock q n s) (stint_of x)) d given device
-  is_stint d given device number gave fixture progress =
+  pub is_stint : (d : ℕ) (given : Bool) (device : Device) → IsTold s.spots x d given device → IsStint (lending_of (own_stock q n s) (stint_of x)) d given device
+  is_stint d given device told =
       record {
-        number = number;
-        given = gave ∙ given_is x.loan;
-        fixture = of_kind x.loan refl (fixture_of device) (kept.kinds i no_keeping lt) (sym fixture) ∙ ap blank_fixture (sym kind_is);
-        progress = by_loan x.loan refl (progress_of device) (sym progress);
+        number = told.number;
+        given = told.given ∙ given_is x.loan;
+        fixture = of_kind x.loan refl (fixture_of device) (kept.kinds i no_keeping lt) (sym told.fixture) ∙ ap blank_fixture (sym kind_is);
+        progress = by_loan x.loan refl (progress_of device) (sym told.progress);
       }
+
+-- so for whatever stands for a stint that there isn't
+pub there_lent_any : (q : Part) (s : Shared) → IsKept q s → (j : ℕ) (k : Keeping) → j < length q.stints → is_lent (get_or q.stints j k).loan ≡ true → is_some (spot_at s.spots (get_or q.stints j k).device).fixture ≡ true
+there_lent_any q s kept j k lt lent =
+    let kind = some_there (pool_kind q (get_or q.stints j k).device) (kept.pooled j k lt) in
+    ap is_some (kept.there (get_or q.stints j k).device kind.0 kind.1)
+
+-- a stint of the state
+pub stint_in_own : (q : Part) (n : ℕ) (s : Shared) → IsKept q s → (i d : ℕ) (given : Bool) (device : Device) → IsTold s.spots (get_or q.stints i no_keeping) d given device → IfSome (slice_get (lendings (own_stock q n s)) i) (λ l. IsStint l d given device)
+unfolding lendings
+stint_in_own q n s kept i d given device told =
+    ⊎_elim
+    (λ (lt : i < length q.stints).
+    subst (λ o. IfSome o (λ l. IsStint l d given device)) (sym (got lt)) (is_stint q n s kept i lt d given device told))
+    (λ (past : length q.stints ≤ i). subst (λ o. IfSome o (λ l. IsStint l d given device)) (sym (slice_get_past (map (lending_of (own_stock q n s)) (map stint_of q.stints)) i (omega (arith, length-map (map stint_of q.stints) (lending_of (own_stock q n s)), length-map q.stints stint_of)))) tt)
+    (cases_lt i (length q.stints))
+  where
+    got : i < length q.stints → slice_get (map (lending_of (own_stock q n s)) (map stint_of q.stints)) i ≡ Some (lending_of (own_stock q n s) (stint_of (get_or q.stints i no_keeping)))
+    got lt =
+        slice_get-map (lending_of (own_stock q n s)) (map stint_of q.stints) i
+        ∙ ap (option_map (lending_of (own_stock q n s))) (slice_get-map stint_of q.stints i ∙ ap (option_map stint_of) (slice_get-get_or q.stints i no_keeping lt))

@@ -20,6 +20,10 @@ pub record Keeping : Type 0 where
   pub device : ℕ
   pub loan : Loan
 
+-- one that there isn't
+abbrev pub no_keeping : Keeping
+no_keeping = record { device = 0; loan = Lent }
+
 abbrev pub loan_of : Kept → Loan
 loan_of kept.Lent = Lent
 loan_of (kept.Left device) = Left (fixture_of device) (progress_of device)

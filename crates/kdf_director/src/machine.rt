@@ -25,7 +25,7 @@ use crate::load::{Parts, load_parts};
 use crate::moves::{ending, moving, word_of};
 use crate::next::is_any_on;
 use crate::places::transfer_in;
-use crate::shown::{device_in, is_claimed_in, registers_of, stint_told, stints_of, texts_of, window_given};
+use crate::shown::{device_in, is_claimed_in, registers_of, stint_in, stints_of, texts_of, window_given};
 use crate::starting::cancel_all;
 use crate::{Loaded, Place, Program};
 use kdf_job::Job;
@@ -274,8 +274,7 @@ impl Machine {
         ensures { IsSomeAnd (state_of self.now p) (λ state.
             IfSome (slice_get (lendings state.stock) i) (λ x. IsStint x result.0 result.1 result.2.now)) }
     {
-        let stint = &stints_of(&self.programs, p)[i];
-        stint_told(stint, &self.devices)
+        stint_in(&self.programs, &self.devices, p, i)
     }
 
     /// What happened so far. At each moment it is legal, and each program's own state is what is seen of its lone run.
