@@ -26,6 +26,9 @@ pub mod WorkedSwaps
 pub mod Holding
 pub mod WorkedSlots
 pub mod Acting
+pub mod Loans
+pub mod Pooling
+pub mod Retiring
 pub mod TurnBeginning
 pub mod Closing
 pub mod TurnEnding

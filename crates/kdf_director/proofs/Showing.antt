@@ -70,7 +70,7 @@ holder_is p (Some r) is = ap Some (eqb-true r p is)
 pub is_its : (p : ℕ) (o : Option ℕ) → o ≡ Some p → is_holder p o ≡ true
 is_its p o is = ap (is_holder p) is ∙ eq-eqb p p refl
 
-owned_some : (b : Bool) (f : Option Fixture) → is_some (cond b f None) ≡ true → b ≡ true
+pub owned_some : (b : Bool) (f : Option Fixture) → is_some (cond b f None) ≡ true → b ≡ true
 owned_some true f is = refl
 owned_some false f is = cc
 

@@ -1,9 +1,10 @@
 -- What holds of a program's devices and stints: which places are its own, and which it has from the pool.
-use Rattle.std.specs.Prelude.{◌≡◌, ◌≢◌, ◌<◌, ℕ, true, false, Some, None, slice_index_or}
+use Rattle.std.specs.Prelude.{◌≡◌, ◌≢◌, ◌<◌, ℕ, length, true, false, Some, None, slice_index_or}
 use Rattle.std.specs.List.{All, AllPairs}
 use Rattle.kdf_journal.specs.declared.kind.Kind.{Kind}
 use Rattle.kdf_transfer.specs.ByNumber.{device_count}
 use Rattle.kdf_transfer.specs.Devices.{blank_fixture, new_progress}
+use Rattle.kdf_processor.specs.State.{device_limit}
 use Rattle.kdf_director.specs.Parts.{Part, Shared, in_pool, owns, pool_kind}
 use Rattle.kdf_director.specs.Spots.{is_holder, spot_at}
 use Rattle.kdf_director.specs.Stints.{IsOfKind, Keeping, is_left, is_open, lends}
@@ -25,5 +26,6 @@ pub record IsKept (q : Part) (s : Shared) : Type 0 where
 
 -- A live program has claimed just those devices of the pool that it has, and it has kept none.
 pub record IsActive (q : Part) (s : Shared) : Type 0 where
+  pub sized : length q.claimed ≡ device_limit
   pub marks : (d : ℕ) → in_pool q d ≡ true → slice_index_or q.claimed d false ≡ is_holder q.p (spot_at s.spots d).holder
   pub none_left : All (λ (x : Keeping). is_left x.loan ≡ false) q.stints

@@ -1,0 +1,6 @@
+use Rattle.kdf_director.proofs.Loans.{stints_left}
+use Rattle.kdf_director.proofs.Retiring.{one_retired}
+use Rattle.kdf_director.proofs.laws.scratch.Goals as goal
+
+pub returns : goal.returns
+returns c xs d f p = stints_left xs d f p
