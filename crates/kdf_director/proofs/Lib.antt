@@ -79,6 +79,11 @@ pub mod Calling
 pub mod Calls
 pub mod Living
 pub mod InOrder
+pub mod Placed
+pub mod Handing
 pub mod Lent
 pub mod Placing
 pub mod StintsShown
+pub mod TurnKeeping
+pub mod Retired
+pub mod Pools

@@ -145,6 +145,41 @@ taker t q = record q { claimed = set q.claimed t true; stints = q.stints ++ reco
 abbrev pub lent : Part → ℕ → Shared → Shared
 lent q t s = with_spot t (lent_spot q.p (spot_at s.spots t)) s
 
+module _ (q : Part) (s : Shared) (t : ℕ) (inside : t < length s.spots) (kept : IsKept q s) (free : IsFree q s t) where
+  -- it was in no stint's place
+  not_lent : lends q.stints t ≡ false
+  not_lent = sym (kept.has t free.pooled) ∙ ap (is_holder q.p) free.holder
+
+  pub lent_kept : IsActive q s → IsKept (taker t q) (lent q t s)
+  lent_kept active =
+      record {
+        few = kept.few;
+        apart = kept.apart;
+        owned = at_spot s.spots t (lent_spot q.p (spot_at s.spots t)) inside (λ e y. owns q.devices e ≡ true → y.holder ≡ Some q.p) (λ _. refl) (λ e ne. kept.owned e);
+        there = at_spot s.spots t (lent_spot q.p (spot_at s.spots t)) inside (λ e y. (k : Kind) → pool_kind q e ≡ Some k → y.fixture ≡ Some (blank_fixture k)) (kept.there t) (λ e ne. kept.there e);
+        fresh = at_spot s.spots t (lent_spot q.p (spot_at s.spots t)) inside (λ e y. in_pool q e ≡ true → y.holder ≡ None → y.progress ≡ new_progress) (λ _ none. cc none) (λ e ne. kept.fresh e);
+        pooled = All-push (λ (x : Keeping). in_pool q x.device ≡ true) q.stints (record { device = t; loan = Lent }) kept.pooled free.pooled;
+        kinds = All-push (λ (x : Keeping). IsOfKind (pool_kind q x.device) x.loan) q.stints (record { device = t; loan = Lent }) kept.kinds refl;
+        has = at_spot s.spots t (lent_spot q.p (spot_at s.spots t)) inside (λ e y. in_pool q e ≡ true → is_holder q.p y.holder ≡ lends (q.stints ++ record { device = t; loan = Lent } ∷ []) e)
+            (λ _. eq-eqb q.p q.p refl ∙ sym (lends_push q.stints t t ∙ ap₂ (λ a b. a || b) not_lent (eq-eqb t t refl)))
+            (λ e ne pooled. kept.has e pooled ∙ sym (lends_push q.stints t e ∙ ap (λ b. lends q.stints e || b) (ne_eqb t e (λ same. ne (sym same))) ∙ or_none (lends q.stints e)));
+        one = apart_push q.stints t kept.one (open_others q.stints t active.none_left not_lent);
+      }
+    where
+      or_none : (b : Bool) → (b || false) ≡ b
+      or_none true = refl
+      or_none false = refl
+
+  pub lent_active : IsActive q s → IsActive (taker t q) (lent q t s)
+  lent_active active =
+      record {
+        sized = length-set q.claimed t true ∙ active.sized;
+        marks = at_spot s.spots t (lent_spot q.p (spot_at s.spots t)) inside (λ e y. in_pool q e ≡ true → get_or (set q.claimed t true) e false ≡ is_holder q.p y.holder)
+            (λ _. get_or-set_same q.claimed t true false (let e = active.sized in let small = kept.few t free.pooled in omega (arith, limit_is)) ∙ sym (eq-eqb q.p q.p refl))
+            (λ e ne pooled. get_or-set_other q.claimed t e true false ne ∙ active.marks e pooled);
+        none_left = All-push IsNotLeft q.stints (record { device = t; loan = Lent }) active.none_left refl;
+      }
+
 module _ (q : Part) (s : Shared) (t : ℕ) (sound : IsSound s) (kept : IsKept q s) (free : IsFree q s t) where
   taken_small : t < device_count
   taken_small = kept.few t free.pooled
@@ -155,39 +190,11 @@ module _ (q : Part) (s : Shared) (t : ℕ) (sound : IsSound s) (kept : IsKept q 
   pub taken_sound : IsSound (lent q t s)
   taken_sound = sound-idle s t (lent_spot q.p (spot_at s.spots t)) sound taken_small free.idle free.idle
 
-  -- it was in no stint's place
-  not_lent : lends q.stints t ≡ false
-  not_lent = sym (kept.has t free.pooled) ∙ ap (is_holder q.p) free.holder
-
   pub taken_kept : IsActive q s → IsKept (taker t q) (lent q t s)
-  taken_kept active =
-      record {
-        few = kept.few;
-        apart = kept.apart;
-        owned = at_spot s.spots t (lent_spot q.p (spot_at s.spots t)) taken_inside (λ e y. owns q.devices e ≡ true → y.holder ≡ Some q.p) (λ _. refl) (λ e ne. kept.owned e);
-        there = at_spot s.spots t (lent_spot q.p (spot_at s.spots t)) taken_inside (λ e y. (k : Kind) → pool_kind q e ≡ Some k → y.fixture ≡ Some (blank_fixture k)) (kept.there t) (λ e ne. kept.there e);
-        fresh = at_spot s.spots t (lent_spot q.p (spot_at s.spots t)) taken_inside (λ e y. in_pool q e ≡ true → y.holder ≡ None → y.progress ≡ new_progress) (λ _ none. cc none) (λ e ne. kept.fresh e);
-        pooled = All-push (λ (x : Keeping). in_pool q x.device ≡ true) q.stints (record { device = t; loan = Lent }) kept.pooled free.pooled;
-        kinds = All-push (λ (x : Keeping). IsOfKind (pool_kind q x.device) x.loan) q.stints (record { device = t; loan = Lent }) kept.kinds tt;
-        has = at_spot s.spots t (lent_spot q.p (spot_at s.spots t)) taken_inside (λ e y. in_pool q e ≡ true → is_holder q.p y.holder ≡ lends (q.stints ++ record { device = t; loan = Lent } ∷ []) e)
-            (λ _. eq-eqb q.p q.p refl ∙ sym (lends_push q.stints t t ∙ ap₂ (λ a b. a || b) not_lent (eq-eqb t t refl)))
-            (λ e ne pooled. kept.has e pooled ∙ sym (lends_push q.stints t e ∙ ap (λ b. lends q.stints e || b) (ne_eqb t e (λ same. ne (sym same))) ∙ or_none (lends q.stints e)));
-        one = apart_push q.stints t kept.one (open_others q.stints t active.none_left not_lent);
-      }
-    where
-      or_none : (b : Bool) → (b || false) ≡ b
-      or_none true = refl
-      or_none false = refl
+  taken_kept active = lent_kept q s t taken_inside kept free active
 
   pub taken_active : IsActive q s → IsActive (taker t q) (lent q t s)
-  taken_active active =
-      record {
-        sized = length-set q.claimed t true ∙ active.sized;
-        marks = at_spot s.spots t (lent_spot q.p (spot_at s.spots t)) taken_inside (λ e y. in_pool q e ≡ true → get_or (set q.claimed t true) e false ≡ is_holder q.p y.holder)
-            (λ _. get_or-set_same q.claimed t true false (let e = active.sized in let small = taken_small in omega (arith, limit_is)) ∙ sym (eq-eqb q.p q.p refl))
-            (λ e ne pooled. get_or-set_other q.claimed t e true false ne ∙ active.marks e pooled);
-        none_left = All-push IsNotLeft q.stints (record { device = t; loan = Lent }) active.none_left refl;
-      }
+  taken_active active = lent_active q s t taken_inside kept free active
 
   -- its progress is as that of a device that isn't the program's
   taken_progress : IsActive q s → own_progress (taker t q) (lent q t s).spots ≡ own_progress q s.spots
@@ -260,6 +267,54 @@ number-set f g d x small here others =
     others i ne ∙ sym (get_or-set_other (by_number f) d i x x ne ∙ number_at f i x i_lt))
     (cases_eq i d))
 
+module _ (q : Part) (s : Shared) (d : ℕ) (inside : d < length s.spots) (kept : IsKept q s) (its : IsIts q s d) where
+  abbrev was : Spot
+  was = spot_at s.spots d
+
+  -- it is a blank one of its kind, but for what it moved
+  pub back_kind : option_map blank_fixture (pool_kind q d) ≡ Some (fixture_or was.fixture)
+  back_kind = of (pool_kind q d) refl its.pooled
+    where
+      of : (o : Option Kind) → pool_kind q d ≡ o → is_some o ≡ true → option_map blank_fixture o ≡ Some (fixture_or was.fixture)
+      of None is some = cc
+      of (Some k) is some = sym (ap (λ f. Some (fixture_or f)) (kept.there d k is))
+
+  module _ (claimed : List Bool) (loan : Loan) (of_kind : IsOfKind (pool_kind q d) loan) (not_lent : is_lent loan ≡ false) where
+    pub given_kept : IsKept (giver claimed d loan q) (emptied d s)
+    given_kept =
+        record {
+          few = kept.few;
+          apart = kept.apart;
+          owned = at_spot s.spots d (blank_spot was) inside (λ e y. owns q.devices e ≡ true → y.holder ≡ Some q.p) (λ has. cc (sym (kept.apart d has) ∙ its.pooled)) (λ e ne. kept.owned e);
+          there = at_spot s.spots d (blank_spot was) inside (λ e y. (k : Kind) → pool_kind q e ≡ Some k → y.fixture ≡ Some (blank_fixture k))
+              (λ k is. ap (option_map (λ (f : Fixture). blank_fixture f.kind)) (kept.there d k is)) (λ e ne. kept.there e);
+          fresh = at_spot s.spots d (blank_spot was) inside (λ e y. in_pool q e ≡ true → y.holder ≡ None → y.progress ≡ new_progress) (λ _ _. refl) (λ e ne. kept.fresh e);
+          pooled = All-map (λ (y : Keeping). in_pool q y.device ≡ true) (with_loan d loan) q.stints (λ k z lt. ap (in_pool q) (device_with d loan (get_or q.stints k z)) ∙ kept.pooled k z lt);
+          kinds = All-map (λ (y : Keeping). IsOfKind (pool_kind q y.device) y.loan) (with_loan d loan) q.stints
+              (λ k z lt. by_open (λ y. IsOfKind (pool_kind q y.device) y.loan) d loan (get_or q.stints k z)
+              (λ is. subst (λ e. IsOfKind (pool_kind q e) loan) (sym (eqb-true (get_or q.stints k z).device d (and_parts _ _ is).0)) of_kind)
+              (λ _. kept.kinds k z lt));
+          has = at_spot s.spots d (blank_spot was) inside (λ e y. in_pool q e ≡ true → is_holder q.p y.holder ≡ lends (map (with_loan d loan) q.stints) e)
+              (λ _. sym (lends_here q.stints d loan not_lent)) (λ e ne pooled. kept.has e pooled ∙ sym (lends_there q.stints d e loan ne));
+          one = apart_with q.stints d loan kept.one;
+        }
+
+    pub given_none : is_left loan ≡ false → IsActive q s → All IsNotLeft (map (with_loan d loan) q.stints)
+    given_none not_left active =
+        All-map IsNotLeft (with_loan d loan) q.stints
+        (λ k z lt. by_open IsNotLeft d loan (get_or q.stints k z) (λ _. not_left) (λ _. active.none_left k z lt))
+
+    -- without its mark, where the program goes on
+    pub given_active : is_left loan ≡ false → IsActive q s → IsActive (giver (set q.claimed d false) d loan q) (emptied d s)
+    given_active not_left active =
+        record {
+          sized = length-set q.claimed d false ∙ active.sized;
+          marks = at_spot s.spots d (blank_spot was) inside (λ e y. in_pool q e ≡ true → get_or (set q.claimed d false) e false ≡ is_holder q.p y.holder)
+              (λ _. get_or-set_same q.claimed d false false (let e = active.sized in let small = kept.few d its.pooled in omega (arith, limit_is)))
+              (λ e ne pooled. get_or-set_other q.claimed d e false false ne ∙ active.marks e pooled);
+          none_left = given_none not_left active;
+        }
+
 module _ (q : Part) (s : Shared) (d : ℕ) (sound : IsSound s) (kept : IsKept q s) (its : IsIts q s d) where
   gone_small : d < device_count
   gone_small = kept.few d its.pooled
@@ -279,47 +334,17 @@ module _ (q : Part) (s : Shared) (d : ℕ) (sound : IsSound s) (kept : IsKept q 
 
   -- it is a blank one of its kind, but for what it moved
   pub gone_kind : option_map blank_fixture (pool_kind q d) ≡ Some (fixture_or x.fixture)
-  gone_kind = of (pool_kind q d) refl its.pooled
-    where
-      of : (o : Option Kind) → pool_kind q d ≡ o → is_some o ≡ true → option_map blank_fixture o ≡ Some (fixture_or x.fixture)
-      of None is some = cc
-      of (Some k) is some = sym (ap (λ f. Some (fixture_or f)) (kept.there d k is))
+  gone_kind = back_kind q s d gone_inside kept its
 
   module _ (claimed : List Bool) (loan : Loan) (of_kind : IsOfKind (pool_kind q d) loan) (not_lent : is_lent loan ≡ false) where
     pub gone_kept : IsKept (giver claimed d loan q) (emptied d s)
-    gone_kept =
-        record {
-          few = kept.few;
-          apart = kept.apart;
-          owned = at_spot s.spots d (blank_spot x) gone_inside (λ e y. owns q.devices e ≡ true → y.holder ≡ Some q.p) (λ has. cc (sym (kept.apart d has) ∙ its.pooled)) (λ e ne. kept.owned e);
-          there = at_spot s.spots d (blank_spot x) gone_inside (λ e y. (k : Kind) → pool_kind q e ≡ Some k → y.fixture ≡ Some (blank_fixture k))
-              (λ k is. ap (option_map (λ (f : Fixture). blank_fixture f.kind)) (kept.there d k is)) (λ e ne. kept.there e);
-          fresh = at_spot s.spots d (blank_spot x) gone_inside (λ e y. in_pool q e ≡ true → y.holder ≡ None → y.progress ≡ new_progress) (λ _ _. refl) (λ e ne. kept.fresh e);
-          pooled = All-map (λ (y : Keeping). in_pool q y.device ≡ true) (with_loan d loan) q.stints (λ k z lt. ap (in_pool q) (device_with d loan (get_or q.stints k z)) ∙ kept.pooled k z lt);
-          kinds = All-map (λ (y : Keeping). IsOfKind (pool_kind q y.device) y.loan) (with_loan d loan) q.stints
-              (λ k z lt. by_open (λ y. IsOfKind (pool_kind q y.device) y.loan) d loan (get_or q.stints k z)
-              (λ is. subst (λ e. IsOfKind (pool_kind q e) loan) (sym (eqb-true (get_or q.stints k z).device d (and_parts _ _ is).0)) of_kind)
-              (λ _. kept.kinds k z lt));
-          has = at_spot s.spots d (blank_spot x) gone_inside (λ e y. in_pool q e ≡ true → is_holder q.p y.holder ≡ lends (map (with_loan d loan) q.stints) e)
-              (λ _. sym (lends_here q.stints d loan not_lent)) (λ e ne pooled. kept.has e pooled ∙ sym (lends_there q.stints d e loan ne));
-          one = apart_with q.stints d loan kept.one;
-        }
+    gone_kept = given_kept q s d gone_inside kept its claimed loan of_kind not_lent
 
     none_left : is_left loan ≡ false → IsActive q s → All IsNotLeft (map (with_loan d loan) q.stints)
-    none_left not_left active =
-        All-map IsNotLeft (with_loan d loan) q.stints
-        (λ k z lt. by_open IsNotLeft d loan (get_or q.stints k z) (λ _. not_left) (λ _. active.none_left k z lt))
+    none_left = given_none q s d gone_inside kept its claimed loan of_kind not_lent
 
-    -- without its mark, where the program goes on
     pub gone_active : is_left loan ≡ false → IsActive q s → IsActive (giver (set q.claimed d false) d loan q) (emptied d s)
-    gone_active not_left active =
-        record {
-          sized = length-set q.claimed d false ∙ active.sized;
-          marks = at_spot s.spots d (blank_spot x) gone_inside (λ e y. in_pool q e ≡ true → get_or (set q.claimed d false) e false ≡ is_holder q.p y.holder)
-              (λ _. get_or-set_same q.claimed d false false (let e = active.sized in let small = gone_small in omega (arith, limit_is)))
-              (λ e ne pooled. get_or-set_other q.claimed d e false false ne ∙ active.marks e pooled);
-          none_left = none_left not_left active;
-        }
+    gone_active = given_active q s d gone_inside kept its claimed loan of_kind not_lent
 
   -- what is shown where it is given back
   gone_progress : IsActive q s → by_number (own_progress (giver (set q.claimed d false) d (back_from x) q) (emptied d s).spots) ≡ set (by_number (own_progress q s.spots)) d new_progress

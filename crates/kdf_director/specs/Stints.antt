@@ -78,8 +78,12 @@ is_open_of d x = x.device == d && is_open x.loan
 abbrev pub with_loan : ℕ → Loan → Keeping → Keeping
 with_loan d loan x = if is_open_of d x then record x { loan = loan } else x
 
+-- what a device of the pool is: in its place as the pool has it, else as it left
+abbrev pub fixture_lent : Option Kind → Loan → Option Fixture
+fixture_lent kind Lent = option_map blank_fixture kind
+fixture_lent kind (Left fixture progress) = Some fixture
+fixture_lent kind (Back fixture progress) = Some fixture
+
 -- a device that left its place is a blank one of its kind but for what it moved
 abbrev pub IsOfKind : Option Kind → Loan → Type 0
-IsOfKind kind Lent = Unit {0}
-IsOfKind kind (Left fixture progress) = option_map blank_fixture kind ≡ Some fixture
-IsOfKind kind (Back fixture progress) = option_map blank_fixture kind ≡ Some fixture
+IsOfKind kind loan = option_map blank_fixture kind ≡ fixture_lent kind loan

@@ -1,9 +1,0 @@
-use Rattle.std.proofs.Common.{refl, sym, ◌∙◌}
-use Rattle.std.proofs.lemmas.Bool.{false≢true}
-use Rattle.kdf_processor.proofs.Frees.{none_taken}
-use Rattle.kdf_director.specs.Parts.{own_claims}
-use Rattle.kdf_director.specs.Turn.{part_of, shared}
-use Rattle.kdf_director.proofs.turn.TurnPort.take_pool.Goals as goal
-
-pub unreachable-requires : goal.unreachable-requires
-unreachable-requires c = false≢true (sym (none_taken (own_claims (part_of c.args.self.now) (shared c.args.self.now)) c.args._kind refl) ∙ c.requires.may)
