@@ -29,6 +29,7 @@ pub mod Acting
 pub mod Loans
 pub mod Pooling
 pub mod Retiring
+pub mod Settling
 pub mod TurnBeginning
 pub mod Closing
 pub mod TurnEnding
