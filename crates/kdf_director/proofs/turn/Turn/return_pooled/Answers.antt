@@ -1,8 +1,8 @@
-use Rattle.std.proofs.Common.{◌≡◌, ◌<◌, true, false, length, map, set, refl, sym, ap, ap₂, ◌∙◌, subst, arith}
+use Rattle.std.proofs.Common.{◌≡◌, ◌<◌, true, false, length, map, set, cond, None, refl, sym, ap, ap₂, ◌∙◌, subst, arith}
 use Rattle.std.proofs.lemmas.List.{length-map}
 use Rattle.kdf_transfer.specs.Devices.{fixture_of, progress_of}
 use Rattle.kdf_director.specs.Keeping.{IsActiveBy}
-use Rattle.kdf_director.specs.Parts.{Part, back_from}
+use Rattle.kdf_director.specs.Parts.{Part, Shared, back_from}
 use Rattle.kdf_director.specs.Spots.{Spot, blank_spot, can_leave, left_spot, spot_at, spot_of}
 use Rattle.kdf_director.specs.Stints.{Loan, keeping_of, with_loan}
 use Rattle.kdf_director.specs.Turn.{part_of, shared}
@@ -39,3 +39,40 @@ shows c =
 inside : (c : After-take_back_at) → c.args.d < length (map spot_of c.args.self.now.places.now.items)
 inside c = omega (arith, c.requires.number, c.args.self.now.sixteen, length-map c.args.self.now.places.now.items spot_of)
 
+are : (c : After-hand_in) → (leave : can_leave (spot_at (map spot_of c.args.self.now.places.now.items) c.args.d) ≡ true) → map keeping_of c.hand_in.new.stints.items ≡ map (with_loan c.args.d (back_from (spot_at (map spot_of c.args.self.now.places.now.items) c.args.d))) (map keeping_of c.args.self.now.stints.now.items)
+are c leave =
+    let spots = map spot_of c.args.self.now.places.now.items in
+    c.hand_in.ensures
+    ∙ ap (λ (l : Loan). map (with_loan c.args.d l) (map keeping_of c.args.self.now.stints.now.items))
+    (back_is (spot_at spots c.args.d) (fixture_of c.in-Some.device) (progress_of c.in-Some.device) leave
+    (c.in-Some.ensures.fixture ∙ ap (λ e. cond (can_leave (spot_at spots e)) (spot_at spots e).fixture None) c.from.ensures)
+    (c.in-Some.ensures.progress ∙ ap (λ e. (spot_at spots e).progress) c.from.ensures))
+
+pub invariant_of-self-clause-kept : goal.invariant_of-self-clause-kept
+invariant_of-self-clause-kept c =
+    let at = (goal.at.invariant_of-self-clause-kept c).After-take_back_at in
+    let by = (goal.at.invariant_of-self-clause-kept c).After-hand_in in
+    give_kept c.args.self.now c.args.d c.hand_in.new.stints.items c.take_back_at.new.places.items (inside at) (its at) (are by (leaves at)) (shows at)
+
+pub invariant_of-self-clause-active : goal.invariant_of-self-clause-active
+invariant_of-self-clause-active c =
+    let t = c.args.self.now in
+    let at = (goal.at.invariant_of-self-clause-active c).After-take_back_at in
+    let by = (goal.at.invariant_of-self-clause-active c).After-hand_in in
+    subst (λ e. IsActiveBy t.p t.window t.devices.now t.pool.now (set t.claimed.now e false) c.hand_in.new.stints.items c.take_back_at.new.places.items) (sym c.from-2.ensures)
+    (give_active t c.args.d c.hand_in.new.stints.items c.take_back_at.new.places.items (inside at) (its at) (are by (leaves at)) (shows at))
+
+pub returns : goal.returns
+returns c =
+    let t = c.args.self.now in
+    let at = (goal.at.returns c).After-take_back_at in
+    let by = (goal.at.returns c).After-hand_in in
+    record {
+      same = record { time = refl; claimed = refl; spooled = refl; stints = refl; store = refl; places = refl; block = refl };
+      part = ap₂ (λ e ks. let q : Part = record (part_of t) { claimed = set t.claimed.now e false; stints = ks } in q) c.from-2.ensures (are by (leaves at));
+      shared = ap (λ ss. let s : Shared = record { cells = t.store.now; spots = ss } in s) (shows at);
+      note = refl;
+    }
+
+pub invariant_of-self-clause-dry : goal.invariant_of-self-clause-dry
+invariant_of-self-clause-dry c = c.take_back_at.ensures.dry c.args.self.now.dry

@@ -9,7 +9,7 @@ use Rattle.kdf_director.proofs.Showing.{claim_fixture, claim_holder, claim_spot}
 use Rattle.kdf_director.proofs.TurnKeeping.{active_in, kept_in, start_active, start_kept}
 use Rattle.std.proofs.lemmas.List.{length-map}
 use Rattle.kdf_director.proofs.turn.TurnPort.start.Goals as goal
-use Rattle.kdf_director.proofs.turn.TurnPort.start.Goals.{After-place-2}
+use Rattle.kdf_director.proofs.turn.TurnPort.start.Goals.{After-from, After-place-2}
 
 pub start_at-requires-clause-kind : goal.start_at-requires-clause-kind
 start_at-requires-clause-kind c =
@@ -38,16 +38,16 @@ invariant_of-self-clause-in_store c =
     omega arith
 
 -- its device is the program's, and stays where it is
-inside : (c : After-place-2) → c.from.result < length (map spot_of c.args.self.now.places.now.items)
+inside : (c : After-from) → c.from.result < length (map spot_of c.args.self.now.places.now.items)
 inside c = omega (arith, c.from.ensures, c.requires.number, c.args.self.now.sixteen, length-map c.args.self.now.places.now.items spot_of)
 
-holder : (c : After-place-2) → (spot_at (shared c.args.self.now).spots c.from.result).holder ≡ Some c.args.self.now.p
+holder : (c : After-from) → (spot_at (shared c.args.self.now).spots c.from.result).holder ≡ Some c.args.self.now.p
 holder c =
     let t = c.args.self.now in
     ap (λ e. (spot_at (shared t).spots e).holder) c.from.ensures
     ∙ claim_holder (part_of t) (shared t) c.args.device (kind_of c.args.order) (kept_in t) (active_in t) c.requires.kind
 
-some : (c : After-place-2) → is_some (spot_at (shared c.args.self.now).spots c.from.result).fixture ≡ true
+some : (c : After-from) → is_some (spot_at (shared c.args.self.now).spots c.from.result).fixture ≡ true
 some c =
     let t = c.args.self.now in
     let there = claim_fixture (part_of t) (shared t) c.args.device (kind_of c.args.order) (kept_in t) c.requires.kind in
@@ -55,10 +55,10 @@ some c =
 
 pub invariant_of-self-clause-kept : goal.invariant_of-self-clause-kept
 invariant_of-self-clause-kept c =
-    let at = (goal.at.invariant_of-self-clause-kept c).After-place-2 in
+    let at = (goal.at.invariant_of-self-clause-kept c).After-from in
     start_kept c.args.self.now c.from.result c.args.order c.place.result c.place-2.result c.start_at.new.places.items (inside at) (holder at) c.start_at.ensures.spots (some at)
 
 pub invariant_of-self-clause-active : goal.invariant_of-self-clause-active
 invariant_of-self-clause-active c =
-    let at = (goal.at.invariant_of-self-clause-active c).After-place-2 in
+    let at = (goal.at.invariant_of-self-clause-active c).After-from in
     start_active c.args.self.now c.from.result c.args.order c.place.result c.place-2.result c.start_at.new.places.items (inside at) (holder at) c.start_at.ensures.spots
