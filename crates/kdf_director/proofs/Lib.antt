@@ -84,6 +84,7 @@ pub mod Placed
 pub mod Handing
 pub mod Lent
 pub mod Placing
+pub mod StintsShown
 pub mod TurnKeeping
 pub mod Retired
 pub mod Pools
