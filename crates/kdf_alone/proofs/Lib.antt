@@ -1,4 +1,7 @@
+pub mod Apart
 pub mod Devices
 pub mod Rows
 pub mod Steps
+pub mod Stints
+pub mod Takings
 pub mod WorkedLemmas

@@ -29,6 +29,7 @@ pub mod Acting
 pub mod Loans
 pub mod Pooling
 pub mod Retiring
+pub mod Settling
 pub mod TurnBeginning
 pub mod Closing
 pub mod TurnEnding
@@ -83,6 +84,7 @@ pub mod Placed
 pub mod Handing
 pub mod Lent
 pub mod Placing
+pub mod StintsShown
 pub mod TurnKeeping
 pub mod Retired
 pub mod Pools

@@ -145,6 +145,14 @@ module _ (q : Part) (t : ℕ) (s : Shared) (kind : Kind) (part : IsPart q s) whe
           let free = found (is_free_in q.pool s.spots kind) (range_with_len 0 device_count) a is in
           subst (IsFree q s) (sym (lent_is a free)) (free_at a free)
 
+  answers : is_some (free_in q.pool s.spots kind) ≡ true → lent_to q s kind (unwrap_or (free_in q.pool s.spots kind) 0) ≡ unwrap_or (free_in q.pool s.spots kind) 0
+  unfolding free_in
+  answers some = of (free_in q.pool s.spots kind) refl some
+    where
+      of : (o : Option ℕ) → free_in q.pool s.spots kind ≡ o → is_some o ≡ true → lent_to q s kind (unwrap_or o 0) ≡ unwrap_or o 0
+      of None is some = cc
+      of (Some a) is some = lent_is a (found (is_free_in q.pool s.spots kind) (range_with_len 0 device_count) a is)
+
   pub take_some : first_pending (view q t s) (Pool kind ∷ []) ≡ None → is_some (free_in q.pool s.spots kind) ≡ true
   take_some free = of (is_some (free_in q.pool s.spots kind)) free
     where
@@ -154,6 +162,10 @@ module _ (q : Part) (t : ℕ) (s : Shared) (kind : Kind) (part : IsPart q s) whe
 
   pub take_free : first_pending (view q t s) (Pool kind ∷ []) ≡ None → IsFree q s (lent_to q s kind ((view q t s).answer (FreeOf kind)))
   take_free free = untaken (take_some free)
+
+  -- the answer is that device
+  pub take_is : first_pending (view q t s) (Pool kind ∷ []) ≡ None → lent_to q s kind ((view q t s).answer (FreeOf kind)) ≡ (view q t s).answer (FreeOf kind)
+  take_is free = answers (take_some free)
 
 -- a device that isn't pending has no transfer
 pub idle_at : (q : Part) (t : ℕ) (s : Shared) (d : ℕ) → first_pending (view q t s) (Device d ∷ []) ≡ None → (spot_at s.spots d).flight ≡ None

@@ -10,7 +10,7 @@ use Rattle.kdf_director.specs.Parts.{Seat, Shared}
 use Rattle.kdf_director.specs.Spots.{Spot, can_leave, fixture_or, is_holder, left_spot, spot_at}
 use Rattle.kdf_director.specs.Stints.{Keeping, Left, is_lent, no_keeping}
 
--- the stint n of a program, a lent one that there isn't where it has none
+-- the stint n of a program
 abbrev pub keeping_at : Seat → ℕ → Keeping
 keeping_at seat n = slice_index_or seat.stints n no_keeping
 

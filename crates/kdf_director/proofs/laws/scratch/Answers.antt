@@ -1,5 +1,5 @@
 use Rattle.kdf_director.proofs.Loans.{stints_left}
-use Rattle.kdf_director.proofs.Retiring.{one_retired}
+use Rattle.kdf_director.proofs.Programs.{turned_all}
 use Rattle.kdf_director.proofs.laws.scratch.Goals as goal
 
 pub returns : goal.returns
