@@ -15,7 +15,6 @@ ghost use Rattle.kdf_director.specs.Flights.{Flight, beginning, completed, fligh
 ghost use Rattle.kdf_director.specs.Flights.{mine_of, with_flight, with_moved};
 ghost use Rattle.kdf_director.specs.Flying.{AreFlying};
 ghost use Rattle.kdf_director.specs.Seen.{begun_row, pending, seen, with_both, with_store};
-
 ghost use Rattle.std.specs.Prelude.{map};
 ghost use Rattle.kdf_transfer.specs.Devices.{Fixture, Progress};
 ghost use Rattle.kdf_director.specs.Stints.{Keeping, Left, stint_of, with_loan};
