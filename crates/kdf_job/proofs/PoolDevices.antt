@@ -1,8 +1,8 @@
 -- What is kept stays true with a device of the pool more.
-use Rattle.std.proofs.Common.{◌≡◌, ℕ, ◌+◌, ◌<◌, ◌≤◌, Bool, true, false, cond, List, [], ◌∷◌, ◌++◌, map, Option, Some, None, Ok, refl, sym, ap, subst, ◌∙◌, arith, append_assoc}
+use Rattle.std.proofs.Common.{◌≡◌, ℕ, ◌≤◌, Bool, true, false, cond, List, [], ◌∷◌, ◌++◌, Option, Some, None, Ok, refl, sym, ap, subst, ◌∙◌, arith, append_assoc}
 use Rattle.std.specs.Prelude.{is_some, nat_eq}
 use Rattle.std.specs.Option.{option_map, option_to_list}
-use Rattle.std.specs.List.{All, IsDistinct, list_any}
+use Rattle.std.specs.List.{IsDistinct, list_any}
 use Rattle.std.proofs.lemmas.List.{map-append}
 use Rattle.std.proofs.lemmas.List.Elements.{All-push}
 use Rattle.kdf_journal.specs.declared.kind.Kind.{Kind}
@@ -10,8 +10,8 @@ use Rattle.kdf_journal.specs.declared.kind.Kind.TheVariants.{Tr, Tp, Cr, Lp, Mt}
 use Rattle.kdf_job.specs.declared.draft.Draft.{Draft as ReadDraft}
 use Rattle.kdf_job.specs.declared.fault.JobFault.{JobFault}
 use Rattle.kdf_job.specs.declared.fault.JobFault.TheVariants.{BadLabel, DeviceTwice, PoolKind}
-use Rattle.kdf_job.specs.Draft.{SlotDraft, Draft, fault_of, is_writer, lent_fault, numbers_in, numbers_of, numbers_told, pool_fault, slot_of, slots_told, tells, with_line, words_in}
-use Rattle.kdf_job.specs.Forms.{Form, APoolDevice}
+use Rattle.kdf_job.specs.Draft.{SlotDraft, Draft, fault_of, is_writer, lent_fault, numbers_in, numbers_of, numbers_told, slot_of, slots_told, tells, with_line, words_in}
+use Rattle.kdf_job.specs.Forms.{APoolDevice}
 use Rattle.kdf_job.specs.Job.{SlotJob}
 use Rattle.kdf_job.specs.Kept.{AreTold, IsBegun, IsKept}
 use Rattle.kdf_job.specs.Lengths.{kept_length}

@@ -13,7 +13,7 @@ use Rattle.kdf_job.specs.declared.fault.JobFault.{JobFault}
 use Rattle.kdf_job.specs.declared.fault.JobFault.TheVariants.{Header}
 use Rattle.kdf_job.specs.declared.place.Place.{Place}
 use Rattle.kdf_job.specs.declared.place.Place.TheVariants.{First, BehindHeader, BehindSlot, BehindStore, InDeck, BehindDeck, BehindDevice, BehindShow, BehindPool, InSchedule, BehindEnd}
-use Rattle.kdf_job.specs.Forms.{Form, AHeader, ASlot, AStore, ADeck, ADeckLine, AnEndDeck, ADevice, AMedium, AShow, APool, APoolDevice, ASchedule, AnEndJob, Told, told, first_told, addresses, alone, described, device_named, device_or_end, device_words, device_line, event_line, job_ends, kind_named, medium_line, no_medium, number_line, numbered, of_event, or_bad, pool_device_or_end, pooled, show_line, slot_ends, slot_line, store_line, told_at}
+use Rattle.kdf_job.specs.Forms.{Form, AHeader, ASlot, AStore, ADeck, ADeckLine, AnEndDeck, ADevice, AMedium, AShow, APool, APoolDevice, ASchedule, AnEndJob, Told, told, first_told, addresses, alone, described, device_named, device_or_end, device_words, device_line, event_line, kind_named, medium_line, no_medium, number_line, numbered, of_event, or_bad, pooled, show_line, slot_ends, slot_line, told_at}
 
 abbrev pub IsBehindSlot : Place → Type 0
 IsBehindSlot (BehindSlot p) = Unit {0}

@@ -19,7 +19,7 @@ use Rattle.kdf_job.specs.declared.line_error.LineError.TheVariants.{Fault, Memor
 use Rattle.kdf_job.specs.declared.place.Place.{Place}
 use Rattle.kdf_job.specs.declared.place.Place.TheVariants.{BehindSlot, InDeck}
 use Rattle.kdf_job.specs.Adding.{IsChecked}
-use Rattle.kdf_job.specs.Draft.{SlotDraft, Draft, all_devices, device_fault, fault_of, medium_fault, new_slot, number_at, numbers_of, numbers_told, show_fault, slots_told, store_fault, tells, with_line, with_line_of_medium, words_in}
+use Rattle.kdf_job.specs.Draft.{SlotDraft, Draft, all_devices, device_fault, fault_of, medium_fault, new_slot, number_at, numbers_told, show_fault, slots_told, store_fault, tells, with_line, with_line_of_medium, words_in}
 use Rattle.kdf_job.specs.Forms.{Form, ADeckLine, ADevice, AMedium, AShow, AStore, told_at}
 use Rattle.kdf_job.specs.Job.{JobDevice, SlotJob}
 use Rattle.kdf_job.specs.Kept.{IsKept, IsPlaced, IsUntold}
