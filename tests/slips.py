@@ -104,6 +104,10 @@ SLIPS += [
     ),
     ("a device of the pool that is never given back", KEEPS, ["slot 0 took device 9 of the pool at call 4, and has neither given it back nor ended"]),
     (
+        "a device of the pool that is free again", pooled(TAKES + "INTQ1; C1; SET 6; OUT; 1; J1; FINISH;", TAKES + ENDS),
+        ["-:13:16: LIVE: OUT", "device 9 of the pool is free again, but slot 1 has had no turn since"],
+    ),
+    (
         "two that wait for each other", RING,
         ["slot 1 took device 4 of the pool at call 13, and is itself held up by the pool, which had no free TP: nobody will give anything back", "slot 0 took"],
     ),

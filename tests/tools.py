@@ -102,7 +102,7 @@ JOB_HINTS = [
     ((HEAD + TAIL).replace("ENDDECK\n", ""), "ENDDECK is missing"),
     ((HEAD + TAIL).replace("ENDJOB\n", ""), "ENDJOB is missing"),
     (HEAD + "DEVICE 3 TR\n+ab\n" + TAIL, "lowercase letters aren't characters"),
-    (HEAD + "POOL\nDEVICE 9 TR\n" + TAIL, "the pool has punches and printers; a TR belongs to a slot, and comes before POOL"),
+    (HEAD + "POOL\nDEVICE 9 TR\n" + TAIL, "the pool has punches and printers; a device of kind TR belongs to a slot, and comes before POOL"),
     (HEAD + "POOL\nPOOL\n" + TAIL, "the job already has a line POOL"),
     (HEAD + "POOL\n" + HEAD[11:] + TAIL, "POOL comes after the last slot and all its lines"),
     (HEAD + "POOL\nSHOW 0 0\n" + TAIL, "POOL comes after the last slot and all its lines"),

@@ -92,7 +92,7 @@ def hint_of_job(fault, lines):
     if fault.name == "BadLine":
         return hint_of_pool(line, lines[:fault.line - 1]) or hint_of_line(line, expected_at(lines, fault.line))
     if fault.name == "PoolKind":
-        return f"the pool has punches and printers; a {line.split(' ')[2]} belongs to a slot, and comes before POOL"
+        return f"the pool has punches and printers; a device of kind {line.split(' ')[2]} belongs to a slot, and comes before POOL"
     if fault.name == "ShowRange":
         store = next(lines[at] for at in range(fault.line - 1, -1, -1) if lines[at].startswith("STORE ") and lines[at + 1] == "DECK")
         return f"the store has words 0 to {int(store[6:]) - 1}"

@@ -117,7 +117,7 @@ def story_of_wait(stopped, number, kind):
     """Who has the pool's devices of a kind that a program waits for, and why they don't give them back."""
     for device, holder in stopped.holders_of(kind).items():
         if holder is None:
-            yield f"device {device} of the pool is free again, but no call came after that"
+            yield f"device {device} of the pool is free again, but slot {number} has had no turn since"
         else:
             taker = "it" if holder == number else f"slot {holder}"
             yield f"{taker} took device {device} of the pool at call {stopped.lent[device][1]}, {why_kept(stopped, holder, number)}"
