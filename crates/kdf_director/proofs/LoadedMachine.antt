@@ -125,11 +125,11 @@ small_of (n ∷ ns) d below is =
 -- none of the places has a transfer
 idle_flight : (xs : List SlotLoad) (d : ℕ) (other : Spot) → other.flight ≡ None → (first_own xs d other).flight ≡ None
 idle_flight [] d other none = none
-idle_flight (x ∷ xs) d other none = of_one (numbered x.devices d)
+idle_flight (x ∷ xs) d other none = of_one (numbered x.devices d) (idle_flight xs d other none)
   where
-    of_one : (o : Option JobDevice) → (spot_or x.p o (first_own xs d other)).flight ≡ None
-    of_one None = idle_flight xs d other none
-    of_one (Some y) = refl
+    of_one : (o : Option JobDevice) → (first_own xs d other).flight ≡ None → (spot_or x.p o (first_own xs d other)).flight ≡ None
+    of_one None later = later
+    of_one (Some y) later = refl
 
 pool_flight : (o : Option Kind) → (pool_spot o).flight ≡ None
 pool_flight None = refl
@@ -148,6 +148,10 @@ unmarked d =
     (λ (lt : d < 16). get_or-replicate 16 d false false lt)
     (λ (past : 16 ≤ d). get_or_past unclaimed d false (let e : length unclaimed ≡ 16 = length-replicate 16 false in omega arith))
     (cases_lt d 16)
+
+many_marks : length unclaimed ≡ 16
+unfolding unclaimed
+many_marks = length-replicate 16 false
 
 -- the window of each slot
 pub windows_fit : (xs : List SlotLoad) (windows : List Window) (i : ℕ) → AreLoads xs → windows ≡ windows_from 1024 (sizes_of xs) → i < length xs → IsWindow (window_at windows (get_or xs i no_load).p) (get_or xs i no_load).size
@@ -395,6 +399,7 @@ module _ (xs : List SlotLoad) (are : AreLoads xs) (windows : List Window) (windo
     active_first : IsActive part s
     active_first =
         record {
+          sized = many_marks;
           marks = λ d is. unmarked d ∙ sym (ap (λ (x : Spot). is_holder (at i).p x.holder) (some_there d is).1);
           none_left = none_yet (λ x. is_left x.loan ≡ false);
         }

@@ -66,19 +66,19 @@ pub record Stands (xs : List SlotLoad) (d : ℕ) (e : SlotLoad) : Type 0 where
 
 pub owner : (xs : List SlotLoad) (d : ℕ) (e : SlotLoad) → Stands xs d e ⊎ ((i : ℕ) → i < length xs → has (get_or xs i e) d ≡ false)
 owner [] d e = inr (λ i lt. absurd (omega arith))
-owner (x ∷ xs) d e = by_first (has x d) refl
+owner (x ∷ xs) d e = by_first (has x d) refl (owner xs d e)
   where
     at : has x d ≡ false → ((i : ℕ) → i < length xs → has (get_or xs i e) d ≡ false) → (i : ℕ) → i < suc (length xs) → has (get_or (x ∷ xs) i e) d ≡ false
     at not none zero lt = not
     at not none (suc i) lt = none i (omega arith)
 
-    by_first : (b : Bool) → has x d ≡ b → Stands (x ∷ xs) d e ⊎ ((i : ℕ) → i < length (x ∷ xs) → has (get_or (x ∷ xs) i e) d ≡ false)
-    by_first true is = inl (record { by = 0; there = omega arith; has_it = is })
-    by_first false not =
+    by_first : (b : Bool) → has x d ≡ b → (Stands xs d e ⊎ ((i : ℕ) → i < length xs → has (get_or xs i e) d ≡ false)) → Stands (x ∷ xs) d e ⊎ ((i : ℕ) → i < length (x ∷ xs) → has (get_or (x ∷ xs) i e) d ≡ false)
+    by_first true is later = inl (record { by = 0; there = omega arith; has_it = is })
+    by_first false not later =
         ⊎_elim
         (λ (s : Stands xs d e). inl (record { by = suc s.by; there = let h = s.there in omega arith; has_it = s.has_it }))
         (λ (none : (i : ℕ) → i < length xs → has (get_or xs i e) d ≡ false). inr (at not none))
-        (owner xs d e)
+        later
 
 -- each two slots, in either order
 pub apart_both : (xs : List SlotLoad) (i j d : ℕ) (e : SlotLoad) → AllPairs AreApart xs → i < length xs → j < length xs → i ≢ j → has (get_or xs i e) d ≡ true → has (get_or xs j e) d ≡ false

@@ -18,9 +18,9 @@ abbrev share : Cells → List Spot → Shared
 share cells spots = record { cells = cells; spots = spots }
 
 -- the device of one stint
-pub retired_one : (cells : Cells) (p : ℕ) (r : Registers) (claimed : List Bool) (spooled : List Spooled) (stints : List Stint) (spots spots' : List Spot) (i : ℕ) (x x' : Stint) → i < length stints → x ≡ get_or stints i x → keeping_of x' ≡ kept_from (keeping_of x) (spot_at spots x.d) → spots' ≡ set spots x.d (leaves (keeping_of x) (spot_at spots x.d)) → both_of (seat p r claimed spooled (map keeping_of (set stints i x'))) (share cells spots') ≡ retired_at i (both_of (seat p r claimed spooled (map keeping_of stints)) (share cells spots))
-retired_one cells p r claimed spooled stints spots spots' i x x' lt here stint spot =
-    let at : keeping_of x ≡ get_or (map keeping_of stints) i no_keeping = ap keeping_of here ∙ sym (get_or-map keeping_of stints i x no_keeping lt) in
+pub retired_one : (cells : Cells) (p : ℕ) (r : Registers) (claimed : List Bool) (spooled : List Spooled) (stints : List Stint) (spots spots' : List Spot) (i : ℕ) (x x' y : Stint) → i < length stints → x ≡ get_or stints i y → keeping_of x' ≡ kept_from (keeping_of x) (spot_at spots x.d) → spots' ≡ set spots x.d (leaves (keeping_of x) (spot_at spots x.d)) → both_of (seat p r claimed spooled (map keeping_of (set stints i x'))) (share cells spots') ≡ retired_at i (both_of (seat p r claimed spooled (map keeping_of stints)) (share cells spots))
+retired_one cells p r claimed spooled stints spots spots' i x x' y lt here stint spot =
+    let at : keeping_of x ≡ get_or (map keeping_of stints) i no_keeping = ap keeping_of here ∙ sym (get_or-map keeping_of stints i y no_keeping lt) in
     ap₂ (λ ks ss. both_of (seat p r claimed spooled ks) (share cells ss)) (map-set keeping_of stints i x' ∙ ap (set (map keeping_of stints) i) stint) spot
     ∙ ap (λ (k : Keeping). both_of (seat p r claimed spooled (set (map keeping_of stints) i (kept_from k (spot_at spots k.device)))) (share cells (set spots k.device (leaves k (spot_at spots k.device))))) at
 

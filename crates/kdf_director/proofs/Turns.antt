@@ -91,7 +91,7 @@ pub left_back : (t u : Turn) (p : ℕ) (r left : Registers) (claimed claimed' : 
 left_back t u p r left claimed claimed' spooled spooled' stints stints' reach s cells places part_is shared_is same stays claimed_is spooled_is stints_are cells_are places_are =
     let part : part_of u ≡ part_in (seat p r claimed spooled (map keeping_of stints)) reach = stays.part ∙ part_is in (
       ap (λ x. seat p x claimed' spooled' (map keeping_of stints')) same
-      ∙ ap₂ (λ a b. seat p r a b (map keeping_of stints')) (claimed_is ∙ ap (λ (x : Part). x.claimed) part) (spooled_is ∙ ap (λ (x : Part). x.spooled) part)
-      ∙ ap (seat p r claimed spooled) (ap (map keeping_of) stints_are ∙ ap (λ (x : Part). x.stints) part),
+          ∙ ap₂ (λ a b. seat p r a b (map keeping_of stints')) (claimed_is ∙ ap (λ (x : Part). x.claimed) part) (spooled_is ∙ ap (λ (x : Part). x.spooled) part)
+          ∙ ap (seat p r claimed spooled) (ap (map keeping_of) stints_are ∙ ap (λ (x : Part). x.stints) part),
       shared_back u cells places s cells_are places_are (stays.shared ∙ shared_is),
     )
