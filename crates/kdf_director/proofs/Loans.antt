@@ -1,16 +1,16 @@
 -- The stints of a program, after one more, and after the device of one left its place.
 use Rattle.std.specs.Prelude.{find}
 use Rattle.std.specs.List.{All, AllPairs, list_any}
-use Rattle.std.proofs.Common.{◌≡◌, ◌≢◌, ℕ, ◌+◌, ◌<◌, ◌≤◌, ◌&&◌, ◌||◌, not, Bool, true, false, List, [], ◌∷◌, ◌++◌, length, get_or, map, set, Option, Some, None, is_some, cond, eqb, refl, sym, ap, ap₂, ◌∙◌, subst, ⊎_elim, arith}
-use Rattle.std.proofs.lemmas.Bool.{and_from, and_parts, cases_Bool, cases_eq, cases_lt, eq-eqb, eqb-true, false_from_ne_true, ne_eqb, or_parts}
+use Rattle.std.proofs.Common.{◌≡◌, ◌≢◌, ℕ, ◌<◌, ◌≤◌, ◌&&◌, ◌||◌, not, Bool, true, false, List, [], ◌∷◌, ◌++◌, length, get_or, map, set, Some, is_some, cond, eqb, refl, sym, ap, ap₂, ◌∙◌, subst, ⊎_elim, arith}
+use Rattle.std.proofs.lemmas.Bool.{and_from, and_parts, cases_eq, cases_lt, eq-eqb, eqb-true, false_from_ne_true, ne_eqb, or_parts}
 use Rattle.std.proofs.lemmas.List.{ext_get_or, get_or-map, get_or-set_other, get_or-set_same, length-map, length-set}
-use Rattle.std.proofs.lemmas.List.Elements.{All-cons, All-from_recursion, All-head, All-map, All-nil, All-tail, All-weaker}
+use Rattle.std.proofs.lemmas.List.Elements.{All-cons, All-head, All-map, All-nil, All-tail}
 use Rattle.std.proofs.lemmas.List.Folds.{list_any-append, list_any_none}
 use Rattle.std.proofs.lemmas.List.Quantifiers.{all_pairs_push}
 use Rattle.kdf_transfer.specs.Devices.{Fixture, Progress, new_progress}
 use Rattle.kdf_processor.specs.Row.{handed}
 use Rattle.kdf_processor.specs.State.{Stint}
-use Rattle.kdf_director.specs.Stints.{Keeping, Loan, Lent, Left, Back, is_left, is_lent, is_open, is_open_of, kept_by, left_in, lends, progress_left, stint_of, with_loan}
+use Rattle.kdf_director.specs.Stints.{Keeping, Loan, Lent, Left, Back, is_left, is_lent, is_open, is_open_of, left_in, lends, progress_left, stint_of, with_loan}
 
 -- the program hasn't kept the device
 abbrev pub IsNotLeft : Keeping → Type 0

@@ -1,16 +1,12 @@
 -- The devices that a program has from the pool leave their places once it is over.
-use Rattle.std.specs.Prelude.{find}
-use Rattle.std.specs.List.{All}
 use Rattle.std.specs.Option.{option_map}
 use Rattle.std.proofs.Common.{◌≡◌, ◌≢◌, ℕ, ◌+◌, ◌<◌, ◌≤◌, ◌⊎◌, inl, inr, ◌&&◌, Bool, true, false, List, [], ◌∷◌, length, get_or, map, set, zero, suc, Option, Some, None, is_none, is_some, cond, eqb, refl, sym, ap, ap₂, ◌∙◌, subst, ⊎_elim, arith}
-use Rattle.std.proofs.lemmas.Bool.{and_from, and_parts, cases_Bool, cases_eq, cases_lt, eq-eqb, eqb-true}
+use Rattle.std.proofs.lemmas.Bool.{and_from, and_parts, cases_Bool, cases_eq, cases_lt, eq-eqb}
 use Rattle.std.proofs.lemmas.List.{get_or_default, get_or-set_other, get_or-set_same, get_or_past, length-map, length-set, set-get_or, set-set}
 use Rattle.std.proofs.lemmas.List.Folds.{list_any_at, list_any_none}
-use Rattle.kdf_processor.specs.declared.step.Need.{Need}
 use Rattle.kdf_processor.specs.declared.step.Need.TheVariants.{Device}
 use Rattle.kdf_processor.specs.Lone.{is_live}
-use Rattle.kdf_processor.specs.State.{State}
-use Rattle.kdf_processor.specs.View.{View, first_pending, is_pending}
+use Rattle.kdf_processor.specs.View.{View, first_pending}
 use Rattle.kdf_transfer.specs.Devices.{Fixture, blank_fixture}
 use Rattle.kdf_director.specs.Keeping.{IsActive, IsKept}
 use Rattle.kdf_journal.specs.declared.kind.Kind.{Kind}
@@ -22,7 +18,7 @@ use Rattle.kdf_director.specs.Settled.{Both, both_of, holder_over, kept_from, ke
 use Rattle.kdf_director.specs.Spots.{Held, Spot, blank_spot, can_leave, fixture_or, is_holder, is_of, no_spot, own_from, spot_at}
 use Rattle.kdf_director.specs.Stints.{Keeping, Loan, Lent, Left, Back, is_lent, is_open, lends, with_loan}
 use Rattle.kdf_director.proofs.Loans.{and_none, set_one}
-use Rattle.kdf_director.proofs.Pooling.{IsIts, at_spot, emptied, giver, gone_kept, gone_kind, gone_other, gone_other_active, gone_other_kept, gone_sound, left_own}
+use Rattle.kdf_director.proofs.Pooling.{IsIts, at_spot, emptied, gone_kept, gone_kind, gone_other, gone_other_active, gone_other_kept, gone_sound, left_own}
 use Rattle.kdf_director.proofs.Running.{running_by}
 use Rattle.kdf_director.proofs.Same.{SamePart}
 use Rattle.kdf_director.proofs.Showing.{holder_is}

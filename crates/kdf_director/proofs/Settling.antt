@@ -1,5 +1,5 @@
 -- Who has the devices of the pool after an order.
-use Rattle.std.proofs.Common.{◌≡◌, ◌≢◌, ℕ, ◌+◌, ◌<◌, Bool, true, false, List, [], ◌∷◌, length, map, set, Option, Some, None, cond, eqb, refl, sym, ap, ◌∙◌, arith}
+use Rattle.std.proofs.Common.{◌≡◌, ℕ, ◌+◌, ◌<◌, true, false, List, length, map, Option, Some, None, cond, eqb, refl, sym, ap, ◌∙◌, arith}
 use Rattle.std.proofs.lemmas.Bool.{eq-eqb, ne_eqb}
 use Rattle.kdf_processor.specs.declared.registers.Registers.{Registers}
 use Rattle.kdf_processor.specs.declared.step.Need.TheVariants.{Device}
@@ -9,11 +9,11 @@ use Rattle.kdf_processor.specs.Needs.{effect_needs}
 use Rattle.kdf_processor.specs.Outcome.{done}
 use Rattle.kdf_processor.specs.View.{first_pending}
 use Rattle.kdf_director.specs.Notes.{note_of}
-use Rattle.kdf_director.specs.Parts.{Part, Shared, in_pool, lent_to, own_claims}
+use Rattle.kdf_director.specs.Parts.{Part, Shared, lent_to, own_claims}
 use Rattle.kdf_director.specs.Settled.{holder_left, holder_over}
 use Rattle.kdf_director.specs.Shared.{after_act, start_spot, view}
 use Rattle.kdf_director.specs.Sound.{IsSound}
-use Rattle.kdf_director.specs.Spots.{blank_spot, lent_spot, own_from, spot_at}
+use Rattle.kdf_director.specs.Spots.{blank_spot, lent_spot, spot_at}
 use Rattle.kdf_transfer.specs.ByNumber.{device_count}
 use Rattle.kdf_director.proofs.Lawful.{IsLawful}
 use Rattle.kdf_director.proofs.Pooling.{at_spot}

@@ -4,7 +4,6 @@ use Rattle.std.specs.List.{range_with_len}
 use Rattle.std.proofs.Common.{◌≡◌, ◌≢◌, ℕ, ◌+◌, ◌*◌, ◌/◌, ◌%◌, ◌<◌, ◌≤◌, ◌⊎◌, ◌&&◌, Bool, true, false, List, [], ◌∷◌, ◌++◌, length, get_or, set, Option, Some, None, is_some, cond, ltb, refl, sym, ap, ◌∙◌, subst, ⊎_elim, arith}
 use Rattle.std.proofs.lemmas.Bool.{and_from, and_parts, cases_Bool, cases_lt}
 use Rattle.kdf_journal.specs.declared.kind.Kind.{Kind}
-use Rattle.kdf_journal.specs.declared.kind.Kind.TheVariants.{Tr, Tp, Cr, Lp, Mt}
 use Rattle.kdf_lockout.specs.Groups.{Cells, is_out, with_word}
 use Rattle.kdf_transfer.specs.Devices.{Fixture, is_kind}
 use Rattle.kdf_transfer.specs.declared.order.TransferOrder.{TransferOrder}
@@ -15,7 +14,7 @@ use Rattle.kdf_transfer.specs.ByNumber.{device_count}
 use Rattle.kdf_processor.specs.declared.step.Need.TheVariants.{Group, Device, Pool}
 use Rattle.kdf_processor.specs.declared.registers.Registers.{Registers}
 use Rattle.kdf_processor.specs.declared.spooled.Spooled.{Spooled}
-use Rattle.kdf_processor.specs.Claims.{can_take, is_claimed, kind_at, least_pooled}
+use Rattle.kdf_processor.specs.Claims.{can_take, kind_at, least_pooled}
 use Rattle.kdf_processor.specs.State.{own_fixture_at}
 use Rattle.kdf_processor.specs.Effect.{Effect, Claiming, Keeping, Starting, FreeOf, Asking, Returning, Spooling}
 use Rattle.kdf_processor.specs.Needs.{effect_needs}

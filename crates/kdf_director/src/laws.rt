@@ -15,9 +15,6 @@ ghost use Rattle.kdf_director.specs.Flights.{Flight, beginning, completed, fligh
 ghost use Rattle.kdf_director.specs.Flights.{mine_of, with_flight, with_moved};
 ghost use Rattle.kdf_director.specs.Flying.{AreFlying};
 ghost use Rattle.kdf_director.specs.Seen.{begun_row, pending, seen, with_both, with_store};
-ghost use Rattle.std.specs.Prelude.{map};
-ghost use Rattle.kdf_transfer.specs.Devices.{Fixture, Progress};
-ghost use Rattle.kdf_director.specs.Stints.{Keeping, Left, stint_of, with_loan};
 
 pub mod journals;
 
@@ -100,9 +97,4 @@ pub fn nothing_in_flight()
     ensures flying { (flights : ℕ → Option Flight) (s : State) →
         length s.stock.store ≡ s.stock.claims.size → ((d : ℕ) → flights d ≡ None)
         → AreFlying flights s }
-{}
-
-/// Scratch.
-pub fn scratch()
-    ensures { (xs : List Keeping) (d : ℕ) (f : Fixture) (p : Progress) → map stint_of (map (with_loan d (Left f p)) xs) ≡ map stint_of xs }
 {}
