@@ -112,6 +112,7 @@ module _ (m : Parts) (is : IsLoaded (map loaded m.slots.items) m) where
         numbers = numbers;
         running = is.running;
         following = following;
+        lent = is.unlent;
         legal = legal_nil ys;
         truly = true_nil ys;
         few_calls = omega arith;

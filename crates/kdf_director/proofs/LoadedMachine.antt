@@ -320,6 +320,10 @@ module _ (xs : List SlotLoad) (are : AreLoads xs) (windows : List Window) (windo
           none_left = none_yet (λ x. is_left x.loan ≡ false);
         }
 
+  pub unlent_is : (i d : ℕ) → i < length xs → in_pool (part_at reaches seats i) d ≡ true → (spot_at spots d).holder ≡ None
+  unlent_is i d lt is =
+      ap (λ (x : Spot). x.holder) (some_there i lt d (sym (ap (λ q. in_pool q d) (part_is i lt)) ∙ is)).1
+
   pub running : IsRunning reaches seats s
   running =
       record {
@@ -480,5 +484,9 @@ module _ (m : Parts) (are : AreLoads (map loaded m.slots.items)) (windows_are : 
             ∙ own_is loads are m.windows windows_are inside before m.store store_is (map spot_of m.devices.items) spots_are i lt
             ∙ ap (λ x. begin (slot_of x)) (get_or_default loads i no_load l lt);
         idle = idle_is loads are m.windows windows_are inside before m.store store_is (map spot_of m.devices.items) spots_are;
+        unlent = λ i d lt is.
+            unlent_is loads are m.windows windows_are inside before m.store store_is (map spot_of m.devices.items) spots_are i d
+            (omega (arith, ap length programs_are, length-map loads first_seat))
+            (sym (ap₂ (λ r t. in_pool (part_at r t i) d) (reaches_same m.windows m.slots.items) programs_are) ∙ is);
         dry = dry;
       }

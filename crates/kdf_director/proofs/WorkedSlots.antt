@@ -50,4 +50,5 @@ worked_slots = record {
   each = All-cons IsSlot reads (loops ∷ []) reads_slot (All-cons IsSlot loops [] loops_slot (All-nil IsSlot));
   numbers = pair (λ (a b : Slot). a.p ≢ b.p) reads loops (λ same. absurd (omega (arith, same)));
   devices = pair HaveOwnDevices reads loops (λ d. inr (no_device_at device_count d));
+  pool = pair (λ (a b : Slot). a.pool ≡ b.pool) reads loops refl;
 }

@@ -15,8 +15,8 @@ use Rattle.kdf_director.specs.declared.place.Place.{Place}
 use Rattle.kdf_director.specs.declared.place.Place.TheVariants.{Absent, Idle}
 use Rattle.kdf_director.specs.declared.program.Program.{Program}
 use Rattle.kdf_director.specs.declared.slot.Loaded.{Loaded}
-use Rattle.kdf_director.specs.Parts.{Seat, Reach, Shared, owns, shared_in, window_at}
-use Rattle.kdf_director.specs.Running.{IsRunning, own_state, reaches_in, seats_in}
+use Rattle.kdf_director.specs.Parts.{Seat, Reach, Shared, in_pool, owns, shared_in, window_at}
+use Rattle.kdf_director.specs.Running.{IsRunning, own_state, part_at, reaches_in, seats_in}
 use Rattle.kdf_director.specs.Slots.{AreSlots}
 use Rattle.kdf_director.specs.Spots.{AreDry, Spot, no_spot, spot_at}
 use Rattle.kdf_job.specs.Slots.{lent_kind, numbered}
@@ -145,7 +145,7 @@ seats m = seats_in m.programs.items
 abbrev pub shared : Parts → Shared
 shared m = shared_in m.store m.devices.items
 
--- a machine with these slots, before the first order: each program is at its start, and no device has a transfer
+-- a machine with these slots, before the first order: each program is at its start, no device has a transfer, and none of the pool is lent
 pub record IsLoaded (slots : List SlotLoad) (m : Parts) : Type 0 where
   pub slots_are : map loaded m.slots.items ≡ slots
   pub loads_are : AreLoads slots
@@ -157,4 +157,6 @@ pub record IsLoaded (slots : List SlotLoad) (m : Parts) : Type 0 where
   pub starts : (i : ℕ) (l : SlotLoad) → i < length slots
       → own_state (reaches m) (seats m) (shared m) 0 i ≡ begin (slot_of (slice_index_or slots i l))
   pub idle : (d : ℕ) → (spot_at (shared m).spots d).flight ≡ None
+  pub unlent : (i d : ℕ) → i < length (seats m) → in_pool (part_at (reaches m) (seats m) i) d ≡ true
+      → (spot_at (shared m).spots d).holder ≡ None
   pub dry : AreDry m.devices.items

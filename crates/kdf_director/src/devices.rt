@@ -111,7 +111,7 @@ fn is_free_in(pool: &[(u8, Kind)], places: &[Place], kind: Kind, d: u8) -> bool
 }
 
 /// Whether the pool's device of this number is of this kind, and isn't claimed.
-pub(crate) fn is_left(pool: &[(u8, Kind)], claimed: &[bool; 16], d: u8, kind: Kind) -> bool
+pub(crate) fn may_be_taken(pool: &[(u8, Kind)], claimed: &[bool; 16], d: u8, kind: Kind) -> bool
     requires { d < 16 }
     ensures { result ≡ (is_kind kind (lent_kind pool.now d) && not (slice_index_or claimed.now d false)) }
 {

@@ -5,7 +5,7 @@ ghost use Rattle.kdf_director.specs.Keeping.{IsActive, IsActiveBy, IsKept, IsKep
 ghost use Rattle.kdf_director.specs.Parts.{part_with, shared_in};
 ghost use Rattle.kdf_director.specs.Spots.{AreDry};
 
-use crate::devices::{first_free, is_free, is_left, kind_claimed};
+use crate::devices::{first_free, is_free, kind_claimed, may_be_taken};
 use crate::places::{first_of, lend_at, make_ready_at, take_back_at, test_in};
 use crate::starting::start_at;
 use crate::stint::hand_in;
@@ -183,7 +183,7 @@ impl<'a> Turn<'a> {
         requires { d < 16 }
         ensures { result ≡ can_take (own_claims (part_of self.now) (shared self.now)) kind d }
     {
-        is_left(self.pool, self.claimed, d, kind)
+        may_be_taken(self.pool, self.claimed, d, kind)
     }
 
     /// The least device of this kind in the pool that is nobody's; there is one.
