@@ -88,3 +88,4 @@ pub mod StintsShown
 pub mod TurnKeeping
 pub mod Retired
 pub mod Pools
+pub mod Images

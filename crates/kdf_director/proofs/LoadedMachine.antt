@@ -28,9 +28,10 @@ use Rattle.kdf_director.specs.Stints.{IsOfKind, Keeping, is_left}
 use Rattle.std.proofs.lemmas.List.Elements.{All-nil}
 use Rattle.kdf_director.specs.Spots.{AreDry, Spot, is_holder, lease_held, leases_of, no_spot, spot_at, spot_of}
 use Rattle.kdf_director.proofs.Entering.{map_twice}
-use Rattle.kdf_director.proofs.Filling.{IsStore, none_lent, word_there, words_other, words_store, words_there, zero_store, zero_there, zeros}
+use Rattle.kdf_director.proofs.Filling.{IsStore, none_lent, word_there, zero_store, zero_there}
+use Rattle.kdf_director.proofs.Images.{IsOutside, IsWithin, filled_at, images_store, images_there}
 use Rattle.kdf_director.proofs.Loadable.{are_slots, no_load}
-use Rattle.kdf_director.proofs.Numbered.{IsOwnSpot, Stands, found, missing, owner, picked, unpicked}
+use Rattle.kdf_director.proofs.Numbered.{IsOwnSpot, Stands, found, idle_flight, missing, numbers_same, owner, picked, pool_flight, small_of, unpicked}
 use Rattle.kdf_transfer.proofs.Numbers.{length-numbers, limit_is, number_at, number_past}
 use Rattle.kdf_director.proofs.Sizes.{IsWindow, size_is, window_of}
 
@@ -49,91 +50,6 @@ reach_in windows l =
       devices = numbers_in l.devices;
       pool = by_number (lent_kind l.pool);
     }
-
--- a place that none of a slot's words has
-abbrev IsOutside : List Window → ℕ → SlotLoad → Type 0
-IsOutside windows x l = (x < (window_at windows l.p).base) ⊎ ((window_at windows l.p).base + length l.words ≤ x)
-
--- a slot's words are in the store
-abbrev pub IsWithin : List Window → SlotLoad → Type 0
-IsWithin windows l = (window_at windows l.p).base + length l.words ≤ 32768
-
-images_store : (windows : List Window) (cells : Cells) (xs : List SlotLoad) → IsStore cells → ((i : ℕ) → i < length xs → IsWithin windows (get_or xs i no_load)) → IsStore (with_images windows cells xs)
-images_store windows cells [] store inside = store
-images_store windows cells (l ∷ xs) store inside =
-    images_store windows (with_words cells (window_at windows l.p).base l.words) xs (words_store cells (window_at windows l.p).base l.words store (inside 0 (omega arith))) (λ i lt. inside (suc i) (omega arith))
-
-images_other : (windows : List Window) (cells : Cells) (xs : List SlotLoad) (x : ℕ) → IsStore cells → ((i : ℕ) → i < length xs → IsWithin windows (get_or xs i no_load)) → ((i : ℕ) → i < length xs → IsOutside windows x (get_or xs i no_load)) → word_there (with_images windows cells xs) x ≡ word_there cells x
-images_other windows cells [] x store inside out = refl
-images_other windows cells (l ∷ xs) x store inside out =
-    images_other windows (with_words cells (window_at windows l.p).base l.words) xs x (words_store cells (window_at windows l.p).base l.words store (inside 0 (omega arith))) (λ i lt. inside (suc i) (omega arith)) (λ i lt. out (suc i) (omega arith))
-    ∙ words_other cells (window_at windows l.p).base l.words x store (inside 0 (omega arith)) (out 0 (omega arith))
-
-images_there : (windows : List Window) (cells : Cells) (xs : List SlotLoad) (i a : ℕ) → i < length xs → IsStore cells → word_there cells ((window_at windows (get_or xs i no_load).p).base + a) ≡ 0 → ((j : ℕ) → j < length xs → IsWithin windows (get_or xs j no_load)) → ((j : ℕ) → j < length xs → j ≢ i → IsOutside windows ((window_at windows (get_or xs i no_load).p).base + a) (get_or xs j no_load)) → word_there (with_images windows cells xs) ((window_at windows (get_or xs i no_load).p).base + a) ≡ get_or (get_or xs i no_load).words a 0
-images_there windows cells [] i a lt store nought inside out = absurd (omega arith)
-images_there windows cells (l ∷ xs) zero a lt store nought inside out =
-    images_other windows (with_words cells (window_at windows l.p).base l.words) xs ((window_at windows l.p).base + a) (words_store cells (window_at windows l.p).base l.words store (inside 0 (omega arith))) (λ j less. inside (suc j) (omega arith)) (λ j less. out (suc j) (omega arith) (λ e. absurd (omega arith)))
-    ∙ ⊎_elim
-    (λ (low : a < length l.words). words_there cells (window_at windows l.p).base l.words a store (inside 0 (omega arith)) low)
-    (λ (past : length l.words ≤ a).
-    words_other cells (window_at windows l.p).base l.words ((window_at windows l.p).base + a) store (inside 0 (omega arith)) (inr (omega arith))
-    ∙ nought ∙ sym (get_or_past l.words a 0 past))
-    (cases_lt a (length l.words))
-images_there windows cells (l ∷ xs) (suc i) a lt store nought inside out =
-    images_there windows (with_words cells (window_at windows l.p).base l.words) xs i a (omega arith) (words_store cells (window_at windows l.p).base l.words store (inside 0 (omega arith)))
-    (words_other cells (window_at windows l.p).base l.words ((window_at windows (get_or xs i no_load).p).base + a) store (inside 0 (omega arith)) (out 0 (omega arith) (λ e. absurd (omega arith))) ∙ nought)
-    (λ j less. inside (suc j) (omega arith))
-    (λ j less ne. out (suc j) (omega arith) (λ e. ne (omega arith)))
-
--- zeros behind the words
-zeros_at : (n i : ℕ) → get_or (zeros n) i 0 ≡ 0
-zeros_at n i =
-    ⊎_elim
-    (λ (lt : i < n). get_or-replicate n i 0 0 lt)
-    (λ (past : n ≤ i). get_or_past (zeros n) i 0 (let e : length (zeros n) ≡ n = length-replicate n 0 in omega arith))
-    (cases_lt i n)
-
-filled_at : (size : ℕ) (words : List ℕ) (a : ℕ) → get_or (filled size words) a 0 ≡ get_or words a 0
-filled_at size words a =
-    ⊎_elim
-    (λ (low : a < length words). get_or_append_left words (zeros (size - length words)) 0 a low)
-    (λ (past : length words ≤ a).
-    get_or-append_right words (zeros (size - length words)) (length words) a 0 refl past
-    ∙ zeros_at (size - length words) (a - length words) ∙ sym (get_or_past words a 0 past))
-    (cases_lt a (length words))
-
--- what stands at each number
-numbers_same : {X : Type 0} (f g : ℕ → X) (x : X) → ((d : ℕ) → d < 16 → f d ≡ g d) → by_number f ≡ by_number g
-numbers_same f g x same =
-    ext_get_or x (by_number f) (by_number g) (length-numbers f ∙ sym (length-numbers g))
-    (λ d lt.
-    let low : d < device_count = let e = length-numbers f in omega arith in
-    number_at f d x low ∙ same d (let e = limit_is in omega arith) ∙ sym (number_at g d x low))
-
-small_of : (ns : List ℕ) (d : ℕ) → ((i : ℕ) → i < length ns → get_or ns i 0 < 16) → owns ns d ≡ true → d < 16
-small_of [] d below is = cc
-small_of (n ∷ ns) d below is =
-    ⊎_elim
-    (λ (same : n ≡ d). let lt : n < 16 = below 0 (omega arith) in omega arith)
-    (λ (other : n ≢ d). small_of ns d (λ i lt. below (suc i) (omega arith)) (rest (eqb n d) is (ne_eqb n d other)))
-    (cases_eq n d)
-  where
-    rest : (b : Bool) → (b || owns ns d) ≡ true → b ≡ false → owns ns d ≡ true
-    rest false is not = is
-    rest true is not = cc
-
--- none of the places has a transfer
-idle_flight : (xs : List SlotLoad) (d : ℕ) (other : Spot) → other.flight ≡ None → (first_own xs d other).flight ≡ None
-idle_flight [] d other none = none
-idle_flight (x ∷ xs) d other none = of_one (numbered x.devices d) (idle_flight xs d other none)
-  where
-    of_one : (o : Option JobDevice) → (first_own xs d other).flight ≡ None → (spot_or x.p o (first_own xs d other)).flight ≡ None
-    of_one None later = later
-    of_one (Some y) later = refl
-
-pool_flight : (o : Option Kind) → (pool_spot o).flight ≡ None
-pool_flight None = refl
-pool_flight (Some k) = refl
 
 -- the pool is that of the first slot
 first_pool : (xs : List SlotLoad) → pool_in xs ≡ (get_or xs 0 no_load).pool

@@ -1,11 +1,15 @@
 -- The devices of the slots that are loaded, by number.
 use Rattle.std.proofs.Common.{◌≡◌, ◌≢◌, ℕ, zero, suc, ◌<◌, ◌≤◌, Bool, true, false, cond, eqb, ◌||◌, ◌⊎◌, inl, inr, List, [], ◌∷◌, length, get_or, Option, Some, None, is_some, refl, sym, ap, ◌∙◌, subst, ⊎_elim, arith}
-use Rattle.std.proofs.lemmas.Bool.{cases_lt}
+use Rattle.std.proofs.lemmas.Bool.{cases_eq, cases_lt, ne_eqb}
+use Rattle.std.proofs.lemmas.List.{ext_get_or}
+use Rattle.kdf_journal.specs.declared.kind.Kind.{Kind}
+use Rattle.kdf_transfer.specs.ByNumber.{by_number, device_count}
+use Rattle.kdf_transfer.proofs.Numbers.{length-numbers, limit_is, number_at}
 use Rattle.std.specs.List.{AllPairs}
 use Rattle.kdf_job.specs.Job.{JobDevice}
 use Rattle.kdf_job.specs.Slots.{fixture_on, numbered, progress_on}
 use Rattle.kdf_director.specs.Loading.{SlotLoad}
-use Rattle.kdf_director.specs.Fields.{AreApart, first_own, has, numbers_in, spot_or}
+use Rattle.kdf_director.specs.Fields.{AreApart, first_own, has, numbers_in, pool_spot, spot_or}
 use Rattle.kdf_director.specs.Parts.{owns}
 use Rattle.kdf_director.specs.Spots.{Spot}
 
@@ -91,3 +95,36 @@ apart_both xs i j d e apart li lj ne is =
     back : (b : Bool) → has (get_or xs j e) d ≡ b → j < i → has (get_or xs j e) d ≡ false
     back false h less = h
     back true h less = cc (sym is ∙ apart j i e less li d h)
+
+-- what stands at each number
+pub numbers_same : {X : Type 0} (f g : ℕ → X) (x : X) → ((d : ℕ) → d < 16 → f d ≡ g d) → by_number f ≡ by_number g
+numbers_same f g x same =
+    ext_get_or x (by_number f) (by_number g) (length-numbers f ∙ sym (length-numbers g))
+    (λ d lt.
+    let low : d < device_count = let e = length-numbers f in omega arith in
+    number_at f d x low ∙ same d (let e = limit_is in omega arith) ∙ sym (number_at g d x low))
+
+pub small_of : (ns : List ℕ) (d : ℕ) → ((i : ℕ) → i < length ns → get_or ns i 0 < 16) → owns ns d ≡ true → d < 16
+small_of [] d below is = cc
+small_of (n ∷ ns) d below is =
+    ⊎_elim
+    (λ (same : n ≡ d). let lt : n < 16 = below 0 (omega arith) in omega arith)
+    (λ (other : n ≢ d). small_of ns d (λ i lt. below (suc i) (omega arith)) (rest (eqb n d) is (ne_eqb n d other)))
+    (cases_eq n d)
+  where
+    rest : (b : Bool) → (b || owns ns d) ≡ true → b ≡ false → owns ns d ≡ true
+    rest false is not = is
+    rest true is not = cc
+
+-- none of the places has a transfer
+pub idle_flight : (xs : List SlotLoad) (d : ℕ) (other : Spot) → other.flight ≡ None → (first_own xs d other).flight ≡ None
+idle_flight [] d other none = none
+idle_flight (x ∷ xs) d other none = of_one (numbered x.devices d) (idle_flight xs d other none)
+  where
+    of_one : (o : Option JobDevice) → (first_own xs d other).flight ≡ None → (spot_or x.p o (first_own xs d other)).flight ≡ None
+    of_one None later = later
+    of_one (Some y) later = refl
+
+pub pool_flight : (o : Option Kind) → (pool_spot o).flight ≡ None
+pool_flight None = refl
+pool_flight (Some k) = refl

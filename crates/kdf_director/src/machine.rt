@@ -25,7 +25,9 @@ use crate::load::{Parts, load_parts};
 use crate::moves::{ending, moving, word_of};
 use crate::next::is_any_on;
 use crate::places::transfer_in;
-use crate::shown::{device_in, is_claimed_in, registers_of, stint_in, stints_of, texts_of, window_given};
+use crate::shown::{
+    device_in, is_claimed_in, registers_of, stint_in, stints_of, texts_of, window_given,
+};
 use crate::starting::cancel_all;
 use crate::{Loaded, Place, Program};
 use kdf_job::Job;

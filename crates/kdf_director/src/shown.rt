@@ -123,12 +123,7 @@ fn device_at(places: &[Place], d: u8) -> Option<&Device>
 }
 
 /// Whether the program that has the device of this number has claimed it; where no slot has one, whether the pool has lent it.
-pub(crate) fn is_claimed_in(
-    slots: &[Loaded],
-    programs: &[Program],
-    places: &[Place],
-    d: u8,
-) -> bool
+pub(crate) fn is_claimed_in(slots: &[Loaded], programs: &[Program], places: &[Place], d: u8) -> bool
     requires { length slots.now ≡ length programs.now }
     ensures { result ≡ is_claimed_by (owner_in slots.now d) (seats_in programs.now)
         (pool_in (map loaded slots.now)) (map spot_of places.now) d }
