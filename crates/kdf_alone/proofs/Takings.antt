@@ -20,6 +20,7 @@ use Rattle.kdf_processor.specs.Needs.{effect_or_liv, next_effect, order_at}
 use Rattle.kdf_processor.specs.Row.{done_by, next_of, perform, row, taking}
 use Rattle.kdf_processor.specs.State.{Claims, State, word_at}
 use Rattle.kdf_processor.specs.Table.{change_of, claims_found, claims_kind, claims_or_takes, device_effect, direct_effect, effect, guarded, has_bit, indirect_effect, indirect_half, is_area, moves, on_top, out_effect, plain_row, query_effect, starts, transfer_of, with_nest}
+use Rattle.kdf_processor.proofs.EachEffect.{each_effect}
 use Rattle.kdf_processor.proofs.Fit.{IsFit, next_fit}
 use Rattle.kdf_processor.proofs.Stinting.{taken_can}
 use Rattle.kdf_alone.specs.Bench.{given}
@@ -116,20 +117,9 @@ out_by c r number below =
     (either_by c (eqb number 9) _ _ tt tt))))))
 
 effect_by : (c : Claims) (r : Registers) (o : Order) → IsByTaken c (effect c r o)
-effect_by c r (order.Plain code) =
-    either_by c (eqb code 0x21) (guarded c (on_top (Failing Nouv) r.nest (out_effect c r))) (of_change (plain_row r code))
-    (guarded_by c (on_top (Failing Nouv) r.nest (out_effect c r)) (top_by c r.nest (out_effect c r) (λ n below. out_by c r n below)))
-    (change_by c (plain_row r code))
-effect_by c r (order.Indirect code k q) = guarded_by c (indirect_effect r code k q) (indirect_by c r code k q)
-effect_by c r (order.Single code q) = change_by c (change_of r (order.Single code q))
-effect_by c r (order.Copies code q k) = change_by c (change_of r (order.Copies code q k))
-effect_by c r (order.Shift code by) = change_by c (change_of r (order.Shift code by))
-effect_by c r (order.Device code q) = guarded_by c (device_effect r code (triple_at r.q q)) (starts_by c r (triple_at r.q q) (transfer_of code (triple_at r.q q).m))
-effect_by c r (order.Query b q) = guarded_by c (query_effect r b (triple_at r.q q)) (query_by c r b (triple_at r.q q))
-effect_by c r (order.Jump x target) = change_by c (change_of r (order.Jump x target))
-effect_by c r (order.Exit n) = change_by c (change_of r (order.Exit n))
-effect_by c r (order.Direct t u q a) = guarded_by c (direct_effect r t u q a) (direct_by c r t u q a)
-effect_by c r (order.Set constant) = change_by c (change_of r (order.Set constant))
+effect_by c r =
+    each_effect c r (IsByTaken c) (IsByTaken c) (guarded_by c) (change_by c) (top_by c r.nest (out_effect c r) (λ n below. out_by c r n below)) (indirect_by c r) (direct_by c r)
+    (λ code q. starts_by c r (triple_at r.q q) (transfer_of code (triple_at r.q q).m)) (λ b q. query_by c r b (triple_at r.q q))
 
 or_liv_by : (c : Claims) (r : Registers) (o : Option Order) → IsByTaken c (effect_or_liv c r o)
 or_liv_by c r None = tt

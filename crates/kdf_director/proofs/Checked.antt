@@ -18,6 +18,7 @@ use Rattle.kdf_processor.specs.Needs.{effect_or_liv, order_at, next_effect}
 use Rattle.kdf_processor.specs.State.{Claims, State, device_limit, word_at}
 use Rattle.kdf_transfer.specs.ByNumber.{device_count}
 use Rattle.kdf_processor.specs.Table.{change_of, device_effect, direct_effect, effect, guarded, indirect_effect, is_area, on_top, out_effect, plain_row, query_effect}
+use Rattle.kdf_processor.proofs.EachEffect.{each_effect}
 
 -- its device is claimed and of its kind, and its area is one of the store
 abbrev pub IsChecked : Claims → Effect → Type 0
@@ -59,13 +60,7 @@ change_checked c (Refused kind) = tt
 change_checked c (Going after) = tt
 
 effect_checked : (c : Claims) (r : Registers) (o : Order) → IsChecked c (effect c r o)
-effect_checked c r (order.Plain code) =
-    cond_both (eqb code 33) _ _ (IsChecked c) (λ is. guarded_checked c (on_top (Failing Nouv) r.nest (out_effect c r))) (λ not. change_checked c (plain_row r code))
-effect_checked c r (order.Indirect code k q) = guarded_checked c (indirect_effect r code k q)
-effect_checked c r (order.Direct t u q a) = guarded_checked c (direct_effect r t u q a)
-effect_checked c r (order.Device code q) = guarded_checked c (device_effect r code (triple_at r.q q))
-effect_checked c r (order.Query b q) = guarded_checked c (query_effect r b (triple_at r.q q))
-effect_checked c r o = change_checked c (change_of r o)
+effect_checked c r = each_effect c r (λ _. Unit {0}) (IsChecked c) (λ e _. guarded_checked c e) (change_checked c) tt (λ code k q. tt) (λ t u q a. tt) (λ code q. tt) (λ b q. tt)
 
 or_liv_checked : (c : Claims) (r : Registers) (o : Option Order) → IsChecked c (effect_or_liv c r o)
 or_liv_checked c r None = tt

@@ -20,6 +20,7 @@ use Rattle.kdf_processor.specs.Effect.{Change, Refused, Going, of_change, Effect
 use Rattle.kdf_processor.specs.Needs.{count_at, effect_needs, effect_or_liv, fetch_needs, needs, next_effect, order_at, syllable_needs}
 use Rattle.kdf_processor.specs.Table.{is_area, guarded, effect, on, plain_row, change_of, on_top, out_effect, indirect_effect, direct_effect, device_effect, query_effect}
 use Rattle.kdf_processor.specs.View.{groups_of}
+use Rattle.kdf_processor.proofs.EachEffect.{each_effect}
 
 -- the addresses and the area of an effect are in the store
 abbrev pub IsInside : ℕ → Effect → Type 0
@@ -69,19 +70,7 @@ change_inside size (Refused kind) = tt
 change_inside size (Going after) = tt
 
 effect_inside : (c : Claims) (r : Registers) (o : Order) → IsInside c.size (effect c r o)
-effect_inside c r (order.Plain code) =
-    by_test c.size (eqb code 0x21) (guarded c (on_top (Failing Nouv) r.nest (out_effect c r))) (of_change (plain_row r code))
-    (λ is. guarded_inside c (on_top (Failing Nouv) r.nest (out_effect c r))) (λ not. change_inside c.size (plain_row r code))
-effect_inside c r (order.Indirect code k q) = guarded_inside c (indirect_effect r code k q)
-effect_inside c r (order.Single code q) = change_inside c.size (change_of r (order.Single code q))
-effect_inside c r (order.Copies code q k) = change_inside c.size (change_of r (order.Copies code q k))
-effect_inside c r (order.Shift code by) = change_inside c.size (change_of r (order.Shift code by))
-effect_inside c r (order.Device code q) = guarded_inside c (device_effect r code (triple_at r.q q))
-effect_inside c r (order.Query b q) = guarded_inside c (query_effect r b (triple_at r.q q))
-effect_inside c r (order.Jump x target) = change_inside c.size (change_of r (order.Jump x target))
-effect_inside c r (order.Exit n) = change_inside c.size (change_of r (order.Exit n))
-effect_inside c r (order.Direct t u q a) = guarded_inside c (direct_effect r t u q a)
-effect_inside c r (order.Set constant) = change_inside c.size (change_of r (order.Set constant))
+effect_inside c r = each_effect c r (λ _. Unit {0}) (IsInside c.size) (λ e _. guarded_inside c e) (change_inside c.size) tt (λ code k q. tt) (λ t u q a. tt) (λ code q. tt) (λ b q. tt)
 
 or_liv_inside : (c : Claims) (r : Registers) (o : Option Order) → IsInside c.size (effect_or_liv c r o)
 or_liv_inside c r None = tt

@@ -18,6 +18,7 @@ use Rattle.kdf_processor.specs.Effect.{Change, Refused, Going, of_change, Effect
 use Rattle.kdf_processor.specs.Needs.{order_at, effect_or_liv, effect_at}
 use Rattle.kdf_processor.specs.Table.{is_area, guarded, effect, plain_row, change_of, on_top, out_effect, indirect_effect, direct_effect, device_effect, query_effect, transfer_of}
 use Rattle.kdf_processor.specs.View.{View, first_pending, is_pending}
+use Rattle.kdf_processor.proofs.EachEffect.{each_effect}
 use Rattle.kdf_processor.proofs.Fit.{IsFit, top_fit, out_fit, indirect_fit, direct_fit, starts_fit, query_fit}
 
 -- its address is in the store; its device is claimed and of the order's kind, and its area is in the store; a device of the kind may be
@@ -70,19 +71,9 @@ change_lawful c (Refused kind) = tt
 change_lawful c (Going after) = tt
 
 effect_lawful : (c : Claims) (r : Registers) (o : Order) → IsLawful c (effect c r o)
-effect_lawful c r (order.Plain code) =
-    by_test c (eqb code 0x21) (guarded c (on_top (Failing Nouv) r.nest (out_effect c r))) (of_change (plain_row r code))
-    (λ is. guarded_lawful c (on_top (Failing Nouv) r.nest (out_effect c r)) (top_fit c r.nest (out_effect c r) (λ n below. out_fit c r n below))) (λ not. change_lawful c (plain_row r code))
-effect_lawful c r (order.Indirect code k q) = guarded_lawful c (indirect_effect r code k q) (indirect_fit c r code k q)
-effect_lawful c r (order.Single code q) = change_lawful c (change_of r (order.Single code q))
-effect_lawful c r (order.Copies code q k) = change_lawful c (change_of r (order.Copies code q k))
-effect_lawful c r (order.Shift code by) = change_lawful c (change_of r (order.Shift code by))
-effect_lawful c r (order.Device code q) = guarded_lawful c (device_effect r code (triple_at r.q q)) (starts_fit c r (triple_at r.q q) (transfer_of code (triple_at r.q q).m))
-effect_lawful c r (order.Query b q) = guarded_lawful c (query_effect r b (triple_at r.q q)) (query_fit c r b (triple_at r.q q))
-effect_lawful c r (order.Jump x target) = change_lawful c (change_of r (order.Jump x target))
-effect_lawful c r (order.Exit n) = change_lawful c (change_of r (order.Exit n))
-effect_lawful c r (order.Direct t u q a) = guarded_lawful c (direct_effect r t u q a) (direct_fit c r t u q a)
-effect_lawful c r (order.Set constant) = change_lawful c (change_of r (order.Set constant))
+effect_lawful c r =
+    each_effect c r (IsFit c) (IsLawful c) (guarded_lawful c) (change_lawful c) (top_fit c r.nest (out_effect c r) (λ n below. out_fit c r n below)) (indirect_fit c r) (direct_fit c r)
+    (λ code q. starts_fit c r (triple_at r.q q) (transfer_of code (triple_at r.q q).m)) (λ b q. query_fit c r b (triple_at r.q q))
 
 or_liv_lawful : (c : Claims) (r : Registers) (o : Option Order) → IsLawful c (effect_or_liv c r o)
 or_liv_lawful c r None = tt

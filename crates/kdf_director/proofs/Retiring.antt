@@ -261,31 +261,31 @@ module _ (reaches : List Reach) (seats : List Seat) (s : Shared) (i : ℕ) (run 
 
   -- the program after some of them
   module _ (n : ℕ) (b : Both) (past : HasRetired reaches seats i s b) (le : n < length (seat_at seats i).stints) where
-    abbrev then' : List Seat
-    then' = set seats i b.seat
+    abbrev seats_then : List Seat
+    seats_then = set seats i b.seat
 
-    at_then : seat_at then' i ≡ b.seat
+    at_then : seat_at seats_then i ≡ b.seat
     at_then = get_or-set_same seats i b.seat no_seat lt
 
-    lt_then : i < length then'
+    lt_then : i < length seats_then
     lt_then = omega (arith, length-set seats i b.seat)
 
-    dead_then : is_live (seat_at then' i).registers.state ≡ false
+    dead_then : is_live (seat_at seats_then i).registers.state ≡ false
     dead_then = ap (λ (y : Seat). is_live y.registers.state) at_then ∙ ap (λ (r : Registers). is_live r.state) past.registers ∙ dead
 
-    within_then : n < length (seat_at then' i).stints
+    within_then : n < length (seat_at seats_then i).stints
     within_then = (let e = ap (λ (y : Seat). length y.stints) at_then in let c = past.count in omega arith)
 
     next_retired : HasRetired reaches seats i s (retired_at n b)
     next_retired =
         retired_then reaches seats i s b (retired_at n b) lt past
-        (subst (λ (y : Seat). HasRetired reaches then' i b.shared (retired_at n (both_of y b.shared))) at_then
-        (one_retired reaches then' b.shared i past.running lt_then dead_then n within_then))
+        (subst (λ (y : Seat). HasRetired reaches seats_then i b.shared (retired_at n (both_of y b.shared))) at_then
+        (one_retired reaches seats_then b.shared i past.running lt_then dead_then n within_then))
 
     next_unlent : ((d : ℕ) (h : Held) → (spot_at s.spots d).flight ≡ Some h → h.p ≢ (seat_at seats i).p) → is_lent (kept_from (keeping_at b.seat n) (spot_at b.shared.spots (keeping_at b.seat n).device)).loan ≡ false
     next_unlent alone =
         subst (λ (y : Seat). is_lent (kept_from (keeping_at y n) (spot_at b.shared.spots (keeping_at y n).device)).loan ≡ false) at_then
-        (one_unlent reaches then' b.shared i past.running lt_then dead_then n within_then
+        (one_unlent reaches seats_then b.shared i past.running lt_then dead_then n within_then
         (λ d h flies same. alone d h (sym (past.flights d) ∙ flies) (same ∙ ap (λ (y : Seat). y.p) at_then ∙ past.number)))
 
   pub many_retired : (n : ℕ) → n ≤ length (seat_at seats i).stints → HasRetired reaches seats i s (retired n first)

@@ -28,7 +28,7 @@ pub record IsKept (q : Part) (s : Shared) : Type 0 where
   pub has : (d : ℕ) → in_pool q d ≡ true → is_holder q.p (spot_at s.spots d).holder ≡ lends q.stints d
   pub one : AllPairs (λ (x y : Keeping). is_open x.loan ≡ true → is_open y.loan ≡ true → x.device ≢ y.device) q.stints
 
--- A live program has claimed just those devices of the pool that it has, and it has kept none.
+-- A live program has a mark for each number of a device. Of the pool's devices it has claimed just those that it has, and it has kept none.
 pub record IsActive (q : Part) (s : Shared) : Type 0 where
   pub sized : length q.claimed ≡ device_limit
   pub marks : (d : ℕ) → in_pool q d ≡ true → slice_index_or q.claimed d false ≡ is_holder q.p (spot_at s.spots d).holder

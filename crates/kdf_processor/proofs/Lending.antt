@@ -27,6 +27,7 @@ use Rattle.kdf_processor.proofs.Fit.{IsFit, next_fit}
 use Rattle.kdf_transfer.proofs.OfKind.{exact}
 use Rattle.kdf_processor.proofs.Frees.{none_of_kind}
 use Rattle.kdf_processor.proofs.Stinting.{not_true, taken_can, unmarked}
+use Rattle.kdf_processor.proofs.EachEffect.{each_effect}
 
 -- ---- a transfer begins on a device that is claimed alone, and only such a one is given back
 
@@ -67,19 +68,7 @@ change_begun c (Refused kind) = tt
 change_begun c (Going after) = tt
 
 effect_begun : (c : Claims) (r : Registers) (o : Order) → IsBegun c (effect c r o)
-effect_begun c r (order.Plain code) =
-    either_begun c (eqb code 0x21) (guarded c (on_top (Failing Nouv) r.nest (out_effect c r))) (of_change (plain_row r code))
-    (λ _. guarded_begun c (on_top (Failing Nouv) r.nest (out_effect c r))) (change_begun c (plain_row r code))
-effect_begun c r (order.Indirect code k q) = guarded_begun c (indirect_effect r code k q)
-effect_begun c r (order.Single code q) = change_begun c (change_of r (order.Single code q))
-effect_begun c r (order.Copies code q k) = change_begun c (change_of r (order.Copies code q k))
-effect_begun c r (order.Shift code by) = change_begun c (change_of r (order.Shift code by))
-effect_begun c r (order.Device code q) = guarded_begun c (device_effect r code (triple_at r.q q))
-effect_begun c r (order.Query b q) = guarded_begun c (query_effect r b (triple_at r.q q))
-effect_begun c r (order.Jump x target) = change_begun c (change_of r (order.Jump x target))
-effect_begun c r (order.Exit n) = change_begun c (change_of r (order.Exit n))
-effect_begun c r (order.Direct t u q a) = guarded_begun c (direct_effect r t u q a)
-effect_begun c r (order.Set constant) = change_begun c (change_of r (order.Set constant))
+effect_begun c r = each_effect c r (λ _. Unit {0}) (IsBegun c) (λ e _. guarded_begun c e) (change_begun c) tt (λ code k q. tt) (λ t u q a. tt) (λ code q. tt) (λ b q. tt)
 
 or_liv_begun : (c : Claims) (r : Registers) (o : Option Order) → IsBegun c (effect_or_liv c r o)
 or_liv_begun c r None = tt
