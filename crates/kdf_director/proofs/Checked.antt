@@ -1,14 +1,11 @@
 -- What the checks of an order see to where it begins a transfer.
-use Rattle.std.proofs.Common.{◌≡◌, ℕ, ◌+◌, ◌<◌, Bool, true, false, eqb, ltb, Option, Some, None, cond, refl, sym, ◌∙◌, get_or}
+use Rattle.std.proofs.Common.{◌≡◌, ℕ, ◌+◌, ◌<◌, Bool, true, false, ltb, Option, Some, None, cond, refl, sym, ◌∙◌, get_or}
 use Rattle.std.specs.Prelude.{◌&&◌}
 use Rattle.std.proofs.lemmas.Bool.{cond_both, and_parts, ltb-true, leb-true, false≢true}
 use Rattle.kdf_journal.specs.declared.kind.Kind.{Kind}
 use Rattle.kdf_journal.specs.declared.kind.Kind.TheVariants as kind
 use Rattle.kdf_syllable.specs.declared.order.Order.{Order}
-use Rattle.kdf_syllable.specs.declared.order.Order.TheVariants as order
 use Rattle.kdf_transfer.specs.AtOnce.{IsArea, has_area, kind_of}
-use Rattle.kdf_qstore.specs.Triples.{triple_at}
-use Rattle.kdf_journal.specs.declared.failure.Failure.TheVariants.{Nouv}
 use Rattle.kdf_processor.specs.declared.registers.Registers.{Registers}
 use Rattle.kdf_transfer.specs.declared.test.Test.TheVariants.{Flag, Start, Mark}
 use Rattle.kdf_transfer.specs.Devices.{is_kind}
@@ -17,7 +14,7 @@ use Rattle.kdf_processor.specs.Effect.{Change, Refused, Going, of_change, Effect
 use Rattle.kdf_processor.specs.Needs.{effect_or_liv, order_at, next_effect}
 use Rattle.kdf_processor.specs.State.{Claims, State, device_limit, word_at}
 use Rattle.kdf_transfer.specs.ByNumber.{device_count}
-use Rattle.kdf_processor.specs.Table.{change_of, device_effect, direct_effect, effect, guarded, indirect_effect, is_area, on_top, out_effect, plain_row, query_effect}
+use Rattle.kdf_processor.specs.Table.{effect, guarded, is_area}
 use Rattle.kdf_processor.proofs.EachEffect.{each_effect}
 
 -- its device is claimed and of its kind, and its area is one of the store

@@ -1,6 +1,6 @@
 -- A machine in which an event is entered stays as a machine is.
 use Rattle.std.specs.Option.{option_map}
-use Rattle.std.proofs.Common.{◌≡◌, ℕ, ◌+◌, ◌-◌, ◌<◌, ◌≤◌, List, [], ◌∷◌, length, map, Option, Some, None, refl, sym, ap, ◌∙◌, subst, arith}
+use Rattle.std.proofs.Common.{◌≡◌, ℕ, ◌+◌, ◌-◌, ◌<◌, ◌≤◌, List, [], ◌∷◌, length, map, Option, refl, sym, ap, ◌∙◌, subst, arith}
 use Rattle.std.proofs.Math.Path.{fun_ext}
 use Rattle.std.proofs.lemmas.List.{ext_get_or, get_or-map, length-map}
 use Rattle.std.proofs.lemmas.List.FromFn.{length-map-range_with_len, get_or-map-range_with_len}
@@ -23,10 +23,10 @@ use Rattle.kdf_director.specs.Legal.{Meets}
 use Rattle.kdf_transfer.specs.ByNumber.{device_count}
 use Rattle.kdf_director.specs.Parts.{Reach, Seat, Shared, shared_in}
 use Rattle.kdf_director.specs.Running.{no_seat, own_state, reaches_in, seats_in, IsRunning}
-use Rattle.kdf_director.specs.Shared.{after_end, after_move, ended_by, ended_spot, moved_spot}
+use Rattle.kdf_director.specs.Shared.{after_end, after_move, ended_spot, moved_spot}
 use Rattle.kdf_director.specs.Shown.{entered, states_seen}
 use Rattle.kdf_director.specs.Viewed.{slot_loaded, states_in, viewed}
-use Rattle.kdf_director.specs.Spots.{AreDry, Held, Spot, spot_at}
+use Rattle.kdf_director.specs.Spots.{AreDry, Spot, spot_at}
 use Rattle.kdf_director.specs.Told.{lone_world, seen_of}
 use Rattle.kdf_director.specs.World.{need_of}
 use Rattle.kdf_director.proofs.Flown.{ended_holder, ended_running, flown_running}

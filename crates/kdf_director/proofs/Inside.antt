@@ -1,13 +1,11 @@
 -- What the next order of a program needs lies in its store.
 use Rattle.std.specs.Prelude.{find, is_some}
 use Rattle.std.specs.List.{list_any, range_with_len}
-use Rattle.std.proofs.Common.{◌≡◌, ℕ, zero, suc, ◌+◌, ◌-◌, ◌*◌, ◌/◌, ◌<◌, Bool, true, false, ◌||◌, List, [], ◌∷◌, ◌++◌, map, Option, Some, None, cond, eqb, ltb, refl, sym, ap, ◌∙◌, arith}
+use Rattle.std.proofs.Common.{◌≡◌, ℕ, zero, suc, ◌+◌, ◌-◌, ◌*◌, ◌/◌, ◌<◌, Bool, true, false, ◌||◌, List, [], ◌∷◌, ◌++◌, map, Option, Some, None, cond, ltb, refl, sym, ap, ◌∙◌, arith}
 use Rattle.std.proofs.lemmas.Bool.{and_parts, leb-true, ltb-true}
 use Rattle.kdf_transfer.specs.AtOnce.{kind_of, has_area, IsArea}
 use Rattle.kdf_syllable.specs.declared.order.Order.{Order}
-use Rattle.kdf_syllable.specs.declared.order.Order.TheVariants as order
-use Rattle.kdf_qstore.specs.Triples.{triple_at}
-use Rattle.kdf_journal.specs.declared.failure.Failure.TheVariants.{Claim, Nouv}
+use Rattle.kdf_journal.specs.declared.failure.Failure.TheVariants.{Claim}
 use Rattle.kdf_journal.specs.declared.kind.Kind.TheVariants.{Mt}
 use Rattle.kdf_processor.specs.declared.registers.Registers.{Registers}
 use Rattle.kdf_processor.specs.declared.step.Need.{Need}
@@ -18,7 +16,7 @@ use Rattle.kdf_processor.specs.Claims.{claim, is_claimed}
 use Rattle.kdf_processor.specs.State.{Claims, State, word_at}
 use Rattle.kdf_processor.specs.Effect.{Change, Refused, Going, of_change, Effect, Failing, Ending, Changing, Fetching, Keeping, Testing, Starting, Asking, IsBusy, IsOut, Time, FreeOf, Claiming, Returning, Spooling}
 use Rattle.kdf_processor.specs.Needs.{count_at, effect_needs, effect_or_liv, fetch_needs, needs, next_effect, order_at, syllable_needs}
-use Rattle.kdf_processor.specs.Table.{is_area, guarded, effect, on, plain_row, change_of, on_top, out_effect, indirect_effect, direct_effect, device_effect, query_effect}
+use Rattle.kdf_processor.specs.Table.{is_area, guarded, effect, on}
 use Rattle.kdf_processor.specs.View.{groups_of}
 use Rattle.kdf_processor.proofs.EachEffect.{each_effect}
 

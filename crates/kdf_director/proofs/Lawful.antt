@@ -1,12 +1,11 @@
 -- What the checks of an effect make sure of.
 use Rattle.std.specs.Prelude.{find}
-use Rattle.std.proofs.Common.{◌≡◌, ℕ, ◌+◌, ◌<◌, Bool, true, false, List, [], ◌∷◌, ◌++◌, Option, Some, None, is_some, cond, eqb, ltb, refl, sym, ap, ◌∙◌, ⊎_elim}
+use Rattle.std.proofs.Common.{◌≡◌, ℕ, ◌+◌, ◌<◌, Bool, true, false, List, [], ◌∷◌, ◌++◌, Option, Some, None, is_some, cond, ltb, refl, sym, ap, ◌∙◌, ⊎_elim}
 use Rattle.std.proofs.lemmas.Bool.{cases_Bool, and_parts, leb-true, ltb-true}
 use Rattle.kdf_transfer.specs.AtOnce.{kind_of, has_area, IsArea}
 use Rattle.kdf_syllable.specs.declared.order.Order.{Order}
-use Rattle.kdf_syllable.specs.declared.order.Order.TheVariants as order
 use Rattle.kdf_qstore.specs.Triples.{triple_at}
-use Rattle.kdf_journal.specs.declared.failure.Failure.TheVariants.{Claim, Nouv}
+use Rattle.kdf_journal.specs.declared.failure.Failure.TheVariants.{Claim}
 use Rattle.kdf_journal.specs.declared.kind.Kind.TheVariants.{Mt}
 use Rattle.kdf_processor.specs.declared.registers.Registers.{Registers}
 use Rattle.kdf_processor.specs.declared.step.Need.{Need}
@@ -16,7 +15,7 @@ use Rattle.kdf_processor.specs.Claims.{claim, is_claimed, may_take}
 use Rattle.kdf_processor.specs.State.{Claims, is_pooled, own_fixture_at}
 use Rattle.kdf_processor.specs.Effect.{Change, Refused, Going, of_change, Effect, Failing, Ending, Changing, Fetching, Keeping, Testing, Starting, Asking, IsBusy, IsOut, Time, Claiming, Returning, Spooling, FreeOf}
 use Rattle.kdf_processor.specs.Needs.{order_at, effect_or_liv, effect_at}
-use Rattle.kdf_processor.specs.Table.{is_area, guarded, effect, plain_row, change_of, on_top, out_effect, indirect_effect, direct_effect, device_effect, query_effect, transfer_of}
+use Rattle.kdf_processor.specs.Table.{is_area, guarded, effect, out_effect, transfer_of}
 use Rattle.kdf_processor.specs.View.{View, first_pending, is_pending}
 use Rattle.kdf_processor.proofs.EachEffect.{each_effect}
 use Rattle.kdf_processor.proofs.Fit.{IsFit, top_fit, out_fit, indirect_fit, direct_fit, starts_fit, query_fit}

@@ -1,6 +1,6 @@
 -- Whose a device of the pool is after a step, by the journal.
 use Rattle.std.proofs.Common.{◌≡◌, ◌≢◌, ℕ, Bool, true, false, ◌||◌, eqb, not, List, Option, Some, None, cond, refl, sym, ap, ◌∙◌, ⊎_elim}
-use Rattle.std.proofs.lemmas.Bool.{cases_Bool, cases_eq, eq-eqb, ne_eqb}
+use Rattle.std.proofs.lemmas.Bool.{cases_eq, eq-eqb, ne_eqb}
 use Rattle.kdf_journal.specs.declared.entry.Entry.{Entry}
 use Rattle.kdf_journal.specs.Counts.{holder, over, taker, unless_over}
 use Rattle.kdf_journal.specs.Steps.{Note, Obeys, Took, Gave, added}
@@ -10,8 +10,7 @@ use Rattle.kdf_processor.specs.declared.step.Step.TheVariants as ending
 use Rattle.kdf_director.specs.declared.note.Note.{Note as Noted}
 use Rattle.kdf_director.specs.declared.note.Note.TheVariants as noted
 use Rattle.kdf_director.specs.Advance.{note_beside, note_told}
-use Rattle.kdf_director.specs.Settled.{holder_left, holder_noted, holder_over}
-use Rattle.kdf_director.specs.Spots.{is_holder}
+use Rattle.kdf_director.specs.Settled.{holder_left, holder_over}
 
 -- the order of a program that goes on leaves which programs are over
 going-on : (p d : ℕ) (J : List Entry) (note : Note) → ((q : ℕ) → ends_by q (Obeys p note) ≡ false) → holder d (added J (Obeys p note)) ≡ unless_over J (taker_by d (taker d J) (Obeys p note))

@@ -1,8 +1,8 @@
 -- What a machine is that was loaded.
-use Rattle.std.proofs.Common.{◌≡◌, ◌≢◌, ◌⊎◌, inl, inr, ℕ, zero, suc, ◌+◌, ◌-◌, ◌/◌, ◌%◌, ◌<◌, ◌≤◌, Bool, true, false, cond, eqb, ◌||◌, List, [], ◌∷◌, length, get_or, map, replicate, Option, Some, None, is_some, refl, sym, ap, ap₂, ◌∙◌, subst, ⊎_elim, arith}
+use Rattle.std.proofs.Common.{◌≡◌, ◌≢◌, inl, inr, ℕ, ◌+◌, ◌-◌, ◌/◌, ◌%◌, ◌<◌, ◌≤◌, Bool, true, false, cond, List, [], ◌∷◌, length, get_or, map, replicate, Option, Some, None, is_some, refl, sym, ap, ap₂, ◌∙◌, subst, ⊎_elim, arith}
 use Rattle.std.specs.List.{All, AllPairs, range_with_len}
 use Rattle.std.proofs.lemmas.Bool.{cases_eq, cases_lt, eq-eqb, ne_eqb}
-use Rattle.std.proofs.lemmas.List.{get_or_default, get_or_past, get_or-map, get_or_append_left, get_or-append_right, get_or-replicate, length-map, length-append, length-replicate, ext_get_or}
+use Rattle.std.proofs.lemmas.List.{get_or_default, get_or_past, get_or-map, get_or-replicate, length-map, length-append, length-replicate, ext_get_or}
 use Rattle.std.proofs.lemmas.List.FromFn.{length-map-range_with_len, get_or-map-range_with_len}
 use Rattle.kdf_lockout.specs.Groups.{Cells, group_at, AreWhole}
 use Rattle.kdf_relocate.specs.declared.window.Window.{Window}
@@ -17,7 +17,7 @@ use Rattle.kdf_director.specs.declared.slot.Loaded.{Loaded}
 use Rattle.kdf_job.specs.Slots.{fixture_on, lent_kind, numbered, progress_on}
 use Rattle.kdf_journal.specs.declared.kind.Kind.{Kind}
 use Rattle.kdf_director.specs.Loading.{SlotLoad, slot_of}
-use Rattle.kdf_director.specs.Fields.{AreLoads, IsLoad, IsLoaded, first_own, first_seat, has, idle_spot, lends, loaded, numbers_in, pool_in, pool_spot, spot_or, sizes_of, with_images, with_words, zero_cells}
+use Rattle.kdf_director.specs.Fields.{AreLoads, IsLoad, IsLoaded, first_seat, has, idle_spot, lends, loaded, numbers_in, pool_in, pool_spot, sizes_of, with_images, zero_cells}
 use Rattle.kdf_director.specs.Parts.{Part, Reach, Seat, Shared, has_device, in_pool, pool_kind, own_fixture, own_progress, own_stock, owns, part_in, reach_of, shared_in, window_at}
 use Rattle.kdf_transfer.specs.ByNumber.{by_number, device_count}
 use Rattle.kdf_director.specs.Physical.{has_group, word_at_place, word_where}

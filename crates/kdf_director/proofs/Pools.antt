@@ -5,13 +5,13 @@ use Rattle.std.proofs.Common.{◌≡◌, ℕ, ◌<◌, ◌&&◌, ltb, Bool, true
 use Rattle.std.proofs.lemmas.Bool.{and_from, and_parts, lt-ltb}
 use Rattle.kdf_journal.specs.declared.kind.Kind.{Kind}
 use Rattle.kdf_journal.specs.declared.kind.Kind.TheVariants as kind
-use Rattle.kdf_transfer.specs.ByNumber.{by_number, device_count}
+use Rattle.kdf_transfer.specs.ByNumber.{by_number}
 use Rattle.kdf_transfer.specs.Devices.{Fixture, Progress, blank_fixture, is_kind, kind_in}
 use Rattle.kdf_transfer.proofs.Numbers.{limit_is, number_at}
 use Rattle.kdf_transfer.proofs.OfKind.{exact}
 use Rattle.kdf_job.specs.Slots.{lent_kind}
 use Rattle.kdf_processor.specs.Claims.{can_take, is_claimed, least_pooled}
-use Rattle.kdf_processor.specs.State.{own_fixture_at, pool_kind_at, pooled_or}
+use Rattle.kdf_processor.specs.State.{own_fixture_at, pooled_or}
 use Rattle.kdf_processor.proofs.Fit.{found}
 use Rattle.kdf_director.specs.declared.place.Place.{Place}
 use Rattle.kdf_director.specs.declared.place.Place.TheVariants.{Absent, Idle, Busy}
@@ -19,7 +19,7 @@ use Rattle.kdf_director.specs.Keeping.{IsActive, IsKept}
 use Rattle.kdf_director.specs.Parts.{Part, Shared, back_from, in_pool, lent_to, own_claims, pool_kind}
 use Rattle.kdf_director.specs.Shared.{free_in, is_free_in}
 use Rattle.kdf_director.specs.Spots.{Spot, blank_spot, can_leave, fixture_or, is_holder, left_spot, spot_at, spot_of}
-use Rattle.kdf_director.specs.Stints.{Loan, Back}
+use Rattle.kdf_director.specs.Stints.{Back}
 use Rattle.kdf_director.proofs.Showing.{spot_there}
 
 pub not_taken : (b : Bool) → b ≡ not (not b)

@@ -1,6 +1,6 @@
 -- The stints of a program are those of its state.
 use Rattle.std.proofs.Common.{◌≡◌, ◌≢◌, ℕ, zero, suc, ◌<◌, ◌≤◌, Bool, true, false, ◌&&◌, eqb, not, List, [], ◌∷◌, length, get_or, map, Option, Some, None, is_some, cond, refl, sym, ap, ◌∙◌, subst, ⊎_elim, arith}
-use Rattle.std.specs.List.{AllPairs, list_any}
+use Rattle.std.specs.List.{AllPairs}
 use Rattle.std.specs.Option.{option_map}
 use Rattle.std.proofs.lemmas.Bool.{and_parts, cases_Bool, cases_eq, cases_lt, eq-eqb, eqb-true}
 use Rattle.kdf_journal.specs.declared.kind.Kind.{Kind}
@@ -14,7 +14,7 @@ use Rattle.kdf_processor.specs.State.{device_in, lending_of, lendings}
 use Rattle.kdf_processor.specs.Stints.{IsStint}
 use Rattle.kdf_director.specs.Keeping.{IsKept}
 use Rattle.kdf_director.specs.Owners.{IsTold, fixture_told, progress_told}
-use Rattle.kdf_director.specs.Parts.{Part, Shared, has_device, in_pool, own_progress, own_stock, pool_kind}
+use Rattle.kdf_director.specs.Parts.{Part, Shared, in_pool, own_progress, own_stock, pool_kind}
 use Rattle.kdf_director.specs.Spots.{fixture_or, spot_at}
 use Rattle.kdf_director.specs.Stints.{Keeping, IsOfKind, Loan, Lent, Left, Back, is_left, is_lent, is_open, kept_by, left_in, lends, no_keeping, progress_back, progress_left, stint_of}
 use Rattle.kdf_director.proofs.Firsts.{any_none, any_there}

@@ -1,17 +1,16 @@
 -- What the program of a turn keeps.
-use Rattle.std.proofs.Common.{◌≡◌, ℕ, ◌<◌, Bool, true, false, List, [], ◌∷◌, ◌++◌, length, get_or, map, set, Option, Some, None, is_some, refl, sym, ap, ap₂, ◌∙◌, subst}
-use Rattle.std.proofs.lemmas.Bool.{and_parts}
+use Rattle.std.proofs.Common.{◌≡◌, ℕ, ◌<◌, Bool, true, false, List, [], ◌∷◌, ◌++◌, length, map, set, Option, Some, None, is_some, refl, sym, ap, ◌∙◌, subst}
 use Rattle.kdf_lockout.specs.Groups.{Cells}
 use Rattle.kdf_journal.specs.declared.kind.Kind.{Kind}
 use Rattle.kdf_transfer.specs.Devices.{Fixture}
 use Rattle.kdf_transfer.specs.declared.order.TransferOrder.{TransferOrder}
-use Rattle.kdf_processor.specs.Effect.{Asks, FreeOf, Releases}
+use Rattle.kdf_processor.specs.Effect.{Asks, FreeOf}
 use Rattle.kdf_processor.specs.declared.spooled.Spooled.{Spooled}
 use Rattle.kdf_director.specs.declared.place.Place.{Place}
 use Rattle.kdf_director.specs.declared.stint.Stint.{Stint}
 use Rattle.kdf_director.specs.declared.turn.Turn.{Turn}
 use Rattle.kdf_director.specs.Keeping.{IsActive, IsActiveBy, IsKept, IsKeptBy}
-use Rattle.kdf_director.specs.Parts.{Part, Shared, back_from, in_pool, lent_to, part_after, part_with, shared_in}
+use Rattle.kdf_director.specs.Parts.{Part, Shared, back_from, lent_to, part_after, part_with, shared_in}
 use Rattle.kdf_director.specs.Shared.{after_act, start_spot}
 use Rattle.kdf_director.specs.Spots.{Spot, blank_spot, fixture_or, lent_spot, spot_at, spot_of}
 use Rattle.kdf_director.specs.Stints.{Keeping, Lent, keeping_of, with_loan}

@@ -1,5 +1,5 @@
 -- The stints of a program of the machine: where the device of each is.
-use Rattle.std.specs.Prelude.{◌≡◌, ℕ, ◌==◌, ◌&&◌, not, Bool, true, false, List, map, Option, Some, None, if◌then◌else◌, find}
+use Rattle.std.specs.Prelude.{◌≡◌, ℕ, ◌==◌, ◌&&◌, Bool, true, false, List, Option, Some, None, if◌then◌else◌, find}
 use Rattle.std.specs.List.{list_any}
 use Rattle.std.specs.Option.{option_map}
 use Rattle.kdf_journal.specs.declared.kind.Kind.{Kind}

@@ -1,5 +1,5 @@
 use Rattle.std.specs.Prelude.{find, slice_get, IfSome, IsSomeAnd}
-use Rattle.std.proofs.Common.{◌≡◌, ◌<◌, eqb, get_or, length, map, sym, subst}
+use Rattle.std.proofs.Common.{◌<◌, eqb, get_or, length, map, sym, subst}
 use Rattle.kdf_processor.specs.State.{State, lendings}
 use Rattle.kdf_processor.specs.Stints.{IsStint}
 use Rattle.kdf_director.specs.Owners.{HasLent, IsTold}

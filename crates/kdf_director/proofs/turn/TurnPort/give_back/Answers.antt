@@ -1,4 +1,4 @@
-use Rattle.std.proofs.Common.{◌≡◌, true, false, is_some, set, None, refl, sym, ap, ◌∙◌, subst}
+use Rattle.std.proofs.Common.{◌≡◌, false, is_some, set, None, refl, sym, ap, ◌∙◌, subst}
 use Rattle.kdf_job.specs.Slots.{lent_kind}
 use Rattle.kdf_transfer.proofs.Numbers.{number_at}
 use Rattle.kdf_processor.specs.Effect.{Releases}
