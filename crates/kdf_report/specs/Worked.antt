@@ -96,7 +96,7 @@ alone n lines = map (λ (s : SlotJob). seen_after n s (image_words s.size s.deck
 -- a slot with devices, of which these words are shown
 abbrev pub a_slot : ℕ → List ℕ → List JobDevice → List (ℕ × ℕ) → SlotJob
 a_slot size deck devices shows =
-    record { p = 0; size = size; deck = deck; devices = devices; shows = shows }
+    record { p = 0; size = size; deck = deck; devices = devices; shows = shows; pool = [] }
 
 abbrev pub reader : ℕ → List ℕ → JobDevice
 reader d codes =
