@@ -93,7 +93,7 @@ held_mark k true o is = refl
 held_mark k false o is = absurd (false≢true (sym (none_of_kind k) ∙ is))
 
 -- such a device has the mark
-mark_of : (c : Claims) (d : ℕ) (k : Kind) → is_kind k (claim c d) ≡ true → get_or c.claimed d false ≡ true
+pub mark_of : (c : Claims) (d : ℕ) (k : Kind) → is_kind k (claim c d) ≡ true → get_or c.claimed d false ≡ true
 mark_of c d k is = (and_parts (ltb d device_limit) (get_or c.claimed d false) (held_mark k (ltb d device_limit && get_or c.claimed d false) (kind_at c d) is)).1
 
 claimed_mark : (b : Bool) (o : Option Kind) → is_some (cond b o None) ≡ true → b ≡ true
@@ -141,7 +141,7 @@ module _ (s : State) (lent : IsLent s) where
   c = s.stock.claims
 
   -- a device more is claimed
-  claimed_more : (r : Registers) (x : ℕ) → IsLent (record { registers = r; stock = record k { claims = record c { claimed = set c.claimed x true } } })
+  pub claimed_more : (r : Registers) (x : ℕ) → IsLent (record { registers = r; stock = record k { claims = record c { claimed = set c.claimed x true } } })
   claimed_more r x =
       record {
         places = lent.places;
@@ -154,7 +154,7 @@ module _ (s : State) (lent : IsLent s) where
       }
 
   -- one of the pool is taken
-  taken_lent : (r : Registers) (kind : Kind) (a : ℕ) → can_take c kind (taken c kind a) ≡ true → IsLent (record { registers = r; stock = answered (FreeOf kind) a k })
+  pub taken_lent : (r : Registers) (kind : Kind) (a : ℕ) → can_take c kind (taken c kind a) ≡ true → IsLent (record { registers = r; stock = answered (FreeOf kind) a k })
   taken_lent r kind a can =
       record {
         places = lent.places;
@@ -190,7 +190,7 @@ module _ (s : State) (lent : IsLent s) where
       mark = unmarked c d kind is low (not_true (is_claimed c d) parts.1)
 
   -- one of the program's own is given back
-  own_lent : (r : Registers) (x : ℕ) → is_pooled c x ≡ false → IsLent (record { registers = r; stock = released false x k })
+  pub own_lent : (r : Registers) (x : ℕ) → is_pooled c x ≡ false → IsLent (record { registers = r; stock = released false x k })
   own_lent r x own =
       record {
         places = lent.places;
@@ -229,7 +229,7 @@ module _ (s : State) (lent : IsLent s) where
       (cases_Bool (eqb y.device x && not (is_some y.left)))
 
   -- one of the pool is given back
-  pool_lent : (r : Registers) (x : ℕ) → is_pooled c x ≡ true → IsLent (record { registers = r; stock = released true x k })
+  pub pool_lent : (r : Registers) (x : ℕ) → is_pooled c x ≡ true → IsLent (record { registers = r; stock = released true x k })
   pool_lent r x there =
       record {
         places = length-set k.devices x new_progress ∙ lent.places;
@@ -268,7 +268,7 @@ module _ (s : State) (lent : IsLent s) where
       hand = handed x p
 
   -- a transfer is finished on a device that is claimed
-  moved_lent : (r : Registers) (d : ℕ) (o : TransferOrder) (first last : ℕ) (f : Option Fixture) → get_or c.claimed d false ≡ true → IsLent (record { registers = r; stock = transferred d o first last f k })
+  pub moved_lent : (r : Registers) (d : ℕ) (o : TransferOrder) (first last : ℕ) (f : Option Fixture) → get_or c.claimed d false ≡ true → IsLent (record { registers = r; stock = transferred d o first last f k })
   moved_lent r d o first last None mark =
       record { places = lent.places; marks = lent.marks; few = lent.few; fresh = lent.fresh; pooled = lent.pooled; held = lent.held; one = lent.one }
   moved_lent r d o first last (Some f) mark =

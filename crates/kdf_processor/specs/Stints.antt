@@ -39,9 +39,9 @@ lendings_after answer (Starting d o first last after) s xs =
 lendings_after answer e s xs = xs
 
 -- a stint is told by the number of its device, whether that was given back, and the device itself
-pub record IsStint (x : Lending) (d : ℕ) (given : Bool) (device : Device) : Type 0 where
+pub record IsStint (x : Lending) (d : ℕ) (is_given : Bool) (device : Device) : Type 0 where
   pub number : d ≡ x.device
-  pub given : given ≡ x.given
+  pub given : is_given ≡ x.given
   pub fixture : fixture_of device ≡ blank_fixture x.kind
   pub progress : progress_of device ≡ x.progress
 
