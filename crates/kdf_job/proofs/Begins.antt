@@ -14,8 +14,9 @@ blank_sound = record {
     rising = tt {0};
     fits = omega arith;
     apart = tt {0};
-    none = λ k d lt. absurd (omega arith);
   };
+  lent = λ k d lt. absurd (omega arith);
+  owned = tt {0};
   schedule = record {
     each = λ k d lt. absurd (omega arith);
     few = omega arith;
@@ -24,4 +25,5 @@ blank_sound = record {
   };
   begun = refl;
   placed = tt {0};
+  untold = refl;
 }

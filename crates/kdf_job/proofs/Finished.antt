@@ -1,21 +1,32 @@
 -- A job of which all lines are read.
-use Rattle.std.proofs.Common.{◌≡◌, ℕ, List, subst, arith}
-use Rattle.std.proofs.lemmas.List.{length_push}
+use Rattle.std.proofs.Common.{◌≡◌, ℕ, ◌≤◌, List, None, length, map, sym, ap, subst, ◌∙◌, arith}
+use Rattle.std.proofs.lemmas.List.{length-map, length_push}
 use Rattle.kdf_job.specs.declared.place.Place.{Place}
 use Rattle.kdf_job.specs.declared.place.Place.TheVariants.{BehindEnd}
-use Rattle.kdf_job.specs.Draft.{Draft, job_of, slot_of, slots_told}
+use Rattle.kdf_job.specs.Draft.{Draft, job_of, slot_of, slots_told, with_pool}
 use Rattle.kdf_job.specs.Kept.{IsKept, IsPlaced}
+use Rattle.kdf_job.specs.Job.{Job, SlotJob}
 use Rattle.kdf_job.specs.WellFormed.{IsJob}
-use Rattle.kdf_job.proofs.Pools.{without_pool}
+use Rattle.kdf_job.proofs.Pools.{are_slots, shared}
 use Rattle.kdf_job.proofs.Told.{some_slot}
 
 pub finished : (words : ℕ) (numbers : List ℕ) (d : Draft) → IsKept words numbers d → d.place ≡ BehindEnd → IsJob (job_of d)
 finished words numbers d was place =
     let there : IsPlaced BehindEnd d.slot = subst (λ (x : Place). IsPlaced x d.slot) place was.placed in
     let s = some_slot d.slot there in
+    let many : length (map (with_pool d.pool) (slots_told d)) ≡ length (slots_told d) = length-map (slots_told d) (with_pool d.pool) in
     record {
-      some = rw s.1 (let n = length_push d.slots (slot_of s.0) in omega arith);
-      slots = without_pool (slots_told d) was.slots;
+      some = let some : 1 ≤ length (slots_told d) = rw s.1 (let n = length_push d.slots (slot_of s.0) in omega arith) in omega arith;
+      slots = are_slots d.pool (slots_told d) was.slots was.lent was.owned;
       schedule = was.schedule;
-      pool = was.slots.none;
+      pool = shared d.pool (slots_told d);
     }
+
+abbrev made : List SlotJob → Draft → Job
+made slots d = record { slots = slots; events = d.events; pool = d.pool }
+
+-- its last slot is put behind the others, and each slot has the pool
+pub with_slots : (d e : Draft) (slots : List SlotJob) → e ≡ record d { slots = slots_told d; slot = None } → slots ≡ map (with_pool e.pool) e.slots → IsJob (job_of d)
+    → IsJob (record { slots = slots; events = e.events; pool = e.pool })
+with_slots d e slots shown shared job =
+    subst IsJob (sym (ap (λ (ss : List SlotJob). made ss e) shared ∙ ap (λ (x : Draft). made (map (with_pool x.pool) x.slots) x) shown)) job

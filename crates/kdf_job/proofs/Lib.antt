@@ -6,10 +6,12 @@ pub mod Slots
 pub mod Steps
 pub mod Begins
 pub mod Told
+pub mod PoolDevices
 pub mod Pools
 pub mod Finished
 pub mod Passing
 pub mod MadeTexts
 pub mod MadeLengths
 pub mod StoreLines
+pub mod PoolReadings
 pub mod SlotReadings

@@ -1,22 +1,24 @@
 -- The slots of a job without a fault, each by its lines.
-use Rattle.std.proofs.Common.{◌≡◌, ℕ, ◌+◌, Bool, true, false, cond, List, [], ◌∷◌, ◌++◌, Option, Some, None, Result, Ok, Err, refl, sym, ap, subst, ◌∙◌, append_assoc, append-nil}
+use Rattle.std.proofs.Common.{◌≡◌, ℕ, ◌+◌, Bool, true, false, cond, List, [], ◌∷◌, ◌++◌, map, Option, Some, None, Result, Ok, Err, refl, sym, ap, subst, ◌∙◌, append_assoc, append-nil}
 use Rattle.std.specs.Prelude.{◌==◌, codes, find}
 use Rattle.std.specs.Option.{option_map, option_to_list}
 use Rattle.std.proofs.lemmas.Bool.{eq-eqb, eqb-true}
 use Rattle.kdf_text.specs.Lines.{is_text, lines, words}
+use Rattle.kdf_journal.specs.declared.kind.Kind.{Kind}
 use Rattle.kdf_schedule.specs.declared.event.Event.{Event}
 use Rattle.kdf_schedule.specs.declared.event.EventFault.{EventFault}
 use Rattle.kdf_schedule.specs.declared.event.EventFault.TheVariants as event_fault
 use Rattle.kdf_schedule.specs.Events.{event}
 use Rattle.kdf_job.specs.declared.fault.JobFault.{JobFault}
 use Rattle.kdf_job.specs.declared.place.Place.{Place}
-use Rattle.kdf_job.specs.declared.place.Place.TheVariants.{First, BehindHeader, BehindSlot, BehindStore, InDeck, BehindDeck, BehindDevice, BehindShow, InSchedule, BehindEnd}
-use Rattle.kdf_job.specs.Draft.{SlotDraft, Draft, blank, fault_of, new_slot, number_at, slot_of, slot_with, slots_told, slots_with, tells, with_line}
-use Rattle.kdf_job.specs.Forms.{Form, ASlot, AStore, ADeckLine, ASchedule, AnEndJob, told, first_told, behind, number_line, of_event, told_at}
+use Rattle.kdf_job.specs.declared.place.Place.TheVariants.{First, BehindHeader, BehindSlot, BehindStore, InDeck, BehindDeck, BehindDevice, BehindShow, BehindPool, InSchedule, BehindEnd}
+use Rattle.kdf_job.specs.Draft.{SlotDraft, Draft, blank, fault_of, new_slot, number_at, slot_of, slot_with, slots_told, slots_with, tells, with_line, with_pool}
+use Rattle.kdf_job.specs.Forms.{Form, ASlot, AStore, ADeckLine, APool, APoolDevice, ASchedule, AnEndJob, told, first_told, behind, number_line, of_event, told_at}
 use Rattle.kdf_job.specs.Job.{SlotJob}
 use Rattle.kdf_job.specs.Reading.{behind_line, draft_of, fault_from, job, job_fault, or_fault, or_same, read_line, with_told}
-use Rattle.kdf_job.specs.SlotLines.{begins, ends, lines_from, place_behind, rest_of_slot, slot_lines}
-use Rattle.kdf_job.proofs.StoreLines.{IsBehindSlot, stores_only}
+use Rattle.kdf_job.specs.SlotLines.{begins, ends, lines_from, place_behind, pool_lines, rest_of_slot, slot_lines}
+use Rattle.kdf_job.proofs.StoreLines.{IsBehindSlot, IsPoolTold, pool_tells, stores_only}
+use Rattle.kdf_job.proofs.PoolReadings.{lent_of_lines, pool_told}
 
 -- ---- slots that lines tell, of which only the places and the slot that is read count
 
@@ -87,6 +89,7 @@ slot_of_lines p (first ∷ ls) = option_map slot_of (slot_after (BehindSlot p) N
 abbrev within_line : Place → Option SlotDraft → Result Form JobFault → (Place → Option SlotDraft → Option SlotDraft) → Option SlotDraft
 within_line place slot (Err fault) follows = follows place slot
 within_line place slot (Ok (ASlot q)) follows = slot
+within_line place slot (Ok APool) follows = slot
 within_line place slot (Ok ASchedule) follows = slot
 within_line place slot (Ok form) follows = follows (behind form) (next_slot form place slot)
 
@@ -103,6 +106,7 @@ slot_after_rest place slot (line ∷ ls) = step (told_at place line) refl (λ (a
     step (Err fault) e rest =
         ap (λ (r : Result Form JobFault). after_line place slot r (λ at s. slot_after at s (rest_of_slot place ls))) e ∙ rest place slot
     step (Ok (ASlot q)) e rest = refl
+    step (Ok APool) e rest = refl
     step (Ok ASchedule) e rest = refl
     step (Ok form) e rest =
         ap (λ (r : Result Form JobFault). after_line place slot r (λ at s. slot_after at s (rest_of_slot (behind form) ls))) e ∙ rest (behind form) (next_slot form place slot)
@@ -151,6 +155,18 @@ in_schedule s (line ∷ ls) = step (event line) (is_text (codes "ENDJOB") line) 
     step (Err event_fault.Form) true rest = at_the_end s ls
     step (Err event_fault.Form) false rest = rest
 
+-- nor does the pool
+in_pool : (s : SlotDraft) (ls : List (List ℕ)) → slots_from BehindPool (Some s) ls ≡ slot_of s ∷ []
+in_pool s [] = refl
+in_pool s (line ∷ ls) = step (told_at BehindPool line) (pool_tells line) (in_pool s ls)
+  where
+    step : (r : Result Form JobFault) → IsPoolTold r → slots_from BehindPool (Some s) ls ≡ slot_of s ∷ []
+        → told_line BehindPool (Some s) r (λ at t. slots_from at t ls) ≡ slot_of s ∷ []
+    step (Err fault) is rest = rest
+    step (Ok (APoolDevice n kind label)) is rest = rest
+    step (Ok ASchedule) is rest = in_schedule s ls
+    step (Ok form) is rest = absurd is
+
 -- a slot that was read stands first of what follows
 read_stays : (p q : ℕ) (s : SlotDraft) (ls : List (List ℕ)) → (s.p == p) ≡ true → find (is_slot p) (slots_from (BehindSlot q) (Some s) ls) ≡ Some (slot_of s)
 read_stays p q s [] is = rw is refl
@@ -173,6 +189,7 @@ inside p place s (line ∷ ls) away is = step (told_at place line) refl (λ (at 
         → find (is_slot p) (told_line place (Some s) r (λ at t. slots_from at t ls)) ≡ option_map slot_of (within_line place (Some s) r (λ at t. slot_within at t ls))
     step (Err fault) e rest = rest place s away is
     step (Ok (ASlot q)) e rest = read_stays p q s ls is
+    step (Ok APool) e rest = ap (find (is_slot p)) (in_pool s ls) ∙ rw is refl
     step (Ok ASchedule) e rest = ap (find (is_slot p)) (in_schedule s ls) ∙ rw is refl
     step (Ok (AStore n)) e rest = absurd (away (stores_only place line n e))
     step (Ok form) e rest = rest (behind form) (tells form s) (λ no. no) is
@@ -201,6 +218,7 @@ waits p InDeck is away = absurd is
 waits p BehindDeck is away = absurd is
 waits p BehindDevice is away = absurd is
 waits p BehindShow is away = absurd is
+waits p BehindPool is away = absurd is
 waits p InSchedule is away = absurd is
 waits p BehindEnd is away = absurd is
 
@@ -233,10 +251,28 @@ outside p place slot (line ∷ ls) other away = step (told_at place line) refl (
 
 -- ---- the slot of a job
 
-slot_told : (p : ℕ) (bytes : List ℕ) → job_fault bytes ≡ None → find (is_slot p) (job bytes).slots ≡ slot_of_lines p (slot_lines p bytes)
-unfolding job job_fault slot_lines
-slot_told p bytes none = ap (find (is_slot p)) (told_slots 1 blank (lines bytes) none) ∙ outside p First None (lines bytes) (tt {0}) (tt {0})
+found_shared : (p : ℕ) (pool : List (ℕ × Kind)) (ss : List SlotJob) → find (is_slot p) (map (with_pool pool) ss) ≡ option_map (with_pool pool) (find (is_slot p) ss)
+found_shared p pool [] = refl
+found_shared p pool (s ∷ ss) = step (s.p == p) (found_shared p pool ss)
+  where
+    step : (b : Bool) → find (is_slot p) (map (with_pool pool) ss) ≡ option_map (with_pool pool) (find (is_slot p) ss)
+        → cond b (Some (with_pool pool s)) (find (is_slot p) (map (with_pool pool) ss)) ≡ option_map (with_pool pool) (cond b (Some s) (find (is_slot p) ss))
+    step true rest = refl
+    step false rest = rest
 
-pub slots_told_alike : (one other : List ℕ) (p : ℕ) → job_fault one ≡ None → job_fault other ≡ None → slot_lines p one ≡ slot_lines p other
+slot_told : (p : ℕ) (bytes : List ℕ) → job_fault bytes ≡ None → find (is_slot p) (job bytes).slots ≡ option_map (with_pool (lent_of_lines (pool_lines bytes))) (slot_of_lines p (slot_lines p bytes))
+unfolding job job_fault slot_lines
+slot_told p bytes none =
+    let d = draft_of blank (lines bytes) in
+    found_shared p d.pool (slots_told d)
+    ∙ ap (λ (pool : List (ℕ × Kind)). option_map (with_pool pool) (find (is_slot p) (slots_told d))) (pool_told bytes none)
+    ∙ ap (λ (o : Option SlotJob). option_map (with_pool (lent_of_lines (pool_lines bytes))) o)
+    (ap (find (is_slot p)) (told_slots 1 blank (lines bytes) none) ∙ outside p First None (lines bytes) (tt {0}) (tt {0}))
+
+pub slots_told_alike : (one other : List ℕ) (p : ℕ) → job_fault one ≡ None → job_fault other ≡ None → slot_lines p one ≡ slot_lines p other → pool_lines one ≡ pool_lines other
     → find (λ (s : SlotJob). s.p == p) (job one).slots ≡ find (λ (s : SlotJob). s.p == p) (job other).slots
-slots_told_alike one other p here there same = slot_told p one here ∙ ap (slot_of_lines p) same ∙ sym (slot_told p other there)
+slots_told_alike one other p here there same common =
+    slot_told p one here
+    ∙ ap (λ (ls : List (List ℕ)). option_map (with_pool (lent_of_lines ls)) (slot_of_lines p (slot_lines p one))) common
+    ∙ ap (λ (ls : List (List ℕ)). option_map (with_pool (lent_of_lines (pool_lines other))) (slot_of_lines p ls)) same
+    ∙ sym (slot_told p other there)

@@ -35,14 +35,13 @@ all_front : {X : Type 0} (P : X → Type 0) (xs : List X) (x : X) → All P (xs 
 all_front P xs x all = λ k d lt. subst P (get_or_append_left xs (x ∷ []) d k lt) (all k d (let n = length-append xs (x ∷ []) in omega arith))
 
 -- another slot in place of the last
-pub slots_changed : (front : List SlotJob) (s t : SlotJob) → AreTold (front ++ s ∷ []) → t.p ≡ s.p → t.size ≡ s.size → IsSlot t → IsDistinct nat_eq (numbers_of (front ++ t ∷ [])) → t.pool ≡ []
+pub slots_changed : (front : List SlotJob) (s t : SlotJob) → AreTold (front ++ s ∷ []) → t.p ≡ s.p → t.size ≡ s.size → IsSlot t → IsDistinct nat_eq (numbers_of (front ++ t ∷ []))
     → AreTold (front ++ t ∷ [])
-slots_changed front s t was p size slot apart none = record {
+slots_changed front s t was p size slot apart = record {
   each = All-push IsSlot front t (all_front IsSlot front s was.each) slot;
   rising = subst AreRising (ps_last front s ∙ ap (λ (q : ℕ). ps front ++ q ∷ []) (sym p) ∙ sym (ps_last front t)) was.rising;
   fits = let e = words_last front s in let f = words_last front t in let g = was.fits in omega arith;
   apart = apart;
-  none = All-push (λ (x : SlotJob). x.pool ≡ []) front t (all_front (λ (x : SlotJob). x.pool ≡ []) front s was.none) none;
 }
 
 pub numbers_same : (front : List SlotJob) (s t : SlotJob) → ds t.devices ≡ ds s.devices → numbers_of (front ++ t ∷ []) ≡ numbers_of (front ++ s ∷ [])
@@ -62,19 +61,18 @@ rising_push [] q p r lt = (lt, tt {0})
 rising_push (a ∷ []) q p r lt = (r.0, (lt, tt {0}))
 rising_push (a ∷ b ∷ qs) q p r lt = (r.0, rising_push (b ∷ qs) q p r.1 lt)
 
-pub slots_first : (t : SlotJob) → IsSlot t → t.devices ≡ [] → t.pool ≡ [] → AreTold (t ∷ [])
+pub slots_first : (t : SlotJob) → IsSlot t → t.devices ≡ [] → AreTold (t ∷ [])
 unfolding IsDistinct
-slots_first t slot none unlent = record {
+slots_first t slot none = record {
   each = All-push IsSlot [] t (λ k d lt. absurd (omega arith)) slot;
   rising = tt {0};
   fits = let most = slot.most in omega arith;
   apart = subst (IsDistinct nat_eq) (sym (numbers_last [] t ∙ ap (λ (xs : List JobDevice). ds xs) none)) (tt {0});
-  none = All-push (λ (x : SlotJob). x.pool ≡ []) [] t (λ k d lt. absurd (omega arith)) unlent;
 }
 
-pub slots_more : (front : List SlotJob) (s t : SlotJob) → AreTold (front ++ s ∷ []) → s.p < t.p → IsSlot t → t.devices ≡ [] → t.pool ≡ [] → words_in (front ++ s ∷ []) + t.size ≤ 31744
+pub slots_more : (front : List SlotJob) (s t : SlotJob) → AreTold (front ++ s ∷ []) → s.p < t.p → IsSlot t → t.devices ≡ [] → words_in (front ++ s ∷ []) + t.size ≤ 31744
     → AreTold ((front ++ s ∷ []) ++ t ∷ [])
-slots_more front s t was p slot none unlent fits =
+slots_more front s t was p slot none fits =
     let all = front ++ s ∷ [] in
     record {
       each = All-push IsSlot all t was.each slot;
@@ -83,7 +81,6 @@ slots_more front s t was p slot none unlent fits =
           subst AreRising (ap (λ (xs : List ℕ). xs ++ t.p ∷ []) (sym (ps_last front s)) ∙ sym (ps_last all t)) (rising_push (ps front) s.p t.p r p);
       fits = let e = words_last all t in omega arith;
       apart = subst (IsDistinct nat_eq) (sym (numbers_none all t none)) was.apart;
-      none = All-push (λ (x : SlotJob). x.pool ≡ []) all t was.none unlent;
     }
   where
     numbers_none : (all : List SlotJob) (t : SlotJob) → t.devices ≡ [] → numbers_of (all ++ t ∷ []) ≡ numbers_of all

@@ -4,46 +4,74 @@ use Rattle.std.specs.Prelude.{nat_eq}
 use Rattle.std.specs.List.{All, IsDistinct, list_any}
 use Rattle.std.proofs.lemmas.Bool.Decides.{nat_tests}
 use Rattle.std.proofs.Math.Seq.{get_or-append_seam}
+use Rattle.kdf_journal.specs.declared.kind.Kind.{Kind}
+use Rattle.kdf_job.specs.declared.place.Place.{Place}
+use Rattle.kdf_job.specs.declared.place.Place.TheVariants.{BehindPool, InSchedule, BehindEnd}
 use Rattle.kdf_job.specs.Job.{SlotJob}
-use Rattle.kdf_job.specs.Draft.{SlotDraft, Draft, all_devices, new_slot, numbers_of, slot_fault, slot_of, slots_told, words_in}
-use Rattle.kdf_job.specs.Kept.{AreTold, IsBegun, IsKept, IsPlaced}
-use Rattle.kdf_job.specs.WellFormed.{IsSchedule, IsSlot}
+use Rattle.kdf_job.specs.Draft.{SlotDraft, Draft, all_devices, new_slot, numbers_in, numbers_of, numbers_told, slot_fault, slot_of, slots_told, words_in}
+use Rattle.kdf_job.specs.Kept.{AreTold, IsBegun, IsKept, IsPlaced, IsUntold}
+use Rattle.kdf_job.specs.WellFormed.{IsLent, IsSchedule, IsSlot}
 use Rattle.kdf_job.proofs.Slots.{apart_more, ds, numbers_last, numbers_more, numbers_same, slots_changed, slots_first, slots_more, words_last}
 
+-- while the pool is empty
+pub told_alone : (d : Draft) → d.pool ≡ [] → numbers_told d ≡ numbers_of (slots_told d)
+told_alone d none = ap (λ (pool : List (ℕ × Kind)). numbers_of (slots_told d) ++ numbers_in pool) none ∙ append-nil (numbers_of (slots_told d))
+
+none_untold : (place : Place) (pool : List (ℕ × Kind)) → pool ≡ [] → IsUntold place pool
+none_untold BehindPool pool none = tt {0}
+none_untold InSchedule pool none = tt {0}
+none_untold BehindEnd pool none = tt {0}
+none_untold place pool none = none
+
+none_lent : (pool : List (ℕ × Kind)) → pool ≡ [] → All (λ (x : ℕ × Kind). IsLent x) pool
+none_lent pool none = subst (λ (xs : List (ℕ × Kind)). All (λ (x : ℕ × Kind). IsLent x) xs) (sym none) (λ k d lt. absurd (omega arith))
+
+none_owned : (d : Draft) → d.pool ≡ [] → AreTold (slots_told d) → IsDistinct nat_eq (numbers_told d)
+none_owned d none told = subst (IsDistinct nat_eq) (sym (told_alone d none)) told.apart
+
 -- the slot in which the line stands is another, with the same devices
-pub slot_told : (words : ℕ) (numbers : List ℕ) (d e : Draft) (s t : SlotDraft) → IsKept words numbers d → e.slots ≡ d.slots → d.slot ≡ Some s → e.slot ≡ Some t → e.events ≡ d.events
+pub slot_told : (words : ℕ) (numbers : List ℕ) (d e : Draft) (s t : SlotDraft) → IsKept words numbers d → d.pool ≡ [] → e.pool ≡ [] → e.slots ≡ d.slots → d.slot ≡ Some s → e.slot ≡ Some t → e.events ≡ d.events
     → t.p ≡ s.p → t.size ≡ s.size → ds (all_devices t) ≡ ds (all_devices s) → IsSlot (slot_of t) → IsPlaced e.place e.slot → IsKept words numbers e
-slot_told words numbers d e s t was slots old new events p size same slot placed =
+slot_told words numbers d e s t was none still slots old new events p size same slot placed =
     let before : slots_told d ≡ d.slots ++ slot_of s ∷ [] = rw old refl in
     let after : slots_told e ≡ d.slots ++ slot_of t ∷ [] = rw (slots, new) refl in
     let sound : AreTold (d.slots ++ slot_of s ∷ []) = subst AreTold before was.slots in
     let ns : numbers_of (d.slots ++ slot_of t ∷ []) ≡ numbers_of (d.slots ++ slot_of s ∷ []) = numbers_same d.slots (slot_of s) (slot_of t) same in
+    let told : AreTold (slots_told e) = subst AreTold (sym after) (slots_changed d.slots (slot_of s) (slot_of t) sound p size slot (subst (IsDistinct nat_eq) (sym ns) sound.apart)) in
     record {
       sum = was.sum ∙ ap words_in before ∙ words_last d.slots (slot_of s) ∙ ap (λ (n : ℕ). words_in d.slots + n) (sym size) ∙ sym (words_last d.slots (slot_of t)) ∙ ap words_in (sym after);
-      all = was.all ∙ ap numbers_of before ∙ sym ns ∙ ap numbers_of (sym after);
-      slots = subst AreTold (sym after) (slots_changed d.slots (slot_of s) (slot_of t) sound p size slot (subst (IsDistinct nat_eq) (sym ns) sound.apart) refl);
+      all = was.all ∙ told_alone d none ∙ ap numbers_of before ∙ sym ns ∙ ap numbers_of (sym after) ∙ sym (told_alone e still);
+      slots = told;
+      lent = none_lent e.pool still;
+      owned = none_owned e still told;
       schedule = subst IsSchedule (sym events) was.schedule;
       begun = rw new (tt {0});
       placed = placed;
+      untold = none_untold e.place e.pool still;
     }
 
 -- and with a device more
-pub device_told : (words n : ℕ) (numbers : List ℕ) (d e : Draft) (s t : SlotDraft) → IsKept words numbers d → e.slots ≡ d.slots → d.slot ≡ Some s → e.slot ≡ Some t → e.events ≡ d.events
+pub device_told : (words n : ℕ) (numbers : List ℕ) (d e : Draft) (s t : SlotDraft) → IsKept words numbers d → d.pool ≡ [] → e.pool ≡ [] → e.slots ≡ d.slots → d.slot ≡ Some s → e.slot ≡ Some t → e.events ≡ d.events
     → t.p ≡ s.p → t.size ≡ s.size → ds (all_devices t) ≡ ds (all_devices s) ++ n ∷ [] → list_any (nat_eq n) (numbers_of (slots_told d)) ≡ false → IsSlot (slot_of t) → IsPlaced e.place e.slot
     → IsKept words (numbers ++ n ∷ []) e
-device_told words n numbers d e s t was slots old new events p size more free slot placed =
+device_told words n numbers d e s t was none still slots old new events p size more free slot placed =
     let before : slots_told d ≡ d.slots ++ slot_of s ∷ [] = rw old refl in
     let after : slots_told e ≡ d.slots ++ slot_of t ∷ [] = rw (slots, new) refl in
     let sound : AreTold (d.slots ++ slot_of s ∷ []) = subst AreTold before was.slots in
     let ns : numbers_of (d.slots ++ slot_of t ∷ []) ≡ numbers_of (d.slots ++ slot_of s ∷ []) ++ n ∷ [] = numbers_more d.slots (slot_of s) (slot_of t) n more in
     let open_ : list_any (nat_eq n) (numbers_of (d.slots ++ slot_of s ∷ [])) ≡ false = subst (λ (xs : List SlotJob). list_any (nat_eq n) (numbers_of xs) ≡ false) before free in
+    let told : AreTold (slots_told e) =
+    subst AreTold (sym after) (slots_changed d.slots (slot_of s) (slot_of t) sound p size slot (subst (IsDistinct nat_eq) (sym ns) (apart_more _ n sound.apart open_))) in
     record {
       sum = was.sum ∙ ap words_in before ∙ words_last d.slots (slot_of s) ∙ ap (λ (m : ℕ). words_in d.slots + m) (sym size) ∙ sym (words_last d.slots (slot_of t)) ∙ ap words_in (sym after);
-      all = ap (λ (xs : List ℕ). xs ++ n ∷ []) (was.all ∙ ap numbers_of before) ∙ sym ns ∙ ap numbers_of (sym after);
-      slots = subst AreTold (sym after) (slots_changed d.slots (slot_of s) (slot_of t) sound p size slot (subst (IsDistinct nat_eq) (sym ns) (apart_more _ n sound.apart open_)) refl);
+      all = ap (λ (xs : List ℕ). xs ++ n ∷ []) (was.all ∙ told_alone d none ∙ ap numbers_of before) ∙ sym ns ∙ ap numbers_of (sym after) ∙ sym (told_alone e still);
+      slots = told;
+      lent = none_lent e.pool still;
+      owned = none_owned e still told;
       schedule = subst IsSchedule (sym events) was.schedule;
       begun = rw new (tt {0});
       placed = placed;
+      untold = none_untold e.place e.pool still;
     }
 
 -- a slot begins
@@ -63,24 +91,28 @@ begun_slots : (d : Draft) (slot : Option SlotDraft) (p n : ℕ) → d.slot ≡ s
     → n % 32 ≡ 0 → words_in (slots_told d) + n ≤ 31744 → AreTold (slots_told d ++ slot_of (new_slot p n) ∷ [])
 begun_slots d None p n is was begun above few least most groups fits =
     let none : d.slots ≡ [] = rw is at begun in
-    rw (is, none) (slots_first (slot_of (new_slot p n)) (new_is_slot p n few least most groups) refl refl)
+    rw (is, none) (slots_first (slot_of (new_slot p n)) (new_is_slot p n few least most groups) refl)
 begun_slots d (Some s) p n is was begun above few least most groups fits =
     let after : slots_told d ≡ d.slots ++ slot_of s ∷ [] = rw is refl in
     let lt : s.p < p = let h : slot_fault p (Some s) ≡ None = rw is at above in grind (arith, nat_tests) in
-    rw after (slots_more d.slots (slot_of s) (slot_of (new_slot p n)) (subst AreTold after was) lt (new_is_slot p n few least most groups) refl refl (rw after at fits))
+    rw after (slots_more d.slots (slot_of s) (slot_of (new_slot p n)) (subst AreTold after was) lt (new_is_slot p n few least most groups) refl (rw after at fits))
 
-pub store_told : (words p n : ℕ) (numbers : List ℕ) (d e : Draft) → IsKept words numbers d → e.slots ≡ slots_told d → e.slot ≡ Some (new_slot p n) → e.events ≡ d.events → slot_fault p d.slot ≡ None
+pub store_told : (words p n : ℕ) (numbers : List ℕ) (d e : Draft) → IsKept words numbers d → d.pool ≡ [] → e.pool ≡ [] → e.slots ≡ slots_told d → e.slot ≡ Some (new_slot p n) → e.events ≡ d.events → slot_fault p d.slot ≡ None
     → p ≤ 3 → 32 ≤ n → n ≤ 8192 → n % 32 ≡ 0 → words + n ≤ 31744 → IsPlaced e.place e.slot → IsKept (words + n) numbers e
-store_told words p n numbers d e was slots new events above few least most groups fits placed =
+store_told words p n numbers d e was none still slots new events above few least most groups fits placed =
     let after : slots_told e ≡ slots_told d ++ slot_of (new_slot p n) ∷ [] = rw (slots, new) refl in
-    let told : words_in (slots_told d) + n ≤ 31744 = let w = was.sum in omega arith in
+    let room : words_in (slots_told d) + n ≤ 31744 = let w = was.sum in omega arith in
+    let told : AreTold (slots_told e) = subst AreTold (sym after) (begun_slots d d.slot p n refl was.slots was.begun above few least most groups room) in
     record {
       sum = ap (λ (m : ℕ). m + n) was.sum ∙ sym (words_last (slots_told d) (slot_of (new_slot p n))) ∙ ap words_in (sym after);
-      all = was.all ∙ sym (append-nil (numbers_of (slots_told d))) ∙ sym (numbers_last (slots_told d) (slot_of (new_slot p n))) ∙ ap numbers_of (sym after);
-      slots = subst AreTold (sym after) (begun_slots d d.slot p n refl was.slots was.begun above few least most groups told);
+      all = was.all ∙ told_alone d none ∙ sym (append-nil (numbers_of (slots_told d))) ∙ sym (numbers_last (slots_told d) (slot_of (new_slot p n))) ∙ ap numbers_of (sym after) ∙ sym (told_alone e still);
+      slots = told;
+      lent = none_lent e.pool still;
+      owned = none_owned e still told;
       schedule = subst IsSchedule (sym events) was.schedule;
       begun = rw new (tt {0});
       placed = placed;
+      untold = none_untold e.place e.pool still;
     }
 
 -- the slot in which the line stands

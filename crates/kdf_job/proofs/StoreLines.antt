@@ -1,4 +1,4 @@
--- A line tells the size of a store behind `SLOT p` alone.
+-- A line tells the size of a store behind `SLOT p` alone, and a device of the pool in the pool alone.
 use Rattle.std.proofs.Common.{◌≡◌, ℕ, Bool, true, false, cond, List, [], ◌∷◌, Option, Some, None, Result, Ok, Err, subst}
 use Rattle.std.specs.Prelude.{◌==◌, codes}
 use Rattle.kdf_text.specs.Lines.{is_text, words}
@@ -12,19 +12,25 @@ use Rattle.kdf_schedule.specs.Events.{event}
 use Rattle.kdf_job.specs.declared.fault.JobFault.{JobFault}
 use Rattle.kdf_job.specs.declared.fault.JobFault.TheVariants.{Header}
 use Rattle.kdf_job.specs.declared.place.Place.{Place}
-use Rattle.kdf_job.specs.declared.place.Place.TheVariants.{First, BehindHeader, BehindSlot, BehindStore, InDeck, BehindDeck, BehindDevice, BehindShow, InSchedule, BehindEnd}
-use Rattle.kdf_job.specs.Forms.{Form, AHeader, ASlot, AStore, ADeck, ADeckLine, AnEndDeck, ADevice, AMedium, AShow, ASchedule, AnEndJob, Told, told, first_told, addresses, alone, described, device_named, device_or_end, device_words, event_line, kind_named, medium_line, number_line, numbered, of_event, or_bad, show_line, slot_ends, slot_line, told_at}
+use Rattle.kdf_job.specs.declared.place.Place.TheVariants.{First, BehindHeader, BehindSlot, BehindStore, InDeck, BehindDeck, BehindDevice, BehindShow, BehindPool, InSchedule, BehindEnd}
+use Rattle.kdf_job.specs.Forms.{Form, AHeader, ASlot, AStore, ADeck, ADeckLine, AnEndDeck, ADevice, AMedium, AShow, APool, APoolDevice, ASchedule, AnEndJob, Told, told, first_told, addresses, alone, described, device_named, device_or_end, device_words, device_line, event_line, kind_named, medium_line, no_medium, number_line, numbered, of_event, or_bad, pooled, show_line, slot_ends, slot_line, told_at}
 
 abbrev pub IsBehindSlot : Place → Type 0
 IsBehindSlot (BehindSlot p) = Unit {0}
 IsBehindSlot _ = ⊥
 
-abbrev NoStore : Form → Type 0
-NoStore (AStore n) = ⊥
-NoStore _ = Unit {0}
+abbrev pub IsInPool : Place → Type 0
+IsInPool BehindPool = Unit {0}
+IsInPool _ = ⊥
+
+-- a form that stands in other places
+abbrev IsElsewhere : Form → Type 0
+IsElsewhere (AStore n) = ⊥
+IsElsewhere (APoolDevice n kind label) = ⊥
+IsElsewhere _ = Unit {0}
 
 abbrev TellsNone : Result Form JobFault → Type 0
-TellsNone (Ok form) = NoStore form
+TellsNone (Ok form) = IsElsewhere form
 TellsNone (Err fault) = Unit {0}
 
 abbrev MayTellNone : Told → Type 0
@@ -48,7 +54,7 @@ choice : (b : Bool) (t u : Told) → MayTellNone t → MayTellNone u → MayTell
 choice true t u h k = h
 choice false t u h k = k
 
-made : {X : Type 0} (make : X → Form) → ((x : X) → NoStore (make x)) → (o : Option (Result X JobFault)) → MayTellNone (told make o)
+made : {X : Type 0} (make : X → Form) → ((x : X) → IsElsewhere (make x)) → (o : Option (Result X JobFault)) → MayTellNone (told make o)
 made make none None = tt {0}
 made make none (Some (Ok x)) = none x
 made make none (Some (Err fault)) = tt {0}
@@ -92,32 +98,82 @@ event_none (Err event_fault.Number) = tt {0}
 schedule_none : (line : List ℕ) → MayTellNone (alone (codes "SCHEDULE") ASchedule line)
 schedule_none line = choice (is_text (codes "SCHEDULE") line) (Some (Ok ASchedule)) None (tt {0}) (tt {0})
 
-ends_none : (line : List ℕ) → AllTellNone (slot_ends line)
-ends_none line = (show_none line, (slot_none line, (schedule_none line, tt {0})))
+pool_none : (line : List ℕ) → MayTellNone (alone (codes "POOL") APool line)
+pool_none line = choice (is_text (codes "POOL") line) (Some (Ok APool)) None (tt {0}) (tt {0})
 
-tells_none : (place : Place) (line : List ℕ) → (IsBehindSlot place → ⊥) → TellsNone (told_at place line)
-tells_none First line away = either (is_text (codes "KDF9 JOB 1") line) (Ok AHeader) (Err Header) (tt {0}) (tt {0})
-tells_none BehindHeader line away = first_none (slot_line line ∷ []) (slot_none line, tt {0})
-tells_none (BehindSlot p) line away = absurd (away (tt {0}))
-tells_none BehindStore line away =
+ends_none : (line : List ℕ) → AllTellNone (slot_ends line)
+ends_none line = (show_none line, (slot_none line, (pool_none line, (schedule_none line, tt {0}))))
+
+tells_none : (place : Place) (line : List ℕ) → (IsBehindSlot place → ⊥) → (IsInPool place → ⊥) → TellsNone (told_at place line)
+tells_none First line away out = either (is_text (codes "KDF9 JOB 1") line) (Ok AHeader) (Err Header) (tt {0}) (tt {0})
+tells_none BehindHeader line away out = first_none (slot_line line ∷ []) (slot_none line, tt {0})
+tells_none (BehindSlot p) line away out = absurd (away (tt {0}))
+tells_none BehindStore line away out =
     first_none (alone (codes "DECK") ADeck line ∷ []) (choice (is_text (codes "DECK") line) (Some (Ok ADeck)) None (tt {0}) (tt {0}), tt {0})
-tells_none InDeck line away = either (is_text (codes "ENDDECK") line) (Ok AnEndDeck) (Ok (ADeckLine line)) (tt {0}) (tt {0})
-tells_none BehindDeck line away = first_none (device_or_end line) (device_none (words line), ends_none line)
-tells_none BehindDevice line away = first_none (medium_line line ∷ device_or_end line) (medium_none line, (device_none (words line), ends_none line))
-tells_none BehindShow line away = first_none (slot_ends line) (ends_none line)
-tells_none InSchedule line away =
+tells_none InDeck line away out = either (is_text (codes "ENDDECK") line) (Ok AnEndDeck) (Ok (ADeckLine line)) (tt {0}) (tt {0})
+tells_none BehindDeck line away out = first_none (device_or_end line) (device_none (words line), ends_none line)
+tells_none BehindDevice line away out = first_none (medium_line line ∷ device_or_end line) (medium_none line, (device_none (words line), ends_none line))
+tells_none BehindShow line away out = first_none (slot_ends line) (ends_none line)
+tells_none BehindPool line away out = absurd (out (tt {0}))
+tells_none InSchedule line away out =
     first_none (event_line line ∷ alone (codes "ENDJOB") AnEndJob line ∷ [])
     (event_none (event line), (choice (is_text (codes "ENDJOB") line) (Some (Ok AnEndJob)) None (tt {0}) (tt {0}), tt {0}))
-tells_none BehindEnd line away = tt {0}
+tells_none BehindEnd line away out = tt {0}
+
+-- behind `SLOT p`, and in the pool
+abbrev IsStoreTold : Result Form JobFault → Type 0
+IsStoreTold (Ok (AStore n)) = Unit {0}
+IsStoreTold (Ok _) = ⊥
+IsStoreTold (Err fault) = Unit {0}
+
+store_told : (o : Option (Result ℕ JobFault)) → IsStoreTold (first_told (told AStore o ∷ []))
+store_told None = tt {0}
+store_told (Some (Ok n)) = tt {0}
+store_told (Some (Err fault)) = tt {0}
+
+abbrev pub IsPoolTold : Result Form JobFault → Type 0
+IsPoolTold (Ok (APoolDevice n kind label)) = Unit {0}
+IsPoolTold (Ok ASchedule) = Unit {0}
+IsPoolTold (Ok _) = ⊥
+IsPoolTold (Err fault) = Unit {0}
+
+end_told : (b : Bool) → IsPoolTold (first_told (cond b (Some (Ok ASchedule)) None ∷ []))
+end_told true = tt {0}
+end_told false = tt {0}
+
+in_pool_told : (m d : Told) (b : Bool) → IsPoolTold (first_told (no_medium m ∷ pooled d ∷ cond b (Some (Ok ASchedule)) None ∷ []))
+in_pool_told (Some r) d b = tt {0}
+in_pool_told None None b = end_told b
+in_pool_told None (Some (Err fault)) b = tt {0}
+in_pool_told None (Some (Ok (ADevice n kind label))) b = tt {0}
+in_pool_told None (Some (Ok form)) b = end_told b
+
+-- a line of the pool tells a device of it, or ends it
+pub pool_tells : (line : List ℕ) → IsPoolTold (told_at BehindPool line)
+pool_tells line = in_pool_told (medium_line line) (device_line line) (is_text (codes "SCHEDULE") line)
 
 pub stores_only : (place : Place) (line : List ℕ) (n : ℕ) → told_at place line ≡ Ok (AStore n) → IsBehindSlot place
 stores_only (BehindSlot p) line n e = tt {0}
-stores_only First line n e = subst TellsNone e (tells_none First line (λ no. no))
-stores_only BehindHeader line n e = subst TellsNone e (tells_none BehindHeader line (λ no. no))
-stores_only BehindStore line n e = subst TellsNone e (tells_none BehindStore line (λ no. no))
-stores_only InDeck line n e = subst TellsNone e (tells_none InDeck line (λ no. no))
-stores_only BehindDeck line n e = subst TellsNone e (tells_none BehindDeck line (λ no. no))
-stores_only BehindDevice line n e = subst TellsNone e (tells_none BehindDevice line (λ no. no))
-stores_only BehindShow line n e = subst TellsNone e (tells_none BehindShow line (λ no. no))
-stores_only InSchedule line n e = subst TellsNone e (tells_none InSchedule line (λ no. no))
-stores_only BehindEnd line n e = subst TellsNone e (tells_none BehindEnd line (λ no. no))
+stores_only BehindPool line n e = subst IsPoolTold e (pool_tells line)
+stores_only First line n e = subst TellsNone e (tells_none First line (λ no. no) (λ no. no))
+stores_only BehindHeader line n e = subst TellsNone e (tells_none BehindHeader line (λ no. no) (λ no. no))
+stores_only BehindStore line n e = subst TellsNone e (tells_none BehindStore line (λ no. no) (λ no. no))
+stores_only InDeck line n e = subst TellsNone e (tells_none InDeck line (λ no. no) (λ no. no))
+stores_only BehindDeck line n e = subst TellsNone e (tells_none BehindDeck line (λ no. no) (λ no. no))
+stores_only BehindDevice line n e = subst TellsNone e (tells_none BehindDevice line (λ no. no) (λ no. no))
+stores_only BehindShow line n e = subst TellsNone e (tells_none BehindShow line (λ no. no) (λ no. no))
+stores_only InSchedule line n e = subst TellsNone e (tells_none InSchedule line (λ no. no) (λ no. no))
+stores_only BehindEnd line n e = subst TellsNone e (tells_none BehindEnd line (λ no. no) (λ no. no))
+
+pub pools_only : (place : Place) (line : List ℕ) (n : ℕ) (kind : Kind) (label : List ℕ) → told_at place line ≡ Ok (APoolDevice n kind label) → IsInPool place
+pools_only BehindPool line n kind label e = tt {0}
+pools_only (BehindSlot p) line n kind label e = subst IsStoreTold e (store_told (number_line (codes "STORE") 32 8192 (words line)))
+pools_only First line n kind label e = subst TellsNone e (tells_none First line (λ no. no) (λ no. no))
+pools_only BehindHeader line n kind label e = subst TellsNone e (tells_none BehindHeader line (λ no. no) (λ no. no))
+pools_only BehindStore line n kind label e = subst TellsNone e (tells_none BehindStore line (λ no. no) (λ no. no))
+pools_only InDeck line n kind label e = subst TellsNone e (tells_none InDeck line (λ no. no) (λ no. no))
+pools_only BehindDeck line n kind label e = subst TellsNone e (tells_none BehindDeck line (λ no. no) (λ no. no))
+pools_only BehindDevice line n kind label e = subst TellsNone e (tells_none BehindDevice line (λ no. no) (λ no. no))
+pools_only BehindShow line n kind label e = subst TellsNone e (tells_none BehindShow line (λ no. no) (λ no. no))
+pools_only InSchedule line n kind label e = subst TellsNone e (tells_none InSchedule line (λ no. no) (λ no. no))
+pools_only BehindEnd line n kind label e = subst TellsNone e (tells_none BehindEnd line (λ no. no) (λ no. no))

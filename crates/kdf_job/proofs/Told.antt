@@ -19,10 +19,10 @@ use Rattle.kdf_job.specs.declared.line_error.LineError.TheVariants.{Fault, Memor
 use Rattle.kdf_job.specs.declared.place.Place.{Place}
 use Rattle.kdf_job.specs.declared.place.Place.TheVariants.{BehindSlot, InDeck}
 use Rattle.kdf_job.specs.Adding.{IsChecked}
-use Rattle.kdf_job.specs.Draft.{SlotDraft, Draft, all_devices, device_fault, fault_of, medium_fault, new_slot, number_at, numbers_of, show_fault, slots_told, store_fault, tells, with_line, with_line_of_medium, words_in}
+use Rattle.kdf_job.specs.Draft.{SlotDraft, Draft, all_devices, device_fault, fault_of, medium_fault, new_slot, number_at, numbers_told, show_fault, slots_told, store_fault, tells, with_line, with_line_of_medium, words_in}
 use Rattle.kdf_job.specs.Forms.{Form, ADeckLine, ADevice, AMedium, AShow, AStore, told_at}
 use Rattle.kdf_job.specs.Job.{JobDevice, SlotJob}
-use Rattle.kdf_job.specs.Kept.{IsKept, IsPlaced}
+use Rattle.kdf_job.specs.Kept.{IsKept, IsPlaced, IsUntold}
 use Rattle.kdf_job.specs.Lengths.{device_length, kept_length, medium_length, slot_length, spared, weight}
 use Rattle.kdf_job.specs.Media.{added, card_of, codes_in, filled, fits, new_device, with_code, with_codes, with_medium, word_of_text}
 use Rattle.kdf_job.specs.Reading.{or_fault}
@@ -30,10 +30,10 @@ use Rattle.kdf_job.specs.Shows.{shown_draft}
 use Rattle.kdf_job.specs.Taking.{IsSound, Taken, Takes}
 use Rattle.kdf_job.specs.WellFormed.{IsShow}
 use Rattle.kdf_job.proofs.Slots.{ds}
-use Rattle.kdf_job.proofs.Steps.{current_slot, device_told, slot_told, store_told}
+use Rattle.kdf_job.proofs.Steps.{current_slot, device_told, slot_told, store_told, told_alone}
 
 -- a form without a fault
-taken : (form : Form) (room : ℕ) (old new : ReadDraft) → fault_of form (shown_draft old) ≡ None → shown_draft new ≡ with_line form (shown_draft old)
+pub taken : (form : Form) (room : ℕ) (old new : ReadDraft) → fault_of form (shown_draft old) ≡ None → shown_draft new ≡ with_line form (shown_draft old)
     → IsKept new.words new.numbers.items (with_line form (shown_draft old)) → weight (with_line form (shown_draft old)) ≤ weight (shown_draft old) + room → Taken (Ok form) room old new
 taken form room old new faultless is kept grown = record {
   is = ap (or_fault form (shown_draft old)) faultless ∙ ap Ok (sym is);
@@ -46,11 +46,11 @@ some_slot None h = absurd cc
 some_slot (Some s) h = (s, refl)
 
 -- ---- `SHOW a b`
-show_kept : (words : ℕ) (numbers : List ℕ) (d : Draft) (s : SlotDraft) (a b : ℕ) → IsKept words numbers d → d.slot ≡ Some s → show_fault a b s.size ≡ None → IsKept words numbers (with_line (AShow a b) d)
-show_kept words numbers d s a b was is faultless =
+show_kept : (words : ℕ) (numbers : List ℕ) (d : Draft) (s : SlotDraft) (a b : ℕ) → IsKept words numbers d → d.pool ≡ [] → d.slot ≡ Some s → show_fault a b s.size ≡ None → IsKept words numbers (with_line (AShow a b) d)
+show_kept words numbers d s a b was none is faultless =
     let now = current_slot words numbers d s was is in
     let range : IsShow s.size (a, b) = show_range a b s.size faultless in
-    slot_told words numbers d (with_line (AShow a b) d) s (tells (AShow a b) s) was refl is (ap (option_map (tells (AShow a b))) is) refl refl refl refl
+    slot_told words numbers d (with_line (AShow a b) d) s (tells (AShow a b) s) was none none refl is (ap (option_map (tells (AShow a b))) is) refl refl refl refl
     (record {
       number = now.number;
       least = now.least;
@@ -66,20 +66,20 @@ show_kept words numbers d s a b was is faultless =
     show_range : (a b size : ℕ) → show_fault a b size ≡ None → IsShow size (a, b)
     show_range a b size h = grind (arith, nat_tests)
 
-pub show_takes : (a b : ℕ) (old new : ReadDraft) → IsSound old → is_some (shown_draft old).slot ≡ true → fault_of (AShow a b) (shown_draft old) ≡ None
+pub show_takes : (a b : ℕ) (old new : ReadDraft) → IsSound old → (shown_draft old).pool ≡ [] → is_some (shown_draft old).slot ≡ true → fault_of (AShow a b) (shown_draft old) ≡ None
     → shown_draft new ≡ with_line (AShow a b) (shown_draft old) → new.words ≡ old.words → new.numbers.items ≡ old.numbers.items → Taken (Ok (AShow a b)) 1 old new
-show_takes a b old new sound there faultless shown words numbers =
+show_takes a b old new sound none there faultless shown words numbers =
     let s = some_slot (shown_draft old).slot there in
     taken (AShow a b) 1 old new faultless shown
-    (rw (words, numbers) (show_kept old.words old.numbers.items (shown_draft old) s.0 a b sound s.1 (rw s.1 at faultless)))
+    (rw (words, numbers) (show_kept old.words old.numbers.items (shown_draft old) s.0 a b sound none s.1 (rw s.1 at faultless)))
     (let e = ap kept_length s.1 in let f = ap kept_length (ap (option_map (tells (AShow a b))) s.1) in omega arith)
 
 -- ---- a line of a deck
-deck_kept : (words : ℕ) (numbers : List ℕ) (d : Draft) (s : SlotDraft) (line : List ℕ) → IsKept words numbers d → d.slot ≡ Some s → length s.deck + length line + 1 ≤ 268435456
+deck_kept : (words : ℕ) (numbers : List ℕ) (d : Draft) (s : SlotDraft) (line : List ℕ) → IsKept words numbers d → d.pool ≡ [] → d.slot ≡ Some s → length s.deck + length line + 1 ≤ 268435456
     → IsKept words numbers (with_line (ADeckLine line) d)
-deck_kept words numbers d s line was is fits =
+deck_kept words numbers d s line was none is fits =
     let now = current_slot words numbers d s was is in
-    slot_told words numbers d (with_line (ADeckLine line) d) s (tells (ADeckLine line) s) was refl is (ap (option_map (tells (ADeckLine line))) is) refl refl refl refl
+    slot_told words numbers d (with_line (ADeckLine line) d) s (tells (ADeckLine line) s) was none none refl is (ap (option_map (tells (ADeckLine line))) is) refl refl refl refl
     (record {
       number = now.number;
       least = now.least;
@@ -99,6 +99,7 @@ pub deck_takes : (line : List ℕ) (old new : ReadDraft) → IsSound old → old
     → shown_draft new ≡ with_line (ADeckLine line) (shown_draft old) → new.words ≡ old.words → new.numbers.items ≡ old.numbers.items → Taken (Ok (ADeckLine line)) (length line + 1) old new
 deck_takes line old new sound place fits shown words numbers =
     let there : IsPlaced InDeck (shown_draft old).slot = subst (λ (x : Place). IsPlaced x (shown_draft old).slot) place sound.placed in
+    let none : (shown_draft old).pool ≡ [] = subst (λ (x : Place). IsUntold x (shown_draft old).pool) place sound.untold in
     let s = some_slot (shown_draft old).slot there in
     let one : spared old.place ≡ 1 = ap spared place in
     let e : kept_length (shown_draft old).slot ≡ slot_length s.0 = ap kept_length s.1 in
@@ -106,18 +107,19 @@ deck_takes line old new sound place fits shown words numbers =
     let m = length-append (s.0.deck ++ line) (10 ∷ []) in
     let n = length-append s.0.deck line in
     taken (ADeckLine line) (length line + 1) old new refl shown
-    (rw (words, numbers) (deck_kept old.words old.numbers.items (shown_draft old) s.0 line sound s.1 (omega arith)))
+    (rw (words, numbers) (deck_kept old.words old.numbers.items (shown_draft old) s.0 line sound none s.1 (omega arith)))
     (omega arith)
 
 -- ---- `DEVICE d k`
-device_kept : (words : ℕ) (numbers : List ℕ) (d : Draft) (s : SlotDraft) (n : ℕ) (kind : Kind) (label : List ℕ) → IsKept words numbers d → d.slot ≡ Some s → n ≤ 15
-    → list_any (nat_eq n) (numbers_of (slots_told d)) ≡ false → IsKept words (numbers ++ n ∷ []) (with_line (ADevice n kind label) d)
-device_kept words numbers d s n kind label was is few free =
+device_kept : (words : ℕ) (numbers : List ℕ) (d : Draft) (s : SlotDraft) (n : ℕ) (kind : Kind) (label : List ℕ) → IsKept words numbers d → d.pool ≡ [] → d.slot ≡ Some s → n ≤ 15
+    → list_any (nat_eq n) (numbers_told d) ≡ false → IsKept words (numbers ++ n ∷ []) (with_line (ADevice n kind label) d)
+device_kept words numbers d s n kind label was none is few free =
     let now = current_slot words numbers d s was is in
     let form = ADevice n kind label in
     let more : ds (all_devices (tells (ADevice n kind label) s)) ≡ ds (all_devices s) ++ n ∷ [] =
     map-append (λ (x : JobDevice). x.d) (all_devices s) (new_device n kind (word_of_text label) ∷ []) in
-    device_told words n numbers d (with_line form d) s (tells form s) was refl is (ap (option_map (tells form)) is) refl refl refl more free
+    device_told words n numbers d (with_line form d) s (tells form s) was none none refl is (ap (option_map (tells form)) is) refl refl refl more
+    (subst (λ (ns : List ℕ). list_any (nat_eq n) ns ≡ false) (told_alone d none) free)
     (record {
       number = now.number;
       least = now.least;
@@ -130,16 +132,16 @@ device_kept words numbers d s n kind label was is few free =
     })
     (rw is refl)
 
-device_free : (n : ℕ) (kind : Kind) (label : List ℕ) (d : Draft) → device_fault n kind label d ≡ None → list_any (nat_eq n) (numbers_of (slots_told d)) ≡ false
+device_free : (n : ℕ) (kind : Kind) (label : List ℕ) (d : Draft) → device_fault n kind label d ≡ None → list_any (nat_eq n) (numbers_told d) ≡ false
 device_free n kind label d h = grind arith
 
-pub device_takes : (n : ℕ) (kind : Kind) (label : List ℕ) (old new : ReadDraft) → IsSound old → is_some (shown_draft old).slot ≡ true → n ≤ 15
+pub device_takes : (n : ℕ) (kind : Kind) (label : List ℕ) (old new : ReadDraft) → IsSound old → (shown_draft old).pool ≡ [] → is_some (shown_draft old).slot ≡ true → n ≤ 15
     → fault_of (ADevice n kind label) (shown_draft old) ≡ None → shown_draft new ≡ with_line (ADevice n kind label) (shown_draft old) → new.words ≡ old.words
     → new.numbers.items ≡ old.numbers.items ++ n ∷ [] → Taken (Ok (ADevice n kind label)) 1 old new
-device_takes n kind label old new sound there few faultless shown words numbers =
+device_takes n kind label old new sound none there few faultless shown words numbers =
     let s = some_slot (shown_draft old).slot there in
     taken (ADevice n kind label) 1 old new faultless shown
-    (rw (words, numbers) (device_kept old.words old.numbers.items (shown_draft old) s.0 n kind label sound s.1 few (device_free n kind label (shown_draft old) faultless)))
+    (rw (words, numbers) (device_kept old.words old.numbers.items (shown_draft old) s.0 n kind label sound none s.1 few (device_free n kind label (shown_draft old) faultless)))
     (let e = ap kept_length s.1 in let f = ap kept_length (ap (option_map (tells (ADevice n kind label))) s.1) in omega arith)
 
 -- ---- a line of a medium
@@ -211,13 +213,13 @@ is_medium : (b : Bool) → cond b (Some BadMedium) None ≡ None → b ≡ false
 is_medium true h = absurd cc
 is_medium false h = refl
 
-medium_kept : (words : ℕ) (numbers : List ℕ) (d : Draft) (s : SlotDraft) (marked : Bool) (text : List ℕ) → IsKept words numbers d → d.slot ≡ Some s
+medium_kept : (words : ℕ) (numbers : List ℕ) (d : Draft) (s : SlotDraft) (marked : Bool) (text : List ℕ) → IsKept words numbers d → d.pool ≡ [] → d.slot ≡ Some s
     → is_none (with_line_of_medium marked text s.device) ≡ false → IsKept words numbers (with_line (AMedium marked text) d)
-medium_kept words numbers d s marked text was is some =
+medium_kept words numbers d s marked text was none is some =
     let now = current_slot words numbers d s was is in
     let form = AMedium marked text in
     let same : ds (all_devices (tells (AMedium marked text) s)) ≡ ds (all_devices s) = same_numbers marked text s.devices s.device some in
-    slot_told words numbers d (with_line form d) s (tells form s) was refl is (ap (option_map (tells form)) is) refl refl refl same
+    slot_told words numbers d (with_line form d) s (tells form s) was none none refl is (ap (option_map (tells form)) is) refl refl refl same
     (record {
       number = now.number;
       least = now.least;
@@ -230,25 +232,25 @@ medium_kept words numbers d s marked text was is some =
     })
     (rw is refl)
 
-medium_taken : (marked : Bool) (text : List ℕ) (old new : ReadDraft) → IsSound old → is_some (shown_draft old).slot ≡ true
+medium_taken : (marked : Bool) (text : List ℕ) (old new : ReadDraft) → IsSound old → (shown_draft old).pool ≡ [] → is_some (shown_draft old).slot ≡ true
     → fault_of (AMedium marked text) (shown_draft old) ≡ None → shown_draft new ≡ with_line (AMedium marked text) (shown_draft old) → new.words ≡ old.words
     → new.numbers.items ≡ old.numbers.items → Taken (Ok (AMedium marked text)) (length text + 2) old new
-medium_taken marked text old new sound there faultless shown words numbers =
+medium_taken marked text old new sound none there faultless shown words numbers =
     let s = some_slot (shown_draft old).slot there in
     let some : is_none (with_line_of_medium marked text s.0.device) ≡ false = is_medium _ (rw s.1 at faultless) in
     taken (AMedium marked text) (length text + 2) old new faultless shown
-    (rw (words, numbers) (medium_kept old.words old.numbers.items (shown_draft old) s.0 marked text sound s.1 some))
+    (rw (words, numbers) (medium_kept old.words old.numbers.items (shown_draft old) s.0 marked text sound none s.1 some))
     (let e = ap kept_length s.1 in
     let f = ap kept_length (ap (option_map (tells (AMedium marked text))) s.1) in
     let n = little_longer marked text s.0.device some in
     omega arith)
 
-pub medium_takes : (marked : Bool) (text : List ℕ) (old new : ReadDraft) (r : Result (Unit {0}) LineError) → IsSound old → is_some (shown_draft old).slot ≡ true
+pub medium_takes : (marked : Bool) (text : List ℕ) (old new : ReadDraft) (r : Result (Unit {0}) LineError) → IsSound old → (shown_draft old).pool ≡ [] → is_some (shown_draft old).slot ≡ true
     → IsChecked (medium_fault marked text (shown_draft old).slot) (with_line (AMedium marked text) (shown_draft old)) (shown_draft new) r → new.words ≡ old.words
     → new.numbers.items ≡ old.numbers.items → Takes (Ok (AMedium marked text)) (length text + 2) old new r
-medium_takes marked text old new (Ok x) sound there h words numbers = medium_taken marked text old new sound there h.0 h.1 words numbers
-medium_takes marked text old new (Err (Fault fault)) sound there h words numbers = ap (or_fault (AMedium marked text) (shown_draft old)) h
-medium_takes marked text old new (Err Memory) sound there h words numbers = tt {0}
+medium_takes marked text old new (Ok x) sound none there h words numbers = medium_taken marked text old new sound none there h.0 h.1 words numbers
+medium_takes marked text old new (Err (Fault fault)) sound none there h words numbers = ap (or_fault (AMedium marked text) (shown_draft old)) h
+medium_takes marked text old new (Err Memory) sound none there h words numbers = tt {0}
 
 -- ---- `STORE n`
 store_sound : (n words : ℕ) (slots : List SlotJob) → words ≡ words_in slots → store_fault n slots ≡ None → (n % 32 ≡ 0) × (words + n ≤ 31744)
@@ -259,7 +261,8 @@ store_kept : (words : ℕ) (numbers : List ℕ) (d : Draft) (p n : ℕ) → IsKe
 store_kept words numbers d p n was place least most faultless =
     let placed : IsPlaced (BehindSlot p) d.slot = subst (λ (x : Place). IsPlaced x d.slot) place was.placed in
     let fits = store_sound n words (slots_told d) was.sum faultless in
-    store_told words p n numbers d (with_line (AStore n) d) was refl (ap (λ (x : Place). Some (new_slot (number_at x) n)) place) refl placed.1 placed.0 least most fits.0 fits.1 refl
+    let none : d.pool ≡ [] = subst (λ (x : Place). IsUntold x d.pool) place was.untold in
+    store_told words p n numbers d (with_line (AStore n) d) was none none refl (ap (λ (x : Place). Some (new_slot (number_at x) n)) place) refl placed.1 placed.0 least most fits.0 fits.1 refl
 
 pub store_takes : (p n : ℕ) (old new : ReadDraft) → IsSound old → old.place ≡ BehindSlot p → 32 ≤ n → n ≤ 8192 → fault_of (AStore n) (shown_draft old) ≡ None
     → shown_draft new ≡ with_line (AStore n) (shown_draft old) → new.words ≡ old.words + n → new.numbers.items ≡ old.numbers.items → Taken (Ok (AStore n)) 1 old new

@@ -1,18 +1,18 @@
 -- What the lines so far tell of a job, and what is wrong with a line behind them.
-use Rattle.std.specs.Prelude.{ℕ, ◌+◌, ◌%◌, ◌==◌, ◌&&◌, not, nat_le, nat_lt, Bool, List, [], ◌∷◌, ◌++◌, length, map, fold, sum_by, Option, Some, None, is_none, if◌then◌else◌}
+use Rattle.std.specs.Prelude.{ℕ, ◌+◌, ◌%◌, ◌==◌, ◌&&◌, not, nat_le, nat_lt, Bool, true, false, List, [], ◌∷◌, ◌++◌, length, map, fold, sum_by, Option, Some, None, is_none, if◌then◌else◌}
 use Rattle.std.specs.List.{list_any, flat_map}
 use Rattle.std.specs.Option.{option_map, option_to_list}
 use Rattle.kdf_text.specs.declared.lines.TheConstants.{LINE_END}
 use Rattle.kdf_journal.specs.declared.kind.Kind.{Kind}
-use Rattle.kdf_journal.specs.declared.kind.Kind.TheVariants.{Mt}
+use Rattle.kdf_journal.specs.declared.kind.Kind.TheVariants.{Tp, Lp, Mt}
 use Rattle.kdf_schedule.specs.declared.event.Event.{Event}
 use Rattle.kdf_schedule.specs.declared.event.Event.TheVariants.{Orders, Clock}
 use Rattle.kdf_schedule.specs.Calls.{order_count}
 use Rattle.kdf_job.specs.declared.place.Place.{Place}
 use Rattle.kdf_job.specs.declared.place.Place.TheVariants.{First, BehindSlot}
 use Rattle.kdf_job.specs.declared.fault.JobFault.{JobFault}
-use Rattle.kdf_job.specs.declared.fault.JobFault.TheVariants.{SlotOrder, SizeNotGroups, StoreFull, DeviceTwice, BadLabel, LabelTwice, BadMedium, ShowRange, ClockFalls, TooManyOrders, TooManyEvents}
-use Rattle.kdf_job.specs.Forms.{Form, ASlot, AStore, ADeckLine, ADevice, AMedium, AShow, AnEvent, behind}
+use Rattle.kdf_job.specs.declared.fault.JobFault.TheVariants.{SlotOrder, SizeNotGroups, StoreFull, DeviceTwice, BadLabel, LabelTwice, BadMedium, ShowRange, ClockFalls, TooManyOrders, TooManyEvents, PoolKind}
+use Rattle.kdf_job.specs.Forms.{Form, ASlot, AStore, ADeckLine, ADevice, AMedium, AShow, APoolDevice, AnEvent, behind}
 use Rattle.kdf_job.specs.Job.{JobDevice, SlotJob, Job}
 use Rattle.kdf_job.specs.Limits.{group, most_words_together, most_orders, most_events}
 use Rattle.kdf_job.specs.Media.{is_label, word_of_text, new_device, with_medium}
@@ -33,10 +33,11 @@ pub record Draft : Type 0 where
   pub place : Place
   pub slots : List SlotJob
   pub slot : Option SlotDraft
+  pub pool : List (ℕ × Kind)
   pub events : List Event
 
 abbrev pub blank : Draft
-blank = record { place = First; slots = []; slot = None; events = [] }
+blank = record { place = First; slots = []; slot = None; pool = []; events = [] }
 
 -- a slot of which the number and the size are known
 abbrev pub new_slot : ℕ → ℕ → SlotDraft
@@ -98,6 +99,10 @@ abbrev pub slot_with : Form → Draft → Option SlotDraft
 slot_with (AStore n) d = Some (new_slot (number_at d.place) n)
 slot_with form d = option_map (tells form) d.slot
 
+abbrev pub pool_with : Form → List (ℕ × Kind) → List (ℕ × Kind)
+pool_with (APoolDevice n kind label) pool = pool ++ (n, kind) ∷ []
+pool_with _ pool = pool
+
 abbrev pub events_with : Form → List Event → List Event
 events_with (AnEvent what) events = events ++ what ∷ []
 events_with _ events = events
@@ -109,18 +114,35 @@ with_line form d =
       place = behind form;
       slots = slots_with form d;
       slot = slot_with form d;
+      pool = pool_with form d.pool;
       events = events_with form d.events;
     }
 
+-- a slot that knows the pool of its job
+abbrev pub with_pool : List (ℕ × Kind) → SlotJob → SlotJob
+with_pool pool s = record s { pool = pool }
+
 -- the job that the lines tell
 abbrev pub job_of : Draft → Job
-job_of d = record { slots = slots_told d; events = d.events; pool = [] }
+job_of d =
+    record {
+      slots = map (with_pool d.pool) (slots_told d);
+      events = d.events;
+      pool = d.pool;
+    }
 
 -- ---- what is wrong with a line
 
--- the numbers of all devices so far
+-- the numbers of the devices of slots, and of a pool
 abbrev pub numbers_of : List SlotJob → List ℕ
 numbers_of slots = map (λ (x : JobDevice). x.d) (flat_map (λ (s : SlotJob). s.devices) slots)
+
+abbrev pub numbers_in : List (ℕ × Kind) → List ℕ
+numbers_in pool = map (λ (x : ℕ × Kind). x.0) pool
+
+-- the numbers of all devices so far
+abbrev pub numbers_told : Draft → List ℕ
+numbers_told d = numbers_of (slots_told d) ++ numbers_in d.pool
 
 -- the words of all stores so far
 abbrev pub words_in : List SlotJob → ℕ
@@ -153,8 +175,24 @@ label_fault _ label labels = None
 
 abbrev pub device_fault : ℕ → Kind → List ℕ → Draft → Option JobFault
 device_fault n kind label d =
-    if list_any (λ other. n == other) (numbers_of (slots_told d)) then Some DeviceTwice
+    if list_any (λ other. n == other) (numbers_told d) then Some DeviceTwice
     else label_fault kind label (labels_so_far d.slot)
+
+-- a punch or a printer
+abbrev pub is_writer : Kind → Bool
+is_writer Tp = true
+is_writer Lp = true
+is_writer _ = false
+
+-- the label of a tape that would be lent out stands in no slot, so that it is no other tape's
+abbrev pub lent_fault : Kind → List ℕ → Option JobFault
+lent_fault Mt label = if is_label label then Some PoolKind else Some BadLabel
+lent_fault kind label = if is_writer kind then None else Some PoolKind
+
+abbrev pub pool_fault : ℕ → Kind → List ℕ → Draft → Option JobFault
+pool_fault n kind label d =
+    if list_any (λ other. n == other) (numbers_told d) then Some DeviceTwice
+    else lent_fault kind label
 
 abbrev pub device_so_far : Option SlotDraft → Option JobDevice
 device_so_far None = None
@@ -194,6 +232,7 @@ abbrev pub fault_of : Form → Draft → Option JobFault
 fault_of (ASlot p) d = slot_fault p d.slot
 fault_of (AStore n) d = store_fault n (slots_told d)
 fault_of (ADevice n kind label) d = device_fault n kind label d
+fault_of (APoolDevice n kind label) d = pool_fault n kind label d
 fault_of (AMedium marked text) d = medium_fault marked text d.slot
 fault_of (AShow a b) d = show_fault a b (size_so_far d.slot)
 fault_of (AnEvent what) d = event_fault what d.events

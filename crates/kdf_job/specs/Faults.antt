@@ -1,7 +1,7 @@
 -- The names of the faults of a job.
 use Rattle.std.specs.Prelude.{ℕ, List, codes}
 use Rattle.kdf_job.specs.declared.fault.JobFault.{JobFault}
-use Rattle.kdf_job.specs.declared.fault.JobFault.TheVariants.{Header, BadLine, BadNumber, SlotOrder, SizeNotGroups, StoreFull, DeviceTwice, BadLabel, LabelTwice, BadMedium, ShowRange, ClockFalls, TooManyOrders, TooManyEvents}
+use Rattle.kdf_job.specs.declared.fault.JobFault.TheVariants.{Header, BadLine, BadNumber, SlotOrder, SizeNotGroups, StoreFull, DeviceTwice, BadLabel, LabelTwice, BadMedium, ShowRange, ClockFalls, TooManyOrders, TooManyEvents, PoolKind}
 
 -- the name of each fault
 abbrev pub name_of : JobFault → List ℕ
@@ -19,3 +19,4 @@ name_of ShowRange = codes "ShowRange"
 name_of ClockFalls = codes "ClockFalls"
 name_of TooManyOrders = codes "TooManyOrders"
 name_of TooManyEvents = codes "TooManyEvents"
+name_of PoolKind = codes "PoolKind"

@@ -10,9 +10,9 @@ use Rattle.kdf_schedule.specs.declared.event.EventFault.{EventFault}
 use Rattle.kdf_schedule.specs.declared.event.EventFault.TheVariants as event_fault
 use Rattle.kdf_schedule.specs.Events.{event}
 use Rattle.kdf_job.specs.declared.place.Place.{Place}
-use Rattle.kdf_job.specs.declared.place.Place.TheVariants.{First, BehindHeader, BehindSlot, BehindStore, InDeck, BehindDeck, BehindDevice, BehindShow, InSchedule, BehindEnd}
+use Rattle.kdf_job.specs.declared.place.Place.TheVariants.{First, BehindHeader, BehindSlot, BehindStore, InDeck, BehindDeck, BehindDevice, BehindShow, BehindPool, InSchedule, BehindEnd}
 use Rattle.kdf_job.specs.declared.fault.JobFault.{JobFault}
-use Rattle.kdf_job.specs.declared.fault.JobFault.TheVariants.{Header, BadLine, BadNumber}
+use Rattle.kdf_job.specs.declared.fault.JobFault.TheVariants.{Header, BadLine, BadNumber, BadMedium}
 
 -- what a line tells
 pub data Form : Type 0 where
@@ -25,6 +25,8 @@ pub data Form : Type 0 where
   ADevice : (d : ℕ) (kind : Kind) (label : List ℕ) → Form
   AMedium : (marked : Bool) (text : List ℕ) → Form
   AShow : (a b : ℕ) → Form
+  APool : Form
+  APoolDevice : (d : ℕ) (kind : Kind) (label : List ℕ) → Form
   ASchedule : Form
   AnEvent : (what : Event) → Form
   AnEndJob : Form
@@ -40,6 +42,8 @@ behind AnEndDeck = BehindDeck
 behind (ADevice d kind label) = BehindDevice
 behind (AMedium marked text) = BehindDevice
 behind (AShow a b) = BehindShow
+behind APool = BehindPool
+behind (APoolDevice d kind label) = BehindPool
 behind ASchedule = InSchedule
 behind (AnEvent what) = InSchedule
 behind AnEndJob = BehindEnd
@@ -147,12 +151,31 @@ first_told [] = Err BadLine
 first_told (None ∷ forms) = first_told forms
 first_told (Some told ∷ forms) = told
 
+-- a device of the pool, where a line tells a device
+abbrev pub pooled : Told → Told
+pooled (Some (Ok (ADevice d kind label))) = Some (Ok (APoolDevice d kind label))
+pooled (Some (Err fault)) = Some (Err fault)
+pooled _ = None
+
+-- a line of a medium, where no device has one
+abbrev pub no_medium : Told → Told
+no_medium None = None
+no_medium (Some medium) = Some (Err BadMedium)
+
+-- the forms that may stand behind the last slot
+abbrev pub job_ends : List ℕ → List Told
+job_ends line = alone (codes "POOL") APool line ∷ alone (codes "SCHEDULE") ASchedule line ∷ []
+
 -- the forms that may stand behind a slot's devices and what it shows
 abbrev pub slot_ends : List ℕ → List Told
-slot_ends line = show_line line ∷ slot_line line ∷ alone (codes "SCHEDULE") ASchedule line ∷ []
+slot_ends line = show_line line ∷ slot_line line ∷ job_ends line
 
 abbrev pub device_or_end : List ℕ → List Told
 device_or_end line = device_line line ∷ slot_ends line
+
+abbrev pub pool_device_or_end : List ℕ → List Told
+pool_device_or_end line =
+    pooled (device_line line) ∷ alone (codes "SCHEDULE") ASchedule line ∷ []
 
 -- what a line tells in its place: a line of a deck may be anything but its end
 abbrev pub told_at : Place → List ℕ → Result Form JobFault
@@ -164,6 +187,7 @@ told_at InDeck line = if is_text (codes "ENDDECK") line then Ok AnEndDeck else O
 told_at BehindDeck line = first_told (device_or_end line)
 told_at BehindDevice line = first_told (medium_line line ∷ device_or_end line)
 told_at BehindShow line = first_told (slot_ends line)
+told_at BehindPool line = first_told (no_medium (medium_line line) ∷ pool_device_or_end line)
 told_at InSchedule line =
     first_told (event_line line ∷ alone (codes "ENDJOB") AnEndJob line ∷ [])
 told_at BehindEnd line = Err BadLine

@@ -1,11 +1,12 @@
 -- What is kept beside the lines of a job while it is read, and what holds of them.
 use Rattle.std.specs.Prelude.{◌≡◌, ℕ, ◌≤◌, true, List, [], map, Option, Some, None, All, nat_eq, is_some}
 use Rattle.std.specs.List.{IsDistinct}
+use Rattle.kdf_journal.specs.declared.kind.Kind.{Kind}
 use Rattle.kdf_job.specs.declared.place.Place.{Place}
-use Rattle.kdf_job.specs.declared.place.Place.TheVariants.{First, BehindHeader, BehindSlot}
-use Rattle.kdf_job.specs.Draft.{SlotDraft, Draft, numbers_of, slot_fault, slots_told, words_in}
+use Rattle.kdf_job.specs.declared.place.Place.TheVariants.{First, BehindHeader, BehindSlot, BehindPool, InSchedule, BehindEnd}
+use Rattle.kdf_job.specs.Draft.{SlotDraft, Draft, numbers_of, numbers_told, slot_fault, slots_told, words_in}
 use Rattle.kdf_job.specs.Job.{SlotJob}
-use Rattle.kdf_job.specs.WellFormed.{AreRising, IsSchedule, IsSlot}
+use Rattle.kdf_job.specs.WellFormed.{AreRising, IsLent, IsSchedule, IsSlot}
 use Rattle.kdf_job.specs.Limits.{most_words_together}
 
 -- the first slot is behind no other
@@ -26,13 +27,23 @@ pub record AreTold (slots : List SlotJob) : Type 0 where
   pub rising : AreRising (map (λ (s : SlotJob). s.p) slots)
   pub fits : words_in slots ≤ most_words_together
   pub apart : IsDistinct nat_eq (numbers_of slots)
-  pub none : All (λ (s : SlotJob). s.pool ≡ []) slots
 
--- the sum of the sizes and the numbers of the devices are those of the slots, and all is well formed so far
+-- no device is lent out before the pool begins
+abbrev pub IsUntold : Place → List (ℕ × Kind) → Type 0
+IsUntold BehindPool pool = Unit {0}
+IsUntold InSchedule pool = Unit {0}
+IsUntold BehindEnd pool = Unit {0}
+IsUntold _ pool = pool ≡ []
+
+-- the sum of the sizes and the numbers of the devices are those of the slots and the pool, and all is well formed so
+-- far
 pub record IsKept (words : ℕ) (numbers : List ℕ) (d : Draft) : Type 0 where
   pub sum : words ≡ words_in (slots_told d)
-  pub all : numbers ≡ numbers_of (slots_told d)
+  pub all : numbers ≡ numbers_told d
   pub slots : AreTold (slots_told d)
+  pub lent : All (λ (x : ℕ × Kind). IsLent x) d.pool
+  pub owned : IsDistinct nat_eq (numbers_told d)
   pub schedule : IsSchedule d.events
   pub begun : IsBegun d.slots d.slot
   pub placed : IsPlaced d.place d.slot
+  pub untold : IsUntold d.place d.pool

@@ -90,5 +90,6 @@ shown_draft d =
       place = d.place;
       slots = map shown_slot d.slots.items;
       slot = option_map shown_slot_draft d.slot;
+      pool = d.pool.items;
       events = d.schedule.events.items;
     }

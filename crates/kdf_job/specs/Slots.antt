@@ -1,5 +1,5 @@
 -- The slot as which a job's slot is loaded with the words of its image.
-use Rattle.std.specs.Prelude.{ℕ, ◌==◌, List, [], find, Option, Some, None}
+use Rattle.std.specs.Prelude.{ℕ, ◌==◌, List, find, Option, Some, None}
 use Rattle.std.specs.Option.{option_map}
 use Rattle.kdf_journal.specs.declared.kind.Kind.{Kind}
 use Rattle.kdf_transfer.specs.ByNumber.{by_number}

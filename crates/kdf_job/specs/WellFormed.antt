@@ -1,26 +1,19 @@
 -- What holds of every job that is read.
-use Rattle.std.specs.Prelude.{◌≡◌, ℕ, ◌%◌, ◌<◌, ◌≤◌, Bool, true, false, List, [], ◌∷◌, ◌++◌, length, map, All, AllPairs, nat_eq}
+use Rattle.std.specs.Prelude.{◌≡◌, ℕ, ◌%◌, ◌<◌, ◌≤◌, true, List, [], ◌∷◌, ◌++◌, length, map, All, AllPairs, nat_eq}
 use Rattle.std.specs.List.{IsDistinct}
 use Rattle.kdf_journal.specs.declared.kind.Kind.{Kind}
-use Rattle.kdf_journal.specs.declared.kind.Kind.TheVariants.{Tp, Lp}
 use Rattle.kdf_schedule.specs.declared.event.Event.{Event}
 use Rattle.kdf_schedule.specs.declared.event.Event.TheVariants.{Clock}
 use Rattle.kdf_schedule.specs.Calls.{order_count}
 use Rattle.kdf_schedule.specs.Events.{IsInRange}
 use Rattle.kdf_job.specs.declared.job.TheConstants.{TEXT_LIMIT}
-use Rattle.kdf_job.specs.Draft.{numbers_of, words_in}
+use Rattle.kdf_job.specs.Draft.{is_writer, numbers_in, numbers_of, words_in}
 use Rattle.kdf_job.specs.Job.{JobDevice, SlotJob, Job}
 use Rattle.kdf_job.specs.Limits.{group, most_words, most_words_together, device_limit, most_orders, most_events}
 
 -- the addresses don't fall and are below the size
 abbrev pub IsShow : ℕ → ℕ × ℕ → Type 0
 IsShow size x = (x.0 ≤ x.1) × (x.1 < size)
-
--- a punch or a printer
-abbrev pub is_writer : Kind → Bool
-is_writer Tp = true
-is_writer Lp = true
-is_writer _ = false
 
 -- a device that may be lent out
 abbrev pub IsLent : ℕ × Kind → Type 0
@@ -46,10 +39,6 @@ abbrev pub IsRising : ℕ → List Event → Type 0
 IsRising t [] = Unit {0}
 IsRising t (Clock u ∷ events) = (t ≤ u) × IsRising u events
 IsRising t (event ∷ events) = IsRising t events
-
--- the numbers of the devices of a pool
-abbrev pub numbers_in : List (ℕ × Kind) → List ℕ
-numbers_in pool = map (λ (x : ℕ × Kind). x.0) pool
 
 -- the numbers of the slots rise, their stores fit together, no device's number stands twice, and all slots have the
 -- same pool, of whose numbers none stands twice or is that of a slot's device

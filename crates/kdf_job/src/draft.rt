@@ -1,13 +1,13 @@
 //! What the lines so far tell of a job.
-ghost use Rattle.std.specs.Prelude.{◌≡◌, ◌==◌, ◌+◌, ◌≤◌, ◌<◌, ◌^◌, ◌++◌, [], ◌∷◌, None, IfOk, OnOk, length};
+ghost use Rattle.std.specs.Prelude.{◌≡◌, ◌==◌, ◌+◌, ◌≤◌, ◌<◌, ◌^◌, ◌++◌, [], ◌∷◌, None, IfOk, OnOk, length, map};
 ghost use Rattle.std.specs.List.{list_any};
 ghost use Rattle.kdf_schedule.specs.Events.{IsInRange};
 ghost use Rattle.kdf_job.specs.Adding.{IsChecked};
-ghost use Rattle.kdf_job.specs.Draft.{blank, device_fault, device_so_far, event_fault, job_of, label_fault, labels_so_far, medium_fault, numbers_of, show_fault, size_so_far, slot_fault, slots_told, store_fault, tape_fault, tells, with_line};
-ghost use Rattle.kdf_job.specs.Forms.{ADeckLine, ADevice, AMedium, AShow, AStore, AnEvent};
+ghost use Rattle.kdf_job.specs.Draft.{blank, device_fault, device_so_far, event_fault, job_of, label_fault, labels_so_far, lent_fault, medium_fault, numbers_told, pool_fault, show_fault, size_so_far, slot_fault, slots_told, store_fault, tape_fault, tells, with_line, with_pool};
+ghost use Rattle.kdf_job.specs.Forms.{ADeckLine, ADevice, AMedium, APoolDevice, AShow, AStore, AnEvent};
 ghost use Rattle.kdf_job.specs.Lengths.{kept_length};
 ghost use Rattle.kdf_job.specs.Media.{word_of_text};
-ghost use Rattle.kdf_job.specs.Shows.{shown_draft, shown_job};
+ghost use Rattle.kdf_job.specs.Shows.{shown_draft, shown_job, shown_slot};
 ghost use Rattle.kdf_job.specs.Taking.{IsSound};
 ghost use Rattle.kdf_job.specs.WellFormed.{IsJob, IsSchedule};
 ghost use Rattle.kdf_job.specs.declared.place.Place.TheVariants.{BehindEnd, BehindSlot};
@@ -38,8 +38,10 @@ pub struct Draft {
     slot: Option<SlotDraft>,
     /// The sum of the sizes of all stores.
     words: u32,
-    /// The numbers of all devices.
+    /// The numbers of all devices, those of the pool too.
     numbers: Vec<u8>,
+    /// The devices of the pool.
+    pool: Vec<(u8, Kind)>,
     schedule: Schedule,
 }
 
@@ -56,6 +58,7 @@ impl Draft {
             slot: None,
             words: 0,
             numbers: Vec::new(alloc),
+            pool: Vec::new(alloc),
             schedule: Schedule::new(alloc),
         }
     }
@@ -149,7 +152,7 @@ impl Draft {
     fn has_device(&self, d: u8) -> bool
         requires { IsSound self.now }
         ensures { result ≡ list_any (λ other. d == other)
-            (numbers_of (slots_told (shown_draft self.now))) }
+            (numbers_told (shown_draft self.now)) }
     {
         self.numbers.iter().any(|number| d == *number)
     }
@@ -201,6 +204,34 @@ impl Draft {
             Some(slot) => slot.add_device(alloc, device.d, device.kind, label),
             None => Ok(()),
         }
+    }
+
+    /// What is wrong with a device of the pool.
+    pub fn pool_fault(&self, device: DeviceLine<'_>) -> Option<JobFault>
+        requires sound { IsSound self.now }
+        ensures { result ≡ pool_fault device.entry.d device.entry.kind device.entry.label.now
+            (shown_draft self.now) }
+    {
+        if self.has_device(device.d) {
+            Some(JobFault::DeviceTwice)
+        } else {
+            lent_fault(device.kind, device.label)
+        }
+    }
+
+    /// Adds a device of the pool.
+    pub fn add_pool_device(&mut self, device: DeviceLine<'_>) -> Result<(), AllocError>
+        ensures shown { OnOk result (shown_draft self.new
+            ≡ with_line (APoolDevice device.entry.d device.entry.kind device.entry.label.now)
+            (shown_draft self.old)) }
+        ensures words { self.new.words ≡ self.old.words }
+        ensures numbers { OnOk result (self.new.numbers.items
+            ≡ self.old.numbers.items ++ device.entry.d ∷ []) }
+    {
+        self.place = Place::BehindPool;
+        self.numbers.push(device.d)?;
+        self.pool.push((device.d, device.kind))?;
+        Ok(())
     }
 
     /// Adds a line to the medium of the last device.
@@ -257,7 +288,6 @@ impl Draft {
     }
 
     /// The job, when all its lines are read.
-    #[tactic(auto, using(crate::proofs::Finished::finished))]
     pub fn finish(mut self, alloc: Global) -> Result<Job, AllocError>
         requires sound { IsSound self }
         requires place { self.place ≡ BehindEnd }
@@ -266,9 +296,36 @@ impl Draft {
     {
         self.finish_slot(alloc)?;
         Ok(Job {
-            slots: self.slots,
+            slots: share(alloc, self.slots, &self.pool)?,
             events: self.schedule.events,
-            pool: Vec::new(alloc),
+            pool: self.pool,
         })
     }
+}
+
+/// What is wrong with lending out a device of this kind and label.
+fn lent_fault(kind: Kind, label: &[u8]) -> Option<JobFault>
+    ensures { result ≡ lent_fault kind label.now }
+{
+    match kind {
+        Kind::Tp | Kind::Lp => None,
+        Kind::Mt if !is_label(label) => Some(JobFault::BadLabel),
+        _ => Some(JobFault::PoolKind),
+    }
+}
+
+/// The slots, each with the pool of their job.
+fn share(
+    alloc: Global,
+    slots: Vec<SlotJob>,
+    pool: &[(u8, Kind)],
+) -> Result<Vec<SlotJob>, AllocError>
+    ensures { IfOk result (λ shared. map shown_slot shared.items
+        ≡ map (with_pool pool.now) (map shown_slot slots.items)) }
+{
+    let mut shared = Vec::new(alloc);
+    for slot in slots {
+        shared.push(slot.with_pool(alloc, pool)?)?;
+    }
+    Ok(shared)
 }

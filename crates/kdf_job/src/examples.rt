@@ -1,6 +1,6 @@
 //! Lines with what they tell, media, faults and a job, each computed from the definitions, as the contract of a
 //! function that does nothing.
-#![tactic(auto, unfolding(kdf_text::specs::Lines::lines, kdf_text::specs::Lines::words, kdf_text::specs::Numbers::value, kdf_text::specs::Text::text, kdf_schedule::specs::Events::event, kdf_code::specs::Code::code_of, kdf_word::specs::Characters::first_word, kdf_word::specs::Characters::words_of, crate::specs::Media::codes_in, crate::specs::Made::after_steps, crate::specs::Made::letters_from, crate::specs::Reading::read_line, crate::specs::Reading::job_fault, crate::specs::Reading::job, crate::specs::SlotLines::slot_lines))]
+#![tactic(auto, unfolding(kdf_text::specs::Lines::lines, kdf_text::specs::Lines::words, kdf_text::specs::Numbers::value, kdf_text::specs::Text::text, kdf_schedule::specs::Events::event, kdf_code::specs::Code::code_of, kdf_word::specs::Characters::first_word, kdf_word::specs::Characters::words_of, crate::specs::Media::codes_in, crate::specs::Made::after_steps, crate::specs::Made::letters_from, crate::specs::Reading::read_line, crate::specs::Reading::job_fault, crate::specs::Reading::job, crate::specs::SlotLines::slot_lines, crate::specs::SlotLines::pool_lines))]
 
 ghost use Rattle.std.specs.Prelude.{◌≡◌, ◌*◌, ◌^◌, [], ◌∷◌, ◌++◌, true, false, Some, None, Ok, Err, codes, replicate};
 ghost use Rattle.kdf_text.specs.Text.{text};
@@ -8,12 +8,12 @@ ghost use Rattle.kdf_journal.specs.declared.kind.Kind.TheVariants as kind;
 ghost use Rattle.kdf_schedule.specs.declared.event.Event.TheVariants as event;
 ghost use Rattle.kdf_job.specs.declared.fault.JobFault.TheVariants as fault;
 ghost use Rattle.kdf_job.specs.declared.place.Place.TheVariants as place;
-ghost use Rattle.kdf_job.specs.Draft.{event_fault, new_slot, show_fault, slot_fault, slot_of, store_fault};
-ghost use Rattle.kdf_job.specs.Forms.{ADeckLine, ADevice, AMedium, AShow, ASlot, AStore, AnEndDeck, AnEndJob, AnEvent, told_at};
+ghost use Rattle.kdf_job.specs.Draft.{event_fault, lent_fault, new_slot, show_fault, slot_fault, slot_of, store_fault};
+ghost use Rattle.kdf_job.specs.Forms.{ADeckLine, ADevice, AMedium, APool, APoolDevice, ASchedule, AShow, ASlot, AStore, AnEndDeck, AnEndJob, AnEvent, told_at};
 ghost use Rattle.kdf_job.specs.Made.{letter, reader_line, step};
 ghost use Rattle.kdf_job.specs.Media.{card_of, filled, fits, is_label, word_of_text};
 ghost use Rattle.kdf_job.specs.Reading.{job, job_fault};
-ghost use Rattle.kdf_job.specs.SlotLines.{slot_lines};
+ghost use Rattle.kdf_job.specs.SlotLines.{pool_lines, slot_lines};
 
 /// What lines tell in their places.
 pub fn lines_tell()
@@ -50,6 +50,25 @@ pub fn lines_tell()
     ensures behind_end { told_at place.BehindEnd [] ≡ Err fault.BadLine }
 {}
 
+/// What lines tell at the begin of a pool and in it.
+pub fn pool_lines_tell()
+    ensures pool { told_at place.BehindShow (codes "POOL") ≡ Ok APool }
+    ensures pool_of_a_number { told_at place.BehindDeck (codes "POOL 1") ≡ Err fault.BadLine }
+    ensures no_slot { told_at place.BehindHeader (codes "POOL") ≡ Err fault.BadLine }
+    ensures device { told_at place.BehindPool (codes "DEVICE 9 TP")
+        ≡ Ok (APoolDevice 9 kind.Tp []) }
+    ensures tape { told_at place.BehindPool (codes "DEVICE 9 MT a")
+        ≡ Ok (APoolDevice 9 kind.Mt (codes "a")) }
+    ensures no_label { told_at place.BehindPool (codes "DEVICE 9 MT") ≡ Err fault.BadLine }
+    ensures device_16 { told_at place.BehindPool (codes "DEVICE 16 MT a") ≡ Err fault.BadNumber }
+    ensures medium { told_at place.BehindPool (codes "+A") ≡ Err fault.BadMedium }
+    ensures marked { told_at place.BehindPool (codes "=") ≡ Err fault.BadMedium }
+    ensures show { told_at place.BehindPool (codes "SHOW 0 0") ≡ Err fault.BadLine }
+    ensures slot { told_at place.BehindPool (codes "SLOT 3") ≡ Err fault.BadLine }
+    ensures pool_again { told_at place.BehindPool (codes "POOL") ≡ Err fault.BadLine }
+    ensures schedule { told_at place.BehindPool (codes "SCHEDULE") ≡ Ok ASchedule }
+{}
+
 /// Labels, cards and blocks, and which lines may stand behind which kinds.
 pub fn media()
     ensures label { is_label (codes "A1B2C3D4") ≡ true }
@@ -79,6 +98,12 @@ pub fn faults()
     ensures no_groups { store_fault 33 [] ≡ Some fault.SizeNotGroups }
     ensures store_fits { store_fault 8192 (slot_of (new_slot 0 23552) ∷ []) ≡ None }
     ensures store_full { store_fault 8192 (slot_of (new_slot 0 23584) ∷ []) ≡ Some fault.StoreFull }
+    ensures lent_punch { lent_fault kind.Tp [] ≡ None }
+    ensures lent_printer { lent_fault kind.Lp [] ≡ None }
+    ensures lent_reader { lent_fault kind.Tr [] ≡ Some fault.PoolKind }
+    ensures lent_cards { lent_fault kind.Cr [] ≡ Some fault.PoolKind }
+    ensures lent_tape { lent_fault kind.Mt (codes "OUT") ≡ Some fault.PoolKind }
+    ensures bad_label { lent_fault kind.Mt (codes "a") ≡ Some fault.BadLabel }
     ensures last_address { show_fault 31 31 32 ≡ None }
     ensures at_size { show_fault 31 32 32 ≡ Some fault.ShowRange }
     ensures falling { show_fault 2 1 32 ≡ Some fault.ShowRange }
@@ -116,6 +141,50 @@ pub fn jobs()
     ensures line_behind { job_fault (text (codes "KDF9 JOB 1" ∷ codes "SLOT 2" ∷ codes "STORE 32"
         ∷ codes "DECK" ∷ codes "ENDDECK" ∷ codes "SCHEDULE" ∷ codes "ENDJOB" ∷ [] ∷ []))
         ≡ Some (fault.BadLine, 8) }
+{}
+
+/// Jobs with pools.
+pub fn pools()
+    ensures told { job (text (codes "KDF9 JOB 1" ∷ codes "SLOT 0" ∷ codes "STORE 32"
+        ∷ codes "DECK" ∷ codes "ENDDECK" ∷ codes "SLOT 3" ∷ codes "STORE 64" ∷ codes "DECK"
+        ∷ codes "ENDDECK" ∷ codes "POOL" ∷ codes "DEVICE 9 TP" ∷ codes "DEVICE 2 LP"
+        ∷ codes "SCHEDULE" ∷ codes "ENDJOB" ∷ []))
+        ≡ record {
+          slots = record {
+            p = 0;
+            size = 32;
+            deck = [];
+            devices = [];
+            shows = [];
+            pool = (9, kind.Tp) ∷ (2, kind.Lp) ∷ [];
+          } ∷ record {
+            p = 3;
+            size = 64;
+            deck = [];
+            devices = [];
+            shows = [];
+            pool = (9, kind.Tp) ∷ (2, kind.Lp) ∷ [];
+          } ∷ [];
+          events = [];
+          pool = (9, kind.Tp) ∷ (2, kind.Lp) ∷ [];
+        } }
+    ensures number_of_a_slot { job_fault (text (codes "KDF9 JOB 1" ∷ codes "SLOT 0"
+        ∷ codes "STORE 32" ∷ codes "DECK" ∷ codes "ENDDECK" ∷ codes "DEVICE 9 LP" ∷ codes "POOL"
+        ∷ codes "DEVICE 9 TP" ∷ codes "SCHEDULE" ∷ codes "ENDJOB" ∷ []))
+        ≡ Some (fault.DeviceTwice, 8) }
+    ensures number_twice { job_fault (text (codes "KDF9 JOB 1" ∷ codes "SLOT 0"
+        ∷ codes "STORE 32" ∷ codes "DECK" ∷ codes "ENDDECK" ∷ codes "POOL" ∷ codes "DEVICE 9 TP"
+        ∷ codes "DEVICE 9 TR" ∷ codes "SCHEDULE" ∷ codes "ENDJOB" ∷ []))
+        ≡ Some (fault.DeviceTwice, 8) }
+    ensures lines { pool_lines (text (codes "KDF9 JOB 1" ∷ codes "SLOT 0" ∷ codes "STORE 32"
+        ∷ codes "DECK" ∷ codes "POOL" ∷ codes "ENDDECK" ∷ codes "SHOW 0 1" ∷ codes "POOL"
+        ∷ codes "DEVICE 9 TP" ∷ codes "SCHEDULE" ∷ codes "ENDJOB" ∷ []))
+        ≡ codes "POOL" ∷ codes "DEVICE 9 TP" ∷ [] }
+    ensures lines_before { slot_lines 0 (text (codes "KDF9 JOB 1" ∷ codes "SLOT 0"
+        ∷ codes "STORE 32" ∷ codes "DECK" ∷ codes "POOL" ∷ codes "ENDDECK" ∷ codes "SHOW 0 1"
+        ∷ codes "POOL" ∷ codes "DEVICE 9 TP" ∷ codes "SCHEDULE" ∷ codes "ENDJOB" ∷ []))
+        ≡ codes "SLOT 0" ∷ codes "STORE 32" ∷ codes "DECK" ∷ codes "POOL" ∷ codes "ENDDECK"
+        ∷ codes "SHOW 0 1" ∷ [] }
 {}
 
 /// Numbers and the letters that come of them.

@@ -37,6 +37,8 @@ pub enum JobFault {
     TooManyOrders,
     /// The schedule has more than 500,000 lines.
     TooManyEvents,
+    /// A device of the pool is no punch or printer.
+    PoolKind,
 }
 
 impl JobFault {
@@ -59,6 +61,7 @@ impl JobFault {
             JobFault::ClockFalls => "ClockFalls",
             JobFault::TooManyOrders => "TooManyOrders",
             JobFault::TooManyEvents => "TooManyEvents",
+            JobFault::PoolKind => "PoolKind",
         }
     }
 }

@@ -1,14 +1,16 @@
 //! A job, as it was read.
-ghost use Rattle.std.specs.Prelude.{◌≡◌, map};
+ghost use Rattle.std.specs.Prelude.{◌≡◌, IfOk, map};
 ghost use Rattle.std.specs.Option.{option_map};
 ghost use Rattle.kdf_transfer.specs.Devices.{fixture_of, progress_of};
+ghost use Rattle.kdf_job.specs.Draft.{with_pool};
 ghost use Rattle.kdf_job.specs.Job.{JobDevice};
-ghost use Rattle.kdf_job.specs.Shows.{shown_device};
+ghost use Rattle.kdf_job.specs.Shows.{shown_device, shown_slot};
 ghost use Rattle.kdf_job.specs.Slots.{fixture_on, lent_kind, numbered};
 
 use kdf_journal::Kind;
 use kdf_schedule::Event;
 use kdf_transfer::Device;
+use std::alloc::{AllocError, Global};
 
 /// A job, and a deck, may have so many bytes.
 pub const TEXT_LIMIT: usize = 268_435_456;
@@ -53,6 +55,20 @@ impl SlotJob {
             Some(device) => Some(&device.1),
             None => None,
         }
+    }
+
+    /// The slot with this pool.
+    pub(crate) fn with_pool(
+        mut self,
+        alloc: Global,
+        pool: &[(u8, Kind)],
+    ) -> Result<SlotJob, AllocError>
+        ensures { IfOk result (λ s. shown_slot s ≡ with_pool pool.now (shown_slot self)) }
+    {
+        let mut copy = Vec::new(alloc);
+        copy.extend_from_slice(pool)?;
+        self.pool = copy;
+        Ok(self)
     }
 }
 

@@ -19,6 +19,8 @@ pub enum Place {
     BehindDevice,
     /// Behind a line that tells what is shown.
     BehindShow,
+    /// In the pool: behind the line that begins it, or a device of it.
+    BehindPool,
     /// In the schedule.
     InSchedule,
     /// Behind the end of the job.

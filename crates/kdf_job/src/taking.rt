@@ -1,12 +1,12 @@
 //! Lines, each taken where it stands.
 ghost use Rattle.std.specs.Prelude.{◌≡◌, ◌+◌, ◌≤◌, ◌∷◌, [], true, codes, is_some, length, Ok};
 ghost use Rattle.kdf_schedule.specs.Events.{IsInRange};
-ghost use Rattle.kdf_job.specs.Forms.{ADeckLine, ADevice, AMedium, AShow, ASlot, AStore, AnEvent, alone, device_or_end, first_told, medium_line, slot_ends, slot_line, told_at, ASchedule, AnEndJob};
+ghost use Rattle.kdf_job.specs.Forms.{ADeckLine, ADevice, AMedium, APoolDevice, AShow, ASlot, AStore, AnEvent, alone, device_or_end, first_told, job_ends, medium_line, pool_device_or_end, slot_ends, slot_line, told_at, ASchedule, AnEndJob};
 ghost use Rattle.kdf_job.specs.Lengths.{weight};
 ghost use Rattle.kdf_job.specs.Shows.{shown_draft};
 ghost use Rattle.kdf_job.specs.Taking.{IsSound, Takes};
 ghost use Rattle.kdf_job.specs.declared.job.TheConstants.{TEXT_LIMIT};
-ghost use Rattle.kdf_job.specs.declared.place.Place.TheVariants.{First, BehindHeader, BehindSlot, BehindStore, InDeck, BehindDeck, BehindDevice, BehindShow, InSchedule, BehindEnd};
+ghost use Rattle.kdf_job.specs.declared.place.Place.TheVariants.{First, BehindHeader, BehindSlot, BehindStore, InDeck, BehindDeck, BehindDevice, BehindShow, BehindPool, InSchedule, BehindEnd};
 
 use crate::draft::Draft;
 use crate::forms::{
@@ -34,6 +34,7 @@ impl Draft {
             Place::BehindDeck => self.take_device_or_end(alloc, line),
             Place::BehindDevice => self.take_medium_or_device(alloc, line),
             Place::BehindShow => self.take_show_or_end(line),
+            Place::BehindPool => self.take_in_pool(line),
             Place::InSchedule => self.take_event_or_end(line),
             Place::BehindEnd => Err(LineError::Fault(JobFault::BadLine)),
         }
@@ -56,6 +57,7 @@ impl Draft {
     /// Takes the number of the first slot.
     fn take_first_slot(&mut self, line: &[u8]) -> Result<(), LineError>
         requires sound { IsSound self.old }
+        requires none { (shown_draft self.old).pool ≡ [] }
         ensures { Takes (first_told (slot_line line.now ∷ []))
             (length line.now + 1) self.old self.new result }
     {
@@ -69,6 +71,7 @@ impl Draft {
     /// Takes the number of a slot.
     fn take_slot(&mut self, p: u8) -> Result<(), LineError>
         requires sound { IsSound self.old }
+        requires none { (shown_draft self.old).pool ≡ [] }
         requires few { p ≤ 3 }
         ensures { Takes (Ok (ASlot p)) 1 self.old self.new result }
     {
@@ -142,6 +145,7 @@ impl Draft {
     fn take_medium_or_device(&mut self, alloc: Global, line: &[u8]) -> Result<(), LineError>
         requires sound { IsSound self.old }
         requires there { is_some (shown_draft self.old).slot ≡ true }
+        requires none { (shown_draft self.old).pool ≡ [] }
         requires fits { weight (shown_draft self.old) + length line.now ≤ TEXT_LIMIT }
         ensures { Takes (first_told (medium_line line.now ∷ device_or_end line.now))
             (length line.now + 1) self.old self.new result }
@@ -156,6 +160,7 @@ impl Draft {
     fn take_medium(&mut self, alloc: Global, line: MediumLine<'_>) -> Result<(), LineError>
         requires sound { IsSound self.old }
         requires there { is_some (shown_draft self.old).slot ≡ true }
+        requires none { (shown_draft self.old).pool ≡ [] }
         requires fits { weight (shown_draft self.old) + length line.text.now ≤ TEXT_LIMIT }
         ensures { Takes (Ok (AMedium line.entry.marked line.entry.text.now))
             (length line.entry.text.now + 2) self.old self.new result }
@@ -167,6 +172,7 @@ impl Draft {
     fn take_device_or_end(&mut self, alloc: Global, line: &[u8]) -> Result<(), LineError>
         requires sound { IsSound self.old }
         requires there { is_some (shown_draft self.old).slot ≡ true }
+        requires none { (shown_draft self.old).pool ≡ [] }
         ensures { Takes (first_told (device_or_end line.now))
             (length line.now + 1) self.old self.new result }
     {
@@ -181,6 +187,7 @@ impl Draft {
     fn take_device(&mut self, alloc: Global, device: DeviceLine<'_>) -> Result<(), LineError>
         requires sound { IsSound self.old }
         requires there { is_some (shown_draft self.old).slot ≡ true }
+        requires none { (shown_draft self.old).pool ≡ [] }
         requires few { device.d ≤ 15 }
         ensures { Takes (Ok (ADevice device.entry.d device.entry.kind device.entry.label.now)) 1
             self.old self.new result }
@@ -197,13 +204,14 @@ impl Draft {
     fn take_show_or_end(&mut self, line: &[u8]) -> Result<(), LineError>
         requires sound { IsSound self.old }
         requires there { is_some (shown_draft self.old).slot ≡ true }
+        requires none { (shown_draft self.old).pool ≡ [] }
         ensures { Takes (first_told (slot_ends line.now))
             (length line.now + 1) self.old self.new result }
     {
         match addresses(line) {
             Some(Ok((first, last))) => self.take_show(first, last),
             Some(Err(fault)) => Err(LineError::Fault(fault)),
-            None => self.take_slot_or_schedule(line),
+            None => self.take_slot_or_end(line),
         }
     }
 
@@ -211,6 +219,7 @@ impl Draft {
     fn take_show(&mut self, first: u16, last: u16) -> Result<(), LineError>
         requires sound { IsSound self.old }
         requires there { is_some (shown_draft self.old).slot ≡ true }
+        requires none { (shown_draft self.old).pool ≡ [] }
         ensures { Takes (Ok (AShow first last)) 1 self.old self.new result }
     {
         if let Some(fault) = self.show_fault(first, last) {
@@ -220,19 +229,77 @@ impl Draft {
         Ok(())
     }
 
-    /// Takes the number of the next slot, or the begin of the schedule.
-    fn take_slot_or_schedule(&mut self, line: &[u8]) -> Result<(), LineError>
+    /// Takes the number of the next slot, or what may stand behind the last one.
+    fn take_slot_or_end(&mut self, line: &[u8]) -> Result<(), LineError>
         requires sound { IsSound self.old }
         requires there { is_some (shown_draft self.old).slot ≡ true }
-        ensures { Takes
-            (first_told (slot_line line.now ∷ alone (codes "SCHEDULE") ASchedule line.now ∷ []))
+        requires none { (shown_draft self.old).pool ≡ [] }
+        ensures { Takes (first_told (slot_line line.now ∷ job_ends line.now))
             (length line.now + 1) self.old self.new result }
     {
         match slot_number(line) {
             Some(Ok(p)) => self.take_slot(p),
             Some(Err(fault)) => Err(LineError::Fault(fault)),
+            None => self.take_pool_or_schedule(line),
+        }
+    }
+
+    /// Takes the begin of the pool, or of the schedule.
+    fn take_pool_or_schedule(&mut self, line: &[u8]) -> Result<(), LineError>
+        requires sound { IsSound self.old }
+        requires there { is_some (shown_draft self.old).slot ≡ true }
+        ensures { Takes (first_told (job_ends line.now))
+            (length line.now + 1) self.old self.new result }
+    {
+        if line == b"POOL".as_slice() {
+            self.place = Place::BehindPool;
+            Ok(())
+        } else {
+            self.take_schedule(line)
+        }
+    }
+
+    /// Takes a device of the pool, or the begin of the schedule. The pool has no media.
+    fn take_in_pool(&mut self, line: &[u8]) -> Result<(), LineError>
+        requires sound { IsSound self.old }
+        requires place { self.old.place ≡ BehindPool }
+        ensures { Takes (told_at BehindPool line.now)
+            (length line.now + 1) self.old self.new result }
+    {
+        match medium_line(line) {
+            Some(_) => Err(LineError::Fault(JobFault::BadMedium)),
+            None => self.take_pool_device_or_end(line),
+        }
+    }
+
+    /// Takes a device of the pool, or the begin of the schedule.
+    fn take_pool_device_or_end(&mut self, line: &[u8]) -> Result<(), LineError>
+        requires sound { IsSound self.old }
+        requires there { is_some (shown_draft self.old).slot ≡ true }
+        ensures { Takes (first_told (pool_device_or_end line.now))
+            (length line.now + 1) self.old self.new result }
+    {
+        match device_line(line) {
+            Some(Ok(device)) => self.take_pool_device(device),
+            Some(Err(fault)) => Err(LineError::Fault(fault)),
             None => self.take_schedule(line),
         }
+    }
+
+    /// Takes a device of the pool.
+    fn take_pool_device(&mut self, device: DeviceLine<'_>) -> Result<(), LineError>
+        requires sound { IsSound self.old }
+        requires there { is_some (shown_draft self.old).slot ≡ true }
+        requires few { device.d ≤ 15 }
+        ensures { Takes
+            (Ok (APoolDevice device.entry.d device.entry.kind device.entry.label.now)) 1
+            self.old self.new result }
+    {
+        if let Some(fault) = self.pool_fault(device) {
+            return Err(LineError::Fault(fault));
+        }
+        self.add_pool_device(device)?;
+        Ok(())
     }
 
     /// Takes the begin of the schedule.
