@@ -184,7 +184,7 @@ is_writer Tp = true
 is_writer Lp = true
 is_writer _ = false
 
--- the label of a tape that would be lent out stands in no slot, so that it is no other tape's
+-- what is wrong with lending out a device; labels are told apart within a slot alone, and the pool is in none
 abbrev pub lent_fault : Kind → List ℕ → Option JobFault
 lent_fault Mt label = if is_label label then Some PoolKind else Some BadLabel
 lent_fault kind label = if is_writer kind then None else Some PoolKind
