@@ -36,15 +36,15 @@ has_before n xs ys there = list_any-append (λ m. nat_eq m n) xs ys ∙ ap (λ (
 
 twice : (xs ys : List ℕ) (n : ℕ) → IsDistinct nat_eq (xs ++ ys) → has n xs ≡ true → has n ys ≡ true → ⊥
 twice [] ys n is there here = absurd cc
-twice (x ∷ xs) ys n is there here = go (nat_eq x n) refl there
+twice (x ∷ xs) ys n is there here = go (nat_eq x n) refl (λ later. twice xs ys n (IsDistinct-tail nat_eq x (xs ++ ys) is) later here) there
   where
-    go : (b : Bool) → nat_eq x n ≡ b → (b || has n xs) ≡ true → ⊥
-    go true e there =
+    go : (b : Bool) → nat_eq x n ≡ b → (has n xs ≡ true → ⊥) → (b || has n xs) ≡ true → ⊥
+    go true e later there =
         let same : x ≡ n = eqb-true x n e in
         let not_behind : has x (xs ++ ys) ≡ false = has_not x (xs ++ ys) (IsDistinct-head nat_eq x (xs ++ ys) is) in
         let behind : has x (xs ++ ys) ≡ true = rw same (has_behind n xs ys here) in
         absurd cc
-    go false e there = twice xs ys n (IsDistinct-tail nat_eq x (xs ++ ys) is) there here
+    go false e later there = later there
 
 -- ---- devices of a number
 
