@@ -1,6 +1,7 @@
--- The devices by number.
+-- The places by number.
 use Rattle.std.proofs.Common.{◌≡◌, ℕ, Bool, true, false, cond, ltb, List, [], map, get_or, set, Option, Some, None, refl, sym, ap, ◌∙◌, subst}
-use Rattle.std.specs.Prelude.{◌&&◌}
+use Rattle.std.specs.Prelude.{◌&&◌, unwrap_or}
+use Rattle.std.specs.Option.{option_map}
 use Rattle.std.proofs.Math.ListN.{get_or-map}
 use Rattle.std.proofs.Math.Seq.{map-set_same}
 use Rattle.std.proofs.lemmas.List.{map-set}
@@ -14,69 +15,109 @@ use Rattle.kdf_transfer.proofs.OfKind.{exact}
 use Rattle.kdf_processor.specs.Claims.{claim, kind_at}
 use Rattle.kdf_processor.specs.Effect.{Starts}
 use Rattle.kdf_processor.specs.Row.{at_once, transferred, moved_by}
-use Rattle.kdf_processor.specs.State.{Claims, Stock, device_in, fixture_at}
-use Rattle.kdf_alone.specs.Places.{fixture_in, progress_in, IsMoved}
+use Rattle.kdf_processor.specs.State.{Claims, Stock, device_in, fixture_at, own_fixture_at, pool_kind_at, pooled_or}
+use Rattle.kdf_alone.specs.declared.place.Place.{Place}
+use Rattle.kdf_alone.specs.declared.place.Place.TheVariants.{Absent, Own, Pooled}
+use Rattle.kdf_alone.specs.declared.stint.Stint.{Stint}
+use Rattle.kdf_alone.specs.Places.{own_fixture_in, pool_kind_in, fixture_in, progress_in, IsMoved, IsWhole}
+use Rattle.kdf_alone.specs.Places.{device_in as device_of}
+use Rattle.kdf_alone.specs.Stints.{stint_in}
 
--- what a program with these devices is checked against
-abbrev pub claims : ℕ → List Bool → List (Option Device) → Claims
-claims size claimed ds = record { size = size; claimed = claimed; fixtures = map fixture_in ds; pool = [] }
+-- what a program with these places is checked against
+abbrev pub claims : ℕ → List Bool → List Place → Claims
+claims size claimed ps =
+    record { size = size; claimed = claimed; fixtures = map own_fixture_in ps; pool = map pool_kind_in ps }
 
-abbrev pub stock : ℕ → List Bool → List (Option Device) → List Spooled → ℕ → List ℕ → Stock
-stock size claimed ds texts asked words =
-    record { claims = claims size claimed ds; spooled = texts; asked = asked; stints = []; store = words; devices = map progress_in ds }
+abbrev pub stock : ℕ → List Bool → List Place → List Stint → List Spooled → ℕ → List ℕ → Stock
+stock size claimed ps xs texts asked words =
+    record { claims = claims size claimed ps; spooled = texts; asked = asked; stints = map stint_in xs; store = words; devices = map progress_in ps }
 
 -- what stands at a place
-pub fixture_is : (size : ℕ) (claimed : List Bool) (ds : List (Option Device)) (d : ℕ) → fixture_at (claims size claimed ds) d ≡ fixture_in (get_or ds d None)
-fixture_is size claimed ds d = get_or-map fixture_in ds d None
+pub own_is : (ps : List Place) (d : ℕ) → get_or (map own_fixture_in ps) d None ≡ own_fixture_in (get_or ps d Absent)
+own_is ps d = get_or-map own_fixture_in ps d Absent
 
-pub progress_is : (ds : List (Option Device)) (d : ℕ) → get_or (map progress_in ds) d new_progress ≡ progress_in (get_or ds d None)
-progress_is ds d = get_or-map progress_in ds d None
+pub pool_is : (ps : List Place) (d : ℕ) → get_or (map pool_kind_in ps) d None ≡ pool_kind_in (get_or ps d Absent)
+pool_is ps d = get_or-map pool_kind_in ps d Absent
 
-pub kind_is : (size : ℕ) (claimed : List Bool) (ds : List (Option Device)) (d : ℕ) → kind_at (claims size claimed ds) d ≡ kind_in (fixture_in (get_or ds d None))
-kind_is size claimed ds d = ap kind_in (fixture_is size claimed ds d)
+pub fixture_is : (size : ℕ) (claimed : List Bool) (ps : List Place) (d : ℕ) → fixture_at (claims size claimed ps) d ≡ fixture_in (get_or ps d Absent)
+fixture_is size claimed ps d = λ i. pooled_or (pool_is ps d i) (own_is ps d i)
 
--- a device that is changed where it may be leaves all as they are
-pub fixtures_stay : (ds : List (Option Device)) (d : ℕ) (place : Option Device) → fixture_in place ≡ fixture_in (get_or ds d None) → map fixture_in (set ds d place) ≡ map fixture_in ds
-fixtures_stay ds d place e = map-set_same fixture_in ds d place None e
+pub progress_is : (ps : List Place) (d : ℕ) → get_or (map progress_in ps) d new_progress ≡ progress_in (get_or ps d Absent)
+progress_is ps d = get_or-map progress_in ps d Absent
 
-pub progresses_stay : (ds : List (Option Device)) (d : ℕ) (place : Option Device) → progress_in place ≡ progress_in (get_or ds d None) → map progress_in (set ds d place) ≡ map progress_in ds
-progresses_stay ds d place e = map-set_same progress_in ds d place None e
+pub kind_is : (size : ℕ) (claimed : List Bool) (ps : List Place) (d : ℕ) → kind_at (claims size claimed ps) d ≡ kind_in (fixture_in (get_or ps d Absent))
+kind_is size claimed ps d = ap kind_in (fixture_is size claimed ps d)
 
--- and so what the program has
-pub same_stock : (size : ℕ) (claimed : List Bool) (ds : List (Option Device)) (texts : List Spooled) (asked : ℕ) (words : List ℕ) (d : ℕ) (place : Option Device) → fixture_in place ≡ fixture_in (get_or ds d None) → progress_in place ≡ progress_in (get_or ds d None) → stock size claimed (set ds d place) texts asked words ≡ stock size claimed ds texts asked words
-same_stock size claimed ds texts asked words d place fixture progress =
-    λ i. record { claims = record { size = size; claimed = claimed; fixtures = fixtures_stay ds d place fixture i; pool = [] }; spooled = texts; asked = asked; stints = []; store = words; devices = progresses_stay ds d place progress i }
+-- what the device of a place is
+pub whole_fixture : (place : Place) (device : Device) → IsWhole place → device_of place ≡ Some device → fixture_in place ≡ Some (fixture_of device)
+whole_fixture place device whole e = whole ∙ ap (option_map fixture_of) e
+
+came : (place : Place) (device : Device) → device_of place ≡ Some device → progress_in place ≡ progress_of device
+came Absent device e = absurd cc
+came (Own x) device e = ap (λ o. unwrap_or (option_map progress_of o) new_progress) e
+came (Pooled x) device e = ap (λ o. unwrap_or (option_map progress_of o) new_progress) e
+
+-- places that are changed and stay the same for what is seen of them
+pub seen_stays : {X : Type 0} (see : Place → X) (ps : List Place) (d : ℕ) (place : Place) → see place ≡ see (get_or ps d Absent) → map see (set ps d place) ≡ map see ps
+seen_stays see ps d place e = map-set_same see ps d place Absent e
+
+-- a place that is changed where it may be leaves what the program has
+pub same_stock : (size : ℕ) (claimed : List Bool) (ps : List Place) (xs : List Stint) (texts : List Spooled) (asked : ℕ) (words : List ℕ) (d : ℕ) (place : Place)
+    → own_fixture_in place ≡ own_fixture_in (get_or ps d Absent) → pool_kind_in place ≡ pool_kind_in (get_or ps d Absent) → progress_in place ≡ progress_in (get_or ps d Absent)
+    → stock size claimed (set ps d place) xs texts asked words ≡ stock size claimed ps xs texts asked words
+same_stock size claimed ps xs texts asked words d place own pool progress =
+    λ i. record {
+      claims = record { size = size; claimed = claimed; fixtures = seen_stays own_fixture_in ps d place own i; pool = seen_stays pool_kind_in ps d place pool i };
+      spooled = texts;
+      asked = asked;
+      stints = map stint_in xs;
+      store = words;
+      devices = seen_stays progress_in ps d place progress i;
+    }
 
 -- a transfer is done at once
-pub stock_moved : (size : ℕ) (claimed : List Bool) (ds : List (Option Device)) (texts : List Spooled) (asked : ℕ) (words : List ℕ) (d : ℕ) (order : TransferOrder) (first last : ℕ) (device : Device) (place : Option Device) (after : List ℕ) → get_or ds d None ≡ Some device → IsMoved order first last device words place after → stock size claimed (set ds d place) texts asked after ≡ at_once (Starts d order first last) (stock size claimed ds texts asked words)
-stock_moved size claimed ds texts asked words d order first last device place after here moved =
-    let k = stock size claimed ds texts asked words in
-    let fixture : fixture_at k.claims d ≡ Some (fixture_of device) = fixture_is size claimed ds d ∙ ap fixture_in here in
-    let progress : device_in k d ≡ progress_of device = progress_is ds d ∙ ap progress_in here in
-    let kept : map fixture_in (set ds d place) ≡ map fixture_in ds = fixtures_stay ds d place (moved.fixture ∙ sym (ap fixture_in here)) in
-    let gone : map progress_in (set ds d place) ≡ set (map progress_in ds) d (device_after order first last (order_words order first last words) (fixture_of device) (device_in k d)) =
-    map-set progress_in ds d place
-    ∙ ap (set (map progress_in ds) d) (moved.progress ∙ ap (device_after order first last (order_words order first last words) (fixture_of device)) (sym progress)) in
+pub stock_moved : (size : ℕ) (claimed : List Bool) (ps : List Place) (xs : List Stint) (texts : List Spooled) (asked : ℕ) (words : List ℕ) (d : ℕ) (order : TransferOrder) (first last : ℕ) (device : Device) (place : Place) (after : List ℕ)
+    → IsWhole (get_or ps d Absent) → device_of (get_or ps d Absent) ≡ Some device
+    → own_fixture_in place ≡ own_fixture_in (get_or ps d Absent) → pool_kind_in place ≡ pool_kind_in (get_or ps d Absent) → IsMoved order first last device words place after
+    → stock size claimed (set ps d place) xs texts asked after ≡ at_once (Starts d order first last) (stock size claimed ps xs texts asked words)
+stock_moved size claimed ps xs texts asked words d order first last device place after whole here own pool moved =
+    let k = stock size claimed ps xs texts asked words in
+    let fixture : fixture_at k.claims d ≡ Some (fixture_of device) = fixture_is size claimed ps d ∙ whole_fixture (get_or ps d Absent) device whole here in
+    let progress : device_in k d ≡ progress_of device = progress_is ps d ∙ came (get_or ps d Absent) device here in
+    let gone : map progress_in (set ps d place) ≡ set (map progress_in ps) d (device_after order first last (order_words order first last words) (fixture_of device) (device_in k d)) =
+    map-set progress_in ps d place
+    ∙ ap (set (map progress_in ps) d) (moved.progress ∙ ap (device_after order first last (order_words order first last words) (fixture_of device)) (sym progress)) in
     let wrote : after ≡ stored order first last words (fixture_of device) (device_in k d) = moved.words_are ∙ ap (stored order first last words (fixture_of device)) (sym progress) in
-    let done : stock size claimed (set ds d place) texts asked after ≡ moved_by d order first last (fixture_of device) k =
-    λ i. record { claims = record { size = size; claimed = claimed; fixtures = kept i; pool = [] }; spooled = texts; asked = asked; stints = []; store = wrote i; devices = gone i } in
+    let done : stock size claimed (set ps d place) xs texts asked after ≡ moved_by d order first last (fixture_of device) k =
+    λ i. record {
+      claims = record { size = size; claimed = claimed; fixtures = seen_stays own_fixture_in ps d place own i; pool = seen_stays pool_kind_in ps d place pool i };
+      spooled = texts;
+      asked = asked;
+      stints = map stint_in xs;
+      store = wrote i;
+      devices = gone i;
+    } in
     done ∙ ap (λ f. transferred d order first last f k) (sym fixture)
 
-present : (place : Option Device) (kind : Kind) → kind_in (fixture_in place) ≡ Some kind → (device : Device) × (place ≡ Some device)
-present None kind e = absurd cc
-present (Some device) kind e = (device, refl)
+present : (place : Place) (kind : Kind) → kind_in (fixture_in place) ≡ Some kind → (device : Device) × (device_of place ≡ Some device)
+present Absent kind e = absurd cc
+present (Own device) kind e = (device, refl)
+present (Pooled device) kind e = (device, refl)
 
-claim_kind : (size : ℕ) (claimed : List Bool) (ds : List (Option Device)) (d : ℕ) (b : Bool) (kind : Kind) → is_kind kind (cond b (kind_at (claims size claimed ds) d) None) ≡ true → kind_at (claims size claimed ds) d ≡ Some kind
-claim_kind size claimed ds d true kind e = exact kind (kind_at (claims size claimed ds) d) e
-claim_kind size claimed ds d false kind e = let h : None ≡ Some kind = exact kind None e in absurd cc
+claim_kind : (size : ℕ) (claimed : List Bool) (ps : List Place) (d : ℕ) (b : Bool) (kind : Kind) → is_kind kind (cond b (kind_at (claims size claimed ps) d) None) ≡ true → kind_at (claims size claimed ps) d ≡ Some kind
+claim_kind size claimed ps d true kind e = exact kind (kind_at (claims size claimed ps) d) e
+claim_kind size claimed ps d false kind e = let h : None ≡ Some kind = exact kind None e in absurd cc
+
+-- the kind of a device that is claimed is that of its place
+pub claimed_kind : (size : ℕ) (claimed : List Bool) (ps : List Place) (d : ℕ) (kind : Kind) → is_kind kind (claim (claims size claimed ps) d) ≡ true → kind_in (fixture_in (get_or ps d Absent)) ≡ Some kind
+claimed_kind size claimed ps d kind e = sym (kind_is size claimed ps d) ∙ claim_kind size claimed ps d (ltb d 16 && get_or claimed d false) kind e
 
 -- where a device of a kind is claimed, there is one
-pub claimed_device : (size : ℕ) (claimed : List Bool) (ds : List (Option Device)) (d : ℕ) (kind : Kind) → is_kind kind (claim (claims size claimed ds) d) ≡ true → (device : Device) × (get_or ds d None ≡ Some device)
-claimed_device size claimed ds d kind e =
-    present (get_or ds d None) kind (sym (kind_is size claimed ds d) ∙ claim_kind size claimed ds d (ltb d 16 && get_or claimed d false) kind e)
+pub claimed_device : (size : ℕ) (claimed : List Bool) (ps : List Place) (d : ℕ) (kind : Kind) → is_kind kind (claim (claims size claimed ps) d) ≡ true → (device : Device) × (device_of (get_or ps d Absent) ≡ Some device)
+claimed_device size claimed ps d kind e = present (get_or ps d Absent) kind (claimed_kind size claimed ps d kind e)
 
 -- a transfer, under other names
-pub moved_at : (order : TransferOrder) (first first' last last' : ℕ) (device : Device) (words words' : List ℕ) (place : Option Device) (after after' : List ℕ) → first ≡ first' → last ≡ last' → words ≡ words' → after' ≡ after → IsMoved order first last device words place after → IsMoved order first' last' device words' place after'
+pub moved_at : (order : TransferOrder) (first first' last last' : ℕ) (device : Device) (words words' : List ℕ) (place : Place) (after after' : List ℕ) → first ≡ first' → last ≡ last' → words ≡ words' → after' ≡ after → IsMoved order first last device words place after → IsMoved order first' last' device words' place after'
 moved_at order first first' last last' device words words' place after after' f l w a moved =
     subst (λ x. IsMoved order first' last' device words' place x) (sym a)
     (subst (λ x. IsMoved order first' last' device x place after) w

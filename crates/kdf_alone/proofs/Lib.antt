@@ -1,4 +1,6 @@
 pub mod Devices
 pub mod Rows
 pub mod Steps
+pub mod Stints
+pub mod Takings
 pub mod WorkedLemmas

@@ -1,21 +1,29 @@
 -- What a bench shows, and what an acting call does to it.
-use Rattle.std.specs.Prelude.{◌≡◌, ℕ, ◌+◌, ◌-◌, ◌*◌, ◌^◌, ◌<◌, ◌≤◌, true, [], map, None, slice_index_or, vec_len}
+use Rattle.std.specs.Prelude.{◌≡◌, ℕ, ◌+◌, ◌-◌, ◌*◌, ◌^◌, ◌<◌, ◌≤◌, true, map, slice_index_or, vec_len}
 use Rattle.std.specs.Vec.{vec_capacity}
 use Rattle.kdf_transfer.specs.AtOnce.{is_output}
 use Rattle.kdf_transfer.specs.declared.order.TransferOrder.{TransferOrder}
-use Rattle.kdf_processor.specs.Effect.{Act}
+use Rattle.kdf_processor.specs.Claims.{taken}
+use Rattle.kdf_processor.specs.Effect.{Act, Question, IsBusy, IsOut, Time, FreeOf}
 use Rattle.kdf_processor.specs.Room.{RoomFor}
 use Rattle.kdf_processor.specs.Row.{at_once}
 use Rattle.kdf_processor.specs.State.{Claims, State, Stock}
 use Rattle.kdf_processor.specs.declared.registers.Registers.{Registers}
 use Rattle.kdf_processor.specs.View.{View, by_itself}
 use Rattle.kdf_alone.specs.declared.bench.Bench.{Bench}
-use Rattle.kdf_alone.specs.Places.{fixture_in, progress_in, IsReady}
+use Rattle.kdf_alone.specs.declared.place.Place.TheVariants.{Absent}
+use Rattle.kdf_alone.specs.Places.{own_fixture_in, pool_kind_in, progress_in, IsReady}
+use Rattle.kdf_alone.specs.Stints.{stint_in}
 
--- what its program is checked against: the size of its store, and its devices by number
+-- what its program is checked against: the size of its store, its devices by number, and those of the pool
 abbrev pub claims_of : Bench → Claims
 claims_of b =
-    record { size = b.size; claimed = b.claimed; fixtures = map fixture_in b.devices.items; pool = [] }
+    record {
+      size = b.size;
+      claimed = b.claimed;
+      fixtures = map own_fixture_in b.places.items;
+      pool = map pool_kind_in b.places.items;
+    }
 
 -- what its program has beside its registers
 abbrev pub stock_of : Bench → Stock
@@ -24,14 +32,24 @@ stock_of b =
       claims = claims_of b;
       spooled = b.spooled.items;
       asked = b.asked;
-      stints = [];
+      stints = map stint_in b.stints.items;
       store = b.words.items;
-      devices = map progress_in b.devices.items;
+      devices = map progress_in b.places.items;
     }
 
--- nothing is locked out or busy, and whatever is asked has the one answer
+-- whatever is asked has the one answer, but that one that takes from the pool is answered the device that it takes
+abbrev pub given : Claims → ℕ → Question → ℕ
+given c a (IsBusy d) = a
+given c a (IsOut first last) = a
+given c a Time = a
+given c a (FreeOf kind) = taken c kind a
+
+-- a program that has this, where nothing is locked out, busy or taken
+abbrev pub shown_with : Stock → ℕ → View
+shown_with k a = by_itself (given k.claims a) k
+
 abbrev pub shown : Bench → View
-shown b = by_itself (λ _. b.answer) (stock_of b)
+shown b = shown_with (stock_of b) b.answer
 
 -- an acting call does at once what it does
 abbrev pub Acts : Bench → Act → Bench → Type 0
@@ -44,7 +62,7 @@ pub record Stays (old new : Bench) : Type 0 where
 
 -- there is memory for a transfer: for the blocks that its device gains, and for the characters of its area
 pub record CanStart (b : Bench) (d : ℕ) (order : TransferOrder) (first last : ℕ) : Type 0 where
-  pub device : IsReady order (slice_index_or b.devices.items d None)
+  pub device : IsReady order (slice_index_or b.places.items d Absent)
   pub block : is_output order ≡ true → 8 * (last + 1 - first) ≤ vec_capacity b.block
 
 -- there is memory for one text more
@@ -56,9 +74,14 @@ pub record CanSpool (b : Bench) (first last : ℕ) : Type 0 where
 abbrev pub CanAsk : Bench → Type 0
 CanAsk b = b.asked < 2 ^ 32 - 1
 
+-- there is memory for one stint more, and its answer can be counted
+pub record CanTake (b : Bench) : Type 0 where
+  pub stint : vec_len b.stints < vec_capacity b.stints
+  pub ask : CanAsk b
+
 -- for what an acting call keeps
 abbrev pub HasRoom : Bench → Act → Type 0
-HasRoom b act = RoomFor (CanStart b) (CanSpool b) (CanAsk b) act
+HasRoom b act = RoomFor (CanStart b) (CanSpool b) (CanTake b) (CanAsk b) act
 
 -- a program with these registers
 abbrev pub state_with : Registers → Bench → State

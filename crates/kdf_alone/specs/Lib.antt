@@ -1,4 +1,5 @@
 pub mod Bench
 pub mod Places
 pub mod Program
+pub mod Stints
 pub mod Worked

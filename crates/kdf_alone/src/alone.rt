@@ -1,13 +1,14 @@
 //! A program that runs by itself.
-ghost use Rattle.std.specs.Prelude.{◌≡◌, ◌+◌, ◌<◌, ◌≤◌, length, slice_index, true, IfOk, OnOk, OnErr};
+ghost use Rattle.std.specs.Prelude.{◌≡◌, ◌+◌, ◌<◌, ◌≤◌, length, slice_get, slice_index, true, IfOk, IfSome, OnOk, OnErr};
 ghost use Rattle.std.specs.Option.{option_copied};
 ghost use Rattle.kdf_job.specs.Shows.{shown_slot};
 ghost use Rattle.kdf_job.specs.Slots.{slot_of};
 ghost use Rattle.kdf_processor.specs.Claims.{is_claimed};
 ghost use Rattle.kdf_processor.specs.Lone.{is_live, lone};
 ghost use Rattle.kdf_processor.specs.Row.{next_of, row};
-ghost use Rattle.kdf_processor.specs.State.{begin, word_at};
-ghost use Rattle.kdf_alone.specs.Program.{given_by, IsDeviceAt};
+ghost use Rattle.kdf_processor.specs.State.{begin, lendings, word_at};
+ghost use Rattle.kdf_processor.specs.Stints.{IsStint};
+ghost use Rattle.kdf_alone.specs.Program.{given_by, AreApart, IsDeviceAt};
 
 use crate::bench::Bench;
 use crate::loading::{places, store};
@@ -41,16 +42,17 @@ impl Model for Alone {
 
 impl Alone {
     /// A program before its first order: the words of the image at the front of its store, and the
-    /// devices of the slot, none of them claimed.
+    /// devices of the slot and of the pool, none of them claimed. No number is both a device's of the slot and of the pool.
     pub fn load(alloc: Global, slot: &SlotJob, image: &Image) -> Result<Alone, AllocError>
-        requires { length image.now.words.items ≤ slot.now.size }
+        requires fits { length image.now.words.items ≤ slot.now.size }
+        requires apart { AreApart (shown_slot slot.now) }
         ensures { IfOk result (λ a. a ≡ begin (slot_of (shown_slot slot.now) image.now.words.items)) }
     {
         let words = store(alloc, slot.size, &image.words)?;
-        let devices = places(alloc, slot)?;
+        let places = places(alloc, slot)?;
         Ok(Alone {
             registers: Registers::new(),
-            bench: Bench::new(alloc, slot.size, words, devices),
+            bench: Bench::new(alloc, slot.size, words, places),
         })
     }
 
@@ -111,18 +113,33 @@ impl Alone {
         self.bench.word(address)
     }
 
-    /// The device of this number, if the program has one.
+    /// The device of this number, if the program has one of its own.
     pub fn device(&self, d: u8) -> Option<&Device>
         ensures { IsDeviceAt self.now d (option_copied result) }
     {
         self.bench.device(d)
     }
 
-    /// Whether the program has claimed the device of this number.
+    /// Whether the program has claimed the device of this number, its own or one of the pool.
     pub fn claimed(&self, d: u8) -> bool
         ensures { result ≡ is_claimed self.now.stock.claims d }
     {
         self.bench.held(u16::from(d)).is_some()
+    }
+
+    /// How many stints it has: how often it took a device from the pool.
+    pub fn stints(&self) -> usize
+        ensures { result ≡ length (lendings self.now.stock) }
+    {
+        self.bench.stints()
+    }
+
+    /// The stint that began after `i` others: the number of its device, whether that was given back, and the device.
+    pub fn stint(&self, i: usize) -> (u8, bool, &Device)
+        requires { i < length (lendings self.now.stock) }
+        ensures { IfSome (slice_get (lendings self.now.stock) i) (λ x. IsStint x result.0 result.1 result.2.now) }
+    {
+        self.bench.stint(i)
     }
 
     /// What it spooled, the oldest first.

@@ -1,7 +1,11 @@
 //! The port of a program by itself.
-ghost use Rattle.std.specs.Prelude.{◌≡◌, [], length};
+ghost use Rattle.std.specs.Prelude.{◌≡◌, ◌<◌, ℕ, [], All, length, map, slice_set, HoldsAt, IfNone, IfSome};
+ghost use Rattle.std.proofs.Props.{props};
+ghost use Rattle.kdf_alone.specs.Places.{pool_kind_in, IsWhole};
+ghost use Rattle.kdf_alone.specs.Stints.{AreLent, IsKept, IsOpen};
 
-use crate::places::{is_wanted, kind_in, make_ready, test_in, transfer};
+use crate::place::Place;
+use crate::stint::Stint;
 use crate::text::{characters_out, text_of};
 use kdf_journal::Kind;
 use kdf_processor::{Port, Reserve, Spooled, Test, Wanted, least};
@@ -16,9 +20,11 @@ pub struct Bench {
     size: u16,
     words: Vec<Word>,
     /// The devices by number, sixteen places.
-    devices: Vec<Option<Device>>,
+    places: Vec<Place>,
     claimed: [bool; 16],
     spooled: Vec<Spooled>,
+    /// The stints, in the order in which their devices were taken.
+    stints: Vec<Stint>,
     /// How many answers were taken.
     asked: u32,
     /// What the next order is answered that asks.
@@ -26,40 +32,54 @@ pub struct Bench {
     /// Memory for the characters that an order moves.
     block: Vec<u8>,
     ghost whole: { length words.items ≡ size },
-    ghost sixteen: { length devices.items ≡ 16 },
+    ghost sixteen: { length places.items ≡ 16 },
+    ghost pooled: { All IsWhole places.items } by { Prim.hlevel props },
+    ghost kept: { All (IsKept (map pool_kind_in places.items)) stints.items } by { Prim.hlevel props },
+    ghost lent: { AreLent places.items claimed stints.items } by { Prim.hlevel props },
     ghost blank: { block.items ≡ [] },
 }
 
 impl Bench {
-    ghost use Rattle.std.specs.Prelude.{◌+◌, ◌-◌, ◌<◌, map, slice_index, slice_index_or, None, IfSome, IfNone};
+    ghost use Rattle.std.specs.Prelude.{◌+◌, ◌-◌, slice_index, slice_index_or, slice_get, None, true};
     ghost use Rattle.std.specs.Option.{option_copied};
-    ghost use Rattle.kdf_processor.specs.Claims.{free_for, is_free};
+    ghost use Rattle.kdf_processor.specs.Claims.{can_take, free_for, is_free, least_pooled, may_take, taken};
     ghost use Rattle.kdf_processor.specs.Effect.{Acquires};
-    ghost use Rattle.kdf_processor.specs.State.{unclaimed};
+    ghost use Rattle.kdf_processor.specs.State.{is_pooled, lendings, unclaimed};
+    ghost use Rattle.kdf_processor.specs.Stints.{IsStint};
+    ghost use Rattle.kdf_alone.specs.declared.place.Place.TheVariants.{Absent, Pooled};
     ghost use Rattle.kdf_alone.specs.Bench.{claims_of, stock_of, Acts};
-    ghost use Rattle.kdf_alone.specs.Places.{fixture_in, progress_in};
+    ghost use Rattle.kdf_alone.specs.Places.{own_device_in, own_fixture_in, progress_in};
+    ghost use Rattle.kdf_alone.specs.Stints.{IsUnlent};
 
     /// A store and devices, none of them claimed.
     #[tactic(auto, unfolding(kdf_processor::specs::State::unclaimed))]
-    pub fn new(alloc: Global, size: u16, words: Vec<Word>, devices: Vec<Option<Device>>) -> Bench
+    pub fn new(alloc: Global, size: u16, words: Vec<Word>, places: Vec<Place>) -> Bench
         requires whole { length words.items ≡ size }
-        requires sixteen { length devices.items ≡ 16 }
+        requires sixteen { length places.items ≡ 16 }
+        requires pooled { All IsWhole places.items }
+        requires unlent { All IsUnlent places.items }
         ensures { stock_of result ≡ record {
-          claims = record { size = size; claimed = unclaimed; fixtures = map fixture_in devices.items; pool = [] };
+          claims = record {
+            size = size;
+            claimed = unclaimed;
+            fixtures = map own_fixture_in places.items;
+            pool = map pool_kind_in places.items;
+          };
           spooled = [];
           asked = 0;
           stints = [];
           store = words.items;
-          devices = map progress_in devices.items;
+          devices = map progress_in places.items;
         } }
     {
         Bench {
             alloc,
             size,
             words,
-            devices,
+            places,
             claimed: [false; 16],
             spooled: Vec::new(alloc),
+            stints: Vec::new(alloc),
             asked: 0,
             answer: 0,
             block: Vec::new(alloc),
@@ -74,13 +94,43 @@ impl Bench {
         self.words[usize::from(address)]
     }
 
-    /// The device of this number.
+    /// The device of this number, if the program has one of its own.
     pub fn device(&self, d: u8) -> Option<&Device>
-        ensures { option_copied result ≡ slice_index_or self.now.devices.items d None }
+        ensures { option_copied result ≡ own_device_in (slice_index_or self.now.places.items d Absent) }
     {
-        match self.devices.get(usize::from(d)) {
-            Some(Some(device)) => Some(device),
+        match self.places.get(usize::from(d)) {
+            Some(Place::Own(device)) => Some(device),
             _ => None,
+        }
+    }
+
+    /// How many stints there are.
+    pub fn stints(&self) -> usize
+        ensures { result ≡ length (lendings (stock_of self.now)) }
+    {
+        self.stints.len()
+    }
+
+    /// The stint that began after `i` others: the number of its device, whether that was given back, and the device.
+    pub fn stint(&self, i: usize) -> (u8, bool, &Device)
+        requires { i < length (lendings (stock_of self.now)) }
+        ensures { IfSome (slice_get (lendings (stock_of self.now)) i) (λ x. IsStint x result.0 result.1 result.2.now) }
+    {
+        let stint = &self.stints[i];
+        match &stint.left {
+            Some(device) => (stint.d, true, device),
+            None => (stint.d, false, self.lent(stint.d)),
+        }
+    }
+
+    /// The device of the pool of this number.
+    fn lent(&self, d: u8) -> &Device
+        requires { is_pooled (claims_of self.now) d ≡ true }
+        ensures { slice_index_or self.now.places.items d Absent ≡ Pooled result.now }
+    {
+        match &self.places[usize::from(d)] {
+            Place::Pooled(device) => device,
+            Place::Absent | Place::Own(_) => unreachable!(),
         }
     }
 
@@ -130,7 +180,7 @@ impl Bench {
         ensures { result ≡ is_free wanted.now (claims_of self.now) d }
     {
         let place = usize::from(d);
-        is_wanted(&self.devices[place], wanted) && !self.claimed[place]
+        self.places[place].is_wanted(wanted) && !self.claimed[place]
     }
 
     /// Claims the least device that is wanted and isn't claimed.
@@ -142,6 +192,64 @@ impl Bench {
         let device = self.first_free(wanted)?;
         self.claimed[usize::from(device)] = true;
         Some(device)
+    }
+
+    /// Whether a device of the pool is of this kind and isn't claimed.
+    fn can_take(&self, d: u8, kind: Kind) -> bool
+        requires { d < 16 }
+        ensures { result ≡ can_take (claims_of self.now) kind d }
+    {
+        let place = usize::from(d);
+        self.places[place].is_pooled(kind) && !self.claimed[place]
+    }
+
+    /// The least such device.
+    fn least_pooled(&self, kind: Kind) -> Option<u8>
+        ensures least { result ≡ least_pooled (claims_of self.now) kind }
+        ensures number { IfSome result (λ d. d < 16) }
+    {
+        least(|d| self.can_take(d, kind))
+    }
+
+    /// The device that is taken: that which is answered, where it may be, or else the least.
+    fn taken(&self, kind: Kind) -> u8
+        requires { may_take (claims_of self.now) kind ≡ true }
+        ensures taken { result ≡ taken (claims_of self.now) kind self.now.answer }
+        ensures number { result < 16 }
+    {
+        if self.answer < 16 && self.can_take(self.answer as u8, kind) {
+            return self.answer as u8;
+        }
+        self.least_pooled(kind).unwrap_or(0)
+    }
+}
+
+/// The place of the last stint of a device that isn't given back.
+fn last_unended(stints: &[Stint], d: u8) -> Option<usize>
+    ensures is { IfSome result (λ i. HoldsAt (IsOpen d) stints.now i) }
+    ensures number { IfSome result (λ i. i < length stints.now) }
+    ensures none { IfNone result (All (λ x. IsOpen d x → ⊥) stints.now) }
+{
+    for i in (0..stints.len()).rev() {
+        let stint = &stints[i];
+        if stint.d == d && stint.left.is_none() {
+            return Some(i);
+        }
+    }
+    None
+}
+
+/// Ends the stint at this place, if there is one: it keeps the device of this number.
+fn close(stints: &mut [Stint], at: Option<usize>, d: u8, left: Device)
+    requires { IfSome at (λ i. i < length stints.old) }
+    ensures some { (i : ℕ) → at ≡ Some i → stints.new ≡ slice_set stints.old i (record { d = d; left = Some left }) }
+    ensures none { at ≡ None → stints.new ≡ stints.old }
+{
+    if let Some(i) = at {
+        stints[i] = Stint {
+            d,
+            left: Some(left),
+        };
     }
 }
 
@@ -175,7 +283,7 @@ impl Port for Bench {
     fn held(&self, device: u16) -> Option<Kind> {
         let place = usize::from(device);
         if place < 16 && self.claimed[place] {
-            kind_in(&self.devices[place])
+            self.places[place].kind()
         } else {
             None
         }
@@ -190,7 +298,7 @@ impl Port for Bench {
     }
 
     fn test(&self, device: u8, what: Test) -> bool {
-        test_in(&self.devices[usize::from(device)], what)
+        self.places[usize::from(device)].test(what)
     }
 
     fn start(&mut self, device: u8, order: TransferOrder, first: u16, last: u16) {
@@ -199,8 +307,8 @@ impl Port for Bench {
             last: usize::from(last),
         };
         let block = std::mem::replace(&mut self.block, Vec::new(self.alloc));
-        let place = &mut self.devices[usize::from(device)];
-        transfer(place, order, area, &mut self.words, block);
+        let place = &mut self.places[usize::from(device)];
+        place.transfer(order, area, &mut self.words, block);
     }
 
     fn ask_busy(&mut self, _device: u8) -> bool {
@@ -223,20 +331,30 @@ impl Port for Bench {
         self.claim(&Wanted::Kinded(kind))
     }
 
-    fn may_take(&self, _kind: Kind) -> bool {
-        false
+    fn may_take(&self, kind: Kind) -> bool {
+        self.least_pooled(kind).is_some()
     }
 
     fn pool_free(&self, _kind: Kind) -> bool {
         true
     }
 
-    fn take_pool(&mut self, _kind: Kind) -> u8 {
-        unreachable!()
+    fn take_pool(&mut self, kind: Kind) -> u8 {
+        let d = self.taken(kind);
+        self.asked += 1;
+        self.claimed[usize::from(d)] = true;
+        self.stints.push_reserved(Stint { d, left: None });
+        d
     }
 
     fn give_back(&mut self, device: u8) {
-        self.claimed[usize::from(device)] = false;
+        let place = usize::from(device);
+        let at = last_unended(&self.stints, device);
+        self.claimed[place] = false;
+        match self.places[place].hand_over(self.alloc) {
+            Some(left) => close(&mut self.stints, at, device, left),
+            None => {}
+        }
     }
 
     fn spool(&mut self, stream: u8, first: u16, last: u16) {
@@ -254,7 +372,7 @@ impl Port for Bench {
 impl Reserve for Bench {
     ghost use Rattle.std.specs.Prelude.{refl};
     ghost use Rattle.kdf_processor.proofs.Rooms.{little_room};
-    ghost use Rattle.kdf_alone.specs.Bench.{CanAsk, CanSpool, CanStart, Stays};
+    ghost use Rattle.kdf_alone.specs.Bench.{CanAsk, CanSpool, CanStart, CanTake, Stays};
 
     ghost keeps = { Stays };
 
@@ -262,7 +380,7 @@ impl Reserve for Bench {
 
     ghost ready = { CanAsk };
 
-    ghost little = { λ b act can little. little_room (CanStart b) (CanSpool b) (CanAsk b) act can little };
+    ghost little = { λ b act can little. little_room (CanStart b) (CanSpool b) (CanTake b) (CanAsk b) act can little };
 
     fn reserve_transfer(
         &mut self,
@@ -273,15 +391,19 @@ impl Reserve for Bench {
     ) -> Result<(), AllocError> {
         self.block.reserve(characters_out(order, first, last))?;
         let place = usize::from(device);
-        if place >= self.devices.len() {
+        if place >= self.places.len() {
             return Ok(());
         }
-        let held = &mut self.devices[place];
-        make_ready(held, order)
+        let held = &mut self.places[place];
+        held.make_ready(order)
     }
 
     fn reserve_text(&mut self, first: u16, last: u16) -> Result<(), AllocError> {
         self.spooled.reserve(1)?;
         self.block.reserve(characters_in(first, last))
+    }
+
+    fn reserve_stint(&mut self) -> Result<(), AllocError> {
+        self.stints.reserve(1)
     }
 }

@@ -5,7 +5,8 @@ mod alone;
 mod bench;
 mod loading;
 mod obeying;
-mod places;
+mod place;
+mod stint;
 mod text;
 pub mod worked;
 

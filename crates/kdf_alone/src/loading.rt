@@ -1,13 +1,16 @@
-//! The store and the devices of a slot as it is loaded.
-ghost use Rattle.std.specs.Prelude.{◌≡◌, ◌≤◌, length, map, IfOk};
+//! The store and the devices of a slot and of the pool as they are loaded.
+ghost use Rattle.std.specs.Prelude.{◌≡◌, ◌≤◌, All, None, length, map, IfOk};
 ghost use Rattle.std.specs.Option.{option_map};
-ghost use Rattle.kdf_job.specs.Shows.{shown_device};
-ghost use Rattle.kdf_job.specs.Slots.{fixture_on, numbered, progress_on};
+ghost use Rattle.kdf_job.specs.Shows.{shown_device, shown_slot};
+ghost use Rattle.kdf_job.specs.Slots.{fixture_on, lent_kind, numbered, progress_on};
 ghost use Rattle.kdf_processor.specs.State.{filled};
 ghost use Rattle.kdf_transfer.specs.ByNumber.{by_number};
-ghost use Rattle.kdf_alone.specs.Places.{fixture_in, progress_in};
+ghost use Rattle.kdf_alone.specs.Places.{own_fixture_in, pool_kind_in, progress_in, IsWhole};
+ghost use Rattle.kdf_alone.specs.Program.{AreApart};
+ghost use Rattle.kdf_alone.specs.Stints.{IsUnlent};
 
-use kdf_job::{SlotJob, device_numbered};
+use crate::place::Place;
+use kdf_job::{SlotJob, device_numbered, kind_lent};
 use kdf_transfer::Device;
 use kdf_word::Word;
 use std::alloc::{AllocError, Global};
@@ -23,30 +26,55 @@ pub fn store(alloc: Global, size: u16, image: &[Word]) -> Result<Vec<Word>, Allo
     Ok(words)
 }
 
-/// Copies of a slot's devices by number, sixteen places.
-pub fn places(alloc: Global, slot: &SlotJob) -> Result<Vec<Option<Device>>, AllocError>
-    ensures fixtures { IfOk result (λ places. map fixture_in places.items
+/// Copies of a slot's devices and blank ones of the pool by number, sixteen places.
+pub fn places(alloc: Global, slot: &SlotJob) -> Result<Vec<Place>, AllocError>
+    requires { AreApart (shown_slot slot.now) }
+    ensures fixtures { IfOk result (λ places. map own_fixture_in places.items
         ≡ by_number (λ d. fixture_on (numbered (map shown_device slot.now.devices.items) d))) }
+    ensures kinds { IfOk result (λ places. map pool_kind_in places.items
+        ≡ by_number (lent_kind slot.now.pool.items)) }
     ensures progresses { IfOk result (λ places. map progress_in places.items
         ≡ by_number (λ d. progress_on (numbered (map shown_device slot.now.devices.items) d))) }
+    ensures whole { IfOk result (λ places. All IsWhole places.items) }
+    ensures unlent { IfOk result (λ places. All IsUnlent places.items) }
     ensures sixteen { IfOk result (λ places. length places.items ≡ 16) }
 {
     let mut places = Vec::new(alloc);
     for d in 0..16u8 {
-        places.push(copied(alloc, device_numbered(&slot.devices, d))?)?;
+        places.push(place(alloc, slot, d)?)?;
     }
     Ok(places)
 }
 
-/// A copy of a device, where there is one.
-fn copied(alloc: Global, device: Option<&(u8, Device)>) -> Result<Option<Device>, AllocError>
-    ensures fixture { IfOk result (λ place. fixture_in place
+/// The place of a number: a blank device of the pool, or else a copy of the slot's device, where there is one.
+fn place(alloc: Global, slot: &SlotJob, d: u8) -> Result<Place, AllocError>
+    requires { AreApart (shown_slot slot.now) }
+    ensures fixture { IfOk result (λ place. own_fixture_in place
+        ≡ fixture_on (numbered (map shown_device slot.now.devices.items) d)) }
+    ensures kind { IfOk result (λ place. pool_kind_in place ≡ lent_kind slot.now.pool.items d) }
+    ensures progress { IfOk result (λ place. progress_in place
+        ≡ progress_on (numbered (map shown_device slot.now.devices.items) d)) }
+    ensures whole { IfOk result IsWhole }
+    ensures unlent { IfOk result IsUnlent }
+{
+    match kind_lent(&slot.pool, d) {
+        Some(kind) => Ok(Place::pooled(alloc, kind)),
+        None => copied(alloc, device_numbered(&slot.devices, d)),
+    }
+}
+
+/// The place of a copy of a device, where there is one.
+fn copied(alloc: Global, device: Option<&(u8, Device)>) -> Result<Place, AllocError>
+    ensures fixture { IfOk result (λ place. own_fixture_in place
         ≡ fixture_on (option_map (λ x. shown_device x.now) device.entry)) }
+    ensures kind { IfOk result (λ place. pool_kind_in place ≡ None) }
     ensures progress { IfOk result (λ place. progress_in place
         ≡ progress_on (option_map (λ x. shown_device x.now) device.entry)) }
+    ensures whole { IfOk result IsWhole }
+    ensures unlent { IfOk result IsUnlent }
 {
     match device {
-        Some(device) => Ok(Some(device.1.copy(alloc)?)),
-        None => Ok(None),
+        Some(device) => Ok(Place::Own(device.1.copy(alloc)?)),
+        None => Ok(Place::Absent),
     }
 }

@@ -1,77 +1,131 @@
-//! The places of a program's devices, each with a device or with none.
-ghost use Rattle.std.specs.Prelude.{◌≡◌, ◌+◌, ◌-◌, ◌*◌, ◌≤◌, [], Option, Some, None, length, true, OnOk};
+//! The place of a number, with a device or with none.
+ghost use Rattle.std.specs.Prelude.{◌≡◌, ◌+◌, ◌-◌, ◌*◌, ◌≤◌, [], None, length, true, OnOk, IfSome, IfNone};
 ghost use Rattle.std.specs.Vec.{vec_capacity};
 ghost use Rattle.kdf_transfer.specs.AtOnce.{has_area, is_output, kind_of, IsArea};
-ghost use Rattle.kdf_transfer.specs.Devices.{fixture_of, is_wanted, kind_in, test_of};
+ghost use Rattle.kdf_transfer.specs.Devices.{is_kind, is_wanted, kind_in, new_progress, test_of};
 ghost use Rattle.kdf_transfer.specs.declared.device.Device.{Device};
-ghost use Rattle.kdf_alone.specs.Places.{fixture_in, progress_in, IsMoved, IsReady};
+ghost use Rattle.kdf_alone.specs.declared.place.Place.TheVariants.{Pooled};
+ghost use Rattle.kdf_alone.specs.Places.{device_in, fixture_in, own_fixture_in, pool_kind_in, progress_in, IsMoved, IsReady, IsWhole};
 
 use kdf_journal::Kind;
 use kdf_transfer::{Area, Device, Test, TransferOrder, Wanted, at_once};
 use kdf_word::Word;
-use std::alloc::AllocError;
+use std::alloc::{AllocError, Global};
 
-/// The kind of the device.
-pub fn kind_in(place: &Option<Device>) -> Option<Kind>
-    ensures { result ≡ kind_in (fixture_in place.now) }
-{
-    match place {
-        Some(device) => Some(device.kind()),
-        None => None,
-    }
+/// The place of a number.
+#[derive(Drop)]
+pub enum Place {
+    /// No device has the number.
+    Absent,
+    /// A device of the program's own.
+    Own(Device),
+    /// One of the pool: the program's, until it gives that back, or one that has moved nothing.
+    Pooled(Device),
 }
 
-/// Whether the device is what a claim wants.
-pub fn is_wanted(place: &Option<Device>, wanted: &Wanted) -> bool
-    ensures { result ≡ is_wanted wanted.now (fixture_in place.now) }
-{
-    match place {
-        Some(device) => device.is_wanted(wanted),
-        None => false,
+impl Place {
+    /// The place of a device of the pool that has moved nothing.
+    pub fn pooled(alloc: Global, kind: Kind) -> Place
+        ensures own { own_fixture_in result ≡ None }
+        ensures kind { pool_kind_in result ≡ Some kind }
+        ensures progress { progress_in result ≡ new_progress }
+        ensures whole { IsWhole result }
+    {
+        Place::Pooled(Device::blank(alloc, kind))
     }
-}
 
-/// What a test of the device tells, or of a new one where there is none.
-pub fn test_in(place: &Option<Device>, what: Test) -> bool
-    ensures { result ≡ test_of what (progress_in place.now) }
-{
-    match place {
-        Some(device) => device.test(what),
-        None => what == Test::Start,
+    /// The kind of the device.
+    pub fn kind(&self) -> Option<Kind>
+        ensures { result ≡ kind_in (fixture_in self.now) }
+    {
+        match self {
+            Place::Own(device) => Some(device.kind()),
+            Place::Pooled(device) => Some(device.kind()),
+            Place::Absent => None,
+        }
     }
-}
 
-/// Takes the memory for the blocks that an order adds to the device. One that has 2^32 - 1 blocks gets no more.
-pub fn make_ready(place: &mut Option<Device>, order: TransferOrder) -> Result<(), AllocError>
-    ensures fixture { fixture_in place.new ≡ fixture_in place.old }
-    ensures progress { progress_in place.new ≡ progress_in place.old }
-    ensures ready { OnOk result (IsReady order place.new) }
-{
-    match place {
-        Some(device) => device.reserve_for(order),
-        None => Ok(()),
+    /// Whether the device is of the pool, and of this kind.
+    pub fn is_pooled(&self, kind: Kind) -> bool
+        ensures { result ≡ is_kind kind (pool_kind_in self.now) }
+    {
+        match self {
+            Place::Pooled(device) => device.kind() == kind,
+            Place::Absent | Place::Own(_) => false,
+        }
     }
-}
 
-/// Makes a whole transfer between a device and a list of words.
-pub fn transfer(
-    place: &mut Option<Device>,
-    order: TransferOrder,
-    area: Area,
-    words: &mut [Word],
-    block: Vec<u8>,
-)
-    requires kind { kind_in (fixture_in place.old) ≡ Some (kind_of order) }
-    requires ready { IsReady order place.old }
-    requires area { has_area order ≡ true → IsArea area.first area.last (length words.old) }
-    requires block { block.items ≡ [] }
-    requires room { is_output order ≡ true
-        → 8 * (area.last + 1 - area.first) ≤ vec_capacity block }
-    ensures { (device : Device) → place.old ≡ Some device →
-        IsMoved order area.first area.last device words.old place.new words.new }
-{
-    match place {
-        Some(device) => at_once(device, order, area, words, block),
-        None => unreachable!(),
+    /// Whether the device is the program's own, and what a claim wants.
+    pub fn is_wanted(&self, wanted: &Wanted) -> bool
+        ensures { result ≡ is_wanted wanted.now (own_fixture_in self.now) }
+    {
+        match self {
+            Place::Own(device) => device.is_wanted(wanted),
+            Place::Absent | Place::Pooled(_) => false,
+        }
+    }
+
+    /// What a test of the device tells, or of a new one where there is none.
+    pub fn test(&self, what: Test) -> bool
+        ensures { result ≡ test_of what (progress_in self.now) }
+    {
+        match self {
+            Place::Own(device) => device.test(what),
+            Place::Pooled(device) => device.test(what),
+            Place::Absent => what == Test::Start,
+        }
+    }
+
+    /// Takes the memory for the blocks that an order adds to the device. One that has 2^32 - 1 blocks gets no more.
+    pub fn make_ready(&mut self, order: TransferOrder) -> Result<(), AllocError>
+        ensures own { own_fixture_in self.new ≡ own_fixture_in self.old }
+        ensures kind { pool_kind_in self.new ≡ pool_kind_in self.old }
+        ensures progress { progress_in self.new ≡ progress_in self.old }
+        ensures whole { IsWhole self.old → IsWhole self.new }
+        ensures ready { OnOk result (IsReady order self.new) }
+    {
+        match self {
+            Place::Own(device) => device.reserve_for(order),
+            Place::Pooled(device) => device.reserve_for(order),
+            Place::Absent => Ok(()),
+        }
+    }
+
+    /// Makes a whole transfer between the device and a list of words.
+    pub fn transfer(&mut self, order: TransferOrder, area: Area, words: &mut [Word], block: Vec<u8>)
+        requires kind { kind_in (fixture_in self.old) ≡ Some (kind_of order) }
+        requires ready { IsReady order self.old }
+        requires area { has_area order ≡ true → IsArea area.first area.last (length words.old) }
+        requires block { block.items ≡ [] }
+        requires room { is_output order ≡ true
+            → 8 * (area.last + 1 - area.first) ≤ vec_capacity block }
+        ensures own { own_fixture_in self.new ≡ own_fixture_in self.old }
+        ensures kind { pool_kind_in self.new ≡ pool_kind_in self.old }
+        ensures whole { IsWhole self.old → IsWhole self.new }
+        ensures moved { (device : Device) → device_in self.old ≡ Some device →
+            IsMoved order area.first area.last device words.old self.new words.new }
+    {
+        match self {
+            Place::Own(device) => at_once(device, order, area, words, block),
+            Place::Pooled(device) => at_once(device, order, area, words, block),
+            Place::Absent => unreachable!(),
+        }
+    }
+
+    /// The device, if that is of the pool: one of its kind that has moved nothing stands in its place then. It takes no memory.
+    pub fn hand_over(&mut self, alloc: Global) -> Option<Device>
+        ensures own { own_fixture_in self.new ≡ own_fixture_in self.old }
+        ensures kind { pool_kind_in self.new ≡ pool_kind_in self.old }
+        ensures whole { IsWhole self.old → IsWhole self.new }
+        ensures pooled { IfSome result (λ device. (self.old ≡ Pooled device) × (progress_in self.new ≡ new_progress)) }
+        ensures none { IfNone result ((pool_kind_in self.old ≡ None) × (self.new ≡ self.old)) }
+    {
+        match self {
+            Place::Pooled(device) => {
+                let blank = Device::blank(alloc, device.kind());
+                Some(std::mem::replace(device, blank))
+            }
+            Place::Absent | Place::Own(_) => None,
+        }
     }
 }

@@ -1,8 +1,8 @@
 use Rattle.std.proofs.Common.{ap, ◌∙◌}
-use Rattle.kdf_processor.specs.Outcome.{Outcome, outcome}
+use Rattle.kdf_processor.specs.Outcome.{outcome}
 use Rattle.kdf_processor.specs.Row.{at_once}
 use Rattle.kdf_alone.specs.Bench.{shown}
-use Rattle.kdf_alone.proofs.Rows.{next_over, row_over}
+use Rattle.kdf_alone.proofs.Rows.{row_over, step_over}
 use Rattle.kdf_alone.proofs.obeying.obey_next.Goals as goal
 
 pub returns-clause-state : goal.returns-clause-state
@@ -16,4 +16,4 @@ returns-clause-state c =
 pub returns-clause-step : goal.returns-clause-step
 returns-clause-step c =
     c.in_ok-step.ensures.obeyed.obeyed.step
-    ∙ ap (λ (o : Outcome). o.step) (next_over c.args.bench.now c.prepare.new.self c.args.answer c.args.registers.now c.prepare.ensures.stock c.prepare.ensures.answer)
+    ∙ step_over c.args.bench.now c.prepare.new.self c.args.answer c.args.registers.now c.prepare.ensures.stock c.prepare.ensures.answer

@@ -1,0 +1,325 @@
+-- The stints of a bench.
+use Rattle.std.specs.Prelude.{◌&&◌, HoldsAt, IfNone, IfSome, not, slice_get, unwrap_or}
+use Rattle.std.specs.List.{All, AllPairs}
+use Rattle.std.specs.Option.{option_map}
+use Rattle.std.proofs.Common.{◌≡◌, ◌≢◌, ℕ, zero, suc, ◌+◌, ◌<◌, ◌≤◌, Bool, true, false, cond, eqb, ltb, List, [], ◌∷◌, ◌++◌, length, get_or, map, set, Option, Some, None, is_some, refl, sym, ap, ap₂, ◌∙◌, subst, ⊎_elim, arith}
+use Rattle.std.proofs.Math.ListN.{get_or-map}
+use Rattle.std.proofs.lemmas.Bool.{and_parts, cases_Bool, cases_eq, cases_lt, eq-eqb, false≢true, ne_eqb}
+use Rattle.std.proofs.lemmas.Bool.Decides.{nat_tests}
+use Rattle.std.proofs.lemmas.List.{get_or_past, length-map, map-append, map-set}
+use Rattle.std.proofs.lemmas.Option.{slice_get-get_or}
+use Rattle.std.proofs.lemmas.List.Elements.{All-head, All-set, All-tail}
+use Rattle.kdf_journal.specs.declared.kind.Kind.{Kind}
+use Rattle.kdf_journal.specs.declared.kind.Kind.TheVariants.{Tp}
+use Rattle.kdf_transfer.specs.Devices.{Progress, blank_fixture, is_kind, new_progress, fixture_of, progress_of}
+use Rattle.kdf_transfer.specs.declared.device.Device.{Device}
+use Rattle.kdf_processor.specs.declared.registers.Registers.{Registers}
+use Rattle.kdf_processor.specs.declared.spooled.Spooled.{Spooled}
+use Rattle.kdf_transfer.specs.AtOnce.{kind_of}
+use Rattle.kdf_transfer.specs.declared.order.TransferOrder.{TransferOrder}
+use Rattle.kdf_processor.specs.Claims.{claim, is_claimed, kind_at, may_take, taken}
+use Rattle.kdf_processor.specs.Effect.{Asks, FreeOf, Releases, Starts}
+use Rattle.kdf_processor.specs.Row.{at_once, handed, released}
+use Rattle.kdf_processor.proofs.Lending.{mark_of, moved_lent, own_lent, pool_lent, taken_lent}
+use Rattle.kdf_processor.proofs.Stinting.{taken_can}
+use Rattle.kdf_processor.specs.State as state
+use Rattle.kdf_processor.specs.State.{Lending, State, Stock, device_in, fixture_at, is_pooled, lending_of, lendings, new_registers}
+use Rattle.kdf_processor.specs.Stints.{IsLent, IsStint}
+use Rattle.kdf_alone.specs.declared.place.Place.{Place}
+use Rattle.kdf_alone.specs.declared.place.Place.TheVariants.{Absent, Own, Pooled}
+use Rattle.kdf_alone.specs.declared.stint.Stint.{Stint}
+use Rattle.kdf_alone.specs.Places.{own_fixture_in, pool_kind_in, progress_in, IsWhole}
+use Rattle.kdf_alone.specs.Stints.{lent_stock, stint_in, AreLent, IsKept, IsOpen, IsUnlent}
+use Rattle.kdf_alone.proofs.Devices.{claims, pool_is, progress_is, seen_stays, stock}
+use Rattle.kdf_alone.proofs.Takings.{taken_again}
+
+-- ---- what holds of the places, the marks and the stints holds of all that a program has, and the other way round
+
+pub whole_lent : (r : Registers) (size : ℕ) (claimed : List Bool) (ps : List Place) (xs : List Stint) (texts : List Spooled) (asked : ℕ) (words : List ℕ)
+    → AreLent ps claimed xs → IsLent (record { registers = r; stock = stock size claimed ps xs texts asked words })
+whole_lent r size claimed ps xs texts asked words lent =
+    record { places = lent.places; marks = lent.marks; few = lent.few; fresh = lent.fresh; pooled = lent.pooled; held = lent.held; one = lent.one }
+
+pub part_lent : (r : Registers) (size : ℕ) (claimed : List Bool) (ps : List Place) (xs : List Stint) (texts : List Spooled) (asked : ℕ) (words : List ℕ)
+    → IsLent (record { registers = r; stock = stock size claimed ps xs texts asked words }) → AreLent ps claimed xs
+part_lent r size claimed ps xs texts asked words lent =
+    record { places = lent.places; marks = lent.marks; few = lent.few; fresh = lent.fresh; pooled = lent.pooled; held = lent.held; one = lent.one }
+
+-- so where that is what an act leaves
+pub left_lent : (size : ℕ) (claimed : List Bool) (ps : List Place) (xs : List Stint) (texts : List Spooled) (asked : ℕ) (words : List ℕ) (k : Stock)
+    → stock size claimed ps xs texts asked words ≡ k → IsLent (record { registers = new_registers; stock = k }) → AreLent ps claimed xs
+left_lent size claimed ps xs texts asked words k is lent =
+    let Q : Stock → Type 0 = λ k'. IsLent (record { registers = new_registers; stock = k' }) in
+    part_lent new_registers size claimed ps xs texts asked words (subst Q (sym is) lent)
+
+module _ (size : ℕ) (claimed : List Bool) (ps : List Place) (xs : List Stint) (texts : List Spooled) (asked : ℕ) (words : List ℕ) (lent : AreLent ps claimed xs) where
+  abbrev k : Stock
+  k = stock size claimed ps xs texts asked words
+
+  abbrev s : State
+  s = record { registers = new_registers; stock = k }
+
+  all_lent : IsLent s
+  all_lent = whole_lent new_registers size claimed ps xs texts asked words lent
+
+  pub stays_lent : (ps' : List Place) → stock size claimed ps' xs texts asked words ≡ k → AreLent ps' claimed xs
+  stays_lent ps' is = left_lent size claimed ps' xs texts asked words k is all_lent
+
+  -- a transfer on a device that is claimed
+  pub start_lent : (ps' : List Place) (words' : List ℕ) (d : ℕ) (o : TransferOrder) (first last : ℕ) → is_kind (kind_of o) (claim k.claims d) ≡ true
+      → stock size claimed ps' xs texts asked words' ≡ at_once (Starts d o first last) k → AreLent ps' claimed xs
+  start_lent ps' words' d o first last is left =
+      left_lent size claimed ps' xs texts asked words' (at_once (Starts d o first last) k) left
+      (moved_lent s all_lent new_registers d o first last (fixture_at k.claims d) (mark_of k.claims d (kind_of o) is))
+
+  -- a device of the pool is taken
+  pub take_lent : (claimed' : List Bool) (xs' : List Stint) (asked' : ℕ) (kind : Kind) (a : ℕ) → may_take k.claims kind ≡ true
+      → stock size claimed' ps xs' texts asked' words ≡ at_once (Asks (FreeOf kind) a) k → AreLent ps claimed' xs'
+  take_lent claimed' xs' asked' kind a may left =
+      left_lent size claimed' ps xs' texts asked' words (at_once (Asks (FreeOf kind) a) k) left
+      (taken_lent s all_lent new_registers kind a (taken_can k.claims kind a may))
+
+  released_lent : (d : ℕ) (pooled : Bool) → is_pooled k.claims d ≡ pooled → IsLent (record { registers = new_registers; stock = released pooled d k })
+  released_lent d true is = pool_lent s all_lent new_registers d is
+  released_lent d false is = own_lent s all_lent new_registers d is
+
+  -- a device is given back
+  pub give_lent : (claimed' : List Bool) (ps' : List Place) (xs' : List Stint) (d : ℕ)
+      → stock size claimed' ps' xs' texts asked words ≡ at_once (Releases (is_pooled k.claims d) d) k → AreLent ps' claimed' xs'
+  give_lent claimed' ps' xs' d left =
+      left_lent size claimed' ps' xs' texts asked words (at_once (Releases (is_pooled k.claims d) d) k) left (released_lent d (is_pooled k.claims d) refl)
+
+-- ---- a device of the pool is given back
+
+hand_other : (d e : ℕ) (p : Progress) (left : Option Device) → ((e ≡ d) × (left ≡ None) → ⊥) → handed d p (stint_in (record { d = e; left = left })) ≡ stint_in (record { d = e; left = left })
+hand_other d e p (Some device) shut =
+    ⊎_elim
+    (λ (is : eqb e d ≡ true). rw is refl)
+    (λ (no : eqb e d ≡ false). rw no refl)
+    (cases_Bool (eqb e d))
+hand_other d e p None shut =
+    ⊎_elim
+    (λ (same : e ≡ d). absurd (shut (same, refl)))
+    (λ (other : e ≢ d). rw (ne_eqb e d other) refl)
+    (cases_eq e d)
+
+hand_open : (d e : ℕ) (p : Progress) (left : Option Device) (device : Device) → e ≡ d → left ≡ None → progress_of device ≡ p → handed d p (stint_in (record { d = e; left = left })) ≡ stint_in (record { d = e; left = Some device })
+hand_open d e p None device same unfinished came = rw (eq-eqb e d same) (ap (λ q. (let x : state.Stint = record { device = e; left = Some q } in x)) (sym came))
+hand_open d e p (Some other) device same unfinished came = absurd cc
+
+-- where no stint is one of it that isn't given back, all stay
+pub hand_none : (d : ℕ) (p : Progress) (xs : List Stint) → All (λ x. IsOpen d x → ⊥) xs → map (handed d p) (map stint_in xs) ≡ map stint_in xs
+hand_none d p [] none = refl
+hand_none d p (x ∷ xs) none =
+    ap₂ (λ y ys. y ∷ ys) (hand_other d x.d p x.left (All-head (λ y. IsOpen d y → ⊥) x xs none)) (hand_none d p xs (All-tail (λ y. IsOpen d y → ⊥) x xs none))
+
+abbrev AreApart : state.Stint → state.Stint → Type 0
+AreApart x y = x.left ≡ None → y.left ≡ None → x.device ≢ y.device
+
+is_shut : (left : Option Device) → left ≡ None → option_map progress_of left ≡ None
+is_shut left unfinished = ap (option_map progress_of) unfinished
+
+pairs_tail : (x : state.Stint) (xs : List state.Stint) → AllPairs AreApart (x ∷ xs) → AllPairs AreApart xs
+pairs_tail x xs pairs = λ i j y less inside. pairs (suc i) (suc j) y (omega arith) (omega arith)
+
+pairs_head : (x : Stint) (xs : List Stint) → AllPairs AreApart (map stint_in (x ∷ xs)) → (j : ℕ) (y : Stint) → j < length xs → AreApart (stint_in x) (stint_in (get_or xs j y))
+pairs_head x xs pairs j y inside = subst (AreApart (stint_in x)) (get_or-map stint_in xs j y) (pairs zero (suc j) (stint_in y) (omega arith) (let n = length-map xs stint_in in omega arith))
+
+-- where one is, it is the one that ends
+pub hand_at : (d : ℕ) (p : Progress) (device : Device) (xs : List Stint) (i : ℕ) → progress_of device ≡ p → i < length xs → ((y : Stint) → IsOpen d (get_or xs i y)) → AllPairs AreApart (map stint_in xs)
+    → map (handed d p) (map stint_in xs) ≡ map stint_in (set xs i (record { d = d; left = Some device }))
+hand_at d p device [] i came inside unfinished pairs = absurd (omega arith)
+hand_at d p device (x ∷ xs) zero came inside unfinished pairs =
+    let here = unfinished x in
+    ap₂ (λ y ys. y ∷ ys)
+    (hand_open d x.d p x.left device here.0 here.1 came ∙ ap (λ e. (let y : state.Stint = record { device = e; left = Some (progress_of device) } in y)) here.0)
+    (hand_none d p xs (λ j y lt is. pairs_head x xs pairs j y lt (is_shut x.left here.1) (is_shut (get_or xs j y).left is.1) (here.0 ∙ sym is.0)))
+hand_at d p device (x ∷ xs) (suc i) came inside unfinished pairs =
+    let there = unfinished x in
+    ap₂ (λ y ys. y ∷ ys)
+    (hand_other d x.d p x.left (λ is. pairs_head x xs pairs i x (omega arith) (is_shut x.left is.1) (is_shut (get_or xs i x).left there.1) (is.0 ∙ sym there.0)))
+    (hand_at d p device xs i came (omega arith) (λ y. unfinished y) (pairs_tail (stint_in x) (map stint_in xs) pairs))
+
+-- what a stint keeps that is over is a device of the pool
+pub kept_device : (ps : List Place) (d : ℕ) (device : Device) → get_or ps d Absent ≡ Pooled device → IsWhole (get_or ps d Absent) → IsKept (map pool_kind_in ps) (record { d = d; left = Some device })
+kept_device ps d device is whole =
+    let Q : Place → Type 0 = IsWhole in
+    sym (subst Q is whole) ∙ ap (λ (o : Option Kind). Some (blank_fixture (unwrap_or o Tp))) (sym (pool_is ps d ∙ ap pool_kind_in is))
+
+-- ---- at the start
+
+nothing : {X : Type 0} (P : X → Type 0) (xs : List X) → xs ≡ [] → All P xs
+nothing P xs none i d inside = absurd (let n = ap length none in omega arith)
+
+-- no stint has begun, and no device of the pool has moved anything
+pub begun_lent : (ps : List Place) (claimed : List Bool) (xs : List Stint) → length ps ≡ 16 → length claimed ≡ 16 → All IsUnlent ps → xs ≡ [] → AreLent ps claimed xs
+begun_lent ps claimed xs places marks unlent none =
+    record {
+      places = length-map ps progress_in ∙ places;
+      marks = marks;
+      few = few;
+      fresh = λ d pooled free. progress_is ps d ∙ unlent d Absent (omega (arith, few d pooled)) (ap is_some (sym (pool_is ps d)) ∙ pooled);
+      pooled = nothing (λ (x : state.Stint). is_pooled (lent_stock ps claimed xs).claims x.device ≡ true) (map stint_in xs) (ap (map stint_in) none);
+      held = nothing (λ (x : state.Stint). x.left ≡ None → get_or claimed x.device false ≡ true) (map stint_in xs) (ap (map stint_in) none);
+      one = λ i j d less inside. absurd (let n = ap (λ ys. length (map stint_in ys)) none in omega arith);
+    }
+  where
+    few : (d : ℕ) → is_some (get_or (map pool_kind_in ps) d None) ≡ true → d < 16
+    few d pooled =
+        ⊎_elim
+        (λ (low : d < 16). low)
+        (λ (high : 16 ≤ d). absurd (false≢true (sym (ap is_some (get_or_past (map pool_kind_in ps) d None (omega (arith, length-map ps pool_kind_in)))) ∙ pooled)))
+        (cases_lt d 16)
+
+-- ---- a stint as it is told
+
+-- the number of stints
+pub count_lent : (k : Stock) (xs : List Stint) → k.stints ≡ map stint_in xs → length (lendings k) ≡ length xs
+unfolding lendings
+count_lent k xs is = length-map k.stints (lending_of k) ∙ ap length is ∙ length-map xs stint_in
+
+-- the stint at a place
+pub stint_lent : (see : state.Stint → Lending) (xs : List Stint) (i : ℕ) (x : Stint) → i < length xs → x ≡ get_or xs i x → slice_get (map see (map stint_in xs)) i ≡ Some (see (stint_in x))
+stint_lent see xs i x inside here =
+    let m = length-map xs stint_in in
+    let n = length-map (map stint_in xs) see in
+    slice_get-get_or (map see (map stint_in xs)) i (see (stint_in x)) (omega arith)
+    ∙ ap (λ y. Some y) (get_or-map see (map stint_in xs) i (stint_in x) ∙ ap see (get_or-map stint_in xs i x ∙ ap stint_in (sym here)))
+
+some_same : {X : Type 0} (x y : X) → Some x ≡ Some y → x ≡ y
+some_same x y e = cc
+
+-- a stint is of a number of the pool
+pub pooled_number : (ps : List Place) (claimed : List Bool) (xs : List Stint) (i : ℕ) (x : Stint) → AreLent ps claimed xs → i < length xs → x ≡ get_or xs i x → is_some (get_or (map pool_kind_in ps) x.d None) ≡ true
+pooled_number ps claimed xs i x lent inside here =
+    let n = length-map xs stint_in in
+    let Q : state.Stint → Type 0 = λ y. is_some (get_or (map pool_kind_in ps) y.device None) ≡ true in
+    subst Q (get_or-map stint_in xs i x ∙ ap stint_in (sym here)) (lent.pooled i (stint_in x) (omega arith))
+
+-- one that was given back
+pub told_given : (k : Stock) (x : Stint) (device : Device) → x.left ≡ Some device → IsKept k.claims.pool x → IsStint (lending_of k (stint_in x)) x.d true device
+told_given k x device is kept =
+    let blank = blank_fixture (unwrap_or (get_or k.claims.pool x.d None) Tp) in
+    record {
+      number = refl;
+      given = sym (ap (λ (o : Option Device). is_some (option_map progress_of o)) is);
+      fixture = some_same (fixture_of device) blank (sym (ap (option_map fixture_of) is) ∙ kept ∙ ap (option_map (λ _. blank)) is);
+      progress = sym (ap (λ (o : Option Device). unwrap_or (option_map progress_of o) (device_in k x.d)) is);
+    }
+
+-- and one that wasn't
+pub told_held : (size : ℕ) (claimed : List Bool) (ps : List Place) (xs : List Stint) (texts : List Spooled) (asked : ℕ) (words : List ℕ) (x : Stint) (device : Device)
+    → x.left ≡ None → get_or ps x.d Absent ≡ Pooled device → IsWhole (get_or ps x.d Absent) → IsStint (lending_of (stock size claimed ps xs texts asked words) (stint_in x)) x.d false device
+told_held size claimed ps xs texts asked words x device none is whole =
+    let k = stock size claimed ps xs texts asked words in
+    record {
+      number = refl;
+      given = sym (ap (λ (o : Option Device). is_some (option_map progress_of o)) none);
+      fixture = some_same (fixture_of device) (blank_fixture (unwrap_or (get_or (map pool_kind_in ps) x.d None) Tp)) (kept_device ps x.d device is whole);
+      progress = sym (ap (λ (o : Option Device). unwrap_or (option_map progress_of o) (device_in k x.d)) none ∙ progress_is ps x.d ∙ ap progress_in is);
+    }
+
+-- ---- a device of the pool is taken
+
+pub stock_taken : (size : ℕ) (claimed : List Bool) (ps : List Place) (xs ys : List Stint) (texts : List Spooled) (asked : ℕ) (words : List ℕ) (kind : Kind) (a d n : ℕ)
+    → may_take (claims size claimed ps) kind ≡ true → d ≡ taken (claims size claimed ps) kind a → n ≡ d → ys ≡ xs ++ record { d = d; left = None } ∷ []
+    → stock size (set claimed n true) ps ys texts (asked + 1) words ≡ at_once (Asks (FreeOf kind) (taken (claims size claimed ps) kind a)) (stock size claimed ps xs texts asked words)
+stock_taken size claimed ps xs ys texts asked words kind a d n may is same pushed =
+    let c = claims size claimed ps in
+    let e : ℕ = taken c kind (taken c kind a) in
+    let number : d ≡ e = is ∙ sym (taken_again c kind a may) in
+    let mark : n ≡ e = same ∙ number in
+    let more : map stint_in ys ≡ map stint_in xs ++ record { device = e; left = None } ∷ [] =
+    ap (map stint_in) pushed ∙ map-append stint_in xs (record { d = d; left = None } ∷ [])
+    ∙ ap (λ m. map stint_in xs ++ (let x : state.Stint = record { device = m; left = None } in x) ∷ []) number in
+    λ i. record {
+      claims = record { size = size; claimed = set claimed (mark i) true; fixtures = map own_fixture_in ps; pool = map pool_kind_in ps };
+      spooled = texts;
+      asked = asked + 1;
+      stints = more i;
+      store = words;
+      devices = map progress_in ps;
+    }
+
+-- ---- a device is given back
+
+handed_all : (d : ℕ) (p : Progress) (device : Device) (xs ys : List Stint) (at : Option ℕ) → progress_of device ≡ p → IfSome at (λ i. HoldsAt (IsOpen d) xs i) → IfSome at (λ i. i < length xs) → IfNone at (All (λ x. IsOpen d x → ⊥) xs)
+    → ((i : ℕ) → at ≡ Some i → ys ≡ set xs i (record { d = d; left = Some device })) → (at ≡ None → ys ≡ xs) → AllPairs AreApart (map stint_in xs)
+    → map stint_in ys ≡ map (handed d p) (map stint_in xs)
+handed_all d p device xs ys None came is inside none some stays pairs = ap (map stint_in) (stays refl) ∙ sym (hand_none d p xs none)
+handed_all d p device xs ys (Some i) came is inside none some stays pairs = ap (map stint_in) (some i refl) ∙ sym (hand_at d p device xs i came inside is pairs)
+
+-- so under other names
+pub ended : (d : ℕ) (p : Progress) (device : Device) (xs zs zs' ys ys' : List Stint) (at : Option ℕ) → progress_of device ≡ p → zs ≡ xs → zs' ≡ xs → ys' ≡ ys
+    → IfSome at (λ i. HoldsAt (IsOpen d) zs i) → IfSome at (λ i. i < length zs) → IfNone at (All (λ x. IsOpen d x → ⊥) zs)
+    → ((i : ℕ) → at ≡ Some i → ys ≡ set zs' i (record { d = d; left = Some device })) → (at ≡ None → ys ≡ zs') → AllPairs AreApart (map stint_in xs)
+    → map stint_in ys' ≡ map (handed d p) (map stint_in xs)
+ended d p device xs zs zs' ys ys' at came e f g is inside none some stays pairs =
+    let P : List Stint → Type 0 = λ l. IfSome at (λ i. HoldsAt (IsOpen d) l i) in
+    let Q : List Stint → Type 0 = λ l. IfSome at (λ i. i < length l) in
+    let R : List Stint → Type 0 = λ l. IfNone at (All (λ x. IsOpen d x → ⊥) l) in
+    handed_all d p device xs ys' at came (subst P e is) (subst Q e inside) (subst R e none)
+    (λ i a. g ∙ some i a ∙ ap (λ l. set l i (let x : Stint = record { d = d; left = Some device } in x)) f) (λ a. g ∙ stays a ∙ f) pairs
+
+-- and each that is over kept a device of the pool
+pub ended_kept : (pool : List (Option Kind)) (d : ℕ) (device : Device) (xs zs' ys ys' : List Stint) (at : Option ℕ) → IsKept pool (record { d = d; left = Some device }) → All (IsKept pool) xs → zs' ≡ xs → ys' ≡ ys
+    → ((i : ℕ) → at ≡ Some i → ys ≡ set zs' i (record { d = d; left = Some device })) → (at ≡ None → ys ≡ zs') → All (IsKept pool) ys'
+ended_kept pool d device xs zs' ys ys' None new kept f g some stays =
+    let P : List Stint → Type 0 = All (IsKept pool) in
+    subst P (sym (g ∙ stays refl ∙ f)) kept
+ended_kept pool d device xs zs' ys ys' (Some i) new kept f g some stays =
+    let P : List Stint → Type 0 = All (IsKept pool) in
+    subst P (sym (g ∙ some i refl ∙ ap (λ l. set l i (let x : Stint = record { d = d; left = Some device } in x)) f)) (All-set (IsKept pool) xs i (record { d = d; left = Some device }) new kept)
+
+-- a device that is claimed has a place
+marked : (b : Bool) (o : Option Kind) → is_some (cond b o None) ≡ true → b ≡ true
+marked true o is = refl
+marked false o is = cc
+
+pub claimed_low : (c : state.Claims) (d : ℕ) → is_claimed c d ≡ true → d < 16
+claimed_low c d is =
+    let mark = (and_parts (ltb d 16) (get_or c.claimed d false) (marked (ltb d 16 && get_or c.claimed d false) (kind_at c d) is)).0 in
+    grind (arith, nat_tests)
+
+module _ (size : ℕ) (claimed : List Bool) (ps : List Place) (xs : List Stint) (texts : List Spooled) (asked : ℕ) (words : List ℕ) (d n : ℕ) (place : Place) (same : n ≡ d)
+    (own : own_fixture_in place ≡ own_fixture_in (get_or ps d Absent)) (kind : pool_kind_in place ≡ pool_kind_in (get_or ps d Absent)) where
+  abbrev before : Stock
+  before = stock size claimed ps xs texts asked words
+
+  fixtures : map own_fixture_in (set ps n place) ≡ map own_fixture_in ps
+  fixtures = seen_stays own_fixture_in ps n place (own ∙ ap (λ m. own_fixture_in (get_or ps m Absent)) (sym same))
+
+  kinds : map pool_kind_in (set ps n place) ≡ map pool_kind_in ps
+  kinds = seen_stays pool_kind_in ps n place (kind ∙ ap (λ m. pool_kind_in (get_or ps m Absent)) (sym same))
+
+  -- one of the program's own
+  pub stock_own : pool_kind_in (get_or ps d Absent) ≡ None → place ≡ get_or ps d Absent → stock size (set claimed n false) (set ps n place) xs texts asked words ≡ at_once (Releases (is_pooled before.claims d) d) before
+  stock_own none stays =
+      let came : map progress_in (set ps n place) ≡ map progress_in ps = seen_stays progress_in ps n place (ap progress_in stays ∙ ap (λ m. progress_in (get_or ps m Absent)) (sym same)) in
+      let done : stock size (set claimed n false) (set ps n place) xs texts asked words ≡ released false d before =
+      λ i. record {
+        claims = record { size = size; claimed = set claimed (same i) false; fixtures = fixtures i; pool = kinds i };
+        spooled = texts;
+        asked = asked;
+        stints = map stint_in xs;
+        store = words;
+        devices = came i;
+      } in
+      done ∙ ap (λ b. released b d before) (sym (ap is_some (pool_is ps d ∙ none)))
+
+  -- one of the pool
+  pub stock_pooled : (device : Device) (ys : List Stint) → get_or ps d Absent ≡ Pooled device → progress_in place ≡ new_progress → map stint_in ys ≡ map (handed d (device_in before d)) (map stint_in xs)
+      → stock size (set claimed n false) (set ps n place) ys texts asked words ≡ at_once (Releases (is_pooled before.claims d) d) before
+  stock_pooled device ys is blank ends =
+      let gone : map progress_in (set ps n place) ≡ set (map progress_in ps) d new_progress =
+      map-set progress_in ps n place ∙ ap (set (map progress_in ps) n) blank ∙ ap (λ m. set (map progress_in ps) m new_progress) same in
+      let done : stock size (set claimed n false) (set ps n place) ys texts asked words ≡ released true d before =
+      λ i. record {
+        claims = record { size = size; claimed = set claimed (same i) false; fixtures = fixtures i; pool = kinds i };
+        spooled = texts;
+        asked = asked;
+        stints = ends i;
+        store = words;
+        devices = gone i;
+      } in
+      done ∙ ap (λ b. released b d before) (sym (ap is_some (pool_is ps d ∙ ap pool_kind_in is)))

@@ -1,0 +1,47 @@
+-- Stints as their program's state has them.
+use Rattle.std.specs.Prelude.{◌≡◌, ℕ, Bool, true, List, [], map, Option, None, is_some, slice_index_or, unwrap_or}
+use Rattle.std.specs.Option.{option_map}
+use Rattle.kdf_journal.specs.declared.kind.Kind.{Kind}
+use Rattle.kdf_journal.specs.declared.kind.Kind.TheVariants.{Tp}
+use Rattle.kdf_transfer.specs.Devices.{blank_fixture, fixture_of, new_progress, progress_of}
+use Rattle.kdf_processor.specs.State.{State, Stock, new_registers}
+use Rattle.kdf_processor.specs.State as state
+use Rattle.kdf_processor.specs.Stints.{IsLent}
+use Rattle.kdf_alone.specs.declared.place.Place.{Place}
+use Rattle.kdf_alone.specs.declared.stint.Stint.{Stint}
+use Rattle.kdf_alone.specs.Places.{pool_kind_in, progress_in}
+
+-- a stint as a state has it
+abbrev pub stint_in : Stint → state.Stint
+stint_in x = record { device = x.d; left = option_map progress_of x.left }
+
+-- one that was given back kept a device of the pool
+abbrev pub IsKept : List (Option Kind) → Stint → Type 0
+IsKept pool x =
+    option_map fixture_of x.left
+    ≡ option_map (λ _. blank_fixture (unwrap_or (slice_index_or pool x.d None) Tp)) x.left
+
+-- a program that has these places, marks and stints, and nothing else
+abbrev pub lent_stock : List Place → List Bool → List Stint → Stock
+lent_stock places claimed stints =
+    record {
+      claims = record { size = 0; claimed = claimed; fixtures = []; pool = map pool_kind_in places };
+      spooled = [];
+      asked = 0;
+      stints = map stint_in stints;
+      store = [];
+      devices = map progress_in places;
+    }
+
+-- its stints are as those of a state are
+abbrev pub AreLent : List Place → List Bool → List Stint → Type 0
+AreLent places claimed stints =
+    IsLent (record { registers = new_registers; stock = lent_stock places claimed stints })
+
+-- a stint of a device that isn't given back
+abbrev pub IsOpen : ℕ → Stint → Type 0
+IsOpen d x = (x.d ≡ d) × (x.left ≡ None)
+
+-- a device of the pool has moved nothing
+abbrev pub IsUnlent : Place → Type 0
+IsUnlent place = is_some (pool_kind_in place) ≡ true → progress_in place ≡ new_progress
