@@ -107,7 +107,7 @@ stint_within None other i there lt = absurd cc
 stint_within (Some s) other i there lt = lt
 
 pub stint_there : (o : Option State) (other : State) (i d : ℕ) (given : Bool) (device : Device) → is_some o ≡ true
-    → IfSome o (λ (s : State). IfSome (slice_get (lendings s.stock) i) (λ (x : Lending). IsStint x d given device))
+    → IsSomeAnd o (λ (s : State). IfSome (slice_get (lendings s.stock) i) (λ (x : Lending). IsStint x d given device))
     → IfSome (slice_get (lendings (unwrap_or o other).stock) i) (λ (x : Lending). IsStint x d given device)
 stint_there None other i d given device there is = absurd cc
 stint_there (Some s) other i d given device there is = is

@@ -75,7 +75,7 @@ fn images_of(rt: &impl Abort, alloc: Global, slots: &[SlotJob]) -> Result<Vec<Im
 }
 
 /// A slot of a job.
-#[tactic(auto, using(crate::proofs::Tried::slot_at), using(crate::proofs::Tried::apart_at))]
+#[tactic(auto, using(crate::proofs::Tried::slot_at, crate::proofs::Tried::apart_at))]
 fn slot_at(job: &Job, place: usize) -> &SlotJob
     requires job { IsJob (shown_job job.now) }
     requires inside { place < length job.now.slots.items }
