@@ -3,7 +3,7 @@ import collections
 import re
 import xml.etree.ElementTree
 
-from toolkit import kdf9
+from toolkit import ROOT, example_report, kdf9
 
 # A report of 60 calls: MOVEs of a transfer and of none, and the clock, twice at once.
 MOVES = """KDF9 REPORT 1
@@ -39,19 +39,15 @@ MOVES_ROWS = [
     ("clock", " " * 37 + "c" + " " * 22, "set 2 times"),
 ]
 
-# A report of 60 calls with exchanges of priorities: one at a time, two at once, and with an absent slot; and with a hold by the pool.
+# A report of 60 calls with exchanges of priorities: one at a time, two at once, and with an absent slot.
 EXCHANGES = """KDF9 REPORT 1
 RAN 0 10
 SWAP 0 1
 RAN 1 20
 SWAP 1 0
 SWAP 0 3
-RAN 1 9
-WAIT 1 TP
-RAN 0 18
-TAKE 0 9
-RAN 0 1
-GIVE 0 9
+RAN 1 10
+RAN 0 19
 SWAP 2 2
 RAN 0 1
 SLOT 0
@@ -59,16 +55,31 @@ STATE LIVE
 ORDERS 30
 SLOT 1
 STATE LIVE
-ORDERS 29
+ORDERS 30
 ENDREPORT
 """
 EXCHANGES_TITLES = [
     "call 11: SWAP 0 1; priorities, highest first: 1, 0",
     "call 31: SWAP 1 0 to SWAP 0 3; priorities, highest first: 1, 0",
     "call 60: SWAP 2 2; priorities, highest first: 1, 0",
-    "slot 1, calls 40 to 60: held up for 21 calls by the pool, whose devices of kind TP all have holders",
 ]
 EXCHANGES_ROW = f"\npriorities  |{'x':>11}{'x':>20}{'x':>29}| 4 exchanges, at the end 1, 0\n"
+
+# The titles and the rows that the pictures of two programs with one punch of the pool have to have.
+SHARED_TITLES = [
+    "device 9 TP (pool), calls 7 to 43: lent to slot 0 for 37 calls", "device 9 TP (pool), calls 47 to 69: lent to slot 1 for 23 calls",
+    "device 9 TP (pool), calls 51 to 68: a transfer for slot 1 during 18 calls; 1 transfer begun",
+    "slot 1, calls 17 to 43: held up for 27 calls by the pool, whose devices of kind TP all have holders",
+]
+SHARED_ROWS = [
+    ("slot 1", "." * 11 + "#" * 5 + "w" * 27 + ".." + "#" * 7 + "=" * 16 + "##E", "ENDED, 15 orders, held up 43, ready 13"),
+    ("device 9 TP", " " * 10 + "0" * 16 + " " + "0" * 15 + " " * 8 + "1" * 18 + " " * 3, "3 transfers, lent 2 times"),
+    ("pool 9 TP", " " * 6 + "0" * 37 + " " * 3 + "1" * 23 + " " * 2, "lent 2 times"),
+]
+
+# Here slot 1 waits for the punch, and goes on waiting when slot 0 is quicker to take it: the journal has no second WAIT.
+QUICKER = "tests/cases/waits-while-another-is-quicker.report"
+QUICKER_ROW = ("slot 1", "." * 10 + "###" + "w" * 12 + "." + "w" * 14 + "#" * 6 + "=" * 8 + "E", "ENDED, 10 orders, held up 34, ready 11")
 
 # What a picture counts: the entries of a report for it, and the titles of what is drawn.
 COUNTS = [
@@ -133,6 +144,24 @@ def exchanges_are_drawn():
     yield "a picture without exchanges", None if "priorities" not in kdf9(["picture"], MOVES).out else "has a row of them"
 
 
+def lendings_are_drawn():
+    report = example_report("two-programs-share-a-punch")
+    titles, text = titles_of(kdf9(["picture"], report).out), kdf9(["picture", "--text"], report).out
+    for title in SHARED_TITLES:
+        yield f"a picture with the title {title}", None if titles.count(title) == 1 else f"has {titles}"
+    for row in SHARED_ROWS:
+        yield f"a picture's row of {row[0]} with a pool", row_is_missing(row, text)
+    quicker = kdf9(["picture", "--text"], (ROOT / QUICKER).read_text(encoding="latin-1")).out
+    yield "a picture's row of a program that waits on", row_is_missing(QUICKER_ROW, quicker)
+    yield "a picture without a pool", None if "pool" not in kdf9(["picture"], MOVES).out else "has one"
+
+
+def row_is_missing(row, text):
+    """What is wrong with a picture for a terminal that has to have this row: its name, its characters, and what follows; or None."""
+    before, characters, after = row
+    return None if f"\n{before:<12}|{characters}| {after}\n" in text else f"isn't in {text}"
+
+
 def tally(pattern, text):
     """The numbers that a pattern finds, added by their keys; where there is no number, each counts as one."""
     found = collections.Counter()
@@ -142,4 +171,4 @@ def tally(pattern, text):
     return found
 
 
-SUITES = (idle_stretches_are_folded, moves_and_clock_are_drawn, exchanges_are_drawn)
+SUITES = (idle_stretches_are_folded, moves_and_clock_are_drawn, exchanges_are_drawn, lendings_are_drawn)

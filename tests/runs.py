@@ -40,6 +40,16 @@ SAME = [
     (["--after", "7"], ["--after", "0"], "slot 2: the same after 8 orders; order 9 asked, and was answered 1 in {} and 0 in {}\n"),
 ]
 
+# A program that waits for the pool: the example, the orders that are shown, and what their lines have.
+WAITS = [
+    ("two-programs-share-a-punch", ("6", "13"), [
+        "calls 17 to 45: held up from call 17 by the pool, which had no free TP; slot 0 obeyed 6 orders; 21 calls idle; END 9 after call 26; "
+        "END 9 after call 42; slot 0 gave back device 9 at call 43; slot 0 ended at call 45\n",
+        "pool 9 TP: HELD PLACE 0 FLAG 0; takes device 9 from the pool\n", "pool 9 TP: FREE PLACE 1 FLAG 0; gives device 9 back to the pool\n",
+    ]),
+    ("waits-until-the-other-fails", ("6", "6"), ["END 9 after call 30; slot 0 failed at call 31\n", "takes device 9 from the pool\n"]),
+]
+
 BAD_INPUT = [
     (["schedule"], "", "usage: ./kdf9 schedule JOB"),
     (["schedule", "-", "--after"], ASKS, "usage: ./kdf9 schedule JOB"),
@@ -83,12 +93,22 @@ def transfer_is_late(text, delay):
             over[rest[0]] = calls - begun.pop(rest[0])
         elif word in ("RAN", "IDLE"):
             calls += int(rest[-1])
-        elif word in ("LOV", "BUSY"):
+        elif word in ("LOV", "BUSY", "WAIT"):
             calls += 1
         if any(taken != delay for taken in over.values()):
             return f"transfers took {over}"
     late = {device: call for device, call in begun.items() if call + delay < calls}
     return f"transfers didn't end: {late}" if late else None
+
+
+def devices_of_the_pool_are_answers():
+    job = (ROOT / "tests/cases/second-program-waits-for-the-common-punch.job").read_text(encoding="latin-1")
+    two = job.replace("DEVICE 9 TP\n", "DEVICE 9 TP\nDEVICE 4 TP\n")
+    due = "slot 0: the same\nslot 1: the same after 3 orders; order 4 asked, and was answered 9 in - and 4 alone\n"
+    run = kdf9(["same", "-"], two.replace("END 9\n", "END 4\n", 1))
+    yield "same of programs that take other devices", None if (run.status, run.out) == (0, due) else f"{run} in place of {due}"
+    late = kdf9(["schedule", "-", "--after", "9", "9=8"], two)
+    yield "a schedule of devices of the pool", None if schedule_of(late.out) == "ORDERS 17 END 4 ORDERS 10 END 9 ORDERS 18" else f"{late}"
 
 
 def programs_are_compared():
@@ -140,6 +160,9 @@ def orders_are_traced():
     tail = kdf9(["steps", "-", "--run"], ASKS).out.split("\n")[-2]
     due = "          calls 11 to 30: held up from call 11 by group 1; 19 calls idle"
     yield "steps --run of a program that is held for good", None if tail == due else f"{tail!r} in place of {due!r}"
+    for name, orders, due in WAITS:
+        run = kdf9(["steps", f"examples/{name}.job", "1", *orders, "--run"], "")
+        yield f"steps --run of {name}", None if all(line in run.out for line in due) else f"{run} without {due}"
 
 
 def run_is_wrong(text, slot):
@@ -182,4 +205,6 @@ def bad_input_is_refused():
         yield f"bad input of {' '.join(words)}", None if good else f"{run} in place of {line!r}"
 
 
-SUITES = (schedules_are_written, programs_are_compared, orders_are_traced, examples_are_run, bad_input_is_refused)
+SUITES = (
+    schedules_are_written, devices_of_the_pool_are_answers, programs_are_compared, orders_are_traced, examples_are_run, bad_input_is_refused,
+)

@@ -73,7 +73,7 @@ SLIPS = [
         ["-: LIVE: slot 0 is at its first order", "slot 0 never had a turn: slot 3 could run at every call"],
     ),
     ("a Q-store that was never set", job("PROGRAM; 1; M0M2; J1; FINISH;"), ["NOUV: M0M2", "no statement sets Q2, which is used at 5:13: it is 0/0/0"]),
-    ("CARD without +", job("PROGRAM; ZERO; OUT; FINISH;", "DEVICE 4 CR\n12345\n"), ["-:8:1: BadLine: 12345", "hint: expected +, DEVICE, SHOW, SLOT or SCHEDULE"]),
+    ("CARD without +", job("PROGRAM; ZERO; OUT; FINISH;", "DEVICE 4 CR\n12345\n"), ["-:8:1: BadLine: 12345", "hint: expected +, DEVICE, SHOW, SLOT, POOL or SCHEDULE"]),
     ("DEVICE 16", job("PROGRAM; FINISH;", "DEVICE 16 CR\n"), ["-:7:8: BadNumber", "hint: this has to be a number from 0 to 15"]),
     ("SLOT 4", PLAIN.replace("SLOT 0", "SLOT 4"), ["-:2:6: BadNumber", "hint: this has to be a number from 0 to 3"]),
     ("STORE 8224", PLAIN.replace("STORE 64", "STORE 8224"), ["-:3:7: BadNumber", "hint: this has to be a number from 32 to 8192"]),
@@ -81,10 +81,62 @@ SLIPS = [
     ("ORDERS without a number", PLAIN.replace("ORDERS 40", "ORDERS"), ["-:8:1: BadLine", "hint: the form of this line is ORDERS n"]),
 ]
 
+# A program that takes a punch of the pool, and what comes after; and two of them.
+TAKES = "PROGRAM V0; V0 = Q0/32/32;\n SET 1; SET 5; OUT; V0; =Q1; =C1; PWQ1;\n"
+ENDS = "ZERO; OUT; FINISH;"
+ASKS_FOR_A_PRINTER = "INTQ1; SET 3; SET 5; OUT; "
+
+
+def pooled(one, other, schedule="ORDERS 40\nEND 9\nORDERS 40\n"):
+    """A job of two programs of these decks, the first of which begins in line 5, and a pool of one punch and one printer."""
+    return job(one, f"SLOT 1\nSTORE 64\nDECK\n{other}\nENDDECK\nPOOL\nDEVICE 9 TP\nDEVICE 4 LP\n", schedule)
+
+
+RING = pooled(TAKES + ASKS_FOR_A_PRINTER + ENDS, "PROGRAM; SET 3; SET 5; OUT; SET 1; SET 5; OUT; FINISH;")
+KEEPS = pooled(TAKES + "INTQ1; 1; J1; FINISH;", TAKES + ENDS)
+SLIPS += [
+    (
+        "no END for the transfer of a device of the pool", pooled(TAKES + ENDS, TAKES + ENDS, "ORDERS 40\n"),
+        [
+            "-:13:16: LIVE: OUT", "held up by the pool, which had no free TP",
+            "slot 0 took device 9 of the pool at call 4, and is itself held up by device 9: the schedule doesn't end its transfer",
+        ],
+    ),
+    ("a device of the pool that is never given back", KEEPS, ["slot 0 took device 9 of the pool at call 4, and has neither given it back nor ended"]),
+    (
+        "a device of the pool that is free again", pooled(TAKES + "INTQ1; C1; SET 6; OUT; 1; J1; FINISH;", TAKES + ENDS),
+        ["-:13:16: LIVE: OUT", "device 9 of the pool is free again, but slot 1 has had no turn since"],
+    ),
+    (
+        "two that wait for each other", RING,
+        ["slot 1 took device 4 of the pool at call 13, and is itself held up by the pool, which had no free TP: nobody will give anything back", "slot 0 took"],
+    ),
+    (
+        "END 8 for END 9", pooled(TAKES + ENDS, TAKES + ENDS, "ORDERS 40\nEND 8\nORDERS 10\n"),
+        ["line 21, END 8: neither a slot nor the pool has device 8; did you mean END 9?"],
+    ),
+    (
+        "a second punch where the pool has one", pooled(TAKES + "SET 1; SET 5; OUT; FINISH;", "PROGRAM; ZERO; OUT; FINISH;"),
+        ["-:7:15: CLAIM: OUT", "OUT 5 needs a paper tape punch, TP; device 9 is already claimed"],
+    ),
+    (
+        "a card reader where the pool has none", pooled("PROGRAM; SET 4; SET 5; OUT; FINISH;", "PROGRAM; ZERO; OUT; FINISH;"),
+        ["OUT 5 needs a card reader, CR; the slot has no devices; the pool has TP 9 and LP 4"],
+    ),
+    (
+        "no OUT 5 for a device of the pool", pooled("PROGRAM V0; V0 = Q9/32/32;\n V0; =Q1; PWQ1; FINISH;", "PROGRAM; ZERO; OUT; FINISH;"),
+        ["-:6:11: CLAIM: PWQ1", "Q1 names device 9, a paper tape punch of the pool, which the program hasn't got: OUT 5 takes one from the pool"],
+    ),
+    (
+        "LPQ1 with the pool's punch", pooled(TAKES + "LPQ1; FINISH;", "PROGRAM; ZERO; OUT; FINISH;"),
+        ["-:7:1: CLAIM: LPQ1", "Q1 names device 9, a paper tape punch of the pool; LPQ1 needs a line printer"],
+    ),
+]
+
 # A job, and the status that explain gives it with --strict.
 STRICT = [
     (PLAIN, 0), (job("PROGRAM; 1; J1; FINISH;"), 0), (job("PROGRAM; +; FINISH;"), 1), (job(READS, READER), 1),
-    (job(READS, READER, "ORDERS 40\nEND 2\nORDERS 40\n"), 0), (job_of_deck("PROGRAM; FINISH"), 3),
+    (job(READS, READER, "ORDERS 40\nEND 2\nORDERS 40\n"), 0), (job_of_deck("PROGRAM; FINISH"), 3), (RING, 1), (KEEPS, 0),
 ]
 
 

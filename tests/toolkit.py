@@ -49,6 +49,11 @@ def examples():
         yield path.stem, subprocess.run([path], capture_output=True, check=True).stdout.decode("latin-1")
 
 
+def example_report(name):
+    """The report of the example of this name."""
+    return (ROOT / "examples" / f"{name}.report").read_text(encoding="latin-1")
+
+
 def refused(run):
     """Whether a tool refused its input as it should: with one line, status 1 and no output."""
     return run.status == 1 and not run.out and run.err.count("\n") == 1

@@ -12,7 +12,7 @@ from pictures import SUITES as PICTURES
 from pictures import picture_is_wrong
 from runs import SUITES as RUNS
 from slips import SUITES as SLIPS
-from toolkit import ENVIRONMENT, HEAD, PLAIN, ROOT, TAIL, document, examples, job_of_deck, kdf9, refused
+from toolkit import ENVIRONMENT, HEAD, PLAIN, ROOT, TAIL, document, example_report, examples, job_of_deck, kdf9, refused
 
 # The name of a deck's fault, the deck, the line and the column in it, and how the sentence on the fault begins. The store has 32 words.
 DECK_FAULTS = [
@@ -55,6 +55,7 @@ JOB_FAULTS = [
     ("ClockFalls", HEAD + "SCHEDULE\nCLOCK 10\nCLOCK 9\nENDJOB\n", 9, 7, "the time is earlier than the one before it"),
     ("TooManyOrders", HEAD + "SCHEDULE\nORDERS 20000000\nORDERS 1\nENDJOB\n", 9, 8, "the `ORDERS` lines so far add up to more than 20000000"),
     ("TooManyEvents", HEAD + "SCHEDULE\n" + "END 1\n" * 500001 + "ENDJOB\n", 500008, 1, "this is line 500,001 of the schedule"),
+    ("PoolKind", HEAD + "POOL\nDEVICE 9 TR\n" + TAIL, 8, 10, "the pool has only punches and printers"),
 ]
 
 # Texts that aren't jobs, where the fault is, the text there, and what follows the sentence on the fault.
@@ -67,7 +68,7 @@ NO_JOBS = [
 # Where in a medium a job is wrong: its devices, and the line and the column.
 MEDIA = [
     ("DEVICE 3 CR\n+" + "A" * 81 + "\n", 8, 82), ("DEVICE 3 MT A\n+\n", 8, 1), ("DEVICE 3 TR\n=A\n", 8, 1), ("DEVICE 3 LP\n+A\n", 8, 1),
-    ("DEVICE 3 MT A\n=A\n+b\n", 9, 2),
+    ("DEVICE 3 MT A\n=A\n+b\n", 9, 2), ("POOL\nDEVICE 3 LP\n+A\n", 9, 1), ("POOL\n+A\n", 8, 1),
 ]
 
 # Where a line of an exchange is wrong: its fault and its column.
@@ -101,6 +102,16 @@ JOB_HINTS = [
     ((HEAD + TAIL).replace("ENDDECK\n", ""), "ENDDECK is missing"),
     ((HEAD + TAIL).replace("ENDJOB\n", ""), "ENDJOB is missing"),
     (HEAD + "DEVICE 3 TR\n+ab\n" + TAIL, "lowercase letters aren't characters"),
+    (HEAD + "POOL\nDEVICE 9 TR\n" + TAIL, "the pool has punches and printers; a device of kind TR belongs to a slot, and comes before POOL"),
+    (HEAD + "POOL\nPOOL\n" + TAIL, "the job already has a line POOL"),
+    (HEAD + "POOL\n" + HEAD[11:] + TAIL, "POOL comes after the last slot and all its lines"),
+    (HEAD + "POOL\nSHOW 0 0\n" + TAIL, "POOL comes after the last slot and all its lines"),
+    (HEAD.replace("SLOT", "POOL\nSLOT") + TAIL, "POOL comes once, after the last slot and before SCHEDULE"),
+    ((HEAD + TAIL).replace("ORDERS 10", "POOL"), "POOL comes once, after the last slot and before SCHEDULE"),
+    (HEAD + "POOL 9\n" + TAIL, "the form of this line is POOL, with nothing after it"),
+    (HEAD + "POOL\nDEVICE 9\n" + TAIL, "the form of this line is DEVICE d TP, or DEVICE d LP"),
+    (HEAD + "POOL\n+A\n" + TAIL, "the devices of the pool begin empty, so they have no lines"),
+    (HEAD + "POOL\nDEVICE 9 TP\nORDERS 9\n" + TAIL, "expected DEVICE or SCHEDULE"),
 ]
 
 # How a program fails, its deck, the line and the column of the failing order in the deck, and a part of what is said of it.
@@ -157,6 +168,8 @@ BAD_INPUT = [
     (["picture"], "KDF9 REPORT 1\nSLOT 0\nENDREPORT\n", "-:3: slot 0 has no line STATE"),
     (["picture"], "KDF9 REPORT 1\nSWAP 0 4\nSLOT 0\nSTATE LIVE\nENDREPORT\n", "-:2: the report has no slot or device 4"),
     (["picture"], "KDF9 REPORT 1\nSWAP 0\nENDREPORT\n", "-:2: this isn't an entry of a journal: SWAP 0"),
+    (["picture"], "KDF9 REPORT 1\nTAKE 0 9\nSLOT 0\nSTATE LIVE\nENDREPORT\n", "-:2: the report has no slot or device 9"),
+    (["picture"], "KDF9 REPORT 1\nGIVE 0 9\nSLOT 0\nSTATE LIVE\nPOOL 9 TP FREE PLACE 0 FLAG 0\nENDREPORT\n", "-:2: the report has no slot or device 9"),
 ]
 
 # Two programs, of which the second fails, with what explain says of their priorities after the schedule.
@@ -168,6 +181,12 @@ TURNS = [
     (TWO_LOOPS, "ORDERS 19999999\nSWAP 0 2\nORDERS 1\n", ["  priorities at the end, highest first: 1, 0\n"]),
     (FAILS_SECOND, "SWAP 0 1\nORDERS 5\nSWAP 0 1\n", ["order 2; nest, top first: empty\n  priorities at that point, highest first: 1, 0\n"]),
 ]
+
+# The pictures of the documents, and the examples whose reports they show.
+PICTURED = {
+    "picture.svg": "adds-cards-while-a-tape-is-copied", "exchange.svg": "lets-a-starved-program-in", "pool.svg": "two-programs-share-a-punch",
+    "pool-fails.svg": "waits-until-the-other-fails",
+}
 
 
 def explained(text, head, parts):
@@ -216,7 +235,7 @@ def documents_have_no_other_faults():
     headings = re.findall(r"^### \d+ (\w+)$", document("USERCODE.md"), re.MULTILINE)
     rows = re.findall(r"^\| `([A-Z][a-z]\w+)` \| ", document("JOB.md"), re.MULTILINE)
     yield "the nineteen faults of decks", None if headings == [fault[0] for fault in DECK_FAULTS] else f"are {headings}"
-    yield "the fourteen faults of jobs", None if rows == ["Header"] + [fault[0] for fault in JOB_FAULTS] else f"are {rows}"
+    yield "the fifteen faults of jobs", None if rows == ["Header"] + [fault[0] for fault in JOB_FAULTS] else f"are {rows}"
 
 
 def hints_are_given():
@@ -240,11 +259,6 @@ def failures_are_found():
         yield f"a program that is held up by {hold}", explained(text, f"-:5:{column}: LIVE: {statement}", [f"held up by {hold}"])
     nowhere = explained(job_of_deck("PROGRAM; J1P1; P1; 1; FINISH;"), "", ["-: LIV: the next order of slot 0 is at syllable 0 of word 2"])
     yield "a program whose next order no statement wrote", nowhere
-
-
-def example_report(name):
-    """The report of the example of this name."""
-    return (ROOT / "examples" / f"{name}.report").read_text(encoding="latin-1")
 
 
 def examples_are_shown():
@@ -400,8 +414,8 @@ def documents_are_true():
     named = re.findall(r"`([a-z0-9-]+)`(?=[^|]*\|[^|]*\|$)", document("EXAMPLES.md"), re.MULTILINE)
     there = {path.stem for path in (ROOT / "examples").iterdir()}
     yield "docs/EXAMPLES.md", None if sorted(named) == sorted(there) else f"differs by {there ^ set(named)}"
-    reports = [example_report("adds-cards-while-a-tape-is-copied"), kdf9(["run"], job).out, example_report("lets-a-starved-program-in")]
-    for picture, of in zip(("picture.svg", "share.svg", "exchange.svg"), reports):
+    reports = {picture: example_report(name) for picture, name in PICTURED.items()}
+    for picture, of in {**reports, "share.svg": kdf9(["run"], job).out}.items():
         yield f"docs/{picture}", None if kdf9(["picture"], of).out == document(picture) else "isn't the picture of its report"
 
 

@@ -1,4 +1,6 @@
 """What an order changed, in words: what differs between two sections of one program."""
+from itertools import zip_longest
+
 from kdf9.deck import WORD
 from kdf9.words import count
 
@@ -41,14 +43,21 @@ def changes_of_registers(before, after):
 def changes_outside(before, after):
     """What differs in devices, spooled texts and the life of the program."""
     for old, new in zip(before.devices, after.devices):
-        if old.state != new.state:
-            yield f"device {new.number} {new.kind}: {new.state}"
-        if old.blocks != new.blocks:
-            yield f"device {new.number} {new.kind}: {count(len(new.blocks), 'block')}"
+        yield from changes_of_device(f"device {new.number} {new.kind}", old, new)
+    for old, new in zip_longest(before.stints, after.stints):
+        yield from changes_of_device(f"pool {new.number} {new.kind}", old or new._replace(state="", blocks=[]), new)
     for text in after.spools[len(before.spools):]:
         yield f"spooled {text}"
     if after.state != before.state:
         yield " ".join(after.state)
+
+
+def changes_of_device(name, old, new):
+    """What differs in a device of this name."""
+    if old.state != new.state:
+        yield f"{name}: {new.state}"
+    if old.blocks != new.blocks:
+        yield f"{name}: {count(len(new.blocks), 'block')}"
 
 
 def statement_at(section, layout):

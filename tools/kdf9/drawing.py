@@ -2,12 +2,13 @@
 from html import escape
 
 from kdf9.journal import RAN, groups
-from kdf9.said import (MOST_SIGNS, description, exchanges_in_all, held_calls, name_of_device, said_of_device, said_of_exchanges, said_of_slot, state_of,
-                       sums_of_slot, title_of, transfers_and_moves)
+from kdf9.said import (MOST_SIGNS, description, exchanges_in_all, held_calls, label_of_device, said_of_device, said_of_exchanges, said_of_lending,
+                       said_of_slot, state_of, sums_of_slot, title_of, transfers_and_moves, waiting_calls)
 from kdf9.words import count
 
 # Colours by slot that can be told apart without telling red from green; and the shades of what belongs to no program.
 COLOURS = ("#0072b2", "#e69f00", "#009e73", "#cc79a7")
+TINTS = ("#b9dcf2", "#fbe3b5", "#b3e3d5", "#f3d6e5")
 IDLE, READY_LINE, FAILURE = "#9a9a9a", "#8a8a8a", "#d55e00"
 
 # Where things are, in pixels.
@@ -26,9 +27,14 @@ font-family="sans-serif" font-size="14" role="img" aria-labelledby="title desc">
 <title id="title">{title}</title>
 <desc id="desc">{desc}</desc>
 <defs><pattern id="held" width="6" height="6" patternUnits="userSpaceOnUse" patternTransform="rotate(45)">\
-<rect width="6" height="6" fill="#fff"/><rect width="2.4" height="6" fill="#7a7a7a"/></pattern></defs>
+<rect width="6" height="6" fill="#fff"/><rect width="2.4" height="6" fill="#7a7a7a"/></pattern>{more}</defs>
 <rect width="100%" height="100%" fill="#fff"/>
 <text x="{left}" y="20" font-size="16">{title}</text>"""
+
+
+# The shade of a program that waits for the pool, which only a picture with a pool has.
+WAITS = """<pattern id="waits" width="6" height="6" patternUnits="userSpaceOnUse"><rect width="6" height="6" fill="#fff"/>\
+<circle cx="3" cy="3" r="1.7" fill="#7a7a7a"/></pattern>"""
 
 
 class Drawing:
@@ -81,7 +87,9 @@ class Drawing:
         section = self.chart.sections[number]
         self.label(SLOT_HEIGHT, f"slot {number}: {state_of(section)}", sums_of_slot(section, lane))
         for first, end, calls, events in groups(lane):
-            boxes = list(self.stack(first, end, SLOT_HEIGHT, [(calls[RAN], COLOURS[number]), (held_calls(calls), "url(#held)")]))
+            waits = waiting_calls(calls)
+            parts = [(calls[RAN], COLOURS[number]), (held_calls(calls) - waits, "url(#held)"), (waits, "url(#waits)")]
+            boxes = list(self.stack(first, end, SLOT_HEIGHT, parts))
             if not boxes:
                 boxes = [self.box(self.x(first), self.y + SLOT_HEIGHT - 1.5, self.x(end) - self.x(first), 1.5, READY_LINE)]
             if 2 * calls[RAN] > sum(calls.values()):
@@ -93,10 +101,11 @@ class Drawing:
             self.titled(f"slot {number} {said}", [sign(self.x(stretch + 1))])
         self.y += SLOT_HEIGHT + GAP
 
-    def digit(self, number, first, end, height):
+    def digit(self, number, first, end, height, fill=None):
         """The digit of a slot in a bar, where there is room for it."""
         if self.x(end) - self.x(first) >= BAR_OF_DIGIT:
-            yield f'<text x="{(self.x(first) + self.x(end)) / 2:.1f}" y="{self.y + height / 2 + 5:g}" text-anchor="middle" fill="{DIGITS[number]}">{number}</text>'
+            x, y, fill = (self.x(first) + self.x(end)) / 2, self.y + height / 2 + 5, fill or DIGITS[number]
+            yield f'<text x="{x:.1f}" y="{y:g}" text-anchor="middle" fill="{fill}">{number}</text>'
 
     def label(self, height, before, after):
         """The text before a lane and the text after it."""
@@ -123,8 +132,10 @@ class Drawing:
 
     def device(self, number, lane):
         """The lane of a device. If there are too many transfers to see each one, their beginnings are only counted."""
-        name, transfers = name_of_device(self.chart, number), self.chart.transfers[number]
+        name, transfers = label_of_device(self.chart, number), self.chart.transfers[number]
         self.label(DEVICE_HEIGHT, name, transfers_and_moves(self.chart, number))
+        if number in self.chart.pool:
+            self.lendings(name, self.chart.lent_lanes[number], lane)
         for first, end, calls, events in groups(lane):
             boxes = list(self.stack(first, end, DEVICE_HEIGHT, [(calls[slot], COLOURS[slot]) for slot in sorted(calls)]))
             if len(calls) == 1:
@@ -134,6 +145,15 @@ class Drawing:
             self.titled(f"{name}, {self.when(first, end if calls else first + 1)}: {said_of_device(calls, events)}", boxes)
         self.moves(name, self.chart.move_lanes[number])
         self.y += DEVICE_HEIGHT + GAP
+
+    def lendings(self, name, lane, transfers):
+        """To whom a device of the pool is lent, in a light shade below its transfers."""
+        for first, end, calls, _ in groups(lane):
+            boxes = list(self.stack(first, end, DEVICE_HEIGHT, [(calls[slot], TINTS[slot]) for slot in sorted(calls)]))
+            if len(calls) == 1 and not any(transfers.calls[first:end]):
+                boxes += self.digit(*calls, first, end, DEVICE_HEIGHT, "#000")
+            if boxes:
+                self.titled(f"{name}, {self.when(first, end)}: {said_of_lending(calls)}", boxes)
 
     def moves(self, name, lane):
         """The signs of words that were moved early."""
@@ -210,7 +230,10 @@ class Drawing:
     def legend(self):
         """What the shades and signs mean."""
         y = self.y
+        holders = sorted({slot for lane in self.chart.lent_lanes.values() for _, slot in lane.happened()})
         shades = [(COLOURS[slot], f"slot {slot} obeys orders; a transfer for it") for slot in self.chart.sections]
+        shades += [(TINTS[slot], f"a device of the pool, lent to slot {slot}") for slot in holders]
+        shades += [("url(#waits)", "waits for a device of the pool")] if self.chart.pool else []
         shades += [("url(#held)", "held up by a device or a group of words"), (IDLE, "idle: all live programs are held up")]
         for index, (fill, words) in enumerate(shades):
             self.key(index, self.box(0, 0, 22, 12, fill), words)
@@ -273,6 +296,6 @@ def svg(chart):
     drawing.exchanges()
     drawing.axis()
     drawing.legend()
-    words = {"title": title_of(chart), "desc": escape(description(chart))}
+    words = {"title": title_of(chart), "desc": escape(description(chart)), "more": WAITS if chart.pool else ""}
     head = HEAD.format(width=LEFT + WIDTH + RIGHT, height=drawing.y + 10, left=8, **words)
     return [head, *drawing.lines, "</svg>"]

@@ -148,7 +148,7 @@ def reason_of_claim(case):
         return reason_of_label(case, second)
     if call == 5:
         kind = CODES_OF_KINDS[second]
-        taken = [number for number, other in devices(case, claimed=True) if other == kind]
+        taken = [number for number, other in devices(case, claimed=True) + stints(case) if other == kind]
         return f"OUT 5 needs {KINDS[kind]}, {kind}; {all_claimed(taken) if taken else shown_devices(case)}"
     return f"OUT 6 gives back device {number_of(second)}, which isn't claimed; {shown_devices(case)}"
 
@@ -158,27 +158,41 @@ def devices(case, claimed):
     return [(device.number, device.kind) for device in case.section.devices if device.state.startswith("HELD") is claimed]
 
 
+def stints(case):
+    """The devices of the pool that the program has."""
+    return [(stint.number, stint.kind) for stint in case.section.stints if stint.state.startswith("HELD")]
+
+
 def all_claimed(numbers):
     """That these devices, which were wanted, are all taken."""
     return f"device {numbers[0]} is already claimed" if len(numbers) == 1 else f"devices {listed(list(map(str, numbers)))} are already claimed"
 
 
 def shown_devices(case):
-    """Which devices the slot has, in words."""
-    names = [f"{line[2]} {line[1]}" + (f" {line[3]}" if len(line) > 3 else "") for line in map(str.split, case.slot.devices) if line[0] == "DEVICE"]
-    return f"the slot has {listed(names)}" if names else "the slot has no devices"
+    """Which devices the slot has, and the pool if there is one, in words."""
+    own, pool = names_of(case.slot.devices), names_of(case.slot.pool)
+    said = f"the slot has {listed(own)}" if own else "the slot has no devices"
+    return f"{said}; the pool has {listed(pool)}" if pool else said
+
+
+def names_of(lines):
+    """The devices in some lines of a job, each by its kind, its number and its label."""
+    return [f"{line[2]} {line[1]}" + (f" {line[3]}" if len(line) > 3 else "") for line in map(str.split, lines) if line[0] == "DEVICE"]
 
 
 def reason_of_device(case, order, q):
     """Which device a Q-store names."""
     number = case.q_store(q)[0]
-    kinds, wanted = case.slot.kinds(), OF_KINDS.get(order, "MT")
+    pool, wanted = case.slot.pool_kinds(), OF_KINDS.get(order, "MT")
+    kinds = {**case.slot.kinds(), **pool}
     if number not in kinds:
         unset = f"; did you forget =C{q}?" if number == 0 else ""
         return f"{case.shown_q(q)}, and its counter names device {number}; {shown_devices(case)}{unset}"
-    named = f"Q{q} names device {number}, {KINDS[kinds[number]]}"
+    named = f"Q{q} names device {number}, {KINDS[kinds[number]]}" + (" of the pool" if number in pool else "")
     if (number, kinds[number]) in devices(case, claimed=False):
         return f"{named}, which isn't claimed: OUT {4 if kinds[number] == 'MT' else 5} claims it"
+    if number in pool and (number, kinds[number]) not in stints(case):
+        return f"{named}, which the program hasn't got: OUT 5 takes one from the pool"
     return f"{named}; {case.text} needs {KINDS[wanted]}"
 
 

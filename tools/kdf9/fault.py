@@ -15,7 +15,7 @@ BLANK_LINES = 9
 # Which field of a line is the one at fault, counted from 0.
 WORD_AT_FAULT = {
     "SlotOrder": 1, "SizeNotGroups": 1, "StoreFull": 1, "DeviceTwice": 1, "BadLabel": 3, "LabelTwice": 3,
-    "ShowRange": 1, "ClockFalls": 1, "TooManyOrders": 1,
+    "ShowRange": 1, "ClockFalls": 1, "TooManyOrders": 1, "PoolKind": 2,
 }
 
 # The least and the greatest value of each number in a line.
@@ -24,8 +24,11 @@ RANGES = {
     "ORDERS": [(1, 20000000)], "MOVE": [(0, 15), (1, 4096)], "END": [(0, 15)], "CLOCK": [(0, 2**47 - 1)],
     "SWAP": [(0, 3), (0, 3)],
 }
-KEYWORDS = {*RANGES, "DECK", "ENDDECK", "SCHEDULE", "ENDJOB"}
+KEYWORDS = {*RANGES, "DECK", "ENDDECK", "POOL", "SCHEDULE", "ENDJOB"}
 NUMBER = re.compile(r"(?:0|[1-9][0-9]*)\Z")
+
+# The kinds of devices that begin empty, and what stands for a kind directly after the line POOL.
+EMPTY = ("TP", "LP", "POOL")
 
 # The bytes of a medium that aren't characters, and the most characters of a line by the kind of its device.
 NO_CHARACTER = re.compile(r"[^ -`|]|[#&\\]")
@@ -109,13 +112,14 @@ def word_of_bad_number(text):
 
 
 def device_above(lines, line):
-    """The kind of the device whose medium a line belongs to."""
-    return next(lines[at].split(" ")[2] for at in range(line - 1, -1, -1) if lines[at].startswith("DEVICE "))
+    """The kind of the device whose medium a line belongs to, or POOL directly after that line."""
+    above = next(lines[at] for at in range(line - 1, -1, -1) if lines[at].startswith("DEVICE ") or lines[at] == "POOL")
+    return above.split(" ")[2] if above != "POOL" else above
 
 
 def column_in_medium(text, kind):
     """The column at which a line of a medium is wrong: its mark, the first byte that isn't a character, or the first byte too many."""
-    if kind in ("TP", "LP") or (text[0] == "=" and kind != "MT"):
+    if kind in EMPTY or (text[0] == "=" and kind != "MT"):
         return 1
     stranger = NO_CHARACTER.search(text, 1)
     if stranger:

@@ -12,8 +12,9 @@ CAPITALS = "lowercase letters aren't allowed here; write {}"
 # The form of each line of a job that has operands.
 FORMS = {
     "SLOT": "SLOT p", "STORE": "STORE n", "DEVICE": "DEVICE d k, or DEVICE d MT label", "SHOW": "SHOW a b", "ORDERS": "ORDERS n", "MOVE": "MOVE d n",
-    "END": "END d", "CLOCK": "CLOCK t", "SWAP": "SWAP p q",
+    "END": "END d", "CLOCK": "CLOCK t", "SWAP": "SWAP p q", "POOL": "POOL, with nothing after it",
 }
+POOL_DEVICE = "DEVICE d TP, or DEVICE d LP"
 SCHEDULED = ["ORDERS", "MOVE", "END", "CLOCK", "SWAP", "ENDJOB"]
 
 # A missing `;` is looked for after the first PIECES pieces of a statement. No valid statement has more pieces, and few have more than FEW_PIECES.
@@ -89,11 +90,25 @@ def hint_of_job(fault, lines):
     if fault.name == "BadNumber":
         return hint_of_number(line)
     if fault.name == "BadLine":
-        return hint_of_line(line, expected_at(lines, fault.line))
+        return hint_of_pool(line, lines[:fault.line - 1]) or hint_of_line(line, expected_at(lines, fault.line))
+    if fault.name == "PoolKind":
+        return f"the pool has punches and printers; a device of kind {line.split(' ')[2]} belongs to a slot, and comes before POOL"
     if fault.name == "ShowRange":
         store = next(lines[at] for at in range(fault.line - 1, -1, -1) if lines[at].startswith("STORE ") and lines[at + 1] == "DECK")
         return f"the store has words 0 to {int(store[6:]) - 1}"
     return None
+
+
+def hint_of_pool(line, before):
+    """A hint for a line that has to do with the pool and isn't allowed after the lines before it, or None."""
+    word, pooled = line.split(" ")[0], is_in_pool(before)
+    if line == "POOL" and not is_in_deck(before):
+        if pooled:
+            return "the job already has a line POOL; all devices of the pool come after it"
+        return "POOL comes once, after the last slot and before SCHEDULE"
+    if pooled and word in ("SLOT", "SHOW"):
+        return "POOL comes after the last slot and all its lines"
+    return f"the form of this line is {POOL_DEVICE}" if pooled and word == "DEVICE" else None
 
 
 def hint_of_line(line, expected):
@@ -110,13 +125,15 @@ def expected_at(lines, line):
     before = lines[line - 2]
     if "SCHEDULE" in lines[:line - 1] and not is_in_deck(lines[:line - 1]):
         return ["the end of the job"] if before == "ENDJOB" else SCHEDULED
-    first = {"KDF9": ["SLOT"], "SLOT": ["STORE"], "STORE": ["DECK"], "SHOW": ["SHOW", "SLOT", "SCHEDULE"]}
+    if is_in_pool(lines[:line - 1]):
+        return ["DEVICE", "SCHEDULE"]
+    first = {"KDF9": ["SLOT"], "SLOT": ["STORE"], "STORE": ["DECK"], "SHOW": ["SHOW", "SLOT", "POOL", "SCHEDULE"]}
     word = before.split(" ")[0]
     if word in first:
         return first[word]
     media = {"TR": ["+"], "CR": ["+"], "MT": ["+", "="]}
     has_device = word == "DEVICE" or before[:1] in ("+", "=")
-    return (media.get(faults.device_above(lines, line), []) if has_device else []) + ["DEVICE", "SHOW", "SLOT", "SCHEDULE"]
+    return (media.get(faults.device_above(lines, line), []) if has_device else []) + ["DEVICE", "SHOW", "SLOT", "POOL", "SCHEDULE"]
 
 
 def hint_of_number(line):
@@ -133,8 +150,16 @@ def is_in_deck(lines):
     return "DECK" in lines and "ENDDECK" not in lines[len(lines) - lines[::-1].index("DECK"):]
 
 
+def is_in_pool(lines):
+    """Whether the lines of a job end among the devices of the pool."""
+    after = lines[len(lines) - lines[::-1].index("ENDDECK"):] if "ENDDECK" in lines else []
+    return "POOL" in after and "SCHEDULE" not in after and not is_in_deck(lines)
+
+
 def hint_of_medium(line, kind, column):
     """A hint for a line of a medium that is wrong at this column."""
+    if kind == "POOL":
+        return "the devices of the pool begin empty, so they have no lines"
     if kind in ("TP", "LP"):
         return f"a device of kind {kind} begins empty, so it has no lines"
     if line[column - 1:column].islower():

@@ -1,10 +1,10 @@
-"""The text of a job in which the program found no fault of the job: its lines, its slots and their decks."""
+"""The text of a job in which the program found no fault of the job: its lines, its slots with their decks, and its pool."""
 from typing import NamedTuple
 
 
 class Slot(NamedTuple):
-    """A slot of a job: its number, the words of its store, the line of the job, from 1, where its deck begins, the text of the deck, and
-    the lines of its devices with their media.
+    """A slot of a job: its number, the words of its store, the line of the job, from 1, where its deck begins, the text of the deck, the
+    lines of its devices with their media, and those of the pool, which all slots share.
     """
 
     number: int
@@ -12,6 +12,7 @@ class Slot(NamedTuple):
     deck_line: int
     deck: str
     devices: list
+    pool: tuple = ()
 
     def place(self, offset):
         """The line of the job and the column, both from 1, of a byte of the deck. ENDDECK comes after the last byte."""
@@ -20,12 +21,21 @@ class Slot(NamedTuple):
 
     def lines(self):
         """What a program has from its job, but for the number of its slot."""
-        return self.store, self.deck, self.devices
+        return self.store, self.deck, self.devices, self.pool
 
     def kinds(self):
         """The kinds of the slot's devices by their numbers."""
-        words = [line.split(" ") for line in self.devices if line.startswith("DEVICE ")]
-        return {int(number): kind for _, number, kind, *_ in words}
+        return kinds_of(self.devices)
+
+    def pool_kinds(self):
+        """The kinds of the pool's devices by their numbers."""
+        return kinds_of(self.pool)
+
+
+def kinds_of(lines):
+    """The kinds of the devices in some lines by their numbers."""
+    words = [line.split(" ") for line in lines if line.startswith("DEVICE ")]
+    return {int(number): kind for _, number, kind, *_ in words}
 
 
 def read_lines(text):
@@ -36,21 +46,28 @@ def read_lines(text):
 
 def read_slots(lines):
     """The slots of a job by their numbers."""
-    slots = {}
+    slots, pool = {}, read_pool(lines)
     at = 1
     while lines[at].startswith("SLOT "):
         end = lines.index("ENDDECK", at)
-        after = next(line for line in range(end, len(lines)) if lines[line].startswith(("SLOT ", "SCHEDULE")))
+        after = next(line for line in range(end, len(lines)) if lines[line].startswith(("SLOT ", "POOL", "SCHEDULE")))
         slot = Slot(
             number=int(lines[at].split()[1]),
             store=int(lines[at + 1].split()[1]),
             deck_line=at + 4,
             deck=join_lines(lines[at + 3:end]),
             devices=[line for line in lines[end + 1:after] if not line.startswith("SHOW ")],
+            pool=pool,
         )
         slots[slot.number] = slot
         at = after
     return slots
+
+
+def read_pool(lines):
+    """The lines of the pool's devices. They come after the last deck, in which a line may be anything."""
+    after = lines[len(lines) - lines[::-1].index("ENDDECK"):]
+    return tuple(after[after.index("POOL") + 1:after.index("SCHEDULE")]) if "POOL" in after else ()
 
 
 def join_lines(lines):
@@ -59,8 +76,12 @@ def join_lines(lines):
 
 
 def job_text(slots, schedule, shown=()):
-    """The text of a job of these slots, with the lines of its schedule, that shows the whole store of the slots whose numbers are `shown`."""
-    return "KDF9 JOB 1\n" + "".join(text_of_slot(slot, slot.number in shown) for slot in slots) + join_lines(["SCHEDULE", *schedule, "ENDJOB"])
+    """The text of a job of these slots and their pool, with the lines of its schedule, that shows the whole store of the slots whose numbers
+    are `shown`.
+    """
+    slots = list(slots)
+    pool = ["POOL", *slots[0].pool] if slots[0].pool else []
+    return "KDF9 JOB 1\n" + "".join(text_of_slot(slot, slot.number in shown) for slot in slots) + join_lines([*pool, "SCHEDULE", *schedule, "ENDJOB"])
 
 
 def text_of_slot(slot, is_shown):
@@ -70,5 +91,5 @@ def text_of_slot(slot, is_shown):
 
 
 def lone_job(slot, orders):
-    """A job of this slot alone that shows its whole store, with a schedule of this number of calls."""
+    """A job of this slot alone, with its pool, that shows its whole store, with a schedule of this number of calls."""
     return job_text([slot], [f"ORDERS {orders}"] if orders else [], [slot.number])

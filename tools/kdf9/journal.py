@@ -84,35 +84,42 @@ class Lane:
 
 
 class Program:
-    """What is known of a program at some moment: what it does since when, and which transfers its hold may wait for."""
+    """What is known of a program at some moment: what it does since when, which transfers its hold may wait for, and for which kind of
+    the pool's devices it waits, if it does.
+    """
 
     def __init__(self):
         self.does = READY
         self.since = 0
         self.waits_for = set()
+        self.wants = None
 
 
 class Chart:
     """A run drawn to scale: lanes of its programs by slot and of its devices by number, of idle calls, of the clock and of priorities.
 
     A report doesn't tell which transfer locks out a group. So a program that is held up by one counts as held up until it goes on or the
-    last transfer that it had under way has ended.
+    last transfer that it had under way has ended. Of the pool it tells only the devices that were taken; where a program waits for one,
+    these are all devices of the kind.
     """
 
     def __init__(self, report, name, stretches):
         self.columns = Columns(*idle_stretches(report.entries), stretches)
         self.total = self.columns.total
         self.sections = report.sections
-        self.devices = {device.number: device.kind for section in report.sections.values() for device in section.devices}
+        own = {device.number: device.kind for section in report.sections.values() for device in section.devices}
+        self.pool = {stint.number: stint.kind for section in report.sections.values() for stint in section.stints}
+        self.devices = {**own, **self.pool}
         self.slot_lanes = {number: self._lane() for number in report.sections}
-        self.device_lanes = {number: self._lane() for number in sorted(self.devices)}
-        self.move_lanes = {number: self._lane() for number in sorted(self.devices)}
+        self.device_lanes = {number: self._lane() for number in [*sorted(own), *sorted(self.pool)]}
+        self.move_lanes = {number: self._lane() for number in self.devices}
+        self.lent_lanes = {number: self._lane() for number in self.pool}
         self.idle, self.clock, self.exchanges = self._lane(), self._lane(), self._lane()
         self.order = SLOTS
         self.transfers = Counter()
         self._now = 0
         self._programs = {number: Program() for number in report.sections}
-        self._flying = {}
+        self._flying, self._lent = {}, {}
         self._read(report.entries, name)
 
     def _lane(self):
@@ -122,7 +129,7 @@ class Chart:
         takers = {
             "RAN": self._ran, "START": self._start, "FAIL": self._stop, "ENDED": self._stop, "BUSY": self._busy,
             "LOV": self._lov, "WAIT": self._wait, "IDLE": self._idle, "MOVE": self._move, "END": self._end, "CLOCK": self._clock,
-            "SWAP": self._swap,
+            "SWAP": self._swap, "TAKE": self._take, "GIVE": self._give,
         }
         try:
             for line, (kind, *numbers) in enumerate(entries, 2):
@@ -134,6 +141,8 @@ class Chart:
             self._turn(number, None)
         for device in list(self._flying):
             self._land(device)
+        for device in list(self._lent):
+            self._return(device)
         self.times = self.clock.number_of_events()
 
     def _turn(self, number, does):
@@ -147,7 +156,7 @@ class Chart:
         self._turn(number, READY)
         self.slot_lanes[number].span(self._now, self._now + orders, RAN)
         self._now += orders
-        self._programs[number].since = self._now
+        self._programs[number].since, self._programs[number].wants = self._now, None
 
     def _hold(self, number, reason, transfers):
         self._turn(number, reason)
@@ -163,12 +172,39 @@ class Chart:
         self._hold(number, Held("group", group), {device for device, (_, owner) in self._flying.items() if owner == number})
 
     def _wait(self, number, kind):
-        """Of the pool a report tells too little: a program counts as held up by it until it goes on."""
         self._hold(number, Held("pool", kind), {kind})
+        self._programs[number].wants = kind
+
+    def _take(self, number, device):
+        if number not in self._programs:
+            raise KeyError(number)
+        self.lent_lanes[device].event(self._now, number)
+        self._lent[device] = (self._now, number)
+        self._look_at_waits()
+
+    def _give(self, number, device):
+        self._return(device)
+        self._look_at_waits()
+
+    def _return(self, device):
+        since, holder = self._lent.pop(device)
+        self.lent_lanes[device].span(since, self._now, holder)
+
+    def _look_at_waits(self):
+        """A program waits for the pool while all devices of the kind are lent: also where another was quicker to take the one given back."""
+        for number, program in self._programs.items():
+            if program.does and program.wants:
+                is_held = all(device in self._lent for device, kind in self.pool.items() if kind == program.wants)
+                does = Held("pool", program.wants) if is_held else READY
+                if does != program.does:
+                    self._turn(number, does)
 
     def _stop(self, number, failure=None):
         self._turn(number, None)
         self.slot_lanes[number].event(max(0, self._now - 1), (self._now, failure))
+        for device in [device for device, (_, holder) in self._lent.items() if holder == number]:
+            self._return(device)
+        self._look_at_waits()
 
     def _idle(self, calls):
         self.idle.span(self._now, self._now + calls, "idle")

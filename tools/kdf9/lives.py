@@ -7,7 +7,7 @@ from kdf9.deck import WORD
 from kdf9.job import read_slots
 from kdf9.program import answer_to
 from kdf9.schedule import cut, job_with, read_schedule, start_of
-from kdf9.timeline import call_of_order, in_flight
+from kdf9.timeline import HOLDS, call_of_order, in_flight, lent
 from kdf9.words import count, listed
 
 GROUP = 32
@@ -19,10 +19,10 @@ COUNTERS = re.compile(r"(?:J.*C|DC|=C)(\d+)")
 
 
 class Hold(NamedTuple):
-    """What held a program up last: BUSY, LOV or WAIT, and the number of the device or group, or the kind."""
+    """What held a program up last: BUSY, LOV or WAIT, and the number of the device or group, or the kind of a device of the pool."""
 
     kind: str
-    number: int
+    number: object
 
 
 class Stopped:
@@ -31,7 +31,8 @@ class Stopped:
     def __init__(self, lines, run):
         self.lines, self.report = lines, run
         self.slots, self._schedule = read_slots(lines), read_schedule(lines)
-        self.flying = in_flight(run.entries)
+        self.flying, self.lent = in_flight(run.entries), lent(run.entries)
+        self.pool = next(iter(self.slots.values())).pool_kinds()
 
     def after_order(self, number, order):
         """The section of the program of this slot after this order of its own."""
@@ -45,12 +46,23 @@ class Stopped:
                 return None if kind == "RAN" else Hold(kind, rest[1])
         return None
 
-    def is_held_for_good(self, number):
-        """Whether a program that is live waits for a transfer that nothing ends."""
+    def is_held_for_good(self, number, waiting=()):
+        """Whether a program that is live waits for a transfer that nothing ends, or for the pool, of which nobody who has a device can go on:
+        those with the numbers `waiting` wait for this one.
+        """
         hold = self.hold_of(number)
         if hold is None or self.report.sections[number].state != ["LIVE"]:
             return False
-        return hold.number in self.flying if hold.kind == "BUSY" else bool(self.flights_of(number)) or hold.kind == "WAIT"
+        if hold.kind == "BUSY":
+            return hold.number in self.flying
+        if hold.kind == "LOV":
+            return bool(self.flights_of(number))
+        holders = self.holders_of(hold.number).values()
+        return all(slot in (number, *waiting) or self.is_held_for_good(slot, (number, *waiting)) for slot in holders)
+
+    def holders_of(self, kind):
+        """The slots that hold the pool's devices of this kind at the end, by device; None for one without a holder."""
+        return {device: self.lent.get(device, (None, 0))[0] for device in sorted(self.pool) if self.pool[device] == kind}
 
     def flights_of(self, number):
         """The devices with a transfer of this program in flight, with the call that each began with."""
@@ -97,6 +109,29 @@ def story_of_hold(stopped, case, hold):
         yield f"it needs group {hold.number}: {words}{own} are locked out by a transfer"
     for device, call in flights.items():
         yield f"the transfer of device {device} began at call {call}, and the schedule has no END {device} after it"
+    if hold.kind == "WAIT":
+        yield from story_of_wait(stopped, number, hold.number)
+
+
+def story_of_wait(stopped, number, kind):
+    """Who has the pool's devices of a kind that a program waits for, and why they don't give them back."""
+    for device, holder in stopped.holders_of(kind).items():
+        if holder is None:
+            yield f"device {device} of the pool is free again, but slot {number} has had no turn since"
+        else:
+            taker = "it" if holder == number else f"slot {holder}"
+            yield f"{taker} took device {device} of the pool at call {stopped.lent[device][1]}, {why_kept(stopped, holder, number)}"
+
+
+def why_kept(stopped, holder, number):
+    """Why a program hasn't given back what it has of the pool while another waits for it."""
+    if holder == number:
+        return "and wants one more"
+    if not stopped.is_held_for_good(holder):
+        return "and has neither given it back nor ended"
+    hold = stopped.hold_of(holder)
+    why = "nobody will give anything back" if hold.kind == "WAIT" else "the schedule doesn't end its transfer"
+    return f"and is itself held up by {HOLDS[hold.kind].format(hold.number)}: {why}"
 
 
 def groups_of_order(case):
@@ -107,8 +142,9 @@ def groups_of_order(case):
 
 
 def devices_that_are_none(stopped):
-    """The lines END and MOVE of devices that no slot has, with what may have been meant."""
-    devices = {device for slot in stopped.slots.values() for device in slot.kinds()}
+    """The lines END and MOVE of devices that nobody has, with what may have been meant."""
+    devices = {device for slot in stopped.slots.values() for device in slot.kinds()} | set(stopped.pool)
+    nobody = "neither a slot nor the pool" if stopped.pool else "no slot"
     seen = set()
     for at in range(start_of(stopped.lines) + 1, len(stopped.lines) - 1):
         word, _, rest = stopped.lines[at].partition(" ")
@@ -118,7 +154,7 @@ def devices_that_are_none(stopped):
         seen.add(device)
         meant = [other for other in sorted(stopped.flying) if set(str(other)) & set(str(device))] or sorted(stopped.flying)
         did = f"; did you mean {word} {meant[0]}?" if meant else ""
-        yield f"line {at + 1}, {stopped.lines[at]}: no slot has device {device}{did}"
+        yield f"line {at + 1}, {stopped.lines[at]}: {nobody} has device {device}{did}"
 
 
 def story_of_loop(stopped, case):

@@ -16,6 +16,9 @@ ENTRIES = {
 }
 NAMES = ("kind",)
 
+# The lists of devices of a section, and the first word of their lines.
+DEVICES = (("devices", "DEVICE"), ("stints", "POOL"))
+
 
 def number_of(octal):
     """The number, with its sign, of a word in octal digits."""
@@ -95,9 +98,10 @@ def record_of_section(reader):
     section["q"] = [record_of_q(*map(int, rest.split(" "))) for rest in reader.all("Q")]
     section["words"] = [record_of_store(*rest.split(" ")) for rest in reader.all("WORD")]
     section["spools"] = [record_of_spool(*rest.split(" ", 1)) for rest in reader.all("SPOOL")]
-    section["devices"] = []
-    while reader.next_is("DEVICE"):
-        section["devices"].append(record_of_device(reader))
+    for name, word in DEVICES:
+        section[name] = []
+        while reader.next_is(word):
+            section[name].append(record_of_device(reader, word))
     return section
 
 
@@ -124,9 +128,9 @@ def record_of_spool(stream, text):
     return {"stream": int(stream), "text": text}
 
 
-def record_of_device(reader):
-    """A device with its blocks."""
-    number, kind, held, _, place, _, flag = reader.take("DEVICE").split(" ")
+def record_of_device(reader, word):
+    """A device with its blocks, in lines of which the first begins with this word."""
+    number, kind, held, _, place, _, flag = reader.take(word).split(" ")
     device = {"device": int(number), "kind": kind, "claimed": {"HELD": True, "FREE": False}[held], "place": int(place), "flag": int(flag), "blocks": []}
     while reader.next_is("BLOCK", "LAST"):
         word, _, text = reader.lines[reader.at].partition(" ")
@@ -156,10 +160,11 @@ def lines_of_section(section):
         yield f"WORD {word['address']} {word['octal']}"
     for spool in section["spools"]:
         yield f"SPOOL {spool['stream']} {spool['text']}"
-    for device in section["devices"]:
-        held = "HELD" if device["claimed"] else "FREE"
-        yield f"DEVICE {device['device']} {device['kind']} {held} PLACE {device['place']} FLAG {device['flag']}"
-        yield from (f"{'LAST' if block['marked'] else 'BLOCK'} {block['text']}" for block in device["blocks"])
+    for name, word in DEVICES:
+        for device in section[name]:
+            held = "HELD" if device["claimed"] else "FREE"
+            yield f"{word} {device['device']} {device['kind']} {held} PLACE {device['place']} FLAG {device['flag']}"
+            yield from (f"{'LAST' if block['marked'] else 'BLOCK'} {block['text']}" for block in device["blocks"])
 
 
 def parts_of_json(record):

@@ -23,7 +23,9 @@ STATUSES = {"USAGE": 1, "JOB": 2, "DECK": 3, "LARGE": 4}
 
 
 class Device(NamedTuple):
-    """A device of a section: its number and kind, the words of its state, and its blocks."""
+    """A device of a section, or what a program did with one of the pool from taking it on: the number and kind, the words of the state, and
+    the blocks.
+    """
 
     number: int
     kind: str
@@ -46,6 +48,7 @@ class Section:
         self.words = {}
         self.spools = []
         self.devices = []
+        self.stints = []
 
     @property
     def failure(self):
@@ -72,9 +75,14 @@ def add_q_store(section, rest):
     section.q_stores[q] = tuple(parts)
 
 
-def add_device(section, rest):
+def read_device(rest):
     number, kind, state = rest.split(" ", 2)
-    section.devices.append(Device(int(number), kind, state, []))
+    return Device(int(number), kind, state, [])
+
+
+def add_block(section, rest):
+    """Takes a block of the device in the last line of one; those of the pool come last."""
+    (section.stints or section.devices)[-1].blocks.append(rest)
 
 
 READERS = {
@@ -87,9 +95,10 @@ READERS = {
     "Q": add_q_store,
     "WORD": add_word,
     "SPOOL": lambda section, rest: section.spools.append(rest),
-    "DEVICE": add_device,
-    "BLOCK": lambda section, rest: section.devices[-1].blocks.append(rest),
-    "LAST": lambda section, rest: section.devices[-1].blocks.append(rest),
+    "DEVICE": lambda section, rest: section.devices.append(read_device(rest)),
+    "POOL": lambda section, rest: section.stints.append(read_device(rest)),
+    "BLOCK": add_block,
+    "LAST": add_block,
 }
 
 

@@ -11,6 +11,11 @@ def name_of_device(chart, number):
     return f"device {number} {chart.devices[number]}"
 
 
+def label_of_device(chart, number):
+    """A device in words, and whether it is one of the pool."""
+    return name_of_device(chart, number) + (" (pool)" if number in chart.pool else "")
+
+
 def reasons(chart, calls):
     """What held a program up, and for how many calls, in words, most calls first."""
     held = [(number, reason) for reason, number in calls.items() if isinstance(reason, Held)]
@@ -32,6 +37,11 @@ def held_calls(calls):
     return sum(number for reason, number in calls.items() if isinstance(reason, Held))
 
 
+def waiting_calls(calls):
+    """For how many calls a program waited for the pool."""
+    return sum(number for reason, number in calls.items() if isinstance(reason, Held) and reason.what == "pool")
+
+
 def said_of_slot(chart, calls):
     """What a program did in these calls, in words."""
     said = [f"obeyed {count(calls[RAN], 'order')}"] if calls[RAN] else []
@@ -50,9 +60,20 @@ def said_of_device(calls, events):
 
 
 def transfers_and_moves(chart, number):
-    """How many transfers a device had, and how many lines MOVE moved words of them, in words."""
+    """How many transfers a device had, how many lines MOVE moved words of them, and how often the pool lent it, in words."""
     said, moves = count(chart.transfers[number], "transfer"), chart.move_lanes[number].number_of_events()
-    return f"{said}, {count(moves, 'MOVE')}" if moves else said
+    moved = f", {count(moves, 'MOVE')}" if moves else ""
+    return said + moved + (f", {times_lent(chart, number)}" if number in chart.pool else "")
+
+
+def times_lent(chart, number):
+    """How often the pool lent a device, in words."""
+    return f"lent {count(chart.lent_lanes[number].number_of_events(), 'time')}"
+
+
+def said_of_lending(calls):
+    """To whom a device of the pool was lent in these calls, in words."""
+    return "; ".join(f"lent to slot {slot} for {count(calls[slot], 'call')}" for slot in sorted(calls))
 
 
 def said_of_exchanges(chart, exchanges):
@@ -78,7 +99,7 @@ def sums_of_slot(section, lane):
 def description(chart):
     """The whole picture in words, for those who can't see it."""
     said = [f"slot {number}: {state_of(chart.sections[number])}, {sums_of_slot(chart.sections[number], lane)}" for number, lane in chart.slot_lanes.items()]
-    said += [f"{name_of_device(chart, number)}: {transfers_and_moves(chart, number)}" for number in chart.device_lanes]
+    said += [f"{label_of_device(chart, number)}: {transfers_and_moves(chart, number)}" for number in chart.device_lanes]
     return "; ".join(said) + "."
 
 

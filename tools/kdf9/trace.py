@@ -2,13 +2,21 @@
 from collections import Counter
 from typing import NamedTuple
 
-from kdf9.timeline import timed
+from kdf9.timeline import HOLDS, timed
 from kdf9.words import count
 
-# What may hold a program up, and how many lines of the schedule are shown between two orders.
-HOLDS = {"BUSY": "device", "LOV": "group", "WAIT": "the pool's want of a"}
+# The lines of the schedule that have entries, and how many of them are shown between two orders.
 SCHEDULED = ("MOVE", "END", "CLOCK", "SWAP")
 MOST_SCHEDULED = 8
+
+# What an order did besides what it changed, in words, by its entry.
+DOES = {
+    "ANSWER": "answered {}", "START": "a transfer of device {} begins", "TAKE": "takes device {} from the pool",
+    "GIVE": "gives device {} back to the pool",
+}
+
+# What becomes of a program, and of the pool, that another may have waited for.
+FREES = {"GIVE": "slot {} gave back device {}", "ENDED": "slot {} ended", "FAIL": "slot {} failed"}
 
 
 class Moment(NamedTuple):
@@ -42,7 +50,7 @@ class Trace:
         kind, *numbers = entry
         if kind == "RAN" and numbers[0] == self._slot:
             self._ran(calls, numbers[1])
-        elif kind in ("START", "ANSWER", "FAIL", "ENDED") and numbers[0] == self._slot:
+        elif kind in (*DOES, "FAIL", "ENDED") and numbers[0] == self._slot:
             if self.moments and self.moments[-1].order == self._obeyed:
                 self.moments[-1].own.append(entry)
         elif kind not in ("START", "ANSWER"):
@@ -64,12 +72,24 @@ class Trace:
         self.rest = []
 
 
+def said_of_order(own):
+    """What an order did besides what it changed, in words, by its entries."""
+    return [DOES[kind].format(numbers[1]) for kind, *numbers in own if kind in DOES]
+
+
+def freed_by(between, slot):
+    """After what the pool may have had a device for the program of a slot that waited for one, in words."""
+    waits = [at for at, (_, (kind, number, *_)) in enumerate(between) if kind == "WAIT" and number == slot]
+    after = between[waits[0]:] if waits else []
+    return [f"{FREES[kind].format(*numbers)} at call {calls}" for calls, (kind, *numbers) in after if kind in FREES]
+
+
 def said_of(between, slot):
     """What happened between two orders of the program of a slot, in words."""
     holds, ran, scheduled, idle = [], Counter(), [], 0
     for calls, (kind, *numbers) in between:
         if kind in HOLDS and numbers[0] == slot:
-            holds.append(f"held up from call {calls + 1} by {HOLDS[kind]} {numbers[1]}")
+            holds.append(f"held up from call {calls + 1} by {HOLDS[kind].format(numbers[1])}")
         elif kind == "RAN":
             ran[numbers[0]] += numbers[1]
         elif kind == "IDLE":
@@ -78,4 +98,4 @@ def said_of(between, slot):
             scheduled.append(f"{' '.join(map(str, [kind, *numbers]))} after call {calls}")
     others = [f"slot {number} obeyed {count(orders, 'order')}" for number, orders in sorted(ran.items())]
     more = [f"{len(scheduled) - MOST_SCHEDULED} more lines of the schedule"] if len(scheduled) > MOST_SCHEDULED else []
-    return holds + others + ([f"{count(idle, 'call')} idle"] if idle else []) + scheduled[:MOST_SCHEDULED] + more
+    return holds + others + ([f"{count(idle, 'call')} idle"] if idle else []) + scheduled[:MOST_SCHEDULED] + more + freed_by(between, slot)

@@ -1,5 +1,5 @@
 -- The places by number.
-use Rattle.std.proofs.Common.{◌≡◌, ℕ, Bool, true, false, cond, ltb, List, [], map, get_or, set, Option, Some, None, refl, sym, ap, ◌∙◌, subst}
+use Rattle.std.proofs.Common.{◌≡◌, ℕ, Bool, true, false, cond, ltb, List, map, get_or, set, Some, None, refl, sym, ap, ◌∙◌, subst}
 use Rattle.std.specs.Prelude.{◌&&◌, unwrap_or}
 use Rattle.std.specs.Option.{option_map}
 use Rattle.std.proofs.Math.ListN.{get_or-map}
@@ -15,7 +15,7 @@ use Rattle.kdf_transfer.proofs.OfKind.{exact}
 use Rattle.kdf_processor.specs.Claims.{claim, kind_at}
 use Rattle.kdf_processor.specs.Effect.{Starts}
 use Rattle.kdf_processor.specs.Row.{at_once, transferred, moved_by}
-use Rattle.kdf_processor.specs.State.{Claims, Stock, device_in, fixture_at, own_fixture_at, pool_kind_at, pooled_or}
+use Rattle.kdf_processor.specs.State.{Claims, Stock, device_in, fixture_at, pooled_or}
 use Rattle.kdf_alone.specs.declared.place.Place.{Place}
 use Rattle.kdf_alone.specs.declared.place.Place.TheVariants.{Absent, Own, Pooled}
 use Rattle.kdf_alone.specs.declared.stint.Stint.{Stint}

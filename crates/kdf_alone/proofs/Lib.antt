@@ -1,3 +1,4 @@
+pub mod Apart
 pub mod Devices
 pub mod Rows
 pub mod Steps

@@ -1,7 +1,6 @@
 -- A program by itself is never held up, so its next order is its row.
 use Rattle.std.proofs.Common.{◌≡◌, ℕ, ap, ap₂, ◌∙◌}
 use Rattle.kdf_processor.specs.declared.registers.Registers.{Registers}
-use Rattle.kdf_processor.specs.declared.step.Step.{Step}
 use Rattle.kdf_processor.specs.Outcome.{Outcome, outcome}
 use Rattle.kdf_processor.specs.Row.{row, next_of}
 use Rattle.kdf_processor.proofs.ByItself.{state, outcome_alone, row_alone}

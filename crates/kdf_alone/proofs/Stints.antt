@@ -1,5 +1,5 @@
 -- The stints of a bench.
-use Rattle.std.specs.Prelude.{◌&&◌, HoldsAt, IfNone, IfSome, not, slice_get, unwrap_or}
+use Rattle.std.specs.Prelude.{◌&&◌, HoldsAt, IfNone, IfSome, slice_get, unwrap_or}
 use Rattle.std.specs.List.{All, AllPairs}
 use Rattle.std.specs.Option.{option_map}
 use Rattle.std.proofs.Common.{◌≡◌, ◌≢◌, ℕ, zero, suc, ◌+◌, ◌<◌, ◌≤◌, Bool, true, false, cond, eqb, ltb, List, [], ◌∷◌, ◌++◌, length, get_or, map, set, Option, Some, None, is_some, refl, sym, ap, ap₂, ◌∙◌, subst, ⊎_elim, arith}
@@ -26,7 +26,7 @@ use Rattle.kdf_processor.specs.State as state
 use Rattle.kdf_processor.specs.State.{Lending, State, Stock, device_in, fixture_at, is_pooled, lending_of, lendings, new_registers}
 use Rattle.kdf_processor.specs.Stints.{IsLent, IsStint}
 use Rattle.kdf_alone.specs.declared.place.Place.{Place}
-use Rattle.kdf_alone.specs.declared.place.Place.TheVariants.{Absent, Own, Pooled}
+use Rattle.kdf_alone.specs.declared.place.Place.TheVariants.{Absent, Pooled}
 use Rattle.kdf_alone.specs.declared.stint.Stint.{Stint}
 use Rattle.kdf_alone.specs.Places.{own_fixture_in, pool_kind_in, progress_in, IsWhole}
 use Rattle.kdf_alone.specs.Stints.{lent_stock, stint_in, AreLent, IsKept, IsOpen, IsUnlent}

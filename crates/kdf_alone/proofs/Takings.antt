@@ -1,8 +1,7 @@
 -- An order that takes from the pool, and is answered the device that it takes, comes to the same.
 use Rattle.std.proofs.Common.{◌≡◌, ℕ, ◌+◌, ltb, eqb, Bool, true, false, cond, List, [], ◌∷◌, length, Option, Some, None, refl, ap, ap₂}
 use Rattle.std.specs.Prelude.{unwrap_or}
-use Rattle.std.proofs.lemmas.Bool.{cases_Bool}
-use Rattle.kdf_journal.specs.declared.failure.Failure.TheVariants.{Liv, Nouv, Out, Claim}
+use Rattle.kdf_journal.specs.declared.failure.Failure.TheVariants.{Liv, Nouv, Claim}
 use Rattle.kdf_journal.specs.declared.kind.Kind.{Kind}
 use Rattle.kdf_journal.specs.declared.kind.Kind.TheVariants.{Mt}
 use Rattle.kdf_syllable.specs.declared.order.Order.{Order}
@@ -15,15 +14,12 @@ use Rattle.kdf_transfer.specs.declared.order.TransferOrder.{TransferOrder}
 use Rattle.kdf_transfer.specs.declared.test.Test.TheVariants.{Flag, Start, Mark}
 use Rattle.kdf_transfer.specs.declared.wanted.Wanted.TheVariants.{Kinded, Labelled}
 use Rattle.kdf_processor.specs.declared.registers.Registers.{Registers}
-use Rattle.kdf_processor.specs.declared.step.Step.{Step}
-use Rattle.kdf_processor.specs.Claims.{can_take, claim, free_for, is_claimed, kind_numbered, least_pooled, may_take, taken}
-use Rattle.kdf_processor.specs.Effect.{Change, Refused, Going, of_change, Effect, Question, Asks, Failing, Ending, Changing, Fetching, Keeping, Testing, Starting, Asking, IsBusy, IsOut, Time, FreeOf, Claiming, Returning, Spooling}
-use Rattle.kdf_processor.specs.Needs.{effect_at, effect_or_liv, next_effect, order_at}
-use Rattle.kdf_processor.specs.Outcome.{Outcome}
+use Rattle.kdf_processor.specs.Claims.{claim, free_for, is_claimed, kind_numbered, least_pooled, may_take, taken}
+use Rattle.kdf_processor.specs.Effect.{Change, Refused, Going, of_change, Effect, Failing, Ending, Changing, Fetching, Keeping, Testing, Starting, Asking, IsBusy, IsOut, Time, FreeOf, Claiming, Returning, Spooling}
+use Rattle.kdf_processor.specs.Needs.{effect_or_liv, next_effect, order_at}
 use Rattle.kdf_processor.specs.Row.{done_by, next_of, perform, row, taking}
-use Rattle.kdf_processor.specs.Row.{taken as done_to}
-use Rattle.kdf_processor.specs.State.{Claims, State, Stock, word_at}
-use Rattle.kdf_processor.specs.Table.{change_of, claims_found, claims_kind, claims_or_takes, device_effect, direct_effect, effect, guarded, has_bit, indirect_address, indirect_effect, indirect_half, is_area, moves, on_top, out_effect, plain_row, query_effect, spools, starts, transfer_of, with_nest}
+use Rattle.kdf_processor.specs.State.{Claims, State, word_at}
+use Rattle.kdf_processor.specs.Table.{change_of, claims_found, claims_kind, claims_or_takes, device_effect, direct_effect, effect, guarded, has_bit, indirect_effect, indirect_half, is_area, moves, on_top, out_effect, plain_row, query_effect, starts, transfer_of, with_nest}
 use Rattle.kdf_processor.proofs.Fit.{IsFit, next_fit}
 use Rattle.kdf_processor.proofs.Stinting.{taken_can}
 use Rattle.kdf_alone.specs.Bench.{given}

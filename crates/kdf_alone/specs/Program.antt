@@ -8,8 +8,8 @@ use Rattle.kdf_processor.specs.Effect.{Question}
 use Rattle.kdf_processor.specs.State.{State, device_at, own_fixture_at}
 
 -- no number is both a device's of a slot and one's of the pool
-abbrev pub AreApart : SlotJob → Type 0
-AreApart s = (d : ℕ) → is_some (lent_kind s.pool d) ≡ true → numbered s.devices d ≡ None
+abbrev pub IsApart : SlotJob → Type 0
+IsApart s = (d : ℕ) → is_some (lent_kind s.pool d) ≡ true → numbered s.devices d ≡ None
 
 -- the answer whose place is the number of those that were taken, or 0 past the end, whatever is asked
 abbrev pub given_by : List ℕ → State → Question → ℕ

@@ -8,7 +8,7 @@ ghost use Rattle.kdf_processor.specs.Lone.{is_live, lone};
 ghost use Rattle.kdf_processor.specs.Row.{next_of, row};
 ghost use Rattle.kdf_processor.specs.State.{begin, lendings, word_at};
 ghost use Rattle.kdf_processor.specs.Stints.{IsStint};
-ghost use Rattle.kdf_alone.specs.Program.{given_by, AreApart, IsDeviceAt};
+ghost use Rattle.kdf_alone.specs.Program.{given_by, IsApart, IsDeviceAt};
 
 use crate::bench::Bench;
 use crate::loading::{places, store};
@@ -45,7 +45,7 @@ impl Alone {
     /// devices of the slot and of the pool, none of them claimed. No number is both a device's of the slot and of the pool.
     pub fn load(alloc: Global, slot: &SlotJob, image: &Image) -> Result<Alone, AllocError>
         requires fits { length image.now.words.items ≤ slot.now.size }
-        requires apart { AreApart (shown_slot slot.now) }
+        requires apart { IsApart (shown_slot slot.now) }
         ensures { IfOk result (λ a. a ≡ begin (slot_of (shown_slot slot.now) image.now.words.items)) }
     {
         let words = store(alloc, slot.size, &image.words)?;

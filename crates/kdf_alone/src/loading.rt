@@ -6,7 +6,7 @@ ghost use Rattle.kdf_job.specs.Slots.{fixture_on, lent_kind, numbered, progress_
 ghost use Rattle.kdf_processor.specs.State.{filled};
 ghost use Rattle.kdf_transfer.specs.ByNumber.{by_number};
 ghost use Rattle.kdf_alone.specs.Places.{own_fixture_in, pool_kind_in, progress_in, IsWhole};
-ghost use Rattle.kdf_alone.specs.Program.{AreApart};
+ghost use Rattle.kdf_alone.specs.Program.{IsApart};
 ghost use Rattle.kdf_alone.specs.Stints.{IsUnlent};
 
 use crate::place::Place;
@@ -28,7 +28,7 @@ pub fn store(alloc: Global, size: u16, image: &[Word]) -> Result<Vec<Word>, Allo
 
 /// Copies of a slot's devices and blank ones of the pool by number, sixteen places.
 pub fn places(alloc: Global, slot: &SlotJob) -> Result<Vec<Place>, AllocError>
-    requires { AreApart (shown_slot slot.now) }
+    requires { IsApart (shown_slot slot.now) }
     ensures fixtures { IfOk result (λ places. map own_fixture_in places.items
         ≡ by_number (λ d. fixture_on (numbered (map shown_device slot.now.devices.items) d))) }
     ensures kinds { IfOk result (λ places. map pool_kind_in places.items
@@ -48,7 +48,7 @@ pub fn places(alloc: Global, slot: &SlotJob) -> Result<Vec<Place>, AllocError>
 
 /// The place of a number: a blank device of the pool, or else a copy of the slot's device, where there is one.
 fn place(alloc: Global, slot: &SlotJob, d: u8) -> Result<Place, AllocError>
-    requires { AreApart (shown_slot slot.now) }
+    requires { IsApart (shown_slot slot.now) }
     ensures fixture { IfOk result (λ place. own_fixture_in place
         ≡ fixture_on (numbered (map shown_device slot.now.devices.items) d)) }
     ensures kind { IfOk result (λ place. pool_kind_in place ≡ lent_kind slot.now.pool.items d) }

@@ -124,8 +124,6 @@ module _ (reaches : List Reach) (seats : List Seat) (s : Shared) (d : ℕ) (run 
           (λ (same : e ≡ d). ap (λ k. is_some (spot_at (after_move d n s).spots k).fixture) same ∙ ap (λ (x : Spot). is_some x.fixture) (get_or-set_same s.spots d _ no_spot inside) ∙ (ap (λ k. is_some (spot_at s.spots k).fixture) (sym same) ∙ some))
           (λ (ne : e ≢ d). ap (λ (x : Spot). is_some x.fixture) (get_or-set_other s.spots d e _ no_spot ne) ∙ some)
           (cases_eq e d))
-          (λ i lt. kept_by (part_at reaches seats i) s (after_move d n s) (run.kept i lt) (moved_holder n) (λ e. same_at (λ (x : Spot). x.fixture) s.spots d e (moved_spot n (spot_at s.spots d)) refl) (λ e none. same_at (λ (x : Spot). x.progress) s.spots d e (moved_spot n (spot_at s.spots d)) refl))
-          (λ i lt live. active_by (part_at reaches seats i) s (after_move d n s) (run.active i lt live) (moved_holder n))
           (λ e k flies'. ⊎_elim
           (λ (same : e ≡ d).
           let here : spot_at (after_move d n s).spots e ≡ moved_spot n (spot_at s.spots d) = ap (spot_at (after_move d n s).spots) same ∙ get_or-set_same s.spots d _ no_spot inside in
@@ -143,6 +141,8 @@ module _ (reaches : List Reach) (seats : List Seat) (s : Shared) (d : ℕ) (run 
           let there = get_or-set_other s.spots d e (moved_spot n (spot_at s.spots d)) no_spot ne in
           subst (λ y. IsHeld reaches seats e y k) (sym there) (run.flights e k (ap (λ (x : Spot). x.flight) (sym there) ∙ flies')))
           (cases_eq e d))
+          (λ i lt. kept_by (part_at reaches seats i) s (after_move d n s) (run.kept i lt) (moved_holder n) (λ e. same_at (λ (x : Spot). x.fixture) s.spots d e (moved_spot n (spot_at s.spots d)) refl) (λ e none. same_at (λ (x : Spot). x.progress) s.spots d e (moved_spot n (spot_at s.spots d)) refl))
+          (λ i lt live. active_by (part_at reaches seats i) s (after_move d n s) (run.active i lt live) (moved_holder n))
 
   -- what each program shows after the end
   pub ended_state : (m i : ℕ) → i < length seats → own_state reaches seats (after_end d s) m i ≡ ended_own (part_at reaches seats i) d (spot_at s.spots d).flight (own_state reaches seats s m i)
@@ -190,12 +190,6 @@ module _ (reaches : List Reach) (seats : List Seat) (s : Shared) (d : ℕ) (run 
           ap (λ k. is_some (spot_at (after_end d s).spots k).fixture) same ∙ ap (λ (x : Spot). is_some x.fixture) (get_or-set_same s.spots d _ no_spot inside ∙ y_is) ∙ (ap (λ k. is_some (spot_at s.spots k).fixture) (sym same) ∙ some))
           (λ (ne : e ≢ d). ap (λ (x : Spot). is_some x.fixture) (get_or-set_other s.spots d e _ no_spot ne) ∙ some)
           (cases_eq e d))
-          (λ i lt. kept_by (part_at reaches seats i) s (after_end d s) (run.kept i lt) last_holder (λ e. same_at (λ (x : Spot). x.fixture) s.spots d e (ended_spot (spot_at s.spots d)) (ap (λ (x : Spot). x.fixture) y_is))
-          (λ e none. ⊎_elim
-          (λ (same : e ≡ d). cc (sym (ap (λ k. (spot_at s.spots k).holder) same ∙ of.flight.holder) ∙ none))
-          (λ (ne : e ≢ d). ap (λ (x : Spot). x.progress) (get_or-set_other s.spots d e _ no_spot ne))
-          (cases_eq e d)))
-          (λ i lt live. active_by (part_at reaches seats i) s (after_end d s) (run.active i lt live) last_holder)
           (λ e k flies'. ⊎_elim
           (λ (same : e ≡ d).
           let none = ap (λ i. (spot_at (after_end d s).spots i).flight) same ∙ ap (λ (x : Spot). x.flight) (get_or-set_same s.spots d (ended_spot (spot_at s.spots d)) no_spot inside ∙ y_is) in
@@ -204,3 +198,9 @@ module _ (reaches : List Reach) (seats : List Seat) (s : Shared) (d : ℕ) (run 
           let there = get_or-set_other s.spots d e (ended_spot (spot_at s.spots d)) no_spot ne in
           subst (λ y. IsHeld reaches seats e y k) (sym there) (run.flights e k (ap (λ (x : Spot). x.flight) (sym there) ∙ flies')))
           (cases_eq e d))
+          (λ i lt. kept_by (part_at reaches seats i) s (after_end d s) (run.kept i lt) last_holder (λ e. same_at (λ (x : Spot). x.fixture) s.spots d e (ended_spot (spot_at s.spots d)) (ap (λ (x : Spot). x.fixture) y_is))
+          (λ e none. ⊎_elim
+          (λ (same : e ≡ d). cc (sym (ap (λ k. (spot_at s.spots k).holder) same ∙ of.flight.holder) ∙ none))
+          (λ (ne : e ≢ d). ap (λ (x : Spot). x.progress) (get_or-set_other s.spots d e _ no_spot ne))
+          (cases_eq e d)))
+          (λ i lt live. active_by (part_at reaches seats i) s (after_end d s) (run.active i lt live) last_holder)

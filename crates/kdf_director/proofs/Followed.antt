@@ -125,8 +125,9 @@ module _ (slots : List Slot) (J : List Entry) (reaches : List Reach) (seats : Li
   course : IsOnCourse slots J p
   course = legal-course slots J are legal p
 
-  part : IsPart q s
-  part = turn.is_part reaches seats s i run lt is_on
+  registers_own : (seat_at seats i).registers ≡ mine.registers
+  unfolding own_state
+  registers_own = refl
 
   -- it is live
   is_on : is_live (seat_at seats i).registers.state ≡ true
@@ -134,10 +135,9 @@ module _ (slots : List Slot) (J : List Entry) (reaches : List Reach) (seats : Li
       ap (λ (r : Registers). is_live r.state) (registers_own ∙ ap (λ (x : State). x.registers) fol.is_seen)
       ∙ legal_alive slots J legal p
       ∙ next_on (lone_world slots J) slots J p meets.0
-    where
-      registers_own : (seat_at seats i).registers ≡ mine.registers
-      unfolding own_state
-      registers_own = refl
+
+  part : IsPart q s
+  part = turn.is_part reaches seats s i run lt is_on
 
   none_holds : first_need (lone_world slots J) p ≡ None
   none_holds = free_need (first_need (lone_world slots J) p) meets.1
@@ -342,8 +342,8 @@ module _ (slots : List Slot) (J : List Entry) (reaches : List Reach) (seats : Li
   left e = after_act q s (done_by answer e mine).act
 
   -- what is taken from the pool or given back has no transfer then, as before
-  flight_lent : (kind : Kind) (after : Registers) (d : ℕ) → (spot_at (left (Asking (FreeOf kind) after)).spots d).flight ≡ (spot_at s.spots d).flight
-  flight_lent kind after d = let t = lent_to q s kind (answer (FreeOf kind)) in same_at (λ (x : Spot). x.flight) s.spots t d (lent_spot q.p (spot_at s.spots t)) refl
+  flight_lent : (kind : Kind) (after : ℕ → Registers) (d : ℕ) → (spot_at (left (Asking (FreeOf kind) after)).spots d).flight ≡ (spot_at s.spots d).flight
+  flight_lent kind after d = let t = lent_to q s kind (answer (FreeOf kind)) in same_at (λ (y : Spot). y.flight) s.spots t d (lent_spot q.p (spot_at s.spots t)) refl
 
   flight_back : (x : ℕ) (after : Registers) → first_pending (view q 0 s) (effect_needs (own_from p 0 s.spots) (Returning true x after)) ≡ None → (d : ℕ) → (spot_at (left (Returning true x after)).spots d).flight ≡ (spot_at s.spots d).flight
   flight_back x after clear d = same_at (λ (y : Spot). y.flight) s.spots x d (blank_spot (spot_at s.spots x)) (sym (idle_back (is_some (spot_at s.spots x).flight) refl))
@@ -357,7 +357,7 @@ module _ (slots : List Slot) (J : List Entry) (reaches : List Reach) (seats : Li
       idle_back false is = none_of (spot_at s.spots x).flight is
 
   linked_by : (e : Effect) → IsLawful (own_stock q 0 s).claims e → first_pending (view q 0 s) (effect_needs (own_from p 0 s.spots) e) ≡ None → (d : ℕ) → Linked q d (spot_at (left e).spots d).flight (flights_after fs l e d)
-  linked_by (Starting d o first last after) lawful clear = linked_new d o first last after lawful clear
+  linked_by (Starting x o first last after) lawful clear d = linked_new x o first last after lawful clear d
   linked_by (Asking (FreeOf kind) after) lawful clear d = subst (λ f. Linked q d f (fs d)) (sym (flight_lent kind after d)) (fol.linked d)
   linked_by (Returning true x after) lawful clear d = subst (λ f. Linked q d f (fs d)) (sym (flight_back x after clear d)) (fol.linked d)
   linked_by (Returning false x after) lawful clear d = fol.linked d
@@ -365,10 +365,10 @@ module _ (slots : List Slot) (J : List Entry) (reaches : List Reach) (seats : Li
 
   -- of another program
   other_by : (x : Part) (own : State) → IsFollowing slots J x own s → q.p ≢ x.p → (e : Effect) → IsLawful (own_stock q 0 s).claims e → first_pending (view q 0 s) (effect_needs (own_from p 0 s.spots) e) ≡ None → (d : ℕ) → Linked x d (spot_at (left e).spots d).flight (flights_of slots J x.p d)
-  other_by x own follows ne (Starting d o first last after) lawful clear =
+  other_by x own follows ne (Starting d o first last after) lawful clear e =
       linked_set x s.spots d (start_spot q.p o (q.base + first) (q.base + last) s.cells (spot_at s.spots d)) (flights_of slots J x.p) (flights_of slots J x.p) (inside d o first last after lawful clear) follows.linked (λ e ne'. refl)
       (subst (Linked x d (start_spot q.p o (q.base + first) (q.base + last) s.cells (spot_at s.spots d)).flight)
-      (sym (linked_none x d (flights_of slots J x.p d) (subst (λ y. Linked x d y (flights_of slots J x.p d)) (idle d o first last after lawful clear) (follows.linked d)))) ne)
+      (sym (linked_none x d (flights_of slots J x.p d) (subst (λ y. Linked x d y (flights_of slots J x.p d)) (idle d o first last after lawful clear) (follows.linked d)))) ne) e
   other_by x own follows ne (Asking (FreeOf kind) after) lawful clear d = subst (λ f. Linked x d f (flights_of slots J x.p d)) (sym (flight_lent kind after d)) (follows.linked d)
   other_by x own follows ne (Returning true y after) lawful clear d = subst (λ f. Linked x d f (flights_of slots J x.p d)) (sym (flight_back y after clear d)) (follows.linked d)
   other_by x own follows ne (Returning false y after) lawful clear d = follows.linked d

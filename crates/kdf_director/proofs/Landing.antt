@@ -13,17 +13,12 @@ use Rattle.kdf_director.specs.Physical.{own_words, has_group, with_lease}
 use Rattle.kdf_transfer.specs.ByNumber.{device_count, by_number}
 use Rattle.kdf_director.proofs.PhysicalLemmas.{with_lease_is, with_lease_other}
 use Rattle.kdf_transfer.specs.AtOnce.{written}
-use Rattle.kdf_director.specs.declared.place.Place.TheVariants.{Busy}
-use Rattle.kdf_director.specs.Spots.{Held, Spot, spot_at, spot_of, lease_held, leases_of}
+use Rattle.kdf_director.specs.Spots.{Held, Spot, spot_at, lease_held, leases_of}
 use Rattle.kdf_director.specs.Parts.{Shared, Part, own_fixture, own_progress, own_claims, own_stock}
 use Rattle.kdf_director.specs.Shared.{moved_held, moved_spot, after_move, flight_moves}
 use Rattle.kdf_director.specs.Sound.{IsSound, IsFlightOf}
 use Rattle.kdf_director.proofs.Acting.{stock, claims, leases-set, fixtures-set, progress-set}
 use Rattle.kdf_director.proofs.Puts.{shift, AreWithin, within-drop, within-take, within-addressed, shift-addressed, shift-drop, shift-take, has-with, full-with, IsLentAlone, HasAll, puts_own, puts_other}
-
-pub spot_moved : (p n : ℕ) (t t' : Motion) → t' ≡ moved_by n t → (let x : Spot = record { fixture = Some t'.fixture; progress = t'.progress; flight = Some (record { p = p; motion = t' }); holder = Some p } in x) ≡ moved_spot n (spot_of (Busy p t))
-unfolding moved_by
-spot_moved p n t t' is = ap (λ (m : Motion). let x : Spot = record { fixture = Some m.fixture; progress = m.progress; flight = Some (record { p = p; motion = m }); holder = Some p } in x) is
 
 -- a lease after some words
 pub has-put : (ms : List (ℕ × ℕ)) (l : Lent) (g : ℕ) → has_group (Some (put_words ms l)) g ≡ has_group (Some l) g

@@ -1,6 +1,6 @@
 -- What the checks of an effect make sure of.
 use Rattle.std.specs.Prelude.{find}
-use Rattle.std.proofs.Common.{◌≡◌, ℕ, ◌+◌, ◌<◌, Bool, true, false, List, [], ◌∷◌, ◌++◌, Option, Some, None, cond, eqb, ltb, refl, sym, ap, ◌∙◌, ⊎_elim}
+use Rattle.std.proofs.Common.{◌≡◌, ℕ, ◌+◌, ◌<◌, Bool, true, false, List, [], ◌∷◌, ◌++◌, Option, Some, None, is_some, cond, eqb, ltb, refl, sym, ap, ◌∙◌, ⊎_elim}
 use Rattle.std.proofs.lemmas.Bool.{cases_Bool, and_parts, leb-true, ltb-true}
 use Rattle.kdf_transfer.specs.AtOnce.{kind_of, has_area, IsArea}
 use Rattle.kdf_syllable.specs.declared.order.Order.{Order}
@@ -13,7 +13,7 @@ use Rattle.kdf_processor.specs.declared.step.Need.{Need}
 use Rattle.kdf_transfer.specs.declared.test.Test.TheVariants.{Flag, Start, Mark}
 use Rattle.kdf_transfer.specs.Devices.{is_kind}
 use Rattle.kdf_processor.specs.Claims.{claim, is_claimed, may_take}
-use Rattle.kdf_processor.specs.State.{Claims, is_pooled}
+use Rattle.kdf_processor.specs.State.{Claims, is_pooled, own_fixture_at}
 use Rattle.kdf_processor.specs.Effect.{Change, Refused, Going, of_change, Effect, Failing, Ending, Changing, Fetching, Keeping, Testing, Starting, Asking, IsBusy, IsOut, Time, Claiming, Returning, Spooling, FreeOf}
 use Rattle.kdf_processor.specs.Needs.{order_at, effect_or_liv, effect_at}
 use Rattle.kdf_processor.specs.Table.{is_area, guarded, effect, plain_row, change_of, on_top, out_effect, indirect_effect, direct_effect, device_effect, query_effect, transfer_of}
@@ -21,13 +21,14 @@ use Rattle.kdf_processor.specs.View.{View, first_pending, is_pending}
 use Rattle.kdf_processor.proofs.Fit.{IsFit, top_fit, out_fit, indirect_fit, direct_fit, starts_fit, query_fit}
 
 -- its address is in the store; its device is claimed and of the order's kind, and its area is in the store; a device of the kind may be
--- taken; it is given back to the pool where it is of the pool
+-- taken; the device is the slot's own; it is claimed, and is given back to the pool where it is of the pool
 abbrev pub IsLawful : Claims → Effect → Type 0
 IsLawful c (Keeping a w after) = a < c.size
 IsLawful c (Starting d o first last after) =
     (is_kind (kind_of o) (claim c d) ≡ true) × (has_area o ≡ true → IsArea first last c.size)
 IsLawful c (Asking (FreeOf kind) after) = may_take c kind ≡ true
-IsLawful c (Returning pooled d after) = pooled ≡ is_pooled c d
+IsLawful c (Claiming d after) = is_some (own_fixture_at c d) ≡ true
+IsLawful c (Returning pooled d after) = (pooled ≡ is_pooled c d) × (is_claimed c d ≡ true)
 IsLawful c e = Unit {0}
 
 by_test : (c : Claims) (b : Bool) (x y : Effect) → (b ≡ true → IsLawful c x) → (b ≡ false → IsLawful c y) → IsLawful c (cond b x y)
@@ -60,8 +61,8 @@ guarded_lawful c (Asking (IsBusy d) after) fit = by_test c (is_claimed c d) (Ask
 guarded_lawful c (Asking (IsOut first last) after) fit = by_test c (is_area c.size first last) (Asking (IsOut first last) after) _ (λ is. tt) (λ not. tt)
 guarded_lawful c (Asking Time after) fit = tt
 guarded_lawful c (Asking (FreeOf kind) after) fit = fit
-guarded_lawful c (Claiming d after) fit = tt
-guarded_lawful c (Returning pooled d after) fit = by_test c (is_claimed c d) (Returning pooled d after) (Failing Claim) (λ is. fit) (λ not. tt)
+guarded_lawful c (Claiming d after) fit = fit
+guarded_lawful c (Returning pooled d after) fit = by_test c (is_claimed c d) (Returning pooled d after) (Failing Claim) (λ is. (fit, is)) (λ not. tt)
 guarded_lawful c (Spooling stream first last after) fit = by_test c (is_area c.size first last) (Spooling stream first last after) _ (λ is. tt) (λ not. tt)
 
 change_lawful : (c : Claims) (x : Change) → IsLawful c (of_change x)

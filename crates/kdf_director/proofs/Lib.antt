@@ -26,6 +26,10 @@ pub mod WorkedSwaps
 pub mod Holding
 pub mod WorkedSlots
 pub mod Acting
+pub mod Loans
+pub mod Pooling
+pub mod Retiring
+pub mod Settling
 pub mod TurnBeginning
 pub mod Closing
 pub mod TurnEnding
@@ -76,5 +80,11 @@ pub mod Calling
 pub mod Calls
 pub mod Living
 pub mod InOrder
+pub mod Placed
+pub mod Handing
 pub mod Lent
 pub mod Placing
+pub mod StintsShown
+pub mod TurnKeeping
+pub mod Retired
+pub mod Pools

@@ -1,6 +1,7 @@
 -- What is loaded of a job that is well formed.
-use Rattle.std.proofs.Common.{◌≡◌, ◌≢◌, ◌⊎◌, inl, inr, ℕ, ◌+◌, ◌<◌, ◌≤◌, Bool, true, false, eqb, ◌||◌, List, [], ◌∷◌, ◌++◌, length, get_or, map, None, refl, sym, ap, ◌∙◌, subst, ⊎_elim, arith}
-use Rattle.std.specs.Prelude.{sum_by, nat_eq}
+use Rattle.std.proofs.Common.{◌≡◌, ◌≢◌, ◌⊎◌, inl, inr, ℕ, suc, ◌+◌, ◌<◌, ◌≤◌, Bool, true, false, eqb, ◌||◌, List, [], ◌∷◌, ◌++◌, length, get_or, map, Option, Some, None, is_some, cond, refl, sym, ap, ◌∙◌, subst, ⊎_elim, arith}
+use Rattle.std.specs.Prelude.{find, sum_by, nat_eq}
+use Rattle.std.specs.Option.{option_map}
 use Rattle.std.specs.List.{All, AllByRecursion, AllPairs, IsDistinct, flat_map}
 use Rattle.std.proofs.lemmas.Bool.{cases_eq, cases_lt, eq-eqb, ne_eqb}
 use Rattle.std.proofs.lemmas.List.{get_or-map, length-map, map-append}
@@ -10,10 +11,13 @@ use Rattle.std.proofs.lemmas.List.Kept.{AllPairs-cons}
 use Rattle.std.proofs.lemmas.List.Sums.{sum_by-cons}
 use Rattle.kdf_job.specs.Draft.{numbers_of, words_in}
 use Rattle.kdf_job.specs.Job.{JobDevice, SlotJob}
-use Rattle.kdf_job.specs.WellFormed.{AreRising, AreSlots, IsSlot}
-use Rattle.kdf_job.specs.Slots.{fixture_on, numbered, progress_on}
+use Rattle.kdf_job.specs.WellFormed.{AreRising, AreSlots, IsLent, IsSlot}
+use Rattle.kdf_job.specs.WellFormed.{numbers_in as pool_numbers}
+use Rattle.kdf_journal.specs.declared.kind.Kind.{Kind}
+use Rattle.kdf_job.specs.Slots.{fixture_on, lent_kind, numbered, progress_on}
 use Rattle.kdf_director.specs.Loading.{HaveImages, SlotLoad, load_of, loads, slot_of}
 use Rattle.kdf_director.specs.Fields.{AreApart, AreLoads, IsBelow, IsLoad, has, numbers_in}
+use Rattle.kdf_transfer.specs.ByNumber.{by_number}
 use Rattle.kdf_transfer.specs.Slots.{Slot}
 use Rattle.kdf_director.specs.Parts.{owns}
 use Rattle.kdf_director.specs.Slots as director
@@ -27,15 +31,6 @@ one_each [] [] have = refl
 one_each [] (ws ∷ images) have = absurd have
 one_each (s ∷ jobs) [] have = absurd have
 one_each (s ∷ jobs) (ws ∷ images) have = let e = one_each jobs images have.1 in omega arith
-
-each_is : (jobs : List SlotJob) (images : List (List ℕ)) → HaveImages jobs images → All IsSlot jobs → All IsLoad (loads jobs images)
-each_is [] images have each = All-nil IsLoad
-each_is (s ∷ jobs) [] have each = absurd have
-each_is (s ∷ jobs) (ws ∷ images) have each =
-    let this = All-head IsSlot s jobs each in
-    All-cons IsLoad (load_of s ws) (loads jobs images)
-    (record { number = this.number; groups = this.groups; fits = have.0; below = this.devices })
-    (each_is jobs images have.1 (All-tail IsSlot s jobs each))
 
 total_is : (jobs : List SlotJob) (images : List (List ℕ)) → HaveImages jobs images → sum_by (λ (l : SlotLoad). l.size) (loads jobs images) ≡ words_in jobs
 total_is [] images have = refl
@@ -151,13 +146,90 @@ apart_is (s ∷ jobs) (ws ∷ images) is =
     (λ i e lt d h. none_has d jobs images (distinct_apart (numbers_in s.devices) (numbers_of jobs) d both h) i e lt)
     (apart_is jobs images (distinct_rest (numbers_in s.devices) (numbers_of jobs) both))
 
+-- the devices of a pool
+pool_owns : (pool : List (ℕ × Kind)) (d : ℕ) → is_some (lent_kind pool d) ≡ owns (pool_numbers pool) d
+pool_owns [] d = refl
+pool_owns (x ∷ pool) d = by_first (eqb x.0 d) (find (λ (y : ℕ × Kind). eqb y.0 d) pool) ∙ ap (λ b. eqb x.0 d || b) (pool_owns pool d)
+  where
+    by_first : (b : Bool) (o : Option (ℕ × Kind)) → is_some (option_map (λ (y : ℕ × Kind). y.1) (cond b (Some x) o)) ≡ (b || is_some (option_map (λ (y : ℕ × Kind). y.1) o))
+    by_first true o = refl
+    by_first false o = refl
+
+-- have small numbers
+pool_small : (pool : List (ℕ × Kind)) (d : ℕ) → All IsLent pool → owns (pool_numbers pool) d ≡ true → d < 16
+pool_small [] d small is = cc
+pool_small (x ∷ pool) d small is =
+    ⊎_elim
+    (λ (same : x.0 ≡ d). let lt = (All-head IsLent x pool small).0 in omega arith)
+    (λ (other : x.0 ≢ d). pool_small pool d (All-tail IsLent x pool small) (sym (ap (λ b. b || owns (pool_numbers pool) d) (ne_eqb x.0 d other)) ∙ is))
+    (cases_eq x.0 d)
+
+-- a number of a slot's is one of all
+owns_front : (ms ns : List ℕ) (d : ℕ) → owns ms d ≡ true → owns (ms ++ ns) d ≡ true
+owns_front [] ns d is = cc
+owns_front (m ∷ ms) ns d is = parts (eqb m d) is (owns_front ms ns d)
+  where
+    parts : (a : Bool) → (a || owns ms d) ≡ true → (owns ms d ≡ true → owns (ms ++ ns) d ≡ true) → (a || owns (ms ++ ns) d) ≡ true
+    parts true is next = refl
+    parts false is next = next is
+
+owns_back : (ms ns : List ℕ) (d : ℕ) → owns ns d ≡ true → owns (ms ++ ns) d ≡ true
+owns_back [] ns d is = is
+owns_back (m ∷ ms) ns d is = or_true (eqb m d) (owns_back ms ns d is)
+  where
+    or_true : (a : Bool) → owns (ms ++ ns) d ≡ true → (a || owns (ms ++ ns) d) ≡ true
+    or_true true h = refl
+    or_true false h = h
+
+abbrev AreOthers : List ℕ → SlotJob → Type 0
+AreOthers whole s = IsDistinct nat_eq (whole ++ pool_numbers s.pool)
+
+-- each slot, where the numbers of these are among all
+each_is : (whole : List ℕ) (jobs : List SlotJob) (images : List (List ℕ)) → HaveImages jobs images → All IsSlot jobs → All (AreOthers whole) jobs → ((d : ℕ) → owns (numbers_of jobs) d ≡ true → owns whole d ≡ true) → All IsLoad (loads jobs images)
+each_is whole [] images have each own all = All-nil IsLoad
+each_is whole (s ∷ jobs) [] have each own all = absurd have
+each_is whole (s ∷ jobs) (ws ∷ images) have each own all =
+    let this = All-head IsSlot s jobs each in
+    let others : AreOthers whole s = All-head (AreOthers whole) s jobs own in
+    All-cons IsLoad (load_of s ws) (loads jobs images)
+    (record {
+      number = this.number;
+      groups = this.groups;
+      fits = have.0;
+      below = this.devices;
+      few = λ d lent. pool_small s.pool d this.lent (sym (pool_owns s.pool d) ∙ lent);
+      owned = λ d h. pool_owns s.pool d ∙ distinct_apart whole (pool_numbers s.pool) d others (all d (ap (λ ns. owns ns d) (numbers_cons s jobs) ∙ owns_front (numbers_in s.devices) (numbers_of jobs) d h));
+    })
+    (each_is whole jobs images have.1 (All-tail IsSlot s jobs each) (All-tail (AreOthers whole) s jobs own)
+    (λ d h. all d (ap (λ ns. owns ns d) (numbers_cons s jobs) ∙ owns_back (numbers_in s.devices) (numbers_of jobs) d h)))
+
+-- a pool that all slots have
+pool_all : (pool : List (ℕ × Kind)) (jobs : List SlotJob) (images : List (List ℕ)) → All (λ (t : SlotJob). pool ≡ t.pool) jobs → All (λ (l : SlotLoad). pool ≡ l.pool) (loads jobs images)
+pool_all pool [] images all = All-nil (λ (l : SlotLoad). pool ≡ l.pool)
+pool_all pool (s ∷ jobs) [] all = All-nil (λ (l : SlotLoad). pool ≡ l.pool)
+pool_all pool (s ∷ jobs) (ws ∷ images) all =
+    All-cons (λ (l : SlotLoad). pool ≡ l.pool) (load_of s ws) (loads jobs images) (All-head (λ (t : SlotJob). pool ≡ t.pool) s jobs all)
+    (pool_all pool jobs images (All-tail (λ (t : SlotJob). pool ≡ t.pool) s jobs all))
+
+abbrev HaveOnePool : SlotLoad → SlotLoad → Type 0
+HaveOnePool a b = a.pool ≡ b.pool
+
+common_is : (jobs : List SlotJob) (images : List (List ℕ)) → AllPairs (λ (a b : SlotJob). a.pool ≡ b.pool) jobs → AllPairs HaveOnePool (loads jobs images)
+common_is [] images common = no_pairs HaveOnePool
+common_is (s ∷ jobs) [] common = no_pairs HaveOnePool
+common_is (s ∷ jobs) (ws ∷ images) common =
+    AllPairs-cons HaveOnePool (load_of s ws) (loads jobs images)
+    (pool_all s.pool jobs images (λ j e lt. common 0 (suc j) e (omega arith) (omega arith)))
+    (common_is jobs images (λ j k e less lt. common (suc j) (suc k) e (omega arith) (omega arith)))
+
 pub are_loads : (jobs : List SlotJob) (images : List (List ℕ)) → AreSlots jobs → HaveImages jobs images → AreLoads (loads jobs images)
 are_loads jobs images slots have =
     record {
-      each = each_is jobs images have slots.each;
+      each = each_is (numbers_of jobs) jobs images have slots.each slots.owned (λ d h. h);
       rising = rising_is jobs images slots.rising;
       total = let e = total_is jobs images have in let f = slots.fits in omega arith;
       apart = apart_is jobs images slots.apart;
+      common = common_is jobs images slots.common;
     }
 
 -- what is loaded are slots
@@ -175,18 +247,41 @@ own_devices a b apart d = by_has (has a d) refl
     by_has false is = inl (none_at a d is)
     by_has true is = inr (none_at b d (apart d is))
 
+-- the numbers of the pool
+pool_few : (l : SlotLoad) (d : ℕ) → is_some (get_or (slot_of l).pool d None) ≡ true → d < 16
+pool_few l d is =
+    ⊎_elim
+    (λ (lt : d < 16). lt)
+    (λ (past : 16 ≤ d). cc (sym is ∙ ap is_some (number_past (lent_kind l.pool) d None (let e = limit_is in omega arith))))
+    (cases_lt d 16)
+
+pool_apart : (l : SlotLoad) → IsLoad l → (d : ℕ) → (get_or (slot_of l).fixtures d None ≡ None) ⊎ (get_or (slot_of l).pool d None ≡ None)
+pool_apart l is d = by_has (has l d) refl
+  where
+    none : (o : Option Kind) → is_some o ≡ false → o ≡ None
+    none None h = refl
+    none (Some k) h = cc
+
+    by_has : (b : Bool) → has l d ≡ b → (get_or (slot_of l).fixtures d None ≡ None) ⊎ (get_or (slot_of l).pool d None ≡ None)
+    by_has false not = inl (none_at l d not)
+    by_has true h =
+        inr (⊎_elim
+        (λ (lt : d < 16). number_at (lent_kind l.pool) d None (let e = limit_is in omega arith) ∙ none (lent_kind l.pool d) (is.owned d h))
+        (λ (past : 16 ≤ d). number_past (lent_kind l.pool) d None (let e = limit_is in omega arith))
+        (cases_lt d 16))
+
 is_slot : (l : SlotLoad) → IsLoad l → director.IsSlot (slot_of l)
 is_slot l is =
     record {
       fits = is.fits;
       fixtures = length-numbers (λ d. fixture_on (numbered l.devices d));
       devices = length-numbers (λ d. progress_on (numbered l.devices d));
-      few = λ d pooled. cc;
-      apart = λ d. inr refl;
+      few = λ d pooled. pool_few l d pooled;
+      apart = λ d. pool_apart l is d;
     }
 
 abbrev pub no_load : SlotLoad
-no_load = record { p = 0; size = 0; words = []; devices = [] }
+no_load = record { p = 0; size = 0; words = []; devices = []; pool = [] }
 
 pairs_map : (R : Slot → Slot → Type 0) (xs : List SlotLoad) → AllPairs (λ a b. R (slot_of a) (slot_of b)) xs → AllPairs R (map slot_of xs)
 pairs_map R xs all i j d less lt =
@@ -204,4 +299,5 @@ are_slots xs are =
       each = All-map director.IsSlot slot_of xs (λ i l lt. is_slot (get_or xs i l) (are.each i l lt));
       numbers = pairs_map (λ (a b : Slot). a.p ≢ b.p) xs (λ i j d less lt. below_ne (get_or xs i d) (get_or xs j d) (are.rising i j d less lt));
       devices = pairs_map HaveOwnDevices xs (λ i j d less lt. own_devices (get_or xs i d) (get_or xs j d) (are.apart i j d less lt));
+      pool = pairs_map (λ (a b : Slot). a.pool ≡ b.pool) xs (λ i j d less lt. ap (λ ps. by_number (lent_kind ps)) (are.common i j d less lt));
     }

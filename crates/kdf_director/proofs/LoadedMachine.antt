@@ -1,7 +1,7 @@
 -- What a machine is that was loaded.
 use Rattle.std.proofs.Common.{◌≡◌, ◌≢◌, ◌⊎◌, inl, inr, ℕ, zero, suc, ◌+◌, ◌-◌, ◌/◌, ◌%◌, ◌<◌, ◌≤◌, Bool, true, false, cond, eqb, ◌||◌, List, [], ◌∷◌, length, get_or, map, replicate, Option, Some, None, is_some, refl, sym, ap, ap₂, ◌∙◌, subst, ⊎_elim, arith}
 use Rattle.std.specs.List.{All, AllPairs, range_with_len}
-use Rattle.std.proofs.lemmas.Bool.{cases_eq, cases_lt, ne_eqb}
+use Rattle.std.proofs.lemmas.Bool.{cases_eq, cases_lt, eq-eqb, ne_eqb}
 use Rattle.std.proofs.lemmas.List.{get_or_default, get_or_past, get_or-map, get_or_append_left, get_or-append_right, get_or-replicate, length-map, length-append, length-replicate, ext_get_or}
 use Rattle.std.proofs.lemmas.List.FromFn.{length-map-range_with_len, get_or-map-range_with_len}
 use Rattle.kdf_lockout.specs.Groups.{Cells, group_at, AreWhole}
@@ -14,24 +14,28 @@ use Rattle.kdf_processor.specs.State.{State, Stock, begin, filled, new_registers
 use Rattle.kdf_director.specs.declared.load.Parts.{Parts}
 use Rattle.kdf_director.specs.declared.program.Program.{Program}
 use Rattle.kdf_director.specs.declared.slot.Loaded.{Loaded}
-use Rattle.kdf_job.specs.Slots.{fixture_on, numbered, progress_on}
+use Rattle.kdf_job.specs.Slots.{fixture_on, lent_kind, numbered, progress_on}
+use Rattle.kdf_journal.specs.declared.kind.Kind.{Kind}
 use Rattle.kdf_director.specs.Loading.{SlotLoad, slot_of}
-use Rattle.kdf_director.specs.Fields.{AreLoads, IsLoad, IsLoaded, first_numbered, first_seat, has, idle_spot, loaded, numbers_in, sizes_of, with_images, with_words, zero_cells}
-use Rattle.kdf_director.specs.Parts.{Part, Reach, Seat, Shared, has_device, own_fixture, own_progress, own_stock, owns, part_in, reach_of, shared_in, window_at}
+use Rattle.kdf_director.specs.Fields.{AreLoads, IsLoad, IsLoaded, first_own, first_seat, has, idle_spot, lends, loaded, numbers_in, pool_in, pool_spot, spot_or, sizes_of, with_images, with_words, zero_cells}
+use Rattle.kdf_director.specs.Parts.{Part, Reach, Seat, Shared, has_device, in_pool, pool_kind, own_fixture, own_progress, own_stock, owns, part_in, reach_of, shared_in, window_at}
 use Rattle.kdf_transfer.specs.ByNumber.{by_number, device_count}
 use Rattle.kdf_director.specs.Physical.{has_group, word_at_place, word_where}
 use Rattle.kdf_director.specs.Running.{IsRunning, no_seat, own_state, part_at, reach_at, reaches_in, seat_at, seats_in}
+use Rattle.kdf_director.specs.Keeping.{IsActive, IsKept}
 use Rattle.kdf_director.specs.Sound.{IsSound}
-use Rattle.kdf_director.specs.Spots.{AreDry, Spot, lease_held, leases_of, no_spot, spot_at, spot_of}
+use Rattle.kdf_director.specs.Stints.{IsOfKind, Keeping, is_left}
+use Rattle.std.proofs.lemmas.List.Elements.{All-nil}
+use Rattle.kdf_director.specs.Spots.{AreDry, Spot, is_holder, lease_held, leases_of, no_spot, spot_at, spot_of}
 use Rattle.kdf_director.proofs.Entering.{map_twice}
 use Rattle.kdf_director.proofs.Filling.{IsStore, none_lent, word_there, words_other, words_store, words_there, zero_store, zero_there, zeros}
 use Rattle.kdf_director.proofs.Loadable.{are_slots, no_load}
-use Rattle.kdf_director.proofs.Numbered.{apart_both, found, missing, picked}
+use Rattle.kdf_director.proofs.Numbered.{IsOwnSpot, Stands, found, missing, owner, picked, unpicked}
 use Rattle.kdf_transfer.proofs.Numbers.{length-numbers, limit_is, number_at, number_past}
 use Rattle.kdf_director.proofs.Sizes.{IsWindow, size_is, window_of}
 
 abbrev no_reach : Reach
-no_reach = record { base = 0; size = 0; devices = [] }
+no_reach = record { base = 0; size = 0; devices = []; pool = [] }
 
 abbrev no_window : Window
 no_window = record { base = 0; size = 0 }
@@ -39,7 +43,12 @@ no_window = record { base = 0; size = 0 }
 -- what a slot reaches
 abbrev pub reach_in : List Window → SlotLoad → Reach
 reach_in windows l =
-    record { base = (window_at windows l.p).base; size = (window_at windows l.p).size; devices = numbers_in l.devices }
+    record {
+      base = (window_at windows l.p).base;
+      size = (window_at windows l.p).size;
+      devices = numbers_in l.devices;
+      pool = by_number (lent_kind l.pool);
+    }
 
 -- a place that none of a slot's words has
 abbrev IsOutside : List Window → ℕ → SlotLoad → Type 0
@@ -113,6 +122,37 @@ small_of (n ∷ ns) d below is =
     rest false is not = is
     rest true is not = cc
 
+-- none of the places has a transfer
+idle_flight : (xs : List SlotLoad) (d : ℕ) (other : Spot) → other.flight ≡ None → (first_own xs d other).flight ≡ None
+idle_flight [] d other none = none
+idle_flight (x ∷ xs) d other none = of_one (numbered x.devices d) (idle_flight xs d other none)
+  where
+    of_one : (o : Option JobDevice) → (first_own xs d other).flight ≡ None → (spot_or x.p o (first_own xs d other)).flight ≡ None
+    of_one None later = later
+    of_one (Some y) later = refl
+
+pool_flight : (o : Option Kind) → (pool_spot o).flight ≡ None
+pool_flight None = refl
+pool_flight (Some k) = refl
+
+-- the pool is that of the first slot
+first_pool : (xs : List SlotLoad) → pool_in xs ≡ (get_or xs 0 no_load).pool
+first_pool [] = refl
+first_pool (x ∷ xs) = refl
+
+-- nothing is claimed
+unmarked : (d : ℕ) → get_or unclaimed d false ≡ false
+unfolding unclaimed
+unmarked d =
+    ⊎_elim
+    (λ (lt : d < 16). get_or-replicate 16 d false false lt)
+    (λ (past : 16 ≤ d). get_or_past unclaimed d false (let e : length unclaimed ≡ 16 = length-replicate 16 false in omega arith))
+    (cases_lt d 16)
+
+many_marks : length unclaimed ≡ 16
+unfolding unclaimed
+many_marks = length-replicate 16 false
+
 -- the window of each slot
 pub windows_fit : (xs : List SlotLoad) (windows : List Window) (i : ℕ) → AreLoads xs → windows ≡ windows_from 1024 (sizes_of xs) → i < length xs → IsWindow (window_at windows (get_or xs i no_load).p) (get_or xs i no_load).size
 windows_fit xs windows i are windows_are lt =
@@ -140,7 +180,7 @@ all_within ls windows are windows_are inside i d lt =
     subst (IsWithin windows) (get_or-map loaded ls i d no_load lt)
     (words_within (map loaded ls) windows i are windows_are inside (let n = length-map ls loaded in omega arith))
 
-module _ (xs : List SlotLoad) (are : AreLoads xs) (windows : List Window) (windows_are : windows ≡ windows_from 1024 (sizes_of xs)) (inside : All IsInStore windows) (before : AllPairs IsBefore windows) (cells : Cells) (cells_are : cells ≡ with_images windows zero_cells xs) (spots : List Spot) (spots_are : spots ≡ by_number (λ d. idle_spot (first_numbered xs d))) where
+module _ (xs : List SlotLoad) (are : AreLoads xs) (windows : List Window) (windows_are : windows ≡ windows_from 1024 (sizes_of xs)) (inside : All IsInStore windows) (before : AllPairs IsBefore windows) (cells : Cells) (cells_are : cells ≡ with_images windows zero_cells xs) (spots : List Spot) (spots_are : spots ≡ by_number (idle_spot xs)) where
   abbrev reaches : List Reach
   reaches = map (reach_in windows) xs
 
@@ -209,16 +249,16 @@ module _ (xs : List SlotLoad) (are : AreLoads xs) (windows : List Window) (windo
       within (λ j lj ne. outside i j a lt lj ne low)
 
   -- the places
-  spot_is : (d : ℕ) → d < 16 → spot_at spots d ≡ idle_spot (first_numbered xs d)
-  spot_is d lt = ap (λ ss. spot_at ss d) spots_are ∙ number_at (λ d. idle_spot (first_numbered xs d)) d no_spot (let e = limit_is in omega arith)
+  spot_is : (d : ℕ) → d < 16 → spot_at spots d ≡ idle_spot xs d
+  spot_is d lt = ap (λ ss. spot_at ss d) spots_are ∙ number_at (idle_spot xs) d no_spot (let e = limit_is in omega arith)
 
   spot_past : (d : ℕ) → 16 ≤ d → spot_at spots d ≡ no_spot
-  spot_past d past = ap (λ ss. spot_at ss d) spots_are ∙ number_past (λ d. idle_spot (first_numbered xs d)) d no_spot (let e = limit_is in omega arith)
+  spot_past d past = ap (λ ss. spot_at ss d) spots_are ∙ number_past (idle_spot xs) d no_spot (let e = limit_is in omega arith)
 
   pub idle_is : (d : ℕ) → (spot_at s.spots d).flight ≡ None
   idle_is d =
       ⊎_elim
-      (λ (lt : d < 16). ap (λ (x : Spot). x.flight) (spot_is d lt))
+      (λ (lt : d < 16). ap (λ (x : Spot). x.flight) (spot_is d lt) ∙ idle_flight xs d (pool_spot (lent_kind (pool_in xs) d)) (pool_flight (lent_kind (pool_in xs) d)))
       (λ (past : 16 ≤ d). ap (λ (x : Spot). x.flight) (spot_past d past))
       (cases_lt d 16)
 
@@ -238,7 +278,7 @@ module _ (xs : List SlotLoad) (are : AreLoads xs) (windows : List Window) (windo
   sound : IsSound s
   sound =
       record {
-        spots = ap length spots_are ∙ length-numbers (λ d. idle_spot (first_numbered xs d));
+        spots = ap length spots_are ∙ length-numbers (idle_spot xs);
         whole = whole_is;
         full = λ d l is. cc (sym is ∙ no_lease d);
         inside = λ d l is. cc (sym is ∙ no_lease d);
@@ -247,14 +287,122 @@ module _ (xs : List SlotLoad) (are : AreLoads xs) (windows : List Window) (windo
         held = λ g lt is. absurd (not_none g lt is);
       }
 
-  has_is : (i d : ℕ) → i < length xs → has_device (part_at reaches seats i) d ≡ has (at i) d
-  has_is i d lt = ap (λ q. has_device q d) (part_is i lt)
-
   small : (i d : ℕ) → i < length xs → has (at i) d ≡ true → d < 16
   small i d lt is = small_of (numbers_in (at i).devices) d (λ k less. (each i lt).below k 0 less) is
 
-  picked_is : (i d : ℕ) → i < length xs → has (at i) d ≡ true → spot_at spots d ≡ idle_spot (numbered (at i).devices d)
-  picked_is i d lt is = spot_is d (small i d lt is) ∙ ap idle_spot (picked xs i d no_load are.apart lt is)
+  -- that of a slot's device
+  own_there : (i d : ℕ) → i < length xs → has (at i) d ≡ true → IsOwnSpot (at i).p (numbered (at i).devices d) (spot_at spots d)
+  own_there i d lt is =
+      subst (IsOwnSpot (at i).p (numbered (at i).devices d)) (sym (spot_is d (small i d lt is)))
+      (picked xs i d no_load (pool_spot (lent_kind (pool_in xs) d)) are.apart lt is)
+
+  -- the pool, which all have
+  same_pool : (i j : ℕ) → i < length xs → j < length xs → (at i).pool ≡ (at j).pool
+  same_pool i j li lj =
+      ⊎_elim
+      (λ (less : i < j). are.common i j no_load less lj)
+      (λ (more : j ≤ i). ⊎_elim
+      (λ (same : j ≡ i). ap (λ k. (at k).pool) (sym same))
+      (λ (ne : j ≢ i). sym (are.common j i no_load (omega arith) li))
+      (cases_eq j i))
+      (cases_lt i j)
+
+  pool_is : (i : ℕ) → i < length xs → pool_in xs ≡ (at i).pool
+  pool_is i lt = first_pool xs ∙ same_pool 0 i (omega arith) lt
+
+  -- that of a number that no slot has
+  pool_there : (i d : ℕ) → i < length xs → lends (at i) d ≡ true → spot_at spots d ≡ pool_spot (lent_kind (at i).pool d)
+  pool_there i d lt is =
+      spot_is d ((each i lt).few d is)
+      ∙ unpicked xs d no_load (pool_spot (lent_kind (pool_in xs) d)) (λ j lj. not_own (has (at j) d) j lj refl)
+      ∙ ap (λ ps. pool_spot (lent_kind ps d)) (pool_is i lt)
+    where
+      not_own : (b : Bool) (j : ℕ) → j < length xs → has (at j) d ≡ b → has (at j) d ≡ false
+      not_own false j lj h = h
+      not_own true j lj h = cc (sym ((each j lj).owned d h) ∙ ap (λ ps. is_some (lent_kind ps d)) (same_pool j i lj lt) ∙ is)
+
+  -- a device that a slot hasn't is not its program's
+  not_its : (i d : ℕ) → i < length xs → has (at i) d ≡ false → is_holder (at i).p (spot_at spots d).holder ≡ false
+  not_its i d lt not =
+      ⊎_elim
+      (λ (low : d < 16). ⊎_elim
+      (λ (o : Stands xs d no_load). ap (is_holder (at i).p) (own_there o.by d o.there o.has_it).holder ∙ ne_eqb (at o.by).p (at i).p (other_p o.by o.there o.has_it))
+      (λ (none : (j : ℕ) → j < length xs → has (at j) d ≡ false).
+      ap (λ (x : Spot). is_holder (at i).p x.holder) (spot_is d low ∙ unpicked xs d no_load (pool_spot (lent_kind (pool_in xs) d)) none)
+      ∙ nobodys (lent_kind (pool_in xs) d))
+      (owner xs d no_load))
+      (λ (past : 16 ≤ d). ap (λ (x : Spot). is_holder (at i).p x.holder) (spot_past d past))
+      (cases_lt d 16)
+    where
+      nobodys : (o : Option Kind) → is_holder (at i).p (pool_spot o).holder ≡ false
+      nobodys None = refl
+      nobodys (Some k) = refl
+
+      other_p : (j : ℕ) → j < length xs → has (at j) d ≡ true → (at j).p ≢ (at i).p
+      other_p j lj h e =
+          ⊎_elim
+          (λ (less : j < i). let n : (at j).p < (at i).p = are.rising j i no_load less lt in absurd (omega arith))
+          (λ (more : i ≤ j). ⊎_elim
+          (λ (same : i ≡ j). cc (sym not ∙ ap (λ k. has (at k) d) same ∙ h))
+          (λ (ne : i ≢ j). let n : (at i).p < (at j).p = are.rising i j no_load (omega arith) lj in absurd (omega arith))
+          (cases_eq i j))
+          (cases_lt j i)
+
+  -- one program's part
+  module _ (i : ℕ) (lt : i < length xs) where
+    abbrev part : Part
+    part = part_in (first_seat (at i)) (reach_in windows (at i))
+
+    lent_small : (d : ℕ) → in_pool part d ≡ true → d < device_count
+    lent_small d is =
+        ⊎_elim
+        (λ (low : d < device_count). low)
+        (λ (past : device_count ≤ d). cc (sym is ∙ ap is_some (number_past (lent_kind (at i).pool) d None past)))
+        (cases_lt d device_count)
+
+    lent_is : (d : ℕ) → in_pool part d ≡ true → pool_kind part d ≡ lent_kind (at i).pool d
+    lent_is d is = number_at (lent_kind (at i).pool) d None (lent_small d is)
+
+    lent_there : (d : ℕ) (k : Kind) → pool_kind part d ≡ Some k → spot_at spots d ≡ pool_spot (Some k)
+    lent_there d k is =
+        let same : lent_kind (at i).pool d ≡ Some k = sym (lent_is d (ap is_some is)) ∙ is in
+        pool_there i d lt (ap is_some same) ∙ ap pool_spot same
+
+    some_there : (d : ℕ) → in_pool part d ≡ true → (k : Kind) × (spot_at spots d ≡ pool_spot (Some k))
+    some_there d is = of_kind (pool_kind part d) refl
+      where
+        of_kind : (o : Option Kind) → pool_kind part d ≡ o → (k : Kind) × (spot_at spots d ≡ pool_spot (Some k))
+        of_kind None h = cc (sym is ∙ ap is_some h)
+        of_kind (Some k) h = (k, lent_there d k h)
+
+    none_yet : (P : Keeping → Type 0) → All P (let ks : List Keeping = [] in ks)
+    none_yet P = All-nil P
+
+    kept_first : IsKept part s
+    kept_first =
+        record {
+          few = lent_small;
+          apart = λ d h. not_lent d h (in_pool part d) refl;
+          owned = λ d h. (own_there i d lt h).holder;
+          there = λ d k is. ap (λ (x : Spot). x.fixture) (lent_there d k is);
+          fresh = λ d is free. ap (λ (x : Spot). x.progress) (some_there d is).1;
+          pooled = none_yet (λ x. in_pool part x.device ≡ true);
+          kinds = none_yet (λ x. IsOfKind (pool_kind part x.device) x.loan);
+          has = λ d is. ap (λ (x : Spot). is_holder (at i).p x.holder) (some_there d is).1;
+          one = λ j k e less inside. absurd (omega arith);
+        }
+      where
+        not_lent : (d : ℕ) → has (at i) d ≡ true → (b : Bool) → in_pool part d ≡ b → in_pool part d ≡ false
+        not_lent d h false e = e
+        not_lent d h true e = cc (sym ((each i lt).owned d h) ∙ sym (ap is_some (lent_is d e)) ∙ e)
+
+    active_first : IsActive part s
+    active_first =
+        record {
+          sized = many_marks;
+          marks = λ d is. unmarked d ∙ sym (ap (λ (x : Spot). is_holder (at i).p x.holder) (some_there d is).1);
+          none_left = none_yet (λ x. is_left x.loan ≡ false);
+        }
 
   pub running : IsRunning reaches seats s
   running =
@@ -285,15 +433,20 @@ module _ (xs : List SlotLoad) (are : AreLoads xs) (windows : List Window) (windo
             let c : (reach_at reaches j).base ≡ base j = ap (λ (r : Reach). r.base) (reach_is j lj) in
             let d = apart i j less lj in
             omega arith;
-        devices = λ i j d lt lt' ne h.
+        common = λ i j lt lt'.
             let li : i < length xs = let m = many in omega arith in
             let lj : j < length xs = let m = many in omega arith in
-            has_is j d lj ∙ apart_both xs i j d no_load are.apart li lj ne (sym (has_is i d li) ∙ h);
+            ap (λ (r : Reach). r.pool) (reach_is i li) ∙ ap (λ ps. by_number (lent_kind ps)) (same_pool i j li lj) ∙ sym (ap (λ (r : Reach). r.pool) (reach_is j lj));
+        kept = λ i lt.
+            let li : i < length xs = let m = many in omega arith in
+            subst (λ q. IsKept q s) (sym (part_is i li)) (kept_first i li);
+        active = λ i lt live.
+            let li : i < length xs = let m = many in omega arith in
+            subst (λ q. IsActive q s) (sym (part_is i li)) (active_first i li);
         fixtures = λ i d lt h.
             let li : i < length xs = let m = many in omega arith in
-            let there = sym (has_is i d li) ∙ h in
-            ap (λ (x : Spot). is_some x.fixture) (picked_is i d li there)
-            ∙ some_fixture (numbered (at i).devices d) ∙ found (at i).devices d ∙ there;
+            let there : has (at i) d ≡ true = sym (ap (λ (r : Reach). owns r.devices d) (reach_is i li)) ∙ h in
+            ap is_some (own_there i d li there).fixture ∙ some_fixture (numbered (at i).devices d) ∙ found (at i).devices d ∙ there;
         flights = λ d h is. cc (sym is ∙ idle_is d);
       }
     where
@@ -313,15 +466,19 @@ module _ (xs : List SlotLoad) (are : AreLoads xs) (windows : List Window) (windo
     fixture_is d = by_has (has l d) refl
       where
         by_has : (b : Bool) → has l d ≡ b → cond (has l d) (spot_at spots d).fixture None ≡ fixture_on (numbered l.devices d)
-        by_has true is = ap (λ b. cond b (spot_at spots d).fixture None) is ∙ ap (λ (x : Spot). x.fixture) (picked_is i d lt is)
+        by_has true is = ap (λ b. cond b (spot_at spots d).fixture None) is ∙ (own_there i d lt is).fixture
         by_has false is = ap (λ b. cond b (spot_at spots d).fixture None) is ∙ sym (ap fixture_on (missing l.devices d is))
 
     progress_is : (d : ℕ) → own_progress q spots d ≡ progress_on (numbered l.devices d)
     progress_is d = by_has (has l d) refl
       where
-        by_has : (b : Bool) → has l d ≡ b → cond (has l d) (spot_at spots d).progress new_progress ≡ progress_on (numbered l.devices d)
-        by_has true is = ap (λ b. cond b (spot_at spots d).progress new_progress) is ∙ ap (λ (x : Spot). x.progress) (picked_is i d lt is)
-        by_has false is = ap (λ b. cond b (spot_at spots d).progress new_progress) is ∙ sym (ap progress_on (missing l.devices d is))
+        by_has : (b : Bool) → has l d ≡ b → cond (has_device q (spot_at spots d)) (spot_at spots d).progress new_progress ≡ progress_on (numbered l.devices d)
+        by_has true is =
+            ap (λ b. cond b (spot_at spots d).progress new_progress) (ap (is_holder l.p) (own_there i d lt is).holder ∙ eq-eqb l.p l.p refl)
+            ∙ (own_there i d lt is).progress
+        by_has false is =
+            ap (λ b. cond b (spot_at spots d).progress new_progress) (not_its i d lt is)
+            ∙ sym (ap progress_on (missing l.devices d is))
 
     fixtures_are : by_number (own_fixture q spots) ≡ by_number (λ d. fixture_on (numbered l.devices d))
     fixtures_are = numbers_same (own_fixture q spots) (λ d. fixture_on (numbered l.devices d)) None (λ d low. fixture_is d)
@@ -358,7 +515,7 @@ module _ (xs : List SlotLoad) (are : AreLoads xs) (windows : List Window) (windo
 
     stock_is : own_stock q 0 s ≡ (begin (slot_of l)).stock
     stock_is = λ k. record {
-      claims = record { size = size_same k; claimed = unclaimed; fixtures = fixtures_are k; pool = [] };
+      claims = record { size = size_same k; claimed = unclaimed; fixtures = fixtures_are k; pool = by_number (lent_kind l.pool) };
       spooled = [];
       asked = 0;
       stints = [];
@@ -375,14 +532,14 @@ module _ (xs : List SlotLoad) (are : AreLoads xs) (windows : List Window) (windo
 -- what is loaded is what the slots reach
 reach_same : (windows : List Window) (l : Loaded) → reach_of windows l ≡ reach_in windows (loaded l)
 reach_same windows l =
-    ap (λ ns. (let r : Reach = record { base = (window_at windows l.p).base; size = (window_at windows l.p).size; devices = ns } in r))
+    ap (λ ns. (let r : Reach = record { base = (window_at windows l.p).base; size = (window_at windows l.p).size; devices = ns; pool = by_number (lent_kind l.pool.items) } in r))
     (sym (map_twice (λ (x : JobDevice). x.d) shown_device l.devices.items))
 
 reaches_same : (windows : List Window) (ls : List Loaded) → reaches_in windows ls ≡ map (reach_in windows) (map loaded ls)
 reaches_same windows [] = refl
 reaches_same windows (l ∷ ls) = ap₂ (λ r rs. r ∷ rs) (reach_same windows l) (reaches_same windows ls)
 
-module _ (m : Parts) (are : AreLoads (map loaded m.slots.items)) (windows_are : m.windows ≡ windows_from 1024 (sizes_of (map loaded m.slots.items))) (inside : All IsInStore m.windows) (before : AllPairs IsBefore m.windows) (store_is : m.store ≡ with_images m.windows zero_cells (map loaded m.slots.items)) (programs_made : seats_in m.programs.items ≡ map (λ (l : Loaded). first_seat (loaded l)) m.slots.items) (none_held : map (λ (x : Program). x.hold) m.programs.items ≡ map (λ (l : Loaded). None) m.slots.items) (spots_are : map spot_of m.devices.items ≡ by_number (λ d. idle_spot (first_numbered (map loaded m.slots.items) d))) (dry : AreDry m.devices.items) where
+module _ (m : Parts) (are : AreLoads (map loaded m.slots.items)) (windows_are : m.windows ≡ windows_from 1024 (sizes_of (map loaded m.slots.items))) (inside : All IsInStore m.windows) (before : AllPairs IsBefore m.windows) (store_is : m.store ≡ with_images m.windows zero_cells (map loaded m.slots.items)) (programs_made : seats_in m.programs.items ≡ map (λ (l : Loaded). first_seat (loaded l)) m.slots.items) (none_held : map (λ (x : Program). x.hold) m.programs.items ≡ map (λ (l : Loaded). None) m.slots.items) (spots_are : map spot_of m.devices.items ≡ by_number (idle_spot (map loaded m.slots.items))) (dry : AreDry m.devices.items) where
   abbrev loads : List SlotLoad
   loads = map loaded m.slots.items
 

@@ -102,6 +102,10 @@ module _ (windows : List Window) (loads : List Loaded) (slots : List Slot) (seat
   unfolding own_state
   pool_is i = refl
 
+  any_is : (i : ℕ) → pooled_or (pool_kind (part_at reaches seats i) d) (own_fixture_at (own_at i).stock.claims d) ≡ fixture_at (own_at i).stock.claims d
+  unfolding own_state
+  any_is i = refl
+
   progress_is : (i : ℕ) → d < device_count → has_device (part_at reaches seats i) (spot_at s.spots d) ≡ true → device_at (own_at i) d ≡ (spot_at s.spots d).progress
   unfolding own_state
   progress_is i small its = own_device (part_at reaches seats i) (asked_at seats J i) s d small its
@@ -260,10 +264,6 @@ module _ (windows : List Window) (loads : List Loaded) (slots : List Slot) (seat
             let own : get_or m.states 0 (start_of None) ≡ own_at 0 = get_or-map-range_with_len own_at 0 (length seats) 0 0 (start_of None) some (omega arith) in
             sym (number_at (lent_kind pool) d None small)
             ∙ ap (λ (ks : List (Option Kind)). get_or ks d None) (sym (lends 0 some))
-            ∙ (neither (pool_kind (part_at reaches seats 0) d) (own_fixture_at (own_at 0).stock.claims d) (at_first ∙ ap (λ (x : State). fixture_at x.stock.claims d) (sym own) ∙ none 0 (start_of None) (omega arith))).0)
+            ∙ (neither (pool_kind (part_at reaches seats 0) d) (own_fixture_at (own_at 0).stock.claims d) (any_is 0 ∙ ap (λ (x : State). fixture_at x.stock.claims d) (sym own) ∙ none 0 (start_of None) (omega arith))).0)
             (λ (no : length seats ≤ 0). ap (λ (p : List (ℕ × Kind)). lent_kind p d) (empty (omega arith)))
             (cases_lt 0 (length seats))
-          where
-            at_first : pooled_or (pool_kind (part_at reaches seats 0) d) (own_fixture_at (own_at 0).stock.claims d) ≡ fixture_at (own_at 0).stock.claims d
-            unfolding own_state
-            at_first = refl

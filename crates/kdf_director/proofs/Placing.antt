@@ -46,4 +46,5 @@ active_by q s s' active holders =
     record {
       marks = λ d pooled. active.marks d pooled ∙ ap (is_holder q.p) (sym (holders d));
       none_left = active.none_left;
+      sized = active.sized;
     }

@@ -1,7 +1,7 @@
 -- One program of all, and its slot.
 use Rattle.std.specs.Prelude.{find}
 use Rattle.std.specs.List.{range_with_len}
-use Rattle.std.proofs.Common.{◌≡◌, ℕ, ◌-◌, ◌<◌, eqb, List, [], length, map, get_or, set, Option, None, sym, ap, ap₂, ◌∙◌, subst, arith}
+use Rattle.std.proofs.Common.{◌≡◌, ℕ, ◌-◌, ◌<◌, eqb, true, List, [], length, map, get_or, set, Option, None, sym, ap, ap₂, ◌∙◌, subst, arith}
 use Rattle.std.proofs.Math.Seq.{map-set_same}
 use Rattle.std.proofs.lemmas.List.{map-set, get_or-map, length-map}
 use Rattle.kdf_relocate.specs.declared.window.Window.{Window}
@@ -10,6 +10,7 @@ use Rattle.kdf_journal.specs.Counts.{clock}
 use Rattle.kdf_journal.specs.Steps.{added}
 use Rattle.kdf_processor.specs.declared.step.Need.{Need}
 use Rattle.kdf_processor.specs.declared.step.Step.{Step}
+use Rattle.kdf_processor.specs.Lone.{is_live}
 use Rattle.kdf_director.specs.declared.machine.Progress.{Progress}
 use Rattle.kdf_director.specs.declared.note.Note.{Note}
 use Rattle.kdf_director.specs.declared.program.Program.{Program}
@@ -22,7 +23,7 @@ use Rattle.kdf_director.specs.Turned.{HasRun, HasTurned}
 use Rattle.kdf_director.proofs.Turned.{turned, turned_running}
 
 abbrev no_reach : Reach
-no_reach = record { base = 0; size = 0; devices = [] }
+no_reach = record { base = 0; size = 0; devices = []; pool = [] }
 
 module _ (windows : List Window) (slots : List Loaded) (programs : List Program) (i : ℕ) (lt : i < length programs) (many : length slots ≡ length programs) (slot : Loaded) (program : Program) (slot_is : slot ≡ get_or slots i slot) (program_is : program ≡ get_or programs i program) where
   pub reach_is : reach_of windows slot ≡ reach_at (reaches_in windows slots) i
@@ -50,19 +51,19 @@ module _ (windows : List Window) (slots : List Loaded) (programs : List Program)
       (subst (IsNearHold (reach_at (reaches_in windows slots) i).size) hold_is
       (near i (omega (arith, length-map programs (λ (x : Program). x.hold)))))
 
-  module _ (t : ℕ) (s s' : Shared) (new : Program) (step : Step) (note : Note) (run : IsRunning (reaches_in windows slots) (seats_in programs) s) (ran : HasRun (reach_of windows slot) t (seat_of program) s (seat_of new) s' step note) where
+  module _ (t : ℕ) (s s' : Shared) (new : Program) (step : Step) (note : Note) (run : IsRunning (reaches_in windows slots) (seats_in programs) s) (live : is_live (seat_at (seats_in programs) i).registers.state ≡ true) (ran : HasRun (reach_of windows slot) t (seat_of program) s (seat_of new) s' step note) where
     ran_at : HasRun (reach_at (reaches_in windows slots) i) t (seat_at (seats_in programs) i) s (seat_of new) s' step note
     ran_at = subst (λ r. HasRun r t (seat_at (seats_in programs) i) s (seat_of new) s' step note) reach_is (subst (λ q. HasRun (reach_of windows slot) t q s (seat_of new) s' step note) seat_is ran)
 
     pub turned_all : HasTurned (reaches_in windows slots) t i (seats_in programs) s (seats_in (set programs i new)) s' step note
     turned_all =
         subst (λ seats. HasTurned (reaches_in windows slots) t i (seats_in programs) s seats s' step note) (sym (map-set seat_of programs i new))
-        (turned (reaches_in windows slots) (seats_in programs) t s i run within (seat_of new) s' step note ran_at)
+        (turned (reaches_in windows slots) (seats_in programs) t s i run within live (seat_of new) s' step note ran_at)
 
     pub running_all : IsRunning (reaches_in windows slots) (seats_in (set programs i new)) s'
     running_all =
         subst (λ seats. IsRunning (reaches_in windows slots) seats s') (sym (map-set seat_of programs i new))
-        (turned_running (reaches_in windows slots) (seats_in programs) t s i run within (seat_of new) s' step note ran_at)
+        (turned_running (reaches_in windows slots) (seats_in programs) t s i run within live (seat_of new) s' step note ran_at)
 
   module _ (new : Program) where
     -- a program that had no memory for its order

@@ -1,7 +1,7 @@
--- Parts with the same slot, window and devices.
-use Rattle.std.proofs.Common.{◌≡◌, ℕ, refl, sym, ap, ◌∙◌, arith}
+-- Parts with the same slot, window, devices and pool.
+use Rattle.std.proofs.Common.{◌≡◌, ℕ, Some, refl, sym, ap, ◌∙◌, arith}
 use Rattle.kdf_director.specs.Spots.{Held, Spot}
-use Rattle.kdf_director.specs.Parts.{Part, owns}
+use Rattle.kdf_director.specs.Parts.{Part}
 use Rattle.kdf_director.specs.Sound.{IsFlightOf}
 
 pub record SamePart (q q' : Part) : Type 0 where
@@ -9,13 +9,14 @@ pub record SamePart (q q' : Part) : Type 0 where
   pub base : q'.base ≡ q.base
   pub size : q'.size ≡ q.size
   pub devices : q'.devices ≡ q.devices
+  pub pool : q'.pool ≡ q.pool
 
 -- a flight of one is a flight of the other
 pub flight_same : (q q' : Part) (d : ℕ) (x : Spot) (h : Held) → SamePart q q' → IsFlightOf q d x h → IsFlightOf q' d x h
 flight_same q q' d x h same is =
     record {
       owner = is.owner ∙ sym same.p;
-      device = ap (λ ds. owns ds d) same.devices ∙ is.device;
+      holder = is.holder ∙ ap Some (sym same.p);
       fixture = is.fixture;
       progress = is.progress;
       lease = is.lease;
@@ -26,4 +27,4 @@ flight_same q q' d x h same is =
     }
 
 pub same_part : (q : Part) → SamePart q q
-same_part q = record { p = refl; base = refl; size = refl; devices = refl }
+same_part q = record { p = refl; base = refl; size = refl; devices = refl; pool = refl }

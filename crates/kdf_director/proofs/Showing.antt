@@ -9,11 +9,14 @@ use Rattle.kdf_journal.specs.declared.kind.Kind.{Kind}
 use Rattle.kdf_transfer.specs.Devices.{Fixture, new_progress, is_kind, kind_in, is_wanted}
 use Rattle.kdf_director.specs.True.{one_if}
 use Rattle.kdf_director.specs.Physical.{own_words}
-use Rattle.kdf_transfer.specs.ByNumber.{device_count}
+use Rattle.kdf_transfer.specs.ByNumber.{by_number, device_count}
+use Rattle.kdf_job.specs.Slots.{lent_kind}
 use Rattle.kdf_journal.specs.declared.kind.Kind.TheVariants.{Tr, Tp, Cr, Lp, Mt}
 use Rattle.kdf_director.specs.Physical as physical
 use Rattle.kdf_processor.specs.State.{word_in, device_in, fixture_at, own_fixture_at, pooled_or}
-use Rattle.kdf_processor.specs.Claims.{kind_at, claim, is_claimed}
+use Rattle.kdf_processor.specs.Claims.{kind_at, claim, free_for, is_claimed, is_free}
+use Rattle.kdf_processor.proofs.Fit.{found}
+use Rattle.std.specs.List.{range_with_len}
 use Rattle.kdf_director.specs.declared.place.Place.{Place}
 use Rattle.kdf_director.specs.declared.place.Place.TheVariants.{Absent}
 use Rattle.kdf_director.specs.Spots.{spot_at, spot_of, no_spot, is_holder, leases_of, spot_kind}
@@ -70,7 +73,7 @@ holder_is p (Some r) is = ap Some (eqb-true r p is)
 pub is_its : (p : ℕ) (o : Option ℕ) → o ≡ Some p → is_holder p o ≡ true
 is_its p o is = ap (is_holder p) is ∙ eq-eqb p p refl
 
-owned_some : (b : Bool) (f : Option Fixture) → is_some (cond b f None) ≡ true → b ≡ true
+pub owned_some : (b : Bool) (f : Option Fixture) → is_some (cond b f None) ≡ true → b ≡ true
 owned_some true f is = refl
 owned_some false f is = cc
 
@@ -156,6 +159,13 @@ claim_is q s d =
     by_claim (ltb d 16 && get_or q.claimed d false) (kind_at (own_claims q s) d) (kind_in (pooled_or (pool_kind q d) (fixture_owned q.devices s.spots d)))
     (λ is. let lt : d < 16 = ltb-true d 16 (and_parts _ _ is).0 in ap (λ f. kind_in (pooled_or (pool_kind q d) f)) (own_is q s d (omega (arith, limit_is))))
 
+-- and where the pool is that of a slot
+pub claim_lent : (q : Part) (s : Shared) (pool : List (ℕ × Kind)) (d : ℕ) → q.pool ≡ by_number (lent_kind pool) → claim (own_claims q s) d ≡ cond (ltb d 16 && get_or q.claimed d false) (kind_in (pooled_or (lent_kind pool d) (fixture_owned q.devices s.spots d))) None
+claim_lent q s pool d is =
+    claim_is q s d
+    ∙ by_claim (ltb d 16 && get_or q.claimed d false) (kind_in (pooled_or (pool_kind q d) (fixture_owned q.devices s.spots d))) (kind_in (pooled_or (lent_kind pool d) (fixture_owned q.devices s.spots d)))
+    (λ h. let lt : d < 16 = ltb-true d 16 (and_parts _ _ h).0 in ap (λ o. kind_in (pooled_or o (fixture_owned q.devices s.spots d))) (ap (λ ps. get_or ps d None) is ∙ number_at (lent_kind pool) d None (omega (arith, limit_is))))
+
 -- a device that is wanted and isn't claimed
 pub free_is : (w : Wanted) (f : Option Fixture) (has claimed : Bool) → (has && (not claimed && is_wanted w f)) ≡ (is_wanted w (cond has f None) && not (is_some (cond claimed (kind_in (cond has f None)) None)))
 free_is (Kinded Tr) f false claimed = refl
@@ -218,6 +228,12 @@ free_shown q s d w kept lt =
         ∙ none_here w (not (is_some (cond (get_or q.claimed d false) (kind_in None) None)))
         ∙ sym (none_here w (not (is_claimed (own_claims q s) d)))
         ∙ ap (λ f. is_wanted w f && not (is_claimed (own_claims q s) d)) (sym (own_is q s d small ∙ ap (λ b. cond b (spot_at s.spots d).fixture None) not_own))
+
+-- what is found so is the slot's
+pub free_owned : (q : Part) (s : Shared) (w : Wanted) (d : ℕ) → IsKept q s → d < 16 → free_for w (own_claims q s) ≡ Some d → owns q.devices d ≡ true
+unfolding free_for
+free_owned q s w d kept lt is =
+    (and_parts _ _ (free_shown q s d w kept lt ∙ found (is_free w (own_claims q s)) (range_with_len 0 16) d is)).0
 
 -- the progress of one of its devices
 pub own_device : (q : Part) (n : ℕ) (s : Shared) (d : ℕ) → d < device_count → has_device q (spot_at s.spots d) ≡ true → device_in (own_stock q n s) d ≡ (spot_at s.spots d).progress

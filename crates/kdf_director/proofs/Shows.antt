@@ -1,12 +1,12 @@
 -- What the fields of a machine show of it.
-use Rattle.std.specs.Prelude.{find, IfSome, IsSomeAnd}
+use Rattle.std.specs.Prelude.{find, slice_get, IfSome, IsSomeAnd}
 use Rattle.std.specs.List.{All}
 use Rattle.std.specs.Option.{option_copied, option_map}
 use denote.Ref.{Bor}
-use Rattle.std.proofs.Common.{◌≡◌, ℕ, ◌+◌, ◌*◌, ◌<◌, ◌≤◌, Bool, true, false, eqb, List, length, map, Option, Some, None, is_some, refl, sym, ap, ◌∙◌, subst}
+use Rattle.std.proofs.Common.{◌≡◌, ℕ, ◌+◌, ◌*◌, ◌<◌, ◌≤◌, Bool, true, false, eqb, List, [], ◌∷◌, length, get_or, map, Option, Some, None, is_some, refl, sym, ap, ◌∙◌, subst, arith}
 use Rattle.std.proofs.lemmas.List.{length-map}
 use Rattle.kdf_journal.specs.declared.entry.Entry.{Entry}
-use Rattle.kdf_journal.specs.Counts.{pending}
+use Rattle.kdf_journal.specs.Counts.{holder, pending}
 use Rattle.kdf_lockout.specs.Groups.{Cells}
 use Rattle.kdf_relocate.specs.declared.window.Window.{Window}
 use Rattle.kdf_transfer.specs.InFlight.{Motion}
@@ -15,20 +15,20 @@ use Rattle.kdf_processor.specs.declared.spooled.Spooled.{Spooled}
 use Rattle.kdf_processor.specs.Claims.{is_claimed}
 use Rattle.kdf_processor.specs.Lone.{is_live}
 use Rattle.kdf_transfer.specs.Slots.{Slot}
-use Rattle.kdf_journal.specs.Counts.{holder}
 use Rattle.kdf_journal.specs.declared.kind.Kind.{Kind}
 use Rattle.kdf_job.specs.Slots.{lent_kind}
 use Rattle.kdf_transfer.specs.ByNumber.{by_number}
-use Rattle.kdf_processor.specs.State.{State, fixture_at, is_pooled, own_fixture_at, word_at}
+use Rattle.kdf_processor.specs.State.{State, fixture_at, is_pooled, lending_of, lendings, own_fixture_at, word_at}
 use Rattle.kdf_director.specs.Agrees.{IsReady}
+use Rattle.kdf_director.specs.Fields.{loaded, pool_in}
 use Rattle.kdf_director.specs.Following.{asked_at}
 use Rattle.kdf_director.specs.Going.{any_on}
 use Rattle.kdf_director.specs.Lends.{IsLent, IsStored, window_in}
 use Rattle.kdf_director.specs.Next.{any_live}
-use Rattle.kdf_director.specs.Owners.{IsDeviceOwned, is_claimed_by, owner_in}
-use Rattle.kdf_director.specs.Parts.{Reach, Seat, Shared, seat_of, shared_in, window_at}
+use Rattle.kdf_director.specs.Owners.{HasLent, IsDeviceOwned, IsTold, is_claimed_by, owner_in}
+use Rattle.kdf_director.specs.Parts.{Reach, Seat, Shared, own_stock, seat_of, shared_in, window_at}
 use Rattle.kdf_director.specs.Physical.{word_at_place}
-use Rattle.kdf_director.specs.Running.{own_state, reaches_in, seat_at, seats_in}
+use Rattle.kdf_director.specs.Running.{own_state, part_at, reach_at, reaches_in, seat_at, seats_in}
 use Rattle.kdf_director.specs.Shown.{IsDeviceAt, Shown, state_of}
 use Rattle.kdf_director.specs.Viewed.{slot_loaded, viewed}
 use Rattle.kdf_director.specs.Slots.{slot_of}
@@ -40,8 +40,13 @@ use Rattle.kdf_director.proofs.ByNumber.{find_map}
 use Rattle.kdf_director.proofs.Calling.{any_map}
 use Rattle.kdf_director.proofs.Lending.{below, in_store, lent, stored, windows_same, word_own}
 use Rattle.kdf_director.proofs.NextPrograms.{any_same}
-use Rattle.kdf_director.proofs.OwnDevices.{claimed_none, claimed_own, device_none, device_own}
-use Rattle.kdf_director.proofs.OwnStates.{told_of}
+use Rattle.kdf_director.proofs.OwnDevices.{claimed_none, claimed_own, claimed_pooled, device_none, device_own}
+use Rattle.kdf_director.proofs.OwnStates.{found_state, none_state, told_of}
+use Rattle.kdf_director.proofs.StintsShown.{stint_in_own, there_lent_any}
+use Rattle.kdf_director.specs.Keeping.{IsKept}
+use Rattle.kdf_director.specs.Stints.{Keeping, is_lent, keeping_of, no_keeping, stint_of}
+use Rattle.kdf_processor.specs.Stints.{IsStint}
+use Rattle.kdf_director.specs.declared.stint.Stint.{Stint}
 use Rattle.kdf_transfer.proofs.Numbers.{limit_is}
 
 -- what holds of a state that is there
@@ -126,6 +131,99 @@ module _ (slots : List Loaded) (windows : List Window) (store : Cells) (programs
   pub sixteen : length places ≡ 16
   sixteen = sym (length-map places spot_of) ∙ ready.agrees.running.sound.spots ∙ limit_is
 
+  -- ---- stints
+  module _ (p : ℕ) where
+    abbrev program : Option Program
+    program = find (λ (x : Program). eqb x.p p) programs
+
+    -- a program that is there, with its stints
+    stints_at : (x : Program) → program ≡ Some x → (i : ℕ) × (i < length ps) × (seat_at ps i ≡ seat_of x) × (state_of m p ≡ Some (own_state rs ps s (asked_at ps J i) i))
+    stints_at x is = found_state xs rs ps s J room ready.agrees p (seat_of x) (found p ∙ ap (option_map seat_of) is)
+
+    stints_own : (i n : ℕ) → (own_state rs ps s n i).stock ≡ own_stock (part_at rs ps i) n s
+    unfolding own_state
+    stints_own i n = refl
+
+    count_is : (x : Program) (y : State) → program ≡ Some x → state_of m p ≡ Some y → length (lendings y.stock) ≡ length x.stints.items
+    unfolding lendings
+    count_is x y is there =
+        let at = stints_at x is in
+        let same : own_state rs ps s (asked_at ps J at.0) at.0 ≡ y = one_state (sym at.3 ∙ there) in
+        ap (λ (z : State). length (lendings z.stock)) (sym same)
+        ∙ ap (λ k. length (lendings k)) (stints_own at.0 (asked_at ps J at.0))
+        ∙ length-map (map stint_of (seat_at ps at.0).stints) (lending_of (own_stock (part_at rs ps at.0) (asked_at ps J at.0) s))
+        ∙ length-map (seat_at ps at.0).stints stint_of
+        ∙ ap (λ (z : Seat). length z.stints) at.2
+        ∙ length-map x.stints.items keeping_of
+      where
+        one_state : {a b : State} → Some a ≡ Some b → a ≡ b
+        one_state e = cc
+
+    no_state : program ≡ None → state_of m p ≡ None
+    no_state none = none_state xs rs ps s J room ready.agrees p (found p ∙ ap (option_map seat_of) none)
+
+    -- what holds of a program that is there and of its state
+    by_both : (P : Program → Type 0) (Q : State → Type 0) → ((x : Program) (y : State) → program ≡ Some x → state_of m p ≡ Some y → P x → Q y) → (o : Option Program) → program ≡ o → (k : Option State) → state_of m p ≡ k → is_some k ≡ true → IfSome o P → IsSomeAnd k Q
+    by_both P Q then o e None f is told = cc
+    by_both P Q then None e (Some y) f is told = cc (sym f ∙ no_state e)
+    by_both P Q then (Some x) e (Some y) f is told = then x y e f told
+
+    pub stints_shown : (xs' : List Stint) → is_some (state_of m p) ≡ true → IfSome program (λ (x : Program). xs' ≡ x.stints.items) → IsSomeAnd (state_of m p) (λ (y : State). length xs' ≡ length (lendings y.stock))
+    stints_shown xs' is told =
+        by_both (λ (x : Program). xs' ≡ x.stints.items) (λ (y : State). length xs' ≡ length (lendings y.stock))
+        (λ x y e f same. ap length same ∙ sym (count_is x y e f)) program refl (state_of m p) refl is told
+
+    kept_at : (x : Program) (e : program ≡ Some x) → IsKept (part_at rs ps (stints_at x e).0) s
+    kept_at x e = ready.agrees.running.kept (stints_at x e).0 (stints_at x e).1
+
+    same_stints : (x : Program) (e : program ≡ Some x) → (part_at rs ps (stints_at x e).0).stints ≡ map keeping_of x.stints.items
+    same_stints x e = ap (λ (z : Seat). z.stints) (stints_at x e).2
+
+    -- one of its stints
+    module _ (i : ℕ) (below : IsSomeAnd (state_of m p) (λ (y : State). i < length (lendings y.stock))) where
+      pub stint_there : IsSomeAnd program (λ (x : Program). i < length x.stints.items)
+      stint_there = by_state program refl (state_of m p) refl below
+        where
+          by_state : (o : Option Program) → program ≡ o → (k : Option State) → state_of m p ≡ k → IsSomeAnd k (λ (y : State). i < length (lendings y.stock)) → IsSomeAnd o (λ (x : Program). i < length x.stints.items)
+          by_state o e None f lt = absurd lt
+          by_state None e (Some y) f lt = cc (sym f ∙ no_state e)
+          by_state (Some x) e (Some y) f lt = omega (arith, count_is x y e f)
+
+      pub stint_lent : IfSome program (λ (x : Program). HasLent (map spot_of places) (map keeping_of x.stints.items))
+      stint_lent = by_program program refl
+        where
+          by_program : (o : Option Program) → program ≡ o → IfSome o (λ (x : Program). HasLent (map spot_of places) (map keeping_of x.stints.items))
+          by_program None e = tt
+          by_program (Some x) e =
+              subst (HasLent (map spot_of places)) (same_stints x e)
+              (λ j k lt lent. all_lent x e j k lt lent)
+            where
+              all_lent : (x : Program) (e : program ≡ Some x) (j : ℕ) (k : Keeping) → j < length (part_at rs ps (stints_at x e).0).stints → is_lent (get_or (part_at rs ps (stints_at x e).0).stints j k).loan ≡ true → is_some (spot_at (map spot_of places) (get_or (part_at rs ps (stints_at x e).0).stints j k).device).fixture ≡ true
+              all_lent x e j k lt lent =
+                  there_lent_any (part_at rs ps (stints_at x e).0) s (kept_at x e) j k lt lent
+
+      pub stint_shown : (d : ℕ) (given : Bool) (device : Device) → IfSome program (λ (x : Program). IsTold (map spot_of places) (get_or (map keeping_of x.stints.items) i no_keeping) d given device) → IsSomeAnd (state_of m p) (λ (y : State). IfSome (slice_get (lendings y.stock) i) (λ l. IsStint l d given device))
+      stint_shown d given device told =
+          by_both (λ (x : Program). IsTold (map spot_of places) (get_or (map keeping_of x.stints.items) i no_keeping) d given device) (λ (y : State). IfSome (slice_get (lendings y.stock) i) (λ l. IsStint l d given device))
+          (λ x y e f is. stint_of_program x y e f is) program refl (state_of m p) refl (some_state (state_of m p) below) told
+        where
+          some_state : (k : Option State) → IsSomeAnd k (λ (y : State). i < length (lendings y.stock)) → is_some k ≡ true
+          some_state None lt = absurd lt
+          some_state (Some y) lt = refl
+
+          one_state : {a b : State} → Some a ≡ Some b → a ≡ b
+          one_state e = cc
+
+          stint_of_program : (x : Program) (y : State) → program ≡ Some x → state_of m p ≡ Some y → IsTold (map spot_of places) (get_or (map keeping_of x.stints.items) i no_keeping) d given device → IfSome (slice_get (lendings y.stock) i) (λ l. IsStint l d given device)
+          stint_of_program x y e f is =
+              let at = stints_at x e in
+              let q = part_at rs ps at.0 in
+              let n = asked_at ps J at.0 in
+              let same : own_state rs ps s n at.0 ≡ y = one_state (sym at.3 ∙ f) in
+              subst (λ (z : State). IfSome (slice_get (lendings z.stock) i) (λ l. IsStint l d given device)) same
+              (subst (λ k. IfSome (slice_get (lendings k) i) (λ l. IsStint l d given device)) (sym (stints_own at.0 n))
+              (stint_in_own q n s (kept_at x e) i d given device (subst (λ zs. IsTold (map spot_of places) (get_or zs i no_keeping) d given device) (sym (same_stints x e)) is)))
+
   module _ (p address : ℕ) (there : IsSomeAnd (state_of m p) (λ (x : State). address < x.stock.claims.size)) (window : Window) (is : window ≡ window_at windows p) where
     pub word_below : address < window.size
     word_below =
@@ -179,7 +277,7 @@ module _ (slots : List Loaded) (windows : List Window) (store : Cells) (programs
         of_none [] e = refl
         of_none (l ∷ ls) e = absurd (omega arith)
 
-    abbrev claims_it : Bool
+    abbrev pub claims_it : Bool
     claims_it = is_claimed_by (owner_in slots d) ps pool (map spot_of places) d
 
     pub claimed_shown : (p : ℕ) (is : Bool) → is ≡ claims_it → IfSome (state_of m p) (λ (x : State). is_some (own_fixture_at x.stock.claims d) ≡ true → is ≡ is_claimed x.stock.claims d)

@@ -234,6 +234,9 @@ module _ (slots : List Slot) (reaches : List Reach) (seats : List Seat) (s : Sha
         unfolding outcome_at
         outcome_held n = ap (λ o. held_or (seat_at seats i).registers o (next_of (own_state reaches seats s n i) (answers_at reaches seats (clock J) s i))) held
 
+        ended_is : t.ended ≡ ending.Held need
+        ended_is = t.turned.step 0 ∙ ap (λ (o : Outcome). o.step) (outcome_held 0)
+
         same_flight : (d : ℕ) → (spot_at s'.spots d).flight ≡ (spot_at s.spots d).flight
         same_flight d = t.turned.flights 0 d ∙ ap (λ (o : Outcome). (spot_at (after_act q s o.act).spots d).flight) (outcome_held 0)
 
@@ -304,9 +307,6 @@ module _ (slots : List Slot) (reaches : List Reach) (seats : List Seat) (s : Sha
               few_calls = omega (arith, calls-added J st);
               few_moves = (let k = a.few_moves in omega (arith, moves-added J st));
             }
-
-        ended_is : t.ended ≡ ending.Held need
-        ended_is = t.turned.step 0 ∙ ap (λ (o : Outcome). o.step) (outcome_held 0)
 
         held_turn : HasAdvanced m slots reaches seats' s' holds' K room answer
         held_turn =

@@ -1,11 +1,12 @@
 -- One order of one program of the machine.
-use Rattle.std.proofs.Common.{◌≡◌, ◌≢◌, ℕ, ◌+◌, ◌<◌, ◌≤◌, ◌⊎◌, inl, inr, List, length, set, Option, Some, None, refl, sym, ap, ◌∙◌, ⊎_elim, arith}
+use Rattle.std.proofs.Common.{◌≡◌, ◌≢◌, ℕ, ◌+◌, ◌<◌, ◌≤◌, ◌⊎◌, inl, inr, true, false, List, length, set, Option, Some, None, refl, sym, ap, ◌∙◌, subst, ⊎_elim, arith}
 use Rattle.std.proofs.lemmas.Bool.{cases_eq, cases_lt}
 use Rattle.std.proofs.lemmas.List.{get_or-set_same, get_or-set_other}
 use Rattle.kdf_processor.specs.declared.step.Need.{Need}
 use Rattle.kdf_processor.specs.declared.registers.Registers.{Registers}
 use Rattle.kdf_processor.specs.State.{State, Stock, word_in}
-use Rattle.kdf_processor.specs.Effect.{Effect, Act, Nothing, Writes, Starts, Asks, Acquires, Releases, Spools}
+use Rattle.kdf_processor.specs.Effect.{Effect, Act, Nothing, Writes, Starts, Asks, FreeOf, Acquires, Releases, Spools}
+use Rattle.kdf_processor.specs.Lone.{is_live}
 use Rattle.kdf_processor.specs.Needs.{fetch_needs, effect_needs, next_effect}
 use Rattle.kdf_processor.specs.Outcome.{Outcome, done, held_or, outcome}
 use Rattle.kdf_processor.specs.View.{first_pending}
@@ -14,22 +15,33 @@ use Rattle.kdf_director.specs.Parts.{Part, Seat, Reach, Shared, part_in, part_af
 use Rattle.kdf_director.specs.Shared.{view, after_act}
 use Rattle.kdf_director.specs.Running.{no_seat, seat_at, reach_at, part_at, own_state, hold_of, outcome_at, IsRunning}
 use Rattle.kdf_director.specs.Sound.{IsSound}
-use Rattle.kdf_director.specs.Spots.{own_from}
+use Rattle.kdf_director.specs.Keeping.{IsActive, IsKept}
+use Rattle.kdf_director.specs.Spots.{Held, own_from, spot_at}
 use Rattle.kdf_director.specs.Turned.{seat_after}
 use Rattle.kdf_director.proofs.Lawful.{IsLawful, next_lawful, later_none}
-use Rattle.kdf_director.proofs.Trying.{IsPart, acts_own, acts_other, acts_sound}
+use Rattle.kdf_director.proofs.Trying.{IsOther, IsPart, acts_active, acts_kept, acts_own, acts_other, acts_other_active, acts_other_kept, acts_sound}
 use Rattle.kdf_director.proofs.Same.{SamePart}
 
 abbrev pub state : Registers → Stock → State
 state r k = record { registers = r; stock = k }
 
--- the parts of a machine
-pub is_part : (reaches : List Reach) (seats : List Seat) (s : Shared) (p : ℕ) → IsRunning reaches seats s → p < length seats → IsPart (part_at reaches seats p) s
-is_part reaches seats s p run lt =
+-- a device that is nobody's has no transfer
+pub is_quiet : (reaches : List Reach) (seats : List Seat) (s : Shared) → IsRunning reaches seats s → (d : ℕ) → (spot_at s.spots d).holder ≡ None → (spot_at s.spots d).flight ≡ None
+is_quiet reaches seats s run d none = of (spot_at s.spots d).flight refl
+  where
+    of : (f : Option Held) → (spot_at s.spots d).flight ≡ f → f ≡ None
+    of None is = refl
+    of (Some h) is = cc (sym none ∙ (run.flights d h is).flight.holder)
+
+-- the part of a live program
+pub is_part : (reaches : List Reach) (seats : List Seat) (s : Shared) (p : ℕ) → IsRunning reaches seats s → p < length seats → is_live (seat_at seats p).registers.state ≡ true → IsPart (part_at reaches seats p) s
+is_part reaches seats s p run lt live =
     record {
       at_group = run.at_group p lt;
       in_store = run.in_store p lt;
-      there = λ d has. run.fixtures p d lt has;
+      kept = run.kept p lt;
+      active = run.active p lt live;
+      quiet = is_quiet reaches seats s run;
     }
 
 -- two windows are apart
@@ -48,6 +60,15 @@ numbers_apart reaches seats s p r run lt lt' ne same =
     (λ (high : r ≤ p). let a = run.numbered r p (omega arith) lt in absurd (omega arith))
     (cases_lt p r)
 
+-- and another's
+pub is_other : (reaches : List Reach) (seats : List Seat) (s : Shared) (p x : ℕ) → IsRunning reaches seats s → p < length seats → x < length seats → x ≢ p → IsOther (part_at reaches seats p) (part_at reaches seats x) s
+is_other reaches seats s p x run lt lt' ne =
+    record {
+      apart = parts_apart reaches seats s p x run lt lt' (λ i. ne (sym i));
+      number = numbers_apart reaches seats s x p run lt' lt ne;
+      kept = run.kept x lt';
+    }
+
 module _ (reaches : List Reach) (seats : List Seat) (t : ℕ) (s : Shared) (p : ℕ) (run : IsRunning reaches seats s) (lt : p < length seats) where
   abbrev pub q : Part
   q = part_at reaches seats p
@@ -64,7 +85,10 @@ module _ (reaches : List Reach) (seats : List Seat) (t : ℕ) (s : Shared) (p : 
   abbrev pub own : List ℕ
   own = own_from (seat_at seats p).p 0 s.spots
 
-  part : IsPart q s
+  abbrev pub live : Type 0
+  live = is_live r.state ≡ true
+
+  part : live → IsPart q s
   part = is_part reaches seats s p run lt
 
   pub lawful : IsLawful k.claims e
@@ -112,6 +136,7 @@ module _ (reaches : List Reach) (seats : List Seat) (t : ℕ) (s : Shared) (p : 
         base = refl;
         size = refl;
         devices = refl;
+        pool = refl;
       })
       (λ (ne : x ≢ p).
       record {
@@ -119,6 +144,7 @@ module _ (reaches : List Reach) (seats : List Seat) (t : ℕ) (s : Shared) (p : 
         base = refl;
         size = refl;
         devices = refl;
+        pool = refl;
       })
       (cases_eq x p)
 
@@ -131,34 +157,76 @@ module _ (reaches : List Reach) (seats : List Seat) (t : ℕ) (s : Shared) (p : 
       at_act Nothing = refl
       at_act (Writes a w) = refl
       at_act (Starts d o first last) = refl
+      at_act (Asks (FreeOf kind) answer) = refl
       at_act (Asks question answer) = refl
       at_act (Acquires d) = refl
-      at_act (Releases pooled d) = refl
+      at_act (Releases true d) = refl
+      at_act (Releases false d) = refl
       at_act (Spools stream first last) = refl
 
   -- its own state
-  pub tried_own : (n : ℕ) (o : Option Need) → hold_of reaches seats s p ≡ o → own_state reaches (later o) (shared o) (asked_after n (by o).act) p ≡ tried (by o) (own_state reaches seats s n p)
+  pub tried_own : live → (n : ℕ) (o : Option Need) → hold_of reaches seats s p ≡ o → own_state reaches (later o) (shared o) (asked_after n (by o).act) p ≡ tried (by o) (own_state reaches seats s n p)
   unfolding own_state
-  tried_own n o is =
+  tried_own is_on n o is =
       ap (λ (y : Seat). state y.registers (own_stock (part_in y (reach_at reaches p)) (asked_after n (by o).act) (shared o))) (there o)
       ∙ ap (λ (x : Part). state (by o).registers (own_stock x (asked_after n (by o).act) (shared o))) (part_new o)
       ∙ ap (state (by o).registers) (at_hold o is)
     where
       at_hold : (o : Option Need) → hold_of reaches seats s p ≡ o → own_stock (part_after q s (by o).act) (asked_after n (by o).act) (shared o) ≡ begun (by o).act (own_stock q n s)
       at_hold (Some need) is = refl
-      at_hold None is = acts_own q t s r own run.sound part n e lawful (free is)
+      at_hold None is = acts_own q t s r own run.sound (part is_on) n e lawful (free is)
 
   -- another program's state
-  pub tried_other : (n : ℕ) (o : Option Need) → hold_of reaches seats s p ≡ o → (x : ℕ) → x < length seats → x ≢ p → own_state reaches (later o) (shared o) n x ≡ own_state reaches seats s n x
+  pub tried_other : live → (n : ℕ) (o : Option Need) → hold_of reaches seats s p ≡ o → (x : ℕ) → x < length seats → x ≢ p → own_state reaches (later o) (shared o) n x ≡ own_state reaches seats s n x
   unfolding own_state
-  tried_other n o is x lt' ne =
+  tried_other is_on n o is x lt' ne =
       ap (λ (y : Seat). state y.registers (own_stock (part_in y (reach_at reaches x)) n (shared o))) (get_or-set_other seats p x (new o) no_seat ne)
       ∙ ap (state (seat_at seats x).registers) (stays o is)
     where
       stays : (o : Option Need) → hold_of reaches seats s p ≡ o → own_stock (part_at reaches seats x) n (shared o) ≡ own_stock (part_at reaches seats x) n s
       stays (Some need) is = refl
-      stays None is = acts_other q t s r own run.sound part n (part_at reaches seats x) (is_part reaches seats s x run lt') (parts_apart reaches seats s p x run lt lt' (λ i. ne (sym i))) e lawful (free is)
+      stays None is = acts_other q t s r own run.sound (part is_on) n (part_at reaches seats x) (is_other reaches seats s p x run lt lt' ne) e lawful (free is)
 
-  pub tried_sound : (o : Option Need) → hold_of reaches seats s p ≡ o → IsSound (shared o)
-  tried_sound (Some need) is = run.sound
-  tried_sound None is = acts_sound q t s r own run.sound part e lawful (free is)
+  pub tried_sound : live → (o : Option Need) → hold_of reaches seats s p ≡ o → IsSound (shared o)
+  tried_sound is_on (Some need) is = run.sound
+  tried_sound is_on None is = acts_sound q t s r own run.sound (part is_on) e lawful (free is)
+
+  -- what each program keeps
+  pub tried_kept : live → (o : Option Need) → hold_of reaches seats s p ≡ o → (x : ℕ) → x < length seats → IsKept (part_at reaches (later o) x) (shared o)
+  tried_kept is_on o is x lt' =
+      ⊎_elim
+      (λ (same : x ≡ p).
+      subst (λ k. IsKept (part_at reaches (later o) k) (shared o)) (sym same)
+      (subst (λ (y : Seat). IsKept (part_in y (reach_at reaches p)) (shared o)) (sym (there o)) (subst (λ y. IsKept y (shared o)) (sym (part_new o)) (its o is))))
+      (λ (ne : x ≢ p).
+      subst (λ (y : Seat). IsKept (part_in y (reach_at reaches x)) (shared o)) (sym (get_or-set_other seats p x (new o) no_seat ne)) (others o is ne))
+      (cases_eq x p)
+    where
+      its : (o : Option Need) → hold_of reaches seats s p ≡ o → IsKept (part_after q s (by o).act) (shared o)
+      its (Some need) is = run.kept p lt
+      its None is = acts_kept q t s r own run.sound (part is_on) e lawful (free is)
+
+      others : (o : Option Need) → hold_of reaches seats s p ≡ o → x ≢ p → IsKept (part_at reaches seats x) (shared o)
+      others (Some need) is ne = run.kept x lt'
+      others None is ne = acts_other_kept q t s r own run.sound (part is_on) (part_at reaches seats x) (is_other reaches seats s p x run lt lt' ne) e lawful (free is)
+
+  -- and has claimed, while it is live
+  pub tried_active : live → (o : Option Need) → hold_of reaches seats s p ≡ o → (x : ℕ) → x < length seats → is_live (seat_at (later o) x).registers.state ≡ true → IsActive (part_at reaches (later o) x) (shared o)
+  tried_active is_on o is x lt' live_then =
+      ⊎_elim
+      (λ (same : x ≡ p).
+      subst (λ k. IsActive (part_at reaches (later o) k) (shared o)) (sym same)
+      (subst (λ (y : Seat). IsActive (part_in y (reach_at reaches p)) (shared o)) (sym (there o)) (subst (λ y. IsActive y (shared o)) (sym (part_new o)) (its o is))))
+      (λ (ne : x ≢ p).
+      let was : seat_at (later o) x ≡ seat_at seats x = get_or-set_other seats p x (new o) no_seat ne in
+      subst (λ (y : Seat). IsActive (part_in y (reach_at reaches x)) (shared o)) (sym was)
+      (others o is ne (ap (λ (y : Seat). is_live y.registers.state) (sym was) ∙ live_then)))
+      (cases_eq x p)
+    where
+      its : (o : Option Need) → hold_of reaches seats s p ≡ o → IsActive (part_after q s (by o).act) (shared o)
+      its (Some need) is = run.active p lt is_on
+      its None is = acts_active q t s r own run.sound (part is_on) e lawful (free is)
+
+      others : (o : Option Need) → hold_of reaches seats s p ≡ o → x ≢ p → is_live (seat_at seats x).registers.state ≡ true → IsActive (part_at reaches seats x) (shared o)
+      others (Some need) is ne its_on = run.active x lt' its_on
+      others None is ne its_on = acts_other_active q t s r own run.sound (part is_on) (part_at reaches seats x) (is_other reaches seats s p x run lt lt' ne) (run.active x lt' its_on) e lawful (free is)

@@ -1,5 +1,5 @@
 -- A turn over a machine shows what the machine's own definitions say.
-use Rattle.std.proofs.Common.{◌≡◌, ℕ, Bool, List, refl, ap, ap₂, sym, ◌∙◌, map, get_or, set}
+use Rattle.std.proofs.Common.{◌≡◌, ℕ, Bool, List, refl, ap, ap₂, ◌∙◌, map}
 use Rattle.kdf_processor.specs.declared.registers.Registers.{Registers}
 use Rattle.kdf_processor.specs.declared.step.Step.{Step}
 use Rattle.kdf_director.specs.declared.note.Note.{Note}
@@ -9,15 +9,14 @@ use Rattle.kdf_processor.specs.Outcome.{Outcome, outcome}
 use Rattle.kdf_processor.specs.declared.spooled.Spooled.{Spooled}
 use Rattle.kdf_lockout.specs.Groups.{Cells}
 use Rattle.kdf_director.specs.declared.place.Place.{Place}
-use Rattle.kdf_director.specs.declared.place.Place.TheVariants.{Absent}
 use Rattle.kdf_director.specs.declared.turn.Turn.{Turn}
-use Rattle.kdf_director.specs.Spots.{Spot, no_spot, spot_of}
-use Rattle.kdf_director.specs.Turned.{outcome_over, seat_after, HasRun}
-use Rattle.kdf_director.proofs.Showing.{spot_there}
-use Rattle.std.proofs.lemmas.List.{map-set, set-get_or}
+use Rattle.kdf_director.specs.Spots.{Spot, spot_of}
+use Rattle.kdf_director.specs.Turned.{outcome_over, seat_after, HasTried}
 use Rattle.kdf_director.specs.Notes.{note_after}
 use Rattle.kdf_director.specs.Parts.{Part, Reach, Shared, part_after, part_in, seat, shared_in}
 use Rattle.kdf_director.specs.Shared.{view, after_act}
+use Rattle.kdf_director.specs.Stints.{keeping_of}
+use Rattle.kdf_director.specs.declared.stint.Stint.{Stint}
 use Rattle.kdf_director.specs.Turn.{part_of, shared, shown, SameTurn, Acts, Stays, HasObeyed}
 
 -- what is shown, by what it is shown of
@@ -35,6 +34,7 @@ same_same t u w first second =
       time = second.time ∙ first.time;
       claimed = second.claimed ∙ first.claimed;
       spooled = second.spooled ∙ first.spooled;
+      stints = second.stints ∙ first.stints;
       store = second.store ∙ first.store;
       places = second.places ∙ first.places;
       block = second.block ∙ first.block;
@@ -57,10 +57,11 @@ obeyed_by old mid new r left ended noted stays step registers acted note =
     record { step = step; note = note ∙ done.note; registers = registers; acted = done }
 
 -- the fields of a program that were lent end as the turn leaves them
-pub seat_back : (t : Turn) (q : Part) (s : Shared) (o : Outcome) (p : ℕ) (r : Registers) (claimed : List Bool) (spooled : List Spooled) → p ≡ q.p → r ≡ o.registers → claimed ≡ t.claimed.now → spooled ≡ t.spooled.now.items → part_of t ≡ part_after q s o.act → seat p r claimed spooled ≡ seat_after q s o
-seat_back t q s o p r claimed spooled e f g h part =
-    ap₂ (λ a b. seat a b claimed spooled) e f
-    ∙ ap₂ (λ a b. seat q.p o.registers a b) (g ∙ ap (λ (x : Part). x.claimed) part) (h ∙ ap (λ (x : Part). x.spooled) part)
+pub seat_back : (t : Turn) (q : Part) (s : Shared) (o : Outcome) (p : ℕ) (r : Registers) (claimed : List Bool) (spooled : List Spooled) (stints : List Stint) → p ≡ q.p → r ≡ o.registers → claimed ≡ t.claimed.now → spooled ≡ t.spooled.now.items → stints ≡ t.stints.now.items → part_of t ≡ part_after q s o.act → seat p r claimed spooled (map keeping_of stints) ≡ seat_after q s o
+seat_back t q s o p r claimed spooled stints e f g h i part =
+    ap₂ (λ a b. seat a b claimed spooled (map keeping_of stints)) e f
+    ∙ ap₂ (λ a b. seat q.p o.registers a b (map keeping_of stints)) (g ∙ ap (λ (x : Part). x.claimed) part) (h ∙ ap (λ (x : Part). x.spooled) part)
+    ∙ ap (seat q.p o.registers (part_after q s o.act).claimed (part_after q s o.act).spooled) (ap (map keeping_of) i ∙ ap (λ (x : Part). x.stints) part)
 
 abbrev pub share : Cells → List Spot → Shared
 share c s = record { cells = c; spots = s }
@@ -69,32 +70,28 @@ pub shared_back : (t : Turn) (c : Cells) (ps : List Place) (x : Shared) → c �
 shared_back t c ps x d e h = ap₂ (λ a b. share a (map spot_of b)) d e ∙ h
 
 -- what was lent for an order that was obeyed
-pub ran_back : (t u : Turn) (p : ℕ) (r left : Registers) (claimed claimed' : List Bool) (spooled spooled' : List Spooled) (reach : Reach) (time : ℕ) (s : Shared) (cells : Cells) (places : List Place) (ended : Step) (noted : Note) → part_of t ≡ part_in (seat p r claimed spooled) reach → t.time ≡ time → shared t ≡ s → t.note ≡ Quiet → HasObeyed t r u left ended noted → claimed' ≡ u.claimed.now → spooled' ≡ u.spooled.now.items → cells ≡ u.store.now → places ≡ u.places.now.items → HasRun reach time (seat p r claimed spooled) s (seat p left claimed' spooled') (shared_in cells places) ended noted
-ran_back t u p r left claimed claimed' spooled spooled' reach time s cells places ended noted part_is time_is shared_is quiet obeyed claimed_is spooled_is cells_are places_are =
-    let q = part_in (seat p r claimed spooled) reach in
+pub ran_back : (t u : Turn) (p : ℕ) (r left : Registers) (claimed claimed' : List Bool) (spooled spooled' : List Spooled) (stints stints' : List Stint) (reach : Reach) (time : ℕ) (s : Shared) (cells : Cells) (places : List Place) (ended : Step) (noted : Note) → part_of t ≡ part_in (seat p r claimed spooled (map keeping_of stints)) reach → t.time ≡ time → shared t ≡ s → t.note ≡ Quiet → HasObeyed t r u left ended noted → claimed' ≡ u.claimed.now → spooled' ≡ u.spooled.now.items → stints' ≡ u.stints.now.items → cells ≡ u.store.now → places ≡ u.places.now.items → HasTried reach time (seat p r claimed spooled (map keeping_of stints)) s (seat p left claimed' spooled' (map keeping_of stints')) (shared_in cells places) ended noted
+ran_back t u p r left claimed claimed' spooled spooled' stints stints' reach time s cells places ended noted part_is time_is shared_is quiet obeyed claimed_is spooled_is stints_are cells_are places_are =
+    let before = seat p r claimed spooled (map keeping_of stints) in
+    let q = part_in before reach in
     let o : Outcome = outcome (shown t) r in
-    let o' : Outcome = outcome_over (seat p r claimed spooled) reach time s in
+    let o' : Outcome = outcome_over before reach time s in
     let same : o ≡ o' = ap (λ v. outcome v r) (shown_of t q time s part_is time_is shared_is) in
     record {
       step = obeyed.step ∙ ap (λ (x : Outcome). x.step) same;
       note = obeyed.note ∙ ap (note_after o.act) quiet ∙ ap (λ (x : Outcome). note_after x.act Quiet) same;
-      program = seat_back u q s o' p left claimed' spooled' refl (obeyed.registers ∙ ap (λ (x : Outcome). x.registers) same) claimed_is spooled_is
+      program = seat_back u q s o' p left claimed' spooled' stints' refl (obeyed.registers ∙ ap (λ (x : Outcome). x.registers) same) claimed_is spooled_is stints_are
           (obeyed.acted.part ∙ ap₂ (λ a b. part_after a b o.act) part_is shared_is ∙ ap (λ (x : Outcome). part_after q s x.act) same);
       shared = shared_back u cells places (after_act q s o'.act) cells_are places_are
           (obeyed.acted.shared ∙ ap₂ (λ a b. after_act a b o.act) part_is shared_is ∙ ap (λ (x : Outcome). after_act q s x.act) same);
     }
 
 -- and for one that had no memory
-pub left_back : (t u : Turn) (p : ℕ) (r left : Registers) (claimed claimed' : List Bool) (spooled spooled' : List Spooled) (reach : Reach) (s : Shared) (cells : Cells) (places : List Place) → part_of t ≡ part_in (seat p r claimed spooled) reach → shared t ≡ s → left ≡ r → Stays t u → claimed' ≡ u.claimed.now → spooled' ≡ u.spooled.now.items → cells ≡ u.store.now → places ≡ u.places.now.items → (seat p left claimed' spooled' ≡ seat p r claimed spooled) × (shared_in cells places ≡ s)
-left_back t u p r left claimed claimed' spooled spooled' reach s cells places part_is shared_is same stays claimed_is spooled_is cells_are places_are =
-    let part : part_of u ≡ part_in (seat p r claimed spooled) reach = stays.part ∙ part_is in (
-      ap (λ x. seat p x claimed' spooled') same ∙ ap₂ (λ a b. seat p r a b) (claimed_is ∙ ap (λ (x : Part). x.claimed) part) (spooled_is ∙ ap (λ (x : Part). x.spooled) part),
+pub left_back : (t u : Turn) (p : ℕ) (r left : Registers) (claimed claimed' : List Bool) (spooled spooled' : List Spooled) (stints stints' : List Stint) (reach : Reach) (s : Shared) (cells : Cells) (places : List Place) → part_of t ≡ part_in (seat p r claimed spooled (map keeping_of stints)) reach → shared t ≡ s → left ≡ r → Stays t u → claimed' ≡ u.claimed.now → spooled' ≡ u.spooled.now.items → stints' ≡ u.stints.now.items → cells ≡ u.store.now → places ≡ u.places.now.items → (seat p left claimed' spooled' (map keeping_of stints') ≡ seat p r claimed spooled (map keeping_of stints)) × (shared_in cells places ≡ s)
+left_back t u p r left claimed claimed' spooled spooled' stints stints' reach s cells places part_is shared_is same stays claimed_is spooled_is stints_are cells_are places_are =
+    let part : part_of u ≡ part_in (seat p r claimed spooled (map keeping_of stints)) reach = stays.part ∙ part_is in (
+      ap (λ x. seat p x claimed' spooled' (map keeping_of stints')) same
+          ∙ ap₂ (λ a b. seat p r a b (map keeping_of stints')) (claimed_is ∙ ap (λ (x : Part). x.claimed) part) (spooled_is ∙ ap (λ (x : Part). x.spooled) part)
+          ∙ ap (seat p r claimed spooled) (ap (map keeping_of) stints_are ∙ ap (λ (x : Part). x.stints) part),
       shared_back u cells places s cells_are places_are (stays.shared ∙ shared_is),
     )
-
--- a place that shows the same is put back
-pub same_spots : (places : List Place) (d : ℕ) (old new : Place) → old ≡ get_or places d Absent → spot_of new ≡ spot_of old → map spot_of (set places d new) ≡ map spot_of places
-same_spots places d old new was same =
-    map-set spot_of places d new
-    ∙ ap (set (map spot_of places) d) (same ∙ ap spot_of was ∙ sym (spot_there places d))
-    ∙ set-get_or (map spot_of places) d no_spot

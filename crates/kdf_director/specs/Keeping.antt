@@ -1,10 +1,15 @@
 -- What holds of a program's devices and stints: which places are its own, and which it has from the pool.
-use Rattle.std.specs.Prelude.{◌≡◌, ◌≢◌, ◌<◌, ℕ, true, false, Some, None, slice_index_or}
+use Rattle.std.specs.Prelude.{◌≡◌, ◌≢◌, ◌<◌, ℕ, Bool, List, [], length, true, false, Some, None, slice_index_or}
 use Rattle.std.specs.List.{All, AllPairs}
 use Rattle.kdf_journal.specs.declared.kind.Kind.{Kind}
 use Rattle.kdf_transfer.specs.ByNumber.{device_count}
 use Rattle.kdf_transfer.specs.Devices.{blank_fixture, new_progress}
-use Rattle.kdf_director.specs.Parts.{Part, Shared, in_pool, owns, pool_kind}
+use Rattle.kdf_processor.specs.State.{device_limit}
+use Rattle.kdf_director.specs.declared.place.Place.{Place}
+use Rattle.kdf_director.specs.declared.stint.Stint.{Stint as KeptStint}
+use Rattle.kdf_relocate.specs.declared.window.Window.{Window}
+use Rattle.kdf_transfer.specs.declared.device.Device.{Device}
+use Rattle.kdf_director.specs.Parts.{Part, Shared, in_pool, owns, part_with, pool_kind, shared_in}
 use Rattle.kdf_director.specs.Spots.{is_holder, spot_at}
 use Rattle.kdf_director.specs.Stints.{IsOfKind, Keeping, is_left, is_open, lends}
 
@@ -25,5 +30,16 @@ pub record IsKept (q : Part) (s : Shared) : Type 0 where
 
 -- A live program has claimed just those devices of the pool that it has, and it has kept none.
 pub record IsActive (q : Part) (s : Shared) : Type 0 where
+  pub sized : length q.claimed ≡ device_limit
   pub marks : (d : ℕ) → in_pool q d ≡ true → slice_index_or q.claimed d false ≡ is_holder q.p (spot_at s.spots d).holder
   pub none_left : All (λ (x : Keeping). is_left x.loan ≡ false) q.stints
+
+-- a program with these fields keeps what it has: neither its marks nor what it spooled, nor the words, matter to that
+abbrev pub IsKeptBy : ℕ → Window → List (ℕ × Device) → List (ℕ × Kind) → List KeptStint → List Place → Type 0
+IsKeptBy p window devices pool stints places =
+    IsKept (part_with p window devices pool [] [] stints) (shared_in [] places)
+
+-- and is live, with these marks
+abbrev pub IsActiveBy : ℕ → Window → List (ℕ × Device) → List (ℕ × Kind) → List Bool → List KeptStint → List Place → Type 0
+IsActiveBy p window devices pool claimed stints places =
+    IsActive (part_with p window devices pool claimed [] stints) (shared_in [] places)

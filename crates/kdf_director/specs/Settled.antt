@@ -8,11 +8,11 @@ use Rattle.kdf_director.specs.declared.note.Note.{Note}
 use Rattle.kdf_director.specs.declared.note.Note.TheVariants as note
 use Rattle.kdf_director.specs.Parts.{Seat, Shared}
 use Rattle.kdf_director.specs.Spots.{Spot, can_leave, fixture_or, is_holder, left_spot, spot_at}
-use Rattle.kdf_director.specs.Stints.{Keeping, Lent, Left, is_lent}
+use Rattle.kdf_director.specs.Stints.{Keeping, Left, is_lent, no_keeping}
 
--- the stint n of a program, a lent one that there isn't where it has none
+-- the stint n of a program
 abbrev pub keeping_at : Seat → ℕ → Keeping
-keeping_at seat n = slice_index_or seat.stints n (record { device = 0; loan = Lent })
+keeping_at seat n = slice_index_or seat.stints n no_keeping
 
 -- the place of a lent device that has no transfer, once the device left it
 abbrev pub leaves : Keeping → Spot → Spot

@@ -1,5 +1,5 @@
 -- The stints of a program of the machine: where the device of each is.
-use Rattle.std.specs.Prelude.{◌≡◌, ℕ, ◌==◌, ◌&&◌, not, Bool, true, false, List, map, Option, Some, None, Unit, if◌then◌else◌, find}
+use Rattle.std.specs.Prelude.{◌≡◌, ℕ, ◌==◌, ◌&&◌, not, Bool, true, false, List, map, Option, Some, None, if◌then◌else◌, find}
 use Rattle.std.specs.List.{list_any}
 use Rattle.std.specs.Option.{option_map}
 use Rattle.kdf_journal.specs.declared.kind.Kind.{Kind}
@@ -19,6 +19,10 @@ pub data Loan : Type 0 where
 pub record Keeping : Type 0 where
   pub device : ℕ
   pub loan : Loan
+
+-- one that there isn't
+abbrev pub no_keeping : Keeping
+no_keeping = record { device = 0; loan = Lent }
 
 abbrev pub loan_of : Kept → Loan
 loan_of kept.Lent = Lent
@@ -74,8 +78,12 @@ is_open_of d x = x.device == d && is_open x.loan
 abbrev pub with_loan : ℕ → Loan → Keeping → Keeping
 with_loan d loan x = if is_open_of d x then record x { loan = loan } else x
 
+-- what a device of the pool is: in its place as the pool has it, else as it left
+abbrev pub fixture_lent : Option Kind → Loan → Option Fixture
+fixture_lent kind Lent = option_map blank_fixture kind
+fixture_lent kind (Left fixture progress) = Some fixture
+fixture_lent kind (Back fixture progress) = Some fixture
+
 -- a device that left its place is a blank one of its kind but for what it moved
 abbrev pub IsOfKind : Option Kind → Loan → Type 0
-IsOfKind kind Lent = Unit {0}
-IsOfKind kind (Left fixture progress) = option_map blank_fixture kind ≡ Some fixture
-IsOfKind kind (Back fixture progress) = option_map blank_fixture kind ≡ Some fixture
+IsOfKind kind loan = option_map blank_fixture kind ≡ fixture_lent kind loan

@@ -5,7 +5,7 @@ ghost use Rattle.kdf_transfer.specs.declared.device.Device.{Device};
 ghost use Rattle.kdf_job.specs.Slots.{lent_kind};
 ghost use Rattle.kdf_processor.specs.State.{device_limit, pooled_or};
 ghost use Rattle.kdf_director.specs.Parts.{fixture_owned, numbers, owns};
-ghost use Rattle.kdf_transfer.specs.Devices.{is_wanted, kind_in};
+ghost use Rattle.kdf_transfer.specs.Devices.{is_kind, is_wanted, kind_in};
 ghost use Rattle.kdf_transfer.specs.ByNumber.{by_number};
 ghost use Rattle.kdf_director.specs.Shared.{free_in, is_free_in};
 ghost use Rattle.kdf_director.specs.Spots.{spot_of, spot_at};
@@ -33,7 +33,7 @@ pub(crate) fn owns(devices: &[(u8, Device)], d: u8) -> bool
 
 /// The kind of a device of the slot.
 fn kind_owned(devices: &[(u8, Device)], places: &[Place], d: u8) -> Option<Kind>
-    requires { length places.now ≡ 16 }
+    requires sixteen { length places.now ≡ 16 }
     requires number { d < 16 }
     ensures { result ≡ kind_in (fixture_owned (numbers devices.now) (map spot_of places.now) d) }
 {
@@ -46,7 +46,7 @@ fn kind_owned(devices: &[(u8, Device)], places: &[Place], d: u8) -> Option<Kind>
 
 /// The kind of a device of the pool, or else of one of the slot.
 fn kind_of(devices: &[(u8, Device)], pool: &[(u8, Kind)], places: &[Place], d: u8) -> Option<Kind>
-    requires { length places.now ≡ 16 }
+    requires sixteen { length places.now ≡ 16 }
     requires number { d < 16 }
     ensures { result ≡ kind_in (pooled_or (lent_kind pool.now d)
         (fixture_owned (numbers devices.now) (map spot_of places.now) d)) }
@@ -107,5 +107,23 @@ fn is_free_in(pool: &[(u8, Kind)], places: &[Place], kind: Kind, d: u8) -> bool
     requires { d < 16 }
     ensures { result ≡ is_free_in (by_number (lent_kind pool.now)) (map spot_of places.now) kind d }
 {
-    kind_lent(pool, d) == Some(kind) && holder_in(places, d).is_none()
+    is_lent_kind(pool, d, kind) && holder_in(places, d).is_none()
+}
+
+/// Whether the pool's device of this number is of this kind, and isn't claimed.
+pub(crate) fn is_left(pool: &[(u8, Kind)], claimed: &[bool; 16], d: u8, kind: Kind) -> bool
+    requires { d < 16 }
+    ensures { result ≡ (is_kind kind (lent_kind pool.now d) && not (slice_index_or claimed.now d false)) }
+{
+    is_lent_kind(pool, d, kind) && !claimed[usize::from(d)]
+}
+
+/// Whether the pool's device of this number, if it has one, is of this kind.
+fn is_lent_kind(pool: &[(u8, Kind)], d: u8, kind: Kind) -> bool
+    ensures { result ≡ is_kind kind (lent_kind pool.now d) }
+{
+    match kind_lent(pool, d) {
+        Some(lent) => lent == kind,
+        None => false,
+    }
 }

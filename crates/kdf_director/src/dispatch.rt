@@ -80,7 +80,7 @@ fn try_next(
 
 /// Takes the devices of a program that is over out of their places, those of the first to the last of its stints that are lent still.
 fn retire_all(alloc: Global, program: &mut Program, places: &mut Vec<Place>)
-    ensures { (cells : Cells) → both_of (seat_of program.new) (shared_in cells places.new.items)
+    ensures both { (cells : Cells) → both_of (seat_of program.new) (shared_in cells places.new.items)
         ≡ retired (length program.old.stints.items)
         (both_of (seat_of program.old) (shared_in cells places.old.items)) }
     ensures hold { program.new.hold ≡ program.old.hold }
@@ -93,7 +93,7 @@ fn retire_all(alloc: Global, program: &mut Program, places: &mut Vec<Place>)
 
 /// Where an order ended a program, or failed, the devices that it has from the pool leave their places.
 fn settle(alloc: Global, program: &mut Program, places: &mut Vec<Place>)
-    ensures { (cells : Cells) → both_of (seat_of program.new) (shared_in cells places.new.items)
+    ensures both { (cells : Cells) → both_of (seat_of program.new) (shared_in cells places.new.items)
         ≡ settled (both_of (seat_of program.old) (shared_in cells places.old.items)) }
     ensures hold { program.new.hold ≡ program.old.hold }
     ensures dry { AreDry places.old.items → AreDry places.new.items }

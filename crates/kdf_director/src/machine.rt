@@ -1,5 +1,5 @@
 //! The machine: programs in their slots, the store and the devices that they share, and the journal.
-ghost use Rattle.std.specs.Prelude.{◌≡◌, ℕ, ◌+◌, ◌<◌, ◌≤◌, length, map, true, false, is_some, None, IfOk, IfSome, IsSomeAnd, OnErr, []};
+ghost use Rattle.std.specs.Prelude.{◌≡◌, ℕ, ◌+◌, ◌<◌, ◌≤◌, length, map, true, false, is_some, None, IfOk, IfSome, IsSomeAnd, OnErr, [], slice_get};
 ghost use Rattle.std.specs.List.{All};
 ghost use Rattle.std.specs.Option.{option_copied, option_map};
 ghost use Rattle.kdf_journal.specs.Counts.{calls, clock, holder, pending};
@@ -8,7 +8,8 @@ ghost use Rattle.kdf_job.specs.Shows.{shown_slot};
 ghost use Rattle.kdf_job.specs.WellFormed.{AreSlots};
 ghost use Rattle.kdf_place.specs.declared.image.Image.{Image};
 ghost use Rattle.kdf_processor.specs.Claims.{is_claimed};
-ghost use Rattle.kdf_processor.specs.State.{State, begin, fixture_at, is_pooled, own_fixture_at, word_at};
+ghost use Rattle.kdf_processor.specs.State.{State, begin, fixture_at, is_pooled, lendings, own_fixture_at, word_at};
+ghost use Rattle.kdf_processor.specs.Stints.{IsStint};
 ghost use Rattle.kdf_director.specs.Advance.{Advance, Enters, OthersStay};
 ghost use Rattle.kdf_director.specs.Legal.{IsLegal, IsTrue};
 ghost use Rattle.kdf_director.specs.Lends.{IsLent, IsStored, window_in};
@@ -24,7 +25,7 @@ use crate::load::{Parts, load_parts};
 use crate::moves::{ending, moving, word_of};
 use crate::next::is_any_on;
 use crate::places::transfer_in;
-use crate::shown::{device_in, is_claimed_in, registers_of, texts_of, window_given};
+use crate::shown::{device_in, is_claimed_in, registers_of, stint_in, stints_of, texts_of, window_given};
 use crate::starting::cancel_all;
 use crate::{Loaded, Place, Program};
 use kdf_job::Job;
@@ -256,6 +257,24 @@ impl Machine {
             → result ≡ false }
     {
         is_claimed_in(&self.slots, &self.programs, &self.devices, d)
+    }
+
+    /// How many stints program `p` has: how often it took a device from the pool.
+    pub fn stints(&self, p: u8) -> usize
+        requires { is_some (state_of self.now p) ≡ true }
+        ensures { IsSomeAnd (state_of self.now p) (λ state. result ≡ length (lendings state.stock)) }
+    {
+        stints_of(&self.programs, p).len()
+    }
+
+    /// The stint of program `p` that began after `i` others: the number of its device, whether that was given back, and the device, as it is
+    /// seen.
+    pub fn stint(&self, p: u8, i: usize) -> (u8, bool, &Device)
+        requires { IsSomeAnd (state_of self.now p) (λ state. i < length (lendings state.stock)) }
+        ensures { IsSomeAnd (state_of self.now p) (λ state.
+            IfSome (slice_get (lendings state.stock) i) (λ x. IsStint x result.0 result.1 result.2.now)) }
+    {
+        stint_in(&self.programs, &self.devices, p, i)
     }
 
     /// What happened so far. At each moment it is legal, and each program's own state is what is seen of its lone run.

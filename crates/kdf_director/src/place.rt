@@ -24,7 +24,10 @@ pub enum Place {
         holder: Option<u8>,
     },
     /// A device with a transfer of slot `p`, whose device it is.
-    Busy { p: u8, transfer: Transfer },
+    Busy {
+        p: u8,
+        transfer: Transfer,
+    },
 }
 
 impl Place {

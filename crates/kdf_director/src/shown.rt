@@ -1,8 +1,9 @@
 //! What a machine shows of its programs and of their devices.
-ghost use Rattle.std.specs.Prelude.{◌≡◌, ◌==◌, find, length, map, IfSome};
+ghost use Rattle.std.specs.Prelude.{◌≡◌, ◌==◌, ◌<◌, find, is_some, length, map, slice_index_or, true, IfSome, IsSomeAnd};
+ghost use Rattle.kdf_director.specs.Stints.{is_lent, keeping_of, loan_of, no_keeping};
 ghost use Rattle.std.specs.Option.{option_copied, option_map};
 ghost use Rattle.kdf_director.specs.Fields.{loaded, pool_in};
-ghost use Rattle.kdf_director.specs.Owners.{IsDeviceOf, IsDeviceOwned, is_claimed_by, owner_in};
+ghost use Rattle.kdf_director.specs.Owners.{HasLent, IsDeviceOf, IsDeviceOwned, IsTold, is_claimed_by, owner_in};
 ghost use Rattle.kdf_director.specs.Parts.{window_at};
 ghost use Rattle.kdf_director.specs.Running.{seats_in};
 ghost use Rattle.kdf_director.specs.Spots.{spot_at, spot_of};
@@ -11,7 +12,7 @@ use crate::devices::owns;
 use crate::dispatch::window_of;
 use crate::load::pool_in;
 use crate::places::holder_in;
-use crate::{Loaded, Place, Program};
+use crate::{Loaded, Loan, Place, Program, Stint};
 use kdf_job::kind_lent;
 use kdf_processor::{Registers, Spooled};
 use kdf_relocate::Window;
@@ -43,6 +44,53 @@ pub(crate) fn texts_of(programs: &[Program], p: u8) -> &[Spooled]
     match program_of(programs, p) {
         Some(program) => program.spooled.as_slice(),
         None => &[],
+    }
+}
+
+/// The stints of the program of slot `p`, in the order in which the devices were taken; none where there is no such slot.
+pub(crate) fn stints_of(programs: &[Program], p: u8) -> &[Stint]
+    ensures { IfSome (find (λ (x : Program). x.p == p) programs.now)
+        (λ program. result.now ≡ program.stints.items) }
+{
+    match program_of(programs, p) {
+        Some(program) => program.stints.as_slice(),
+        None => &[],
+    }
+}
+
+/// The number of a stint's device, whether it was given back, and the device, as its transfer found it where it has one.
+fn stint_told<'a>(stint: &'a Stint, places: &'a [Place]) -> (u8, bool, &'a Device)
+    requires { is_lent (loan_of stint.now.loan) ≡ true
+        → is_some (spot_at (map spot_of places.now) stint.now.d).fixture ≡ true }
+    ensures { IsTold (map spot_of places.now) (keeping_of stint.now) result.0 result.1 result.2.now }
+{
+    match &stint.loan {
+        Loan::Left(device) => (stint.d, false, device),
+        Loan::Back(device) => (stint.d, true, device),
+        Loan::Lent => match device_at(places, stint.d) {
+            Some(device) => (stint.d, false, device),
+            None => unreachable!(),
+        },
+    }
+}
+
+/// The stint of the program of slot `p` that began after `i` others, of which there are as many.
+pub(crate) fn stint_in<'a>(
+    programs: &'a [Program],
+    places: &'a [Place],
+    p: u8,
+    i: usize,
+) -> (u8, bool, &'a Device)
+    requires there { IsSomeAnd (find (λ (x : Program). x.p == p) programs.now)
+        (λ program. i < length program.stints.items) }
+    requires lent { IfSome (find (λ (x : Program). x.p == p) programs.now)
+        (λ program. HasLent (map spot_of places.now) (map keeping_of program.stints.items)) }
+    ensures { IfSome (find (λ (x : Program). x.p == p) programs.now) (λ program. IsTold (map spot_of places.now)
+        (slice_index_or (map keeping_of program.stints.items) i no_keeping) result.0 result.1 result.2.now) }
+{
+    match program_of(programs, p) {
+        Some(program) => stint_told(&program.stints[i], places),
+        None => unreachable!(),
     }
 }
 

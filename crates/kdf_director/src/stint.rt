@@ -1,10 +1,10 @@
 //! The stints of a program: the devices that it took from the pool.
-ghost use Rattle.std.specs.Prelude.{◌≡◌, ◌≢◌, length, map, slice_set, true};
+ghost use Rattle.std.specs.Prelude.{◌≡◌, ◌≢◌, ◌<◌, ℕ, length, map, slice_index_or, slice_set, true, false, IfSome, IfNone};
 ghost use Rattle.std.specs.List.{AllPairs};
 ghost use Rattle.kdf_transfer.specs.Devices.{fixture_of, progress_of};
 ghost use Rattle.kdf_director.specs.Settled.{kept_from, leaves};
 ghost use Rattle.kdf_director.specs.Spots.{spot_at, spot_of, AreDry};
-ghost use Rattle.kdf_director.specs.Stints.{Back, Keeping, is_open, is_open_of, keeping_of, with_loan};
+ghost use Rattle.kdf_director.specs.Stints.{Back, Keeping, is_open, is_open_of, keeping_of, no_keeping, with_loan};
 
 use crate::Place;
 use crate::places::take_back_at;
@@ -47,16 +47,33 @@ pub(crate) fn retire(alloc: Global, stint: &mut Stint, places: &mut Vec<Place>)
     }
 }
 
-/// The stint of a device that wasn't given back, the last where there are several, keeps the device, which is given back.
+/// The stint of a device that wasn't given back keeps the device, which is given back.
 pub(crate) fn hand_in(stints: &mut Vec<Stint>, d: u8, device: Device)
     requires one { AllPairs (λ (x y : Keeping). is_open x.loan ≡ true → is_open y.loan ≡ true → x.device ≢ y.device)
         (map keeping_of stints.old.items) }
     ensures { map keeping_of stints.new.items
         ≡ map (with_loan d (Back (fixture_of device) (progress_of device))) (map keeping_of stints.old.items) }
 {
-    if let Some(i) = stints.iter().rposition(|stint| stint.is_open(d)) {
+    if let Some(i) = open_stint(stints, d) {
         stints[i].loan = Loan::Back(device);
     }
+}
+
+/// The last stint of a device that wasn't given back. Those that are open are mostly the last ones, so the search begins there.
+fn open_stint(stints: &[Stint], d: u8) -> Option<usize>
+    ensures there { IfSome result (λ i. i < length stints.now) }
+    ensures open { IfSome result (λ i. is_open_of d (slice_index_or (map keeping_of stints.now) i no_keeping) ≡ true) }
+    ensures none { IfNone result ((i : ℕ) → i < length stints.now
+        → is_open_of d (slice_index_or (map keeping_of stints.now) i no_keeping) ≡ false) }
+{
+    let mut i = stints.len();
+    while i > 0 {
+        i -= 1;
+        if stints[i].is_open(d) {
+            return Some(i);
+        }
+    }
+    None
 }
 
 impl Stint {

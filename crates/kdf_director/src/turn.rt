@@ -1,11 +1,11 @@
 //! The port of one program of the machine for one order: a window of the store, the devices of its slot, and those that the pool lends.
 ghost use Rattle.std.specs.Prelude.{◌≡◌, ◌+◌, ◌*◌, ◌%◌, ◌<◌, ◌≤◌, length};
 ghost use Rattle.kdf_director.specs.True.{one_if};
-ghost use Rattle.kdf_director.specs.Keeping.{IsActive, IsKept};
+ghost use Rattle.kdf_director.specs.Keeping.{IsActive, IsActiveBy, IsKept, IsKeptBy};
 ghost use Rattle.kdf_director.specs.Parts.{part_with, shared_in};
 ghost use Rattle.kdf_director.specs.Spots.{AreDry};
 
-use crate::devices::{first_free, is_free, kind_claimed};
+use crate::devices::{first_free, is_free, is_left, kind_claimed};
 use crate::places::{first_of, lend_at, make_ready_at, take_back_at, test_in};
 use crate::starting::start_at;
 use crate::stint::hand_in;
@@ -43,19 +43,17 @@ pub struct Turn<'a> {
     ghost in_store: { window.base + window.size ≤ 32 * length store.now },
     ghost sixteen: { length places.now.items ≡ 16 },
     ghost dry: { AreDry places.now.items },
-    ghost kept: { IsKept (part_with p window devices.now pool.now claimed.now spooled.now.items stints.now.items)
-        (shared_in store.now places.now.items) },
-    ghost active: { IsActive (part_with p window devices.now pool.now claimed.now spooled.now.items stints.now.items)
-        (shared_in store.now places.now.items) },
+    ghost kept: { IsKeptBy p window devices.now pool.now stints.now.items places.now.items },
+    ghost active: { IsActiveBy p window devices.now pool.now claimed.now stints.now.items places.now.items },
 }
 
 impl<'a> Turn<'a> {
-    ghost use Rattle.std.specs.Prelude.{find, IfSome, IfNone};
+    ghost use Rattle.std.specs.Prelude.{find, slice_index_or, true, false, Some, IfSome, IfNone};
     ghost use Rattle.kdf_processor.specs.Claims.{can_take, free_for, is_free};
-    ghost use Rattle.kdf_processor.specs.Effect.{Acquires, Asks, Question};
+    ghost use Rattle.kdf_processor.specs.Effect.{Acquires, Asks, Question, Releases};
     ghost use Rattle.kdf_processor.specs.View.{groups_of};
-    ghost use Rattle.kdf_director.specs.Parts.{own_claims};
-    ghost use Rattle.kdf_director.specs.Shared.{is_busy_in, is_out_of};
+    ghost use Rattle.kdf_director.specs.Parts.{in_pool, own_claims};
+    ghost use Rattle.kdf_director.specs.Shared.{free_in, is_busy_in, is_out_of, is_pool_taken};
     ghost use Rattle.kdf_director.specs.Turn.{part_of, shared, Acts};
     ghost use Rattle.kdf_director.specs.declared.note.Note.TheVariants.{Quiet};
     ghost use Rattle.kdf_director.specs.Notes.{IsPlain};
@@ -185,7 +183,35 @@ impl<'a> Turn<'a> {
         requires { d < 16 }
         ensures { result ≡ can_take (own_claims (part_of self.now) (shared self.now)) kind d }
     {
-        kind_lent(self.pool, d) == Some(kind) && !self.claimed[usize::from(d)]
+        is_left(self.pool, self.claimed, d, kind)
+    }
+
+    /// The least device of this kind in the pool that is nobody's; there is one.
+    fn least_free(&self, kind: Kind) -> u8
+        requires { is_pool_taken (part_of self.now).pool (shared self.now) kind ≡ false }
+        ensures least { free_in (part_of self.now).pool (shared self.now).spots kind ≡ Some result }
+        ensures number { result < 16 }
+    {
+        match first_free(self.pool, self.places, kind) {
+            Some(d) => d,
+            None => unreachable!(),
+        }
+    }
+
+    /// Gives a device of the pool back that the program has and that has no transfer.
+    fn return_pooled(&mut self, d: u8)
+        requires number { d < 16 }
+        requires pooled { in_pool (part_of self.old) d ≡ true }
+        requires its { slice_index_or self.old.claimed.now d false ≡ true }
+        requires idle { is_busy_in (shared self.old) d ≡ false }
+        ensures { Acts self.old (Releases true d) self.new }
+    {
+        match take_back_at(self.alloc, self.places, usize::from(d)) {
+            Some(device) => hand_in(self.stints, d, device),
+            None => unreachable!(),
+        }
+        self.claimed[usize::from(d)] = false;
+        self.note = Note::Gave(d);
     }
 
     /// Notes an answer.
@@ -308,10 +334,7 @@ impl Port for Turn<'_> {
     }
 
     fn take_pool(&mut self, kind: Kind) -> u8 {
-        let d = match first_free(self.pool, self.places, kind) {
-            Some(d) => d,
-            None => unreachable!(),
-        };
+        let d = self.least_free(kind);
         let p = self.p;
         lend_at(self.places, usize::from(d), p);
         self.claimed[usize::from(d)] = true;
@@ -324,12 +347,10 @@ impl Port for Turn<'_> {
     }
 
     fn give_back(&mut self, device: u8) {
-        self.claimed[usize::from(device)] = false;
         if kind_lent(self.pool, device).is_some() {
-            if let Some(left) = take_back_at(self.alloc, self.places, usize::from(device)) {
-                hand_in(self.stints, device, left);
-            }
-            self.note = Note::Gave(device);
+            self.return_pooled(device);
+        } else {
+            self.claimed[usize::from(device)] = false;
         }
     }
 

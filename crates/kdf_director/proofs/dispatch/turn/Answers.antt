@@ -1,9 +1,11 @@
-use Rattle.std.proofs.Common.{◌≡◌, ◌+◌, ◌*◌, ◌%◌, ◌<◌, ◌≤◌, length, sym, subst, arith}
+use Rattle.std.proofs.Common.{◌≡◌, ◌+◌, ◌*◌, ◌%◌, ◌<◌, ◌≤◌, true, length, sym, ap, ◌∙◌, subst, arith}
 use Rattle.std.proofs.lemmas.List.{length-map}
-use Rattle.kdf_director.specs.Parts.{Reach, Shared, reach_of, shared_in}
-use Rattle.kdf_director.specs.Running.{reach_at, reaches_in, seats_in, IsRunning}
+use Rattle.kdf_processor.specs.Lone.{is_live}
+use Rattle.kdf_director.specs.Keeping.{IsActive, IsKept}
+use Rattle.kdf_director.specs.Parts.{Reach, Seat, Shared, part_in, reach_of, seat_of, shared_in}
+use Rattle.kdf_director.specs.Running.{reach_at, reaches_in, seat_at, seats_in, IsRunning}
 use Rattle.kdf_director.specs.Spots.{spot_of}
-use Rattle.kdf_director.proofs.Programs.{reach_is, within, turned_all, running_all, unturned_all, holds_all}
+use Rattle.kdf_director.proofs.Programs.{reach_is, seat_is, within, turned_all, running_all, unturned_all, holds_all}
 use Rattle.kdf_transfer.proofs.Numbers.{limit_is}
 use Rattle.kdf_director.proofs.Turned.{if_ok, on_err, on_either}
 use Rattle.kdf_director.proofs.dispatch.turn.Goals as goal
@@ -36,12 +38,44 @@ run-requires-clause-sixteen c =
     let spots = run.sound.spots in
     omega (arith, limit_is, length-map c.args.places.now.items spot_of)
 
+-- the program keeps what it has, and is live
+seat : (c : After-index_mut) → seat_of c.index_mut.result.now ≡ seat_at (seats_in c.args.programs.now.items) c.args.i
+seat c =
+    seat_is c.args.windows.now c.args.slots.now c.args.programs.now.items c.args.i c.requires.there c.requires.slots c.index-slots-i.result c.index_mut.result.now c.index-slots-i.is c.index_mut.ensures.value
+
+on : (c : After-index_mut) → is_live (seat_at (seats_in c.args.programs.now.items) c.args.i).registers.state ≡ true
+on c = ap is_live c.requires.live
+
+pub run-requires-clause-live : goal.run-requires-clause-live
+run-requires-clause-live c =
+    let at = (goal.at.run-requires-clause-live c).After-index_mut in
+    ap (λ (x : Seat). x.registers.state) (seat at) ∙ c.requires.live
+
+pub run-requires-clause-ran : goal.run-requires-clause-ran
+run-requires-clause-ran c =
+    let at = (goal.at.run-requires-clause-ran c).After-index_mut in
+    subst (λ (x : Seat). x.registers.ran < 4294967295) (sym (seat at)) c.requires.ran
+
+pub run-requires-clause-kept : goal.run-requires-clause-kept
+run-requires-clause-kept c =
+    let at = (goal.at.run-requires-clause-kept c).After-index_mut in
+    subst (λ (r : Reach). IsKept (part_in (seat_of c.index_mut.result.now) r) (s at)) (sym (reach at))
+    (subst (λ x. IsKept (part_in x (reach_at (reaches_in c.args.windows.now c.args.slots.now) c.args.i)) (s at)) (sym (seat at))
+    (c.requires.running.kept c.args.i (inside at)))
+
+pub run-requires-clause-active : goal.run-requires-clause-active
+run-requires-clause-active c =
+    let at = (goal.at.run-requires-clause-active c).After-index_mut in
+    subst (λ (r : Reach). IsActive (part_in (seat_of c.index_mut.result.now) r) (s at)) (sym (reach at))
+    (subst (λ x. IsActive (part_in x (reach_at (reaches_in c.args.windows.now c.args.slots.now) c.args.i)) (s at)) (sym (seat at))
+    (c.requires.running.active c.args.i (inside at) (on at)))
+
 pub returns-clause-turned : goal.returns-clause-turned
 returns-clause-turned c =
     let at = (goal.at.returns-clause-turned c).After-index_mut in
     if_ok c.run.result _ _
     (λ x h. turned_all c.args.windows.now c.args.slots.now c.args.programs.now.items c.args.i c.requires.there c.requires.slots c.index-slots-i.result c.index_mut.result.now c.index-slots-i.is c.index_mut.ensures.value
-    c.args.time (s at) (shared_in c.run.new.store c.run.new.places.items) c.run.new.program x.0 x.1 c.requires.running h)
+    c.args.time (s at) (shared_in c.run.new.store c.run.new.places.items) c.run.new.program x.0 x.1 c.requires.running (on at) h)
     c.run.ensures.ran
 
 pub returns-clause-running : goal.returns-clause-running
@@ -49,7 +83,7 @@ returns-clause-running c =
     let at = (goal.at.returns-clause-running c).After-index_mut in
     on_either c.run.result _ _ _ c.run.ensures.ran c.run.ensures.err
     (λ x h. running_all c.args.windows.now c.args.slots.now c.args.programs.now.items c.args.i c.requires.there c.requires.slots c.index-slots-i.result c.index_mut.result.now c.index-slots-i.is c.index_mut.ensures.value
-    c.args.time (s at) (shared_in c.run.new.store c.run.new.places.items) c.run.new.program x.0 x.1 c.requires.running h)
+    c.args.time (s at) (shared_in c.run.new.store c.run.new.places.items) c.run.new.program x.0 x.1 c.requires.running (on at) h)
     (λ h. subst (λ seats. IsRunning (reaches_in c.args.windows.now c.args.slots.now) seats (shared_in c.run.new.store c.run.new.places.items))
     (sym (unturned_all c.args.windows.now c.args.slots.now c.args.programs.now.items c.args.i c.requires.there c.requires.slots c.index-slots-i.result c.index_mut.result.now c.index-slots-i.is c.index_mut.ensures.value c.run.new.program h.0))
     (subst (IsRunning (reaches_in c.args.windows.now c.args.slots.now) (seats_in c.args.programs.now.items)) (sym h.1) c.requires.running))

@@ -3,7 +3,7 @@ use Rattle.std.specs.List.{All}
 use Rattle.kdf_relocate.specs.Windows.{have_windows, windows_from}
 use Rattle.kdf_processor.specs.declared.step.Need.{Need}
 use Rattle.kdf_director.specs.declared.slot.Loaded.{Loaded}
-use Rattle.kdf_director.specs.Fields.{first_numbered, first_seat, idle_spot, loaded, sizes_of, with_images, zero_cells}
+use Rattle.kdf_director.specs.Fields.{first_seat, idle_spot, loaded, sizes_of, with_images, zero_cells}
 use Rattle.kdf_director.specs.Parts.{window_at}
 use Rattle.kdf_transfer.specs.ByNumber.{by_number}
 use Rattle.kdf_director.proofs.LoadedMachine.{all_within, is_loaded}
@@ -31,5 +31,5 @@ returns c =
     (c.in_ok-store.ensures ∙ ap (λ xs. with_images c.windows_of-windows.result zero_cells (map loaded xs)) c.deref-2.ensures.value)
     (c.in_ok-programs.ensures.seats ∙ ap (map (λ (l : Loaded). first_seat (loaded l))) c.deref-3.ensures.value)
     (c.in_ok-programs.ensures.no_hold ∙ ap (map (λ (l : Loaded). (let o : Option Need = None in o))) c.deref-3.ensures.value)
-    (c.in_ok-devices.ensures.spots ∙ ap (λ xs. by_number (λ d. idle_spot (first_numbered (map loaded xs) d))) c.deref-4.ensures.value)
+    (c.in_ok-devices.ensures.spots ∙ ap (λ xs. by_number (idle_spot (map loaded xs))) c.deref-4.ensures.value)
     c.in_ok-devices.ensures.dry

@@ -1,5 +1,5 @@
 use Rattle.std.proofs.Common.{[], map}
-use Rattle.kdf_director.specs.Fields.{first_numbered, idle_place, idle_ring, idle_spot, loaded}
+use Rattle.kdf_director.specs.Fields.{idle_place, idle_ring, idle_spot, loaded}
 use Rattle.kdf_director.specs.Spots.{spot_of}
 use Rattle.kdf_transfer.proofs.Numbers.{one_more}
 use Rattle.kdf_director.proofs.load.idle_all.Goals as goal
@@ -7,6 +7,6 @@ use Rattle.kdf_director.proofs.load.idle_all.Goals as goal
 pub loop-d-preserved : goal.loop-d-preserved
 loop-d-preserved c =
     record {
-      spots = one_more (λ o. spot_of (idle_place o)) (λ d. idle_spot (first_numbered (map loaded c.args.slots.now) d)) c.loop-d.idle.items c.push.new.self.items c.in_ok-idle_of.field-0 c.loop-d.d c.loop-d.invariant.spots c.in_ok-push.ensures.items c.in_ok-idle_of.ensures.spot;
+      spots = one_more (λ o. spot_of (idle_place o)) (idle_spot (map loaded c.args.slots.now)) c.loop-d.idle.items c.push.new.self.items c.in_ok-idle_of.field-0 c.loop-d.d c.loop-d.invariant.spots c.in_ok-push.ensures.items c.in_ok-idle_of.ensures.spot;
       rings = one_more idle_ring (λ _. []) c.loop-d.idle.items c.push.new.self.items c.in_ok-idle_of.field-0 c.loop-d.d c.loop-d.invariant.rings c.in_ok-push.ensures.items c.in_ok-idle_of.ensures.ring;
     }

@@ -1,12 +1,12 @@
 use Rattle.std.proofs.Common.{◌≡◌, map, []}
 use Rattle.std.specs.List.{range_with_len}
-use Rattle.kdf_director.specs.Fields.{first_numbered, idle_place, idle_ring, idle_spot, loaded}
+use Rattle.kdf_director.specs.Fields.{idle_place, idle_ring, idle_spot, loaded}
 use Rattle.kdf_director.specs.Spots.{spot_of}
 use Rattle.kdf_director.proofs.load.idle_all.Given as goal
 
 abbrev pub invariant-loop-d : goal.invariant-loop-d
 invariant-loop-d l =
     record {
-      spots : map (λ o. spot_of (idle_place o)) l.idle.items ≡ map (λ d. idle_spot (first_numbered (map loaded l.slots) d)) (range_with_len 0 l.d);
+      spots : map (λ o. spot_of (idle_place o)) l.idle.items ≡ map (idle_spot (map loaded l.slots)) (range_with_len 0 l.d);
       rings : map idle_ring l.idle.items ≡ map (λ _. []) (range_with_len 0 l.d);
     }

@@ -1,5 +1,5 @@
 use Rattle.std.proofs.Common.{map, sym, ap, ◌∙◌, subst}
-use Rattle.kdf_director.specs.Fields.{first_numbered, idle_place, idle_spot, loaded}
+use Rattle.kdf_director.specs.Fields.{idle_place, idle_spot, loaded}
 use Rattle.kdf_director.specs.Spots.{AreDry, spot_of}
 use Rattle.kdf_director.proofs.Entering.{map_twice}
 use Rattle.kdf_transfer.proofs.Numbers.{sixteen_numbers}
@@ -9,6 +9,6 @@ use Rattle.kdf_director.proofs.load.places.Goals as goal
 pub returns : goal.returns
 returns c =
     record {
-      spots = ap (map spot_of) c.put_all.ensures ∙ map_twice spot_of idle_place c.in_ok-idle.idle.items ∙ c.in_ok-idle.ensures.spots ∙ sixteen_numbers (λ d. idle_spot (first_numbered (map loaded c.args.slots.now) d));
+      spots = ap (map spot_of) c.put_all.ensures ∙ map_twice spot_of idle_place c.in_ok-idle.idle.items ∙ c.in_ok-idle.ensures.spots ∙ sixteen_numbers (idle_spot (map loaded c.args.slots.now));
       dry = subst AreDry (sym c.put_all.ensures) (dry_is c.in_ok-idle.idle.items c.in_ok-idle.ensures.rings);
     }

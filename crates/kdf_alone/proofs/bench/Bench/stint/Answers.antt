@@ -1,5 +1,5 @@
 use Rattle.std.specs.Prelude.{IfSome}
-use Rattle.std.proofs.Common.{◌≡◌, ◌<◌, ℕ, true, false, Option, length, map, refl, sym, subst, arith}
+use Rattle.std.proofs.Common.{◌<◌, ℕ, true, false, Option, length, map, refl, sym, subst, arith}
 use Rattle.std.proofs.lemmas.List.Elements.{All-get_or}
 use Rattle.kdf_processor.specs.State.{Lending, lending_of, lendings}
 use Rattle.kdf_processor.specs.Stints.{IsStint}

@@ -1,16 +1,12 @@
 use Rattle.std.specs.List.{All}
 use Rattle.std.specs.Vec.{with_items}
-use Rattle.std.proofs.Common.{◌≡◌, ◌<◌, ℕ, List, Some, None, get_or, set, map, length, sym, ap, ◌∙◌, subst, arith}
+use Rattle.std.proofs.Common.{◌≡◌, ◌<◌, List, get_or, set, length, sym, ap, ◌∙◌, subst, arith}
 use Rattle.std.proofs.lemmas.List.{get_or_default, length-set, with_items_is}
 use Rattle.std.proofs.lemmas.List.Elements.{All-get_or, All-set}
-use Rattle.kdf_journal.specs.declared.kind.Kind.{Kind}
 use Rattle.kdf_transfer.specs.AtOnce.{kind_of}
 use Rattle.kdf_transfer.specs.Devices.{kind_in}
-use Rattle.kdf_processor.specs.Effect.{Starts}
-use Rattle.kdf_processor.specs.Row.{at_once}
 use Rattle.kdf_alone.specs.declared.place.Place.{Place}
 use Rattle.kdf_alone.specs.declared.place.Place.TheVariants.{Absent}
-use Rattle.kdf_alone.specs.Bench.{stock_of}
 use Rattle.kdf_alone.specs.Places.{device_in, fixture_in, own_fixture_in, pool_kind_in, IsWhole}
 use Rattle.kdf_alone.specs.Stints.{IsKept}
 use Rattle.kdf_alone.proofs.Devices.{claimed_device, claimed_kind, moved_at, seen_stays, stock, stock_moved}

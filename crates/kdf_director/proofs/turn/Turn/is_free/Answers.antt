@@ -5,6 +5,7 @@ use Rattle.kdf_director.specs.Spots.{spot_at, spot_of}
 use Rattle.kdf_director.specs.Parts.{numbers, owns}
 use Rattle.kdf_director.specs.Turn.{part_of, shared}
 use Rattle.kdf_director.proofs.Showing.{free_shown}
+use Rattle.kdf_director.proofs.TurnKeeping.{kept_in}
 use Rattle.kdf_director.proofs.turn.Turn.is_free.Goals as goal
 
 pub returns : goal.returns
@@ -12,4 +13,4 @@ returns c =
     let t = c.args.self.now in
     c.is_free.ensures
     ∙ ap (λ ps. owns (numbers t.devices.now) c.args.d && (not (get_or t.claimed.now c.args.d false) && is_wanted c.args.wanted.now (spot_at (map spot_of ps) c.args.d).fixture)) c.deref.ensures.value
-    ∙ free_shown (part_of t) (shared t) c.args.d c.args.wanted.now c.requires
+    ∙ free_shown (part_of t) (shared t) c.args.d c.args.wanted.now (kept_in t) c.requires

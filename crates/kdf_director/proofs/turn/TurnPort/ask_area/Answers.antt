@@ -1,4 +1,4 @@
-use Rattle.std.proofs.Common.{is_some, refl, ap, subst, ◌∙◌}
+use Rattle.std.proofs.Common.{is_some, ap, subst, ◌∙◌}
 use Rattle.kdf_processor.specs.Effect.{Asks, IsOut}
 use Rattle.kdf_director.specs.True.{one_if}
 use Rattle.kdf_director.specs.Turn.{Acts}
@@ -11,4 +11,4 @@ returns-clause-answer c = one_more _ _ (c.is_some-is.ensures ∙ ap is_some c.lo
 pub returns-clause-recorded : goal.returns-clause-recorded
 returns-clause-recorded c =
     subst (λ a. Acts c.args.self.now (Asks (IsOut c.args.first c.args.last) a) c.tell.new.self)
-    (c.answer_of.ensures ∙ ap one_if (c.is_some-is.ensures ∙ ap is_some c.locked.ensures)) (c.tell.ensures (IsOut c.args.first c.args.last) refl)
+    (c.answer_of.ensures ∙ ap one_if (c.is_some-is.ensures ∙ ap is_some c.locked.ensures)) (c.tell.ensures (IsOut c.args.first c.args.last) tt)

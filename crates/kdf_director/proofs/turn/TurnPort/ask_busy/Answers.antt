@@ -1,4 +1,4 @@
-use Rattle.std.proofs.Common.{refl, ap, subst, ◌∙◌}
+use Rattle.std.proofs.Common.{ap, subst, ◌∙◌}
 use Rattle.kdf_processor.specs.Effect.{Asks, IsBusy}
 use Rattle.kdf_director.specs.True.{one_if}
 use Rattle.kdf_director.specs.Turn.{Acts}
@@ -11,4 +11,4 @@ returns-clause-answer c = one_more _ _ c.is_busy-is.ensures
 pub returns-clause-recorded : goal.returns-clause-recorded
 returns-clause-recorded c =
     subst (λ a. Acts c.args.self.now (Asks (IsBusy c.args.device) a) c.tell.new.self)
-    (c.answer_of.ensures ∙ ap one_if c.is_busy-is.ensures) (c.tell.ensures (IsBusy c.args.device) refl)
+    (c.answer_of.ensures ∙ ap one_if c.is_busy-is.ensures) (c.tell.ensures (IsBusy c.args.device) tt)

@@ -1,19 +1,21 @@
-use Rattle.std.proofs.Common.{◌≡◌, ◌+◌, true, length, ap, ◌∙◌, sym, subst, arith}
+use Rattle.std.proofs.Common.{◌≡◌, ◌+◌, ◌<◌, true, length, map, Some, is_some, ap, ◌∙◌, sym, subst, arith}
 use Rattle.kdf_transfer.specs.AtOnce.{kind_of, has_area}
 use Rattle.kdf_transfer.specs.Devices.{is_kind}
-use Rattle.kdf_director.specs.Spots.{spot_at, spot_kind}
+use Rattle.kdf_director.specs.Spots.{spot_at, spot_kind, spot_of}
 use Rattle.kdf_director.specs.Shared.{is_out_of, IsFreeArea}
 use Rattle.kdf_director.specs.Turn.{part_of, shared}
 use Rattle.kdf_director.proofs.TurnBeginning.{free_groups, free_area, length-start}
-use Rattle.kdf_director.proofs.Showing.{claim_spot}
+use Rattle.kdf_director.proofs.Showing.{claim_fixture, claim_holder, claim_spot}
+use Rattle.kdf_director.proofs.TurnKeeping.{active_in, kept_in, start_active, start_kept}
+use Rattle.std.proofs.lemmas.List.{length-map}
 use Rattle.kdf_director.proofs.turn.TurnPort.start.Goals as goal
-use Rattle.kdf_director.proofs.turn.TurnPort.start.Goals.{After-place-2}
+use Rattle.kdf_director.proofs.turn.TurnPort.start.Goals.{After-from, After-place-2}
 
 pub start_at-requires-clause-kind : goal.start_at-requires-clause-kind
 start_at-requires-clause-kind c =
     let t = c.args.self.now in
     subst (λ d. is_kind (kind_of c.args.order) (spot_kind (spot_at (shared t).spots d)) ≡ true) (sym c.from.ensures)
-    (claim_spot (part_of t) (shared t) c.args.device (kind_of c.args.order) c.requires.kind)
+    (claim_spot (part_of t) (shared t) c.args.device (kind_of c.args.order) (kept_in t) c.requires.kind)
 
 -- the area in the places that were computed
 placed : (c : After-place-2) → has_area c.args.order ≡ true → IsFreeArea c.args.self.now.store.now c.place.result c.place-2.result
@@ -34,3 +36,29 @@ invariant_of-self-clause-in_store c =
     let same : length c.start_at.new.store ≡ length t.store.now = ap length c.start_at.ensures.store ∙ length-start c.args.order c.place.result c.place-2.result t.store.now (placed at) in
     let within = t.in_store in
     omega arith
+
+-- its device is the program's, and stays where it is
+inside : (c : After-from) → c.from.result < length (map spot_of c.args.self.now.places.now.items)
+inside c = omega (arith, c.from.ensures, c.requires.number, c.args.self.now.sixteen, length-map c.args.self.now.places.now.items spot_of)
+
+holder : (c : After-from) → (spot_at (shared c.args.self.now).spots c.from.result).holder ≡ Some c.args.self.now.p
+holder c =
+    let t = c.args.self.now in
+    ap (λ e. (spot_at (shared t).spots e).holder) c.from.ensures
+    ∙ claim_holder (part_of t) (shared t) c.args.device (kind_of c.args.order) (kept_in t) (active_in t) c.requires.kind
+
+some : (c : After-from) → is_some (spot_at (shared c.args.self.now).spots c.from.result).fixture ≡ true
+some c =
+    let t = c.args.self.now in
+    let there = claim_fixture (part_of t) (shared t) c.args.device (kind_of c.args.order) (kept_in t) c.requires.kind in
+    ap (λ e. is_some (spot_at (shared t).spots e).fixture) c.from.ensures ∙ ap is_some (sym there.1) ∙ there.0
+
+pub invariant_of-self-clause-kept : goal.invariant_of-self-clause-kept
+invariant_of-self-clause-kept c =
+    let at = (goal.at.invariant_of-self-clause-kept c).After-from in
+    start_kept c.args.self.now c.from.result c.args.order c.place.result c.place-2.result c.start_at.new.places.items (inside at) (holder at) c.start_at.ensures.spots (some at)
+
+pub invariant_of-self-clause-active : goal.invariant_of-self-clause-active
+invariant_of-self-clause-active c =
+    let at = (goal.at.invariant_of-self-clause-active c).After-from in
+    start_active c.args.self.now c.from.result c.args.order c.place.result c.place-2.result c.start_at.new.places.items (inside at) (holder at) c.start_at.ensures.spots
