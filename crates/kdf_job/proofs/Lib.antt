@@ -7,7 +7,6 @@ pub mod Steps
 pub mod Begins
 pub mod Told
 pub mod PoolDevices
-pub mod OwnNumbers
 pub mod Pools
 pub mod Finished
 pub mod Passing
