@@ -7,10 +7,10 @@ use Rattle.std.proofs.lemmas.Bool.{cases_eq, eq-eqb, false≢true, ne_eqb}
 use Rattle.std.proofs.lemmas.List.{map-append}
 use Rattle.std.proofs.lemmas.List.Concat.{flat_map-cons}
 use Rattle.kdf_journal.specs.declared.kind.Kind.{Kind}
-use Rattle.kdf_job.specs.Draft.{numbers_of}
+use Rattle.kdf_job.specs.Draft.{numbers_in, numbers_of}
 use Rattle.kdf_job.specs.Job.{JobDevice, SlotJob}
 use Rattle.kdf_job.specs.Slots.{lent_kind, numbered}
-use Rattle.kdf_job.specs.WellFormed.{AreSlots, numbers_in}
+use Rattle.kdf_job.specs.WellFormed.{AreSlots}
 use Rattle.kdf_alone.specs.Program.{IsApart}
 
 -- ---- a number in a list

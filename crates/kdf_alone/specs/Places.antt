@@ -55,7 +55,7 @@ IsReady order Absent = Unit {0}
 IsReady order (Own device) = HasSpare order device
 IsReady order (Pooled device) = HasSpare order device
 
--- the device of a place and a list of words behind a transfer
+-- the device of a place and a list of words after a transfer
 pub record IsMoved (order : TransferOrder) (first last : ℕ) (device : Device) (words : List ℕ)
     (place : Place) (after : List ℕ) : Type 0 where
   pub words_are : after ≡ stored order first last words (fixture_of device) (progress_of device)
