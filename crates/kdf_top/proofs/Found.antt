@@ -7,8 +7,8 @@ use Rattle.kdf_place.specs.Assembled.{words_or_none}
 use Rattle.kdf_job.specs.declared.job.SlotJob.{SlotJob as ReadSlot}
 use Rattle.kdf_job.specs.Shows.{shown_slot}
 use Rattle.kdf_job.specs.WellFormed.{AreSlots, IsSlot}
-use Rattle.kdf_job.proofs.OwnNumbers.{lent_to_all}
-use Rattle.kdf_alone.specs.Program.{AreApart}
+use Rattle.kdf_alone.specs.Program.{IsApart}
+use Rattle.kdf_alone.proofs.Apart.{slot_apart}
 use Rattle.kdf_director.specs.Loading.{HaveImages}
 use Rattle.kdf_top.specs.Loaded.{HasImages, IsFound, images_of, slot_numbered}
 use Rattle.kdf_top.proofs.LoadedDecks.{picture_due, pictured, same_pictures, words_due}
@@ -54,7 +54,7 @@ module _ (slots : List ReadSlot) (images : List Image) (have : HasImages (map sh
         record {
           found = so_far ∙ front_is slots k p d lt (ap (λ (s : ReadSlot). s.p) is ∙ same) ∙ ap (λ (s : ReadSlot). Some (shown_slot s)) is;
           well_formed = subst IsSlot at (are.each k (shown_slot d) inside);
-          apart = subst AreApart at (λ n. lent_to_all (map shown_slot slots) k (shown_slot d) n are inside);
+          apart = subst IsApart at (slot_apart (map shown_slot slots) k (shown_slot d) inside are);
           picture = picture;
           fits = subst (λ (words : List ℕ). length words ≤ slot.size) (ap words_or_none picture)
               (subst (λ (s : ReadSlot). length (words_due s) ≤ s.size) is (fits_at slots k d have.fits lt));

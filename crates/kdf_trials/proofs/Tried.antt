@@ -7,8 +7,8 @@ use Rattle.kdf_place.specs.declared.image.Image.{Image}
 use Rattle.kdf_job.specs.declared.job.Job.{Job as ReadJob}
 use Rattle.kdf_job.specs.declared.job.SlotJob.{SlotJob as ReadSlot}
 use Rattle.kdf_job.specs.Job.{SlotJob}
-use Rattle.kdf_alone.specs.Program.{AreApart}
-use Rattle.kdf_job.proofs.OwnNumbers.{lent_to_all}
+use Rattle.kdf_alone.specs.Program.{IsApart}
+use Rattle.kdf_alone.proofs.Apart.{slot_apart}
 use Rattle.kdf_job.specs.Shows.{shown_job, shown_slot}
 use Rattle.kdf_job.specs.WellFormed.{IsJob, IsSlot}
 
@@ -18,11 +18,11 @@ slot_at j k s is inside at =
     let there : k < length (map shown_slot j.slots.items) = omega (arith, length-map j.slots.items shown_slot) in
     subst IsSlot (get_or-map shown_slot j.slots.items k s (shown_slot s) inside ∙ ap shown_slot (sym at)) (is.slots.each k (shown_slot s) there)
 
-pub apart_at : (j : ReadJob) (k : ℕ) (s : ReadSlot) → IsJob (shown_job j) → k < length j.slots.items → s ≡ slice_index_or j.slots.items k s → AreApart (shown_slot s)
+pub apart_at : (j : ReadJob) (k : ℕ) (s : ReadSlot) → IsJob (shown_job j) → k < length j.slots.items → s ≡ slice_index_or j.slots.items k s → IsApart (shown_slot s)
 apart_at j k s is inside at =
     let slots : List SlotJob = map shown_slot j.slots.items in
     let there : k < length slots = omega (arith, length-map j.slots.items shown_slot) in
-    subst AreApart (get_or-map shown_slot j.slots.items k s (shown_slot s) inside ∙ ap shown_slot (sym at)) (λ n. lent_to_all slots k (shown_slot s) n is.slots there)
+    subst IsApart (get_or-map shown_slot j.slots.items k s (shown_slot s) inside ∙ ap shown_slot (sym at)) (slot_apart slots k (shown_slot s) there is.slots)
 
 -- the words of an image
 abbrev pub words_of : Image → List ℕ

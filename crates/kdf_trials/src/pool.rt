@@ -5,7 +5,7 @@ ghost use Rattle.kdf_place.specs.declared.image.Image.{Image as Made};
 ghost use Rattle.kdf_director.specs.Loading.{HaveImages, slots_of};
 ghost use Rattle.kdf_job.specs.Shows.{shown_job, shown_slot};
 ghost use Rattle.kdf_job.specs.WellFormed.{IsJob, IsSlot};
-ghost use Rattle.kdf_alone.specs.Program.{AreApart};
+ghost use Rattle.kdf_alone.specs.Program.{IsApart};
 ghost use Rattle.kdf_report.specs.MadeFrom.{IsProgramOf};
 
 mod jobs;
@@ -80,7 +80,7 @@ fn slot_at(job: &Job, place: usize) -> &SlotJob
     requires job { IsJob (shown_job job.now) }
     requires inside { place < length job.now.slots.items }
     ensures slot { IsSlot (shown_slot result.now) }
-    ensures apart { AreApart (shown_slot result.now) }
+    ensures apart { IsApart (shown_slot result.now) }
 {
     &job.slots[place]
 }
@@ -140,7 +140,7 @@ fn alone_after(
     orders: u32,
 ) -> Result<Alone, AllocError>
     requires slot { IsSlot (shown_slot slot.now) }
-    requires apart { AreApart (shown_slot slot.now) }
+    requires apart { IsApart (shown_slot slot.now) }
     requires fits { length image.now.words.items ≤ slot.now.size }
     ensures { IfOk result (λ program. IsProgramOf (shown_slot slot.now) program) }
 {
@@ -159,7 +159,7 @@ fn compare(
     sections: &[u8],
 ) -> Result<(), AllocError>
     requires slot { IsSlot (shown_slot slot.now) }
-    requires apart { AreApart (shown_slot slot.now) }
+    requires apart { IsApart (shown_slot slot.now) }
 {
     assert!(rt; image.words.len() <= usize::from(slot.size));
     let answers = machine.journal().answers(alloc, slot.p)?;
