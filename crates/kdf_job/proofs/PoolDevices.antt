@@ -23,7 +23,7 @@ use Rattle.kdf_job.proofs.Slots.{apart_more}
 use Rattle.kdf_job.proofs.Told.{taken}
 
 -- a device without a fault has a new number, and is a punch or a printer
-after_free : (b : Bool) (o : Option JobFault) → cond b (Some DeviceTwice) o ≡ None → (b ≡ false) × (o ≡ None)
+pub after_free : (b : Bool) (o : Option JobFault) → cond b (Some DeviceTwice) o ≡ None → (b ≡ false) × (o ≡ None)
 after_free true o h = absurd cc
 after_free false o h = (refl, h)
 
@@ -31,7 +31,7 @@ no_tape : (b : Bool) → cond b (Some PoolKind) (Some BadLabel) ≡ None → fal
 no_tape true h = absurd cc
 no_tape false h = absurd cc
 
-a_writer : (kind : Kind) (label : List ℕ) → lent_fault kind label ≡ None → is_writer kind ≡ true
+pub a_writer : (kind : Kind) (label : List ℕ) → lent_fault kind label ≡ None → is_writer kind ≡ true
 a_writer Tp label h = refl
 a_writer Lp label h = refl
 a_writer Tr label h = absurd cc

@@ -1,187 +1,36 @@
 -- The slots of a job without a fault are well formed, whatever the length of their decks.
-use Rattle.std.proofs.Common.{◌≡◌, ℕ, ◌+◌, ◌<◌, ◌≤◌, ◌%◌, Bool, true, false, cond, ◌&&◌, List, [], ◌∷◌, ◌++◌, length, map, Option, Some, None, Result, Ok, Err, codes, refl, sym, ap, subst, ◌∙◌, arith, length-append}
-use Rattle.std.specs.Prelude.{is_none, nat_eq, nat_le}
+use Rattle.std.proofs.Common.{◌≡◌, ℕ, ◌+◌, ◌<◌, ◌≤◌, ◌%◌, Bool, true, false, cond, ◌&&◌, ◌||◌, List, [], ◌∷◌, ◌++◌, length, map, Option, Some, None, Result, Ok, Err, codes, refl, sym, ap, subst, ◌∙◌, arith, append_assoc, length-append}
+use Rattle.std.specs.Prelude.{is_none, nat_eq}
 use Rattle.std.specs.Option.{option_map, option_to_list}
 use Rattle.std.specs.List.{All, IsDistinct, flat_map, list_any}
 use Rattle.std.proofs.lemmas.Bool.Decides.{nat_tests}
-use Rattle.std.proofs.lemmas.List.{map-append}
+use Rattle.std.proofs.lemmas.Cmp.{nat_eq_equiv}
+use Rattle.std.proofs.lemmas.List.{append-nil, map-append}
 use Rattle.std.proofs.lemmas.List.Elements.{All-push}
+use Rattle.std.proofs.lemmas.List.Folds.{list_any-append}
+use Rattle.std.proofs.lemmas.List.Sorted.{IsPermutation-middle, IsPermutation-sym, IsPermutation-to_front, IsPermutation-trans}
 use Rattle.std.proofs.lemmas.List.Sums.{sum_by-cons}
+use Rattle.std.proofs.lemmas.Map.Keys.{IsDistinct-IsPermutation}
 use Rattle.std.proofs.Math.Seq.{get_or-append_seam}
-use Rattle.kdf_text.specs.Lines.{is_text, lines, words}
-use Rattle.kdf_text.specs.Numbers.{is_number, number_in, value}
+use Rattle.kdf_text.specs.Lines.{lines}
 use Rattle.kdf_journal.specs.declared.kind.Kind.{Kind}
 use Rattle.kdf_journal.specs.declared.kind.Kind.TheVariants.{Tr, Tp, Cr, Lp, Mt}
-use Rattle.kdf_schedule.specs.declared.event.Event.{Event}
-use Rattle.kdf_schedule.specs.declared.event.EventFault.{EventFault}
-use Rattle.kdf_schedule.specs.declared.event.EventFault.TheVariants as event_fault
-use Rattle.kdf_schedule.specs.Events.{event}
 use Rattle.kdf_job.specs.declared.fault.JobFault.{JobFault}
 use Rattle.kdf_job.specs.declared.fault.JobFault.TheVariants.{BadMedium}
 use Rattle.kdf_job.specs.declared.place.Place.{Place}
-use Rattle.kdf_job.specs.declared.place.Place.TheVariants.{First, BehindHeader, BehindSlot, BehindStore, InDeck, BehindDeck, BehindDevice, BehindShow, InSchedule, BehindEnd}
-use Rattle.kdf_job.specs.Draft.{SlotDraft, Draft, all_devices, blank, device_fault, fault_of, medium_fault, new_slot, number_at, numbers_of, slot_fault, slot_of, slots_told, store_fault, tells, with_line, with_line_of_medium, words_in}
-use Rattle.kdf_job.specs.Forms.{Form, AHeader, ASlot, AStore, ADeck, ADeckLine, AnEndDeck, ADevice, AMedium, AShow, ASchedule, AnEvent, AnEndJob, Told, told, or_bad, alone, addresses, described, device_line, device_named, device_or_end, device_words, event_line, first_told, kind_named, medium_line, number_line, numbered, of_event, one_number, show_line, slot_ends, slot_line, store_line, told_at}
+use Rattle.kdf_job.specs.declared.place.Place.TheVariants.{First, BehindHeader, BehindSlot, BehindStore, InDeck, BehindDeck, BehindDevice, BehindShow, BehindPool, InSchedule, BehindEnd}
+use Rattle.kdf_job.specs.Draft.{SlotDraft, Draft, all_devices, blank, device_fault, fault_of, lent_fault, medium_fault, new_slot, number_at, numbers_in, numbers_of, numbers_told, pool_fault, slot_fault, slot_of, slots_told, store_fault, tells, with_line, with_line_of_medium, with_pool, words_in}
+use Rattle.kdf_job.specs.Forms.{Form, AHeader, ASlot, AStore, ADeck, ADeckLine, AnEndDeck, ADevice, AMedium, AShow, APool, APoolDevice, ASchedule, AnEvent, AnEndJob, told_at}
 use Rattle.kdf_job.specs.Job.{JobDevice, SlotJob}
-use Rattle.kdf_job.specs.Kept.{IsBegun}
+use Rattle.kdf_job.specs.Kept.{AreTold, IsBegun}
 use Rattle.kdf_job.specs.Media.{added, codes_in, fits, new_device, with_codes, with_medium, word_of_text}
 use Rattle.kdf_job.specs.Reading.{behind_line, draft_of, fault_from, job, job_fault, or_fault, or_same, read_line, with_told}
-use Rattle.kdf_job.specs.WellFormed.{AreSlots, IsSlot}
+use Rattle.kdf_job.specs.WellFormed.{AreSlots, IsLent, IsSlot}
 use Rattle.kdf_job.proofs.Begins.{blank_sound}
-use Rattle.kdf_job.proofs.Slots.{apart_more, ds, numbers_more, numbers_same, slots_changed, slots_first, slots_more}
-
--- ---- the form of a line: its numbers, and where it stands
-
--- the numbers are in their ranges
-abbrev IsInRange : Form → Type 0
-IsInRange (ASlot p) = p ≤ 3
-IsInRange (AStore n) = (32 ≤ n) × (n ≤ 8192)
-IsInRange (ADevice n kind label) = n ≤ 15
-IsInRange form = Unit {0}
-
-abbrev is_store : Form → Bool
-is_store (AStore n) = true
-is_store form = false
-
--- and the line tells no size
-abbrev IsElse : Form → Type 0
-IsElse form = IsInRange form × (is_store form ≡ false)
-
--- a size is told behind the number of a slot alone
-abbrev IsToldAt : Place → Form → Type 0
-IsToldAt (BehindSlot p) form = IsInRange form
-IsToldAt place form = IsElse form
-
--- so it is with the form, if the line has this one
-abbrev Fits : (Form → Type 0) → Told → Type 0
-Fits P None = Unit {0}
-Fits P (Some (Ok form)) = P form
-Fits P (Some (Err fault)) = Unit {0}
-
-abbrev FitAll : (Form → Type 0) → List Told → Type 0
-FitAll P [] = Unit {0}
-FitAll P (one ∷ forms) = Fits P one × FitAll P forms
-
-first_fits : (P : Form → Type 0) (forms : List Told) (form : Form) → FitAll P forms → first_told forms ≡ Ok form → P form
-first_fits P [] form all e = absurd cc
-first_fits P (None ∷ forms) form all e = first_fits P forms form all.1 e
-first_fits P (Some (Ok x) ∷ forms) form all e = let is : x ≡ form = cc in subst P is all.0
-first_fits P (Some (Err fault) ∷ forms) form all e = absurd cc
-
-told_fits : {X : Type 0} (P : Form → Type 0) (make : X → Form) → ((x : X) → P (make x)) → (o : Option (Result X JobFault)) → Fits P (told make o)
-told_fits P make all None = tt
-told_fits P make all (Some (Ok x)) = all x
-told_fits P make all (Some (Err fault)) = tt
-
-named_fits : (P : Form → Type 0) (named : Bool) (rest : Told) → Fits P rest → Fits P (cond named rest None)
-named_fits P true rest fits = fits
-named_fits P false rest fits = tt
-
-alone_fits : (P : Form → Type 0) (name : List ℕ) (form : Form) (line : List ℕ) → P form → Fits P (alone name form line)
-alone_fits P name form line fits = named_fits P (is_text name line) (Some (Ok form)) fits
-
-low_range : (is : Bool) (low high v n : ℕ) → cond (is && nat_le low v && nat_le v high) (Some v) None ≡ Some n → low ≤ n
-low_range is low high v n e = grind (arith, nat_tests)
-
-high_range : (is : Bool) (low high v n : ℕ) → cond (is && nat_le low v && nat_le v high) (Some v) None ≡ Some n → n ≤ high
-high_range is low high v n e = grind (arith, nat_tests)
-
-spelt_fits : (P : Form → Type 0) (make : ℕ → Form) (o : Option ℕ) → ((n : ℕ) → o ≡ Some n → P (make n)) → Fits P (told make (Some (or_bad o)))
-spelt_fits P make None all = tt
-spelt_fits P make (Some n) all = all n refl
-
--- a number in a range
-number_fits : (P : Form → Type 0) (make : ℕ → Form) (low high : ℕ) → ((n : ℕ) → low ≤ n → n ≤ high → P (make n)) → (word : List ℕ) → Fits P (told make (Some (or_bad (number_in low high word))))
-number_fits P make low high all word =
-    spelt_fits P make (number_in low high word)
-    (λ n e. all n (low_range (is_number word) low high (value word) n e) (high_range (is_number word) low high (value word) n e))
-
-one_fits : (P : Form → Type 0) (make : ℕ → Form) (low high : ℕ) → ((n : ℕ) → low ≤ n → n ≤ high → P (make n)) → (rest : List (List ℕ)) → Fits P (told make (one_number low high rest))
-one_fits P make low high all [] = tt
-one_fits P make low high all (word ∷ []) = number_fits P make low high all word
-one_fits P make low high all (word ∷ other ∷ rest) = tt
-
-told_if : (P : Form → Type 0) (make : ℕ → Form) (named : Bool) (o : Option (Result ℕ JobFault)) → Fits P (told make o) → Fits P (told make (cond named o None))
-told_if P make true o fits = fits
-told_if P make false o fits = tt
-
-line_fits : (P : Form → Type 0) (make : ℕ → Form) (name : List ℕ) (low high : ℕ) → ((n : ℕ) → low ≤ n → n ≤ high → P (make n)) → (line : List (List ℕ)) → Fits P (told make (number_line name low high line))
-line_fits P make name low high all [] = tt
-line_fits P make name low high all (first ∷ rest) = told_if P make (is_text name first) (one_number low high rest) (one_fits P make low high all rest)
-
-slot_fits : (line : List ℕ) → Fits IsElse (slot_line line)
-slot_fits line = line_fits IsElse ASlot (codes "SLOT") 0 3 (λ n low high. (high, refl)) (words line)
-
-store_fits : (line : List ℕ) → Fits IsInRange (store_line line)
-store_fits line = line_fits IsInRange AStore (codes "STORE") 32 8192 (λ n low high. (low, high)) (words line)
-
-show_fits : (line : List ℕ) → Fits IsElse (show_line line)
-show_fits line = told_fits IsElse (λ (x : ℕ × ℕ). AShow x.0 x.1) (λ x. (tt, refl)) (addresses (words line))
-
-numbered_fits : (kind : Kind) (label d : List ℕ) → Fits IsElse (numbered kind label d)
-numbered_fits kind label d = number_fits IsElse (λ n. ADevice n kind label) 0 15 (λ n low high. (high, refl)) d
-
-kind_fits : (d : List ℕ) (o : Option Kind) → Fits IsElse (device_named d o)
-kind_fits d None = tt
-kind_fits d (Some kind) = numbered_fits kind [] d
-
-described_fits : (rest : List (List ℕ)) → Fits IsElse (described rest)
-described_fits [] = tt
-described_fits (d ∷ []) = tt
-described_fits (d ∷ kind ∷ []) = kind_fits d (kind_named kind)
-described_fits (d ∷ kind ∷ label ∷ []) = named_fits IsElse (is_text (codes "MT") kind) (numbered Mt label d) (numbered_fits Mt label d)
-described_fits (d ∷ kind ∷ label ∷ other ∷ rest) = tt
-
-device_words_fit : (line : List (List ℕ)) → Fits IsElse (device_words line)
-device_words_fit [] = tt
-device_words_fit (name ∷ rest) = named_fits IsElse (is_text (codes "DEVICE") name) (described rest) (described_fits rest)
-
-device_fits : (line : List ℕ) → Fits IsElse (device_line line)
-device_fits line = device_words_fit (words line)
-
-marked_fits : (plain marked : Bool) (text : List ℕ) → Fits IsElse (cond plain (Some (Ok (AMedium false text))) (cond marked (Some (Ok (AMedium true text))) None))
-marked_fits true marked text = (tt, refl)
-marked_fits false true text = (tt, refl)
-marked_fits false false text = tt
-
-medium_fits : (line : List ℕ) → Fits IsElse (medium_line line)
-medium_fits [] = tt
-medium_fits (byte ∷ text) = marked_fits (nat_eq byte 43) (nat_eq byte 61) text
-
-of_event_fits : (r : Result Event EventFault) → Fits IsElse (of_event r)
-of_event_fits (Ok what) = (tt, refl)
-of_event_fits (Err event_fault.Form) = tt
-of_event_fits (Err event_fault.Number) = tt
-
-event_fits : (line : List ℕ) → Fits IsElse (event_line line)
-event_fits line = of_event_fits (event line)
-
-ends_fit : (line : List ℕ) → FitAll IsElse (slot_ends line)
-ends_fit line = (show_fits line, (slot_fits line, (alone_fits IsElse (codes "SCHEDULE") ASchedule line (tt, refl), tt)))
-
-device_or_end_fit : (line : List ℕ) → FitAll IsElse (device_or_end line)
-device_or_end_fit line = (device_fits line, ends_fit line)
-
-if_header : (is : Bool) (fault : JobFault) (form : Form) → cond is (Ok AHeader) (Err fault) ≡ Ok form → IsElse form
-if_header true fault form e = let is : AHeader ≡ form = cc in subst IsElse is (tt, refl)
-if_header false fault form e = absurd cc
-
-if_end : (is : Bool) (line : List ℕ) (form : Form) → ◌≡◌ {A = Result Form JobFault} (cond is (Ok AnEndDeck) (Ok (ADeckLine line))) (Ok form) → IsElse form
-if_end true line form e = let is : AnEndDeck ≡ form = cc in subst IsElse is (tt, refl)
-if_end false line form e = let is : ADeckLine line ≡ form = cc in subst IsElse is (tt, refl)
-
-told_form : (place : Place) (line : List ℕ) (form : Form) → told_at place line ≡ Ok form → IsToldAt place form
-told_form First line form e = if_header (is_text (codes "KDF9 JOB 1") line) _ form e
-told_form BehindHeader line form e = first_fits IsElse (slot_line line ∷ []) form (slot_fits line, tt) e
-told_form (BehindSlot p) line form e = first_fits IsInRange (store_line line ∷ []) form (store_fits line, tt) e
-told_form BehindStore line form e = first_fits IsElse (alone (codes "DECK") ADeck line ∷ []) form (alone_fits IsElse (codes "DECK") ADeck line (tt, refl), tt) e
-told_form InDeck line form e = if_end (is_text (codes "ENDDECK") line) line form e
-told_form BehindDeck line form e = first_fits IsElse (device_or_end line) form (device_or_end_fit line) e
-told_form BehindDevice line form e = first_fits IsElse (medium_line line ∷ device_or_end line) form (medium_fits line, device_or_end_fit line) e
-told_form BehindShow line form e = first_fits IsElse (slot_ends line) form (ends_fit line) e
-told_form InSchedule line form e =
-    first_fits IsElse (event_line line ∷ alone (codes "ENDJOB") AnEndJob line ∷ []) form (event_fits line, (alone_fits IsElse (codes "ENDJOB") AnEndJob line (tt, refl), tt)) e
-told_form BehindEnd line form e = absurd cc
+use Rattle.kdf_job.proofs.PoolDevices.{a_writer, after_free}
+use Rattle.kdf_job.proofs.Pools.{are_slots}
+use Rattle.kdf_job.proofs.Slots.{apart_more, ds, numbers_last, numbers_more, numbers_same, slots_changed, slots_first, slots_more}
+use Rattle.kdf_report.proofs.JobForms.{IsElse, IsInRange, IsToldAt, is_store, told_form}
 
 -- ---- slots, of which what is loaded turns on everything
 
@@ -203,6 +52,26 @@ words_bare (s ∷ slots) =
     ∙ ap (λ (n : ℕ). s.size + n) (words_bare slots)
     ∙ sym (sum_by-cons (λ (x : SlotJob). x.size) s slots)
 
+-- the pool is none of this
+bare_pool : (pool : List (ℕ × Kind)) (slots : List SlotJob) → map bare (map (with_pool pool) slots) ≡ map (with_pool pool) (map bare slots)
+bare_pool pool [] = refl
+bare_pool pool (s ∷ slots) = ap (λ (later : List SlotJob). bare (with_pool pool s) ∷ later) (bare_pool pool slots)
+
+-- ---- numbers
+
+-- a number more, before others
+apart_inside : (xs ys : List ℕ) (n : ℕ) → IsDistinct nat_eq (xs ++ ys) → list_any (nat_eq n) (xs ++ ys) ≡ false → IsDistinct nat_eq ((xs ++ n ∷ []) ++ ys)
+apart_inside xs ys n was new =
+    let moved =
+    IsPermutation-trans ((xs ++ ys) ++ n ∷ []) (n ∷ (xs ++ ys)) (xs ++ n ∷ ys) (IsPermutation-to_front (xs ++ ys) n)
+    (IsPermutation-sym (xs ++ n ∷ ys) (n ∷ (xs ++ ys)) (IsPermutation-middle xs n ys)) in
+    subst (IsDistinct nat_eq) (sym (append_assoc xs (n ∷ []) ys))
+    (IsDistinct-IsPermutation nat_eq nat_eq_equiv.symm ((xs ++ ys) ++ n ∷ []) (xs ++ n ∷ ys) moved (apart_more (xs ++ ys) n was new))
+
+neither : (b c : Bool) → (b || c) ≡ false → b ≡ false
+neither true c h = absurd cc
+neither false c h = refl
+
 -- ---- what the lines so far tell
 
 abbrev IsAt : Place → Option SlotDraft → Type 0
@@ -213,7 +82,9 @@ abbrev bares : Draft → List SlotJob
 bares d = map bare (slots_told d)
 
 record IsRead (d : Draft) : Type 0 where
-  slots : AreSlots (bares d)
+  slots : AreTold (bares d)
+  lent : All (λ (x : ℕ × Kind). IsLent x) d.pool
+  owned : IsDistinct nat_eq (numbers_told d)
   begun : IsBegun d.slots d.slot
   placed : IsAt d.place d.slot
 
@@ -224,32 +95,54 @@ with_last front s = map-append bare front (slot_of s ∷ [])
 last_is : (d : Draft) (s : SlotDraft) → d.slot ≡ Some s → bares d ≡ map bare d.slots ++ bare (slot_of s) ∷ []
 last_is d s is = ap (λ (o : Option SlotDraft). map bare (d.slots ++ option_to_list (option_map slot_of o))) is ∙ with_last d.slots s
 
-kept : (d : Draft) (s : SlotDraft) → IsRead d → d.slot ≡ Some s → AreSlots (map bare d.slots ++ bare (slot_of s) ∷ [])
-kept d s was is = subst AreSlots (last_is d s is) was.slots
+kept : (d : Draft) (s : SlotDraft) → IsRead d → d.slot ≡ Some s → AreTold (map bare d.slots ++ bare (slot_of s) ∷ [])
+kept d s was is = subst AreTold (last_is d s is) was.slots
 
 all_last : {X : Type 0} (P : X → Type 0) (xs : List X) (x : X) → All P (xs ++ x ∷ []) → P x
 all_last P xs x all = subst P (get_or-append_seam xs x [] x) (all (length xs) x (let n = length-append xs (x ∷ []) in omega arith))
 
 -- a line that changes the last slot alone
-slots_then : (form : Form) (d : Draft) (o : Option SlotDraft) → d.slot ≡ o → IsRead d → ((s : SlotDraft) → d.slot ≡ Some s → AreSlots (map bare d.slots ++ bare (slot_of (tells form s)) ∷ []))
-    → AreSlots (map bare (d.slots ++ option_to_list (option_map slot_of (option_map (tells form) o))))
+slots_then : (form : Form) (d : Draft) (o : Option SlotDraft) → d.slot ≡ o → IsRead d → ((s : SlotDraft) → d.slot ≡ Some s → AreTold (map bare d.slots ++ bare (slot_of (tells form s)) ∷ []))
+    → AreTold (map bare (d.slots ++ option_to_list (option_map slot_of (option_map (tells form) o))))
 slots_then form d None is was then =
-    subst (λ (o : Option SlotDraft). AreSlots (map bare (d.slots ++ option_to_list (option_map slot_of o)))) is was.slots
-slots_then form d (Some s) is was then = subst AreSlots (sym (with_last d.slots (tells form s))) (then s is)
+    subst (λ (o : Option SlotDraft). AreTold (map bare (d.slots ++ option_to_list (option_map slot_of o)))) is was.slots
+slots_then form d (Some s) is was then = subst AreTold (sym (with_last d.slots (tells form s))) (then s is)
 
 begun_then : (form : Form) (front : List SlotJob) (o : Option SlotDraft) → IsBegun front o → IsBegun front (option_map (tells form) o)
 begun_then form front None begun = begun
 begun_then form front (Some s) begun = tt
 
-changed : (form : Form) (d e : Draft) → IsRead d → e.slots ≡ d.slots → e.slot ≡ option_map (tells form) d.slot
-    → ((s : SlotDraft) → d.slot ≡ Some s → AreSlots (map bare d.slots ++ bare (slot_of (tells form s)) ∷ [])) → IsAt e.place e.slot → IsRead e
-changed form d e was slots slot then placed =
+-- the numbers of the devices are those before it
+same_numbers : (form : Form) (front : List SlotJob) (o : Option SlotDraft) → ((s : SlotDraft) → o ≡ Some s → ds (all_devices (tells form s)) ≡ ds (all_devices s))
+    → numbers_of (front ++ option_to_list (option_map slot_of (option_map (tells form) o))) ≡ numbers_of (front ++ option_to_list (option_map slot_of o))
+same_numbers form front None same = refl
+same_numbers form front (Some s) same = numbers_same front (slot_of s) (slot_of (tells form s)) (same s refl)
+
+owned_still : (form : Form) (d : Draft) → IsRead d → ((s : SlotDraft) → d.slot ≡ Some s → ds (all_devices (tells form s)) ≡ ds (all_devices s))
+    → IsDistinct nat_eq (numbers_of (d.slots ++ option_to_list (option_map slot_of (option_map (tells form) d.slot))) ++ numbers_in d.pool)
+owned_still form d was same =
+    subst (λ (ns : List ℕ). IsDistinct nat_eq (ns ++ numbers_in d.pool)) (sym (same_numbers form d.slots d.slot same)) was.owned
+
+changed : (form : Form) (d e : Draft) → IsRead d → e.slots ≡ d.slots → e.slot ≡ option_map (tells form) d.slot → e.pool ≡ d.pool
+    → ((s : SlotDraft) → d.slot ≡ Some s → AreTold (map bare d.slots ++ bare (slot_of (tells form s)) ∷ []))
+    → IsDistinct nat_eq (numbers_of (d.slots ++ option_to_list (option_map slot_of (option_map (tells form) d.slot))) ++ numbers_in d.pool)
+    → IsAt e.place e.slot → IsRead e
+changed form d e was slots slot pool then owned placed =
     record {
       slots =
           rw (slots, slot) (slots_then form d d.slot refl was then);
+      lent = rw pool was.lent;
+      owned = rw (slots, slot, pool) owned;
       begun = rw (slots, slot) (begun_then form d.slots d.slot was.begun);
       placed = placed;
     }
+
+-- a line that changes no more than a deck, or what is to be shown
+unchanged : (form : Form) (d e : Draft) → IsRead d → e.slots ≡ d.slots → e.slot ≡ option_map (tells form) d.slot → e.pool ≡ d.pool
+    → ((s : SlotDraft) → bare (slot_of (tells form s)) ≡ bare (slot_of s)) → IsAt e.place e.slot → IsRead e
+unchanged form d e was slots slot pool same placed =
+    changed form d e was slots slot pool (λ s is. subst (λ (x : SlotJob). AreTold (map bare d.slots ++ x ∷ [])) (sym (same s)) (kept d s was is))
+    (owned_still form d was (λ s is. ap (λ (x : SlotJob). ds x.devices) (same s))) placed
 
 -- `SLOT p`
 fault_then : (p : ℕ) (o : Option SlotDraft) → slot_fault p o ≡ None → slot_fault p (option_map (tells (ASlot p)) o) ≡ None
@@ -267,10 +160,11 @@ new_is_slot p n few least most groups =
       deck = omega arith;
       devices = λ k d lt. absurd (omega arith);
       shows = λ k d lt. absurd (omega arith);
+      lent = λ k d lt. absurd (omega arith);
     }
 
 begins : (d : Draft) (o : Option SlotDraft) (p n : ℕ) → d.slot ≡ o → IsRead d → p ≤ 3 → slot_fault p d.slot ≡ None → 32 ≤ n → n ≤ 8192 → n % 32 ≡ 0
-    → words_in (slots_told d) + n ≤ 31744 → AreSlots (bares d ++ slot_of (new_slot p n) ∷ [])
+    → words_in (slots_told d) + n ≤ 31744 → AreTold (bares d ++ slot_of (new_slot p n) ∷ [])
 begins d None p n is was few above least most groups room =
     let none : d.slots ≡ [] = rw is at was.begun in
     rw (is, none) (slots_first (slot_of (new_slot p n)) (new_is_slot p n few least most groups) refl)
@@ -290,29 +184,56 @@ stored : (d : Draft) (p n : ℕ) → d.place ≡ BehindSlot p → IsRead d → 3
 stored d p n place was least most free =
     let placed : IsAt (BehindSlot p) d.slot = subst (λ (x : Place). IsAt x d.slot) place was.placed in
     let slots = begins d d.slot p n refl was placed.0 placed.1 least most (groups_told n (slots_told d) free) (room_told n (slots_told d) free) in
+    let new = slot_of (new_slot (number_at d.place) n) in
     record {
       slots =
-          subst AreSlots
+          subst AreTold
           (sym (with_last (slots_told d) (new_slot (number_at d.place) n) ∙ ap (λ (x : Place). bares d ++ slot_of (new_slot (number_at x) n) ∷ []) place)) slots;
+      lent = was.lent;
+      owned =
+          subst (λ (ns : List ℕ). IsDistinct nat_eq (ns ++ numbers_in d.pool))
+          (sym (numbers_last (slots_told d) new ∙ append-nil (numbers_of (slots_told d)))) was.owned;
       begun = tt;
       placed = tt;
     }
 
 -- `DEVICE d k`
-device_free : (n : ℕ) (kind : Kind) (label : List ℕ) (d : Draft) → device_fault n kind label d ≡ None → list_any (nat_eq n) (numbers_of (slots_told d)) ≡ false
+device_free : (n : ℕ) (kind : Kind) (label : List ℕ) (d : Draft) → device_fault n kind label d ≡ None → list_any (nat_eq n) (numbers_told d) ≡ false
 device_free n kind label d h = grind arith
 
+free_of_slots : (n : ℕ) (kind : Kind) (label : List ℕ) (d : Draft) → device_fault n kind label d ≡ None → list_any (nat_eq n) (numbers_of (slots_told d)) ≡ false
+free_of_slots n kind label d h =
+    neither (list_any (nat_eq n) (numbers_of (slots_told d))) (list_any (nat_eq n) (numbers_in d.pool))
+    (sym (list_any-append (nat_eq n) (numbers_of (slots_told d)) (numbers_in d.pool)) ∙ device_free n kind label d h)
+
+more_devices : (n : ℕ) (kind : Kind) (label : List ℕ) (s : SlotDraft) → ds (all_devices (tells (ADevice n kind label) s)) ≡ ds (all_devices s) ++ n ∷ []
+more_devices n kind label s = map-append (λ (x : JobDevice). x.d) (all_devices s) (new_device n kind (word_of_text label) ∷ [])
+
+device_owned : (n : ℕ) (kind : Kind) (label : List ℕ) (d : Draft) (o : Option SlotDraft) → d.slot ≡ o → IsRead d → device_fault n kind label d ≡ None
+    → IsDistinct nat_eq (numbers_of (d.slots ++ option_to_list (option_map slot_of (option_map (tells (ADevice n kind label)) o))) ++ numbers_in d.pool)
+device_owned n kind label d None is was free =
+    subst (λ (o : Option SlotDraft). IsDistinct nat_eq (numbers_of (d.slots ++ option_to_list (option_map slot_of o)) ++ numbers_in d.pool)) is was.owned
+device_owned n kind label d (Some s) is was free =
+    let told : slots_told d ≡ d.slots ++ slot_of s ∷ [] = ap (λ (o : Option SlotDraft). d.slots ++ option_to_list (option_map slot_of o)) is in
+    let numbers = numbers_more d.slots (slot_of s) (slot_of (tells (ADevice n kind label) s)) n (more_devices n kind label s) in
+    let owned : IsDistinct nat_eq (numbers_of (d.slots ++ slot_of s ∷ []) ++ numbers_in d.pool) =
+    subst (λ (ss : List SlotJob). IsDistinct nat_eq (numbers_of ss ++ numbers_in d.pool)) told was.owned in
+    let new : list_any (nat_eq n) (numbers_of (d.slots ++ slot_of s ∷ []) ++ numbers_in d.pool) ≡ false =
+    subst (λ (ss : List SlotJob). list_any (nat_eq n) (numbers_of ss ++ numbers_in d.pool) ≡ false) told (device_free n kind label d free) in
+    subst (λ (ns : List ℕ). IsDistinct nat_eq (ns ++ numbers_in d.pool)) (sym numbers)
+    (apart_inside (numbers_of (d.slots ++ slot_of s ∷ [])) (numbers_in d.pool) n owned new)
+
 device_then : (n : ℕ) (kind : Kind) (label : List ℕ) (d : Draft) (s : SlotDraft) → IsRead d → d.slot ≡ Some s → n ≤ 15 → device_fault n kind label d ≡ None
-    → AreSlots (map bare d.slots ++ bare (slot_of (tells (ADevice n kind label) s)) ∷ [])
+    → AreTold (map bare d.slots ++ bare (slot_of (tells (ADevice n kind label) s)) ∷ [])
 device_then n kind label d s was is few free =
     let front = map bare d.slots in
     let old = bare (slot_of s) in
     let new = bare (slot_of (tells (ADevice n kind label) s)) in
     let are = kept d s was is in
     let this = all_last IsSlot front old are.each in
-    let more : ds new.devices ≡ ds old.devices ++ n ∷ [] = map-append (λ (x : JobDevice). x.d) (all_devices s) (new_device n kind (word_of_text label) ∷ []) in
+    let more : ds new.devices ≡ ds old.devices ++ n ∷ [] = more_devices n kind label s in
     let same : numbers_of (front ++ old ∷ []) ≡ numbers_of (slots_told d) = ap numbers_of (sym (last_is d s is)) ∙ numbers_bare (slots_told d) in
-    let other : list_any (nat_eq n) (numbers_of (front ++ old ∷ [])) ≡ false = ap (λ (ns : List ℕ). list_any (nat_eq n) ns) same ∙ device_free n kind label d free in
+    let other : list_any (nat_eq n) (numbers_of (front ++ old ∷ [])) ≡ false = ap (λ (ns : List ℕ). list_any (nat_eq n) ns) same ∙ free_of_slots n kind label d free in
     let numbers = numbers_more front old new n more in
     slots_changed front old new are refl refl
     (record {
@@ -323,6 +244,7 @@ device_then n kind label d s was is few free =
       deck = this.deck;
       devices = subst (All (λ (x : ℕ). x < 16)) (sym more) (All-push (λ (x : ℕ). x < 16) (ds old.devices) n this.devices (omega arith));
       shows = this.shows;
+      lent = this.lent;
     })
     (subst (IsDistinct nat_eq) (sym numbers) (apart_more (numbers_of (front ++ old ∷ [])) n are.apart other))
 
@@ -357,16 +279,21 @@ is_medium : (b : Bool) → cond b (Some BadMedium) None ≡ None → b ≡ false
 is_medium true h = absurd cc
 is_medium false h = refl
 
+medium_same : (marked : Bool) (text : List ℕ) (o : Option SlotDraft) (s : SlotDraft) → o ≡ Some s → medium_fault marked text o ≡ None
+    → ds (all_devices (tells (AMedium marked text) s)) ≡ ds (all_devices s)
+medium_same marked text o s is free =
+    let some : is_none (with_line_of_medium marked text s.device) ≡ false = is_medium _ (rw is at free) in
+    medium_numbers marked text s.devices s.device some
+
 medium_then : (marked : Bool) (text : List ℕ) (d : Draft) (s : SlotDraft) → IsRead d → d.slot ≡ Some s → medium_fault marked text d.slot ≡ None
-    → AreSlots (map bare d.slots ++ bare (slot_of (tells (AMedium marked text) s)) ∷ [])
+    → AreTold (map bare d.slots ++ bare (slot_of (tells (AMedium marked text) s)) ∷ [])
 medium_then marked text d s was is free =
     let front = map bare d.slots in
     let old = bare (slot_of s) in
     let new = bare (slot_of (tells (AMedium marked text) s)) in
     let are = kept d s was is in
     let this = all_last IsSlot front old are.each in
-    let some : is_none (with_line_of_medium marked text s.device) ≡ false = is_medium _ (rw is at free) in
-    let same : ds new.devices ≡ ds old.devices = medium_numbers marked text s.devices s.device some in
+    let same : ds new.devices ≡ ds old.devices = medium_same marked text d.slot s is free in
     slots_changed front old new are refl refl
     (record {
       number = this.number;
@@ -376,27 +303,50 @@ medium_then marked text d s was is free =
       deck = this.deck;
       devices = subst (All (λ (x : ℕ). x < 16)) (sym same) this.devices;
       shows = this.shows;
+      lent = this.lent;
     })
     (subst (IsDistinct nat_eq) (sym (numbers_same front old new same)) are.apart)
+
+-- a device of the pool
+lent_then : (n : ℕ) (kind : Kind) (label : List ℕ) (d : Draft) → IsRead d → n ≤ 15 → pool_fault n kind label d ≡ None → IsRead (with_line (APoolDevice n kind label) d)
+lent_then n kind label d was few free =
+    let form = APoolDevice n kind label in
+    let right = after_free (list_any (nat_eq n) (numbers_told d)) (lent_fault kind label) free in
+    let numbers = numbers_of (slots_told d) in
+    let more : numbers_told d ++ n ∷ [] ≡ numbers_told (with_line form d) =
+    append_assoc numbers (numbers_in d.pool) (n ∷ [])
+    ∙ ap (λ (ns : List ℕ). numbers ++ ns) (sym (map-append (λ (x : ℕ × Kind). x.0) d.pool ((n, kind) ∷ [])))
+    ∙ ap (λ (ns : List ℕ). ns ++ numbers_in (d.pool ++ (n, kind) ∷ [])) (sym (same_numbers form d.slots d.slot (λ s is. refl))) in
+    record {
+      slots = slots_then form d d.slot refl was (λ s is. kept d s was is);
+      lent = All-push (λ (x : ℕ × Kind). IsLent x) d.pool (n, kind) was.lent (omega arith, a_writer kind label right.1);
+      owned = subst (IsDistinct nat_eq) more (apart_more (numbers_told d) n was.owned right.0);
+      begun = begun_then form d.slots d.slot was.begun;
+      placed = tt;
+    }
 
 -- ---- a line more
 
 with_form : (form : Form) (d : Draft) → IsRead d → IsInRange form → (is_store form ≡ true → (p : ℕ) × (d.place ≡ BehindSlot p)) → fault_of form d ≡ None → IsRead (with_line form d)
-with_form AHeader d was range at free = changed AHeader d (with_line AHeader d) was refl refl (λ s is. kept d s was is) tt
+with_form AHeader d was range at free = unchanged AHeader d (with_line AHeader d) was refl refl refl (λ s. refl) tt
 with_form (ASlot p) d was range at free =
-    changed (ASlot p) d (with_line (ASlot p) d) was refl refl (λ s is. kept d s was is) (range, fault_then p d.slot free)
+    unchanged (ASlot p) d (with_line (ASlot p) d) was refl refl refl (λ s. refl) (range, fault_then p d.slot free)
 with_form (AStore n) d was range at free = let there = at refl in stored d there.0 n there.1 was range.0 range.1 free
-with_form ADeck d was range at free = changed ADeck d (with_line ADeck d) was refl refl (λ s is. kept d s was is) tt
-with_form (ADeckLine line) d was range at free = changed (ADeckLine line) d (with_line (ADeckLine line) d) was refl refl (λ s is. kept d s was is) tt
-with_form AnEndDeck d was range at free = changed AnEndDeck d (with_line AnEndDeck d) was refl refl (λ s is. kept d s was is) tt
+with_form ADeck d was range at free = unchanged ADeck d (with_line ADeck d) was refl refl refl (λ s. refl) tt
+with_form (ADeckLine line) d was range at free = unchanged (ADeckLine line) d (with_line (ADeckLine line) d) was refl refl refl (λ s. refl) tt
+with_form AnEndDeck d was range at free = unchanged AnEndDeck d (with_line AnEndDeck d) was refl refl refl (λ s. refl) tt
 with_form (ADevice n kind label) d was range at free =
-    changed (ADevice n kind label) d (with_line (ADevice n kind label) d) was refl refl (λ s is. device_then n kind label d s was is range free) tt
+    changed (ADevice n kind label) d (with_line (ADevice n kind label) d) was refl refl refl (λ s is. device_then n kind label d s was is range free)
+    (device_owned n kind label d d.slot refl was free) tt
 with_form (AMedium marked text) d was range at free =
-    changed (AMedium marked text) d (with_line (AMedium marked text) d) was refl refl (λ s is. medium_then marked text d s was is free) tt
-with_form (AShow a b) d was range at free = changed (AShow a b) d (with_line (AShow a b) d) was refl refl (λ s is. kept d s was is) tt
-with_form ASchedule d was range at free = changed ASchedule d (with_line ASchedule d) was refl refl (λ s is. kept d s was is) tt
-with_form (AnEvent what) d was range at free = changed (AnEvent what) d (with_line (AnEvent what) d) was refl refl (λ s is. kept d s was is) tt
-with_form AnEndJob d was range at free = changed AnEndJob d (with_line AnEndJob d) was refl refl (λ s is. kept d s was is) tt
+    changed (AMedium marked text) d (with_line (AMedium marked text) d) was refl refl refl (λ s is. medium_then marked text d s was is free)
+    (owned_still (AMedium marked text) d was (λ s is. medium_same marked text d.slot s is free)) tt
+with_form (AShow a b) d was range at free = unchanged (AShow a b) d (with_line (AShow a b) d) was refl refl refl (λ s. refl) tt
+with_form APool d was range at free = unchanged APool d (with_line APool d) was refl refl refl (λ s. refl) tt
+with_form (APoolDevice n kind label) d was range at free = lent_then n kind label d was range free
+with_form ASchedule d was range at free = unchanged ASchedule d (with_line ASchedule d) was refl refl refl (λ s. refl) tt
+with_form (AnEvent what) d was range at free = unchanged (AnEvent what) d (with_line (AnEvent what) d) was refl refl refl (λ s. refl) tt
+with_form AnEndJob d was range at free = unchanged AnEndJob d (with_line AnEndJob d) was refl refl refl (λ s. refl) tt
 
 range_at : (place : Place) (form : Form) → IsToldAt place form → IsInRange form
 range_at First form h = h.0
@@ -407,6 +357,7 @@ range_at InDeck form h = h.0
 range_at BehindDeck form h = h.0
 range_at BehindDevice form h = h.0
 range_at BehindShow form h = h.0
+range_at BehindPool form h = h.0
 range_at InSchedule form h = h.0
 range_at BehindEnd form h = h.0
 
@@ -419,6 +370,7 @@ store_at InDeck form h is = absurd cc
 store_at BehindDeck form h is = absurd cc
 store_at BehindDevice form h is = absurd cc
 store_at BehindShow form h is = absurd cc
+store_at BehindPool form h is = absurd cc
 store_at InSchedule form h is = absurd cc
 store_at BehindEnd form h is = absurd cc
 
@@ -447,9 +399,14 @@ lines_read n d (line ∷ rest) was free =
     behind n d rest (read_line d line) (λ e is clear. lines_read (n + 1) e rest (line_read d e line was is) clear) free
 
 blank_read : IsRead blank
-blank_read = record { slots = blank_sound.slots; begun = refl; placed = tt }
+blank_read = record { slots = blank_sound.slots; lent = blank_sound.lent; owned = blank_sound.owned; begun = refl; placed = tt }
 
--- the slots of a job without a fault
+-- the slots of a job without a fault, each with the pool
 pub faultless : (bytes : List ℕ) → job_fault bytes ≡ None → AreSlots (map bare (job bytes).slots)
 unfolding job_fault job
-faultless bytes free = (lines_read 1 blank (lines bytes) blank_read free).slots
+faultless bytes free =
+    let d = draft_of blank (lines bytes) in
+    let read = lines_read 1 blank (lines bytes) blank_read free in
+    let owned : IsDistinct nat_eq (numbers_of (bares d) ++ numbers_in d.pool) =
+    subst (λ (ns : List ℕ). IsDistinct nat_eq (ns ++ numbers_in d.pool)) (sym (numbers_bare (slots_told d))) read.owned in
+    subst AreSlots (sym (bare_pool d.pool (slots_told d))) (are_slots d.pool (bares d) read.slots read.lent owned)

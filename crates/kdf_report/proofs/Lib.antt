@@ -1,4 +1,5 @@
 pub mod FaultlessJobs
+pub mod JobForms
 pub mod Loaded
 pub mod LoadedJobs
 pub mod Numbers

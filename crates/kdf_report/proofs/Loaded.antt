@@ -1,17 +1,16 @@
 -- A program that was loaded from a slot is one of that slot.
-use Rattle.std.proofs.Common.{◌≡◌, ℕ, zero, suc, ◌+◌, ◌<◌, ◌==◌, ◌||◌, Bool, true, false, cond, List, [], ◌∷◌, Option, Some, None, is_some, ⊎_elim, refl, sym, subst, ◌∙◌, ap, ap₂, arith}
+use Rattle.std.proofs.Common.{◌≡◌, ℕ, zero, suc, ◌+◌, ◌<◌, ◌==◌, ◌||◌, Bool, true, false, cond, List, [], ◌∷◌, Option, Some, None, is_some, ⊎_elim, refl, sym, subst, ◌∙◌, ap, arith}
 use Rattle.std.specs.List.{filter, list_any, range_with_len}
 use Rattle.std.specs.Prelude.{slice_index_or}
 use Rattle.std.proofs.lemmas.Bool.{cases_Bool}
 use Rattle.kdf_transfer.specs.Devices.{Fixture}
 use Rattle.kdf_transfer.proofs.Numbers.{limit_is, number_at}
 use Rattle.kdf_transfer.specs.declared.order.TransferOrder.{TransferOrder}
-use Rattle.kdf_journal.specs.declared.kind.Kind.{Kind}
 use Rattle.kdf_processor.specs.Effect.{Question, FreeOf, Effect, Starting, Asking, Returning}
 use Rattle.kdf_processor.specs.Lone.{is_live, lone_step, lone}
 use Rattle.kdf_processor.specs.Needs.{next_effect}
 use Rattle.kdf_processor.specs.Row.{transferred, perform}
-use Rattle.kdf_processor.specs.State.{Claims, State, Stock, begin, device_limit, fixture_at, pooled_or}
+use Rattle.kdf_processor.specs.State.{Claims, State, Stock, begin, device_limit, fixture_at, own_fixture_at}
 use Rattle.kdf_processor.proofs.RowFacts.{next_answer}
 use Rattle.kdf_job.specs.Job.{JobDevice, SlotJob}
 use Rattle.kdf_job.specs.Slots.{fixture_on, numbered, slot_of}
@@ -24,7 +23,6 @@ use Rattle.kdf_report.specs.MadeFrom.{IsProgramOf, own_numbers}
 pub record Same (s t : State) : Type 0 where
   pub size : s.stock.claims.size ≡ t.stock.claims.size
   pub fixtures : s.stock.claims.fixtures ≡ t.stock.claims.fixtures
-  pub pool : s.stock.claims.pool ≡ t.stock.claims.pool
 
 same_moved : (d : ℕ) (o : TransferOrder) (first last : ℕ) (f : Option Fixture) (k : Stock) → (transferred d o first last f k).claims ≡ k.claims
 same_moved d o first last None k = refl
@@ -33,25 +31,25 @@ same_moved d o first last (Some f) k = refl
 same_perform : (answer : Question → ℕ) (e : Effect) (s : State) → Same (perform answer e s) s
 same_perform answer (Starting d o first last after) s =
     let same = same_moved d o first last (fixture_at s.stock.claims d) s.stock in
-    record { size = ap (λ (c : Claims). c.size) same; fixtures = ap (λ (c : Claims). c.fixtures) same; pool = ap (λ (c : Claims). c.pool) same }
-same_perform answer (Asking (FreeOf kind) after) s = record { size = refl; fixtures = refl; pool = refl }
-same_perform answer (Returning true d after) s = record { size = refl; fixtures = refl; pool = refl }
-same_perform answer (Returning false d after) s = record { size = refl; fixtures = refl; pool = refl }
-same_perform answer e s = record { size = refl; fixtures = refl; pool = refl }
+    record { size = ap (λ (c : Claims). c.size) same; fixtures = ap (λ (c : Claims). c.fixtures) same }
+same_perform answer (Asking (FreeOf kind) after) s = record { size = refl; fixtures = refl }
+same_perform answer (Returning true d after) s = record { size = refl; fixtures = refl }
+same_perform answer (Returning false d after) s = record { size = refl; fixtures = refl }
+same_perform answer e s = record { size = refl; fixtures = refl }
 
 same_step : (answers : List ℕ) (s : State) → Same (lone_step answers s) s
 same_step answers s =
     ⊎_elim
     (λ (live : is_live s.registers.state ≡ true). rw live (same_perform (next_answer answers s) (next_effect s) s))
-    (λ (over : is_live s.registers.state ≡ false). rw over (let same : Same s s = record { size = refl; fixtures = refl; pool = refl } in same))
+    (λ (over : is_live s.registers.state ≡ false). rw over (let same : Same s s = record { size = refl; fixtures = refl } in same))
     (cases_Bool (is_live s.registers.state))
 
 pub same_lone : (start : State) (answers : List ℕ) (n : ℕ) → Same (lone start answers n) start
-same_lone start answers zero = record { size = refl; fixtures = refl; pool = refl }
+same_lone start answers zero = record { size = refl; fixtures = refl }
 same_lone start answers (suc n) =
     let step = same_step answers (lone start answers n) in
     let before = same_lone start answers n in
-    record { size = step.size ∙ before.size; fixtures = step.fixtures ∙ before.fixtures; pool = step.pool ∙ before.pool }
+    record { size = step.size ∙ before.size; fixtures = step.fixtures ∙ before.fixtures }
 
 -- ---- the devices at the start are those of the slot
 
@@ -73,14 +71,13 @@ found_there (x ∷ devices) d = some_found (x.d == d) x (numbered devices d) ∙
 own_at_start : (slot : SlotJob) (words : List ℕ) → own_numbers (begin (slot_of slot words)) ≡ device_numbers slot
 unfolding own_numbers device_numbers
 own_at_start slot words =
-    filter_same (λ d. is_some (fixture_at (begin (slot_of slot words)).stock.claims d)) (has_device slot) 0 device_limit
+    filter_same (λ d. is_some (own_fixture_at (begin (slot_of slot words)).stock.claims d)) (has_device slot) 0 device_limit
     (λ k h. ap is_some (number_at (λ d. fixture_on (numbered slot.devices d)) k None (let e = limit_is in omega arith)) ∙ found_there slot.devices k)
 
-pub own_same : (s t : State) → s.stock.claims.fixtures ≡ t.stock.claims.fixtures → s.stock.claims.pool ≡ t.stock.claims.pool → own_numbers s ≡ own_numbers t
+pub own_same : (s t : State) → s.stock.claims.fixtures ≡ t.stock.claims.fixtures → own_numbers s ≡ own_numbers t
 unfolding own_numbers
-own_same s t fixtures pool =
-    ap₂ (λ (fs : List (Option Fixture)) (ks : List (Option Kind)).
-    filter (λ d. is_some (pooled_or (slice_index_or ks d None) (slice_index_or fs d None))) (range_with_len 0 device_limit)) fixtures pool
+own_same s t fixtures =
+    ap (λ (fs : List (Option Fixture)). filter (λ d. is_some (slice_index_or fs d None)) (range_with_len 0 device_limit)) fixtures
 
 pub program_of : (slot : SlotJob) (words answers : List ℕ) (n : ℕ) → IsSlot slot → IsProgramOf slot (lone (begin (slot_of slot words)) answers n)
 program_of slot words answers n is =
@@ -88,7 +85,7 @@ program_of slot words answers n is =
     record {
       size = same.size;
       shows = λ k d h. (is.shows k d h).1;
-      devices = own_same (lone (begin (slot_of slot words)) answers n) (begin (slot_of slot words)) same.fixtures same.pool ∙ own_at_start slot words;
+      devices = own_same (lone (begin (slot_of slot words)) answers n) (begin (slot_of slot words)) same.fixtures ∙ own_at_start slot words;
     }
 
 -- and so is what it comes to, step by step

@@ -1,13 +1,13 @@
 -- The numbers of a program's devices, one by one.
-use Rattle.std.proofs.Common.{◌≡◌, ◌≢◌, ℕ, zero, suc, ◌+◌, ◌<◌, ◌≤◌, ◌||◌, Bool, true, false, cond, eqb, List, [], ◌∷◌, map, Option, Some, None, is_some, IfSome, ⊎_elim, refl, sym, ◌∙◌, ap, arith}
-use Rattle.std.specs.Prelude.{◌&&◌, nat_lt, slice_index_or, unwrap_or}
-use Rattle.std.specs.Option.{option_map}
+use Rattle.std.proofs.Common.{◌≡◌, ◌≢◌, ℕ, zero, suc, ◌+◌, ◌<◌, ◌≤◌, ◌||◌, Bool, true, false, cond, eqb, List, [], ◌∷◌, length, map, Option, Some, None, is_some, IsSomeAnd, IfSome, ⊎_elim, refl, sym, ◌∙◌, ap, arith}
+use Rattle.std.specs.Prelude.{slice_get, unwrap_or}
 use Rattle.std.specs.List.{filter, list_any, range_with_len}
 use Rattle.std.proofs.lemmas.Bool.{cases_eq, eq-eqb, ne_eqb}
 use Rattle.kdf_transfer.specs.Devices.{Fixture}
 use Rattle.kdf_transfer.specs.declared.device.Device.{Device}
 use Rattle.kdf_processor.specs.Claims.{is_claimed}
-use Rattle.kdf_processor.specs.State.{Claims, State, device_limit, fixture_at}
+use Rattle.kdf_processor.specs.State.{Lending, State, device_limit, lendings, own_fixture_at}
+use Rattle.kdf_processor.specs.Stints.{IsStint}
 use Rattle.kdf_job.specs.Job.{JobDevice, SlotJob}
 use Rattle.kdf_job.specs.Shows.{shown_device}
 use Rattle.kdf_alone.specs.Program as alone
@@ -59,12 +59,12 @@ passes_there p a (suc n) k low high =
 -- ---- devices of a program and of its slot
 
 -- a program has a device of a number where its slot has
-pub has_own : (slot : SlotJob) (s : State) (d : ℕ) → d < device_limit → own_numbers s ≡ device_numbers slot → has_device slot d ≡ is_some (fixture_at s.stock.claims d)
+pub has_own : (slot : SlotJob) (s : State) (d : ℕ) → d < device_limit → own_numbers s ≡ device_numbers slot → has_device slot d ≡ is_some (own_fixture_at s.stock.claims d)
 unfolding own_numbers device_numbers
 has_own slot s d small own =
     sym (passes_there (has_device slot) 0 device_limit d (omega arith) (omega arith))
     ∙ ap (has d) (sym own)
-    ∙ passes_there (λ n. is_some (fixture_at s.stock.claims n)) 0 device_limit d (omega arith) (omega arith)
+    ∙ passes_there (λ n. is_some (own_fixture_at s.stock.claims n)) 0 device_limit d (omega arith) (omega arith)
 
 -- the slot has a device of a number, as its devices are read
 pub any_number : (devices : List (ℕ × Device)) (d : ℕ) → list_any (λ (x : ℕ × Device). eqb x.0 d) devices ≡ list_any (λ (x : JobDevice). eqb x.d d) (map shown_device devices)
@@ -79,31 +79,35 @@ none_there : (o : Option Fixture) → is_some o ≡ false → o ≡ None
 none_there None e = refl
 none_there (Some f) e = cc
 
--- a device that isn't there isn't claimed
-unclaimed_there : (c : Claims) (d : ℕ) → fixture_at c d ≡ None → is_claimed c d ≡ false
-unclaimed_there c d none = go (nat_lt d device_limit && slice_index_or c.claimed d false) (fixture_at c d) none
-  where
-    go : (b : Bool) (o : Option Fixture) → o ≡ None → is_some (cond b (option_map (λ (f : Fixture). f.kind) o) None) ≡ false
-    go true None e = refl
-    go true (Some f) e = cc
-    go false o e = refl
-
 -- ---- the program of a slot in a machine
 
 -- where the slot has the device of a number, the program shows it
 pub device_there : (o : Option State) (slot : SlotJob) (other : State) (d : ℕ) (r : Option Device) → is_some o ≡ true → own_numbers (unwrap_or o other) ≡ device_numbers slot → d < device_limit
-    → has_device slot d ≡ true → IfSome o (λ (s : State). is_some (fixture_at s.stock.claims d) ≡ true → machine.IsDeviceAt s d r) → alone.IsDeviceAt (unwrap_or o other) d r
+    → has_device slot d ≡ true → IfSome o (λ (s : State). is_some (own_fixture_at s.stock.claims d) ≡ true → machine.IsDeviceAt s d r) → alone.IsDeviceAt (unwrap_or o other) d r
 device_there None slot other d r there own small has_d is = cc
 device_there (Some s) slot other d r there own small has_d is = same_device s d r (is (sym (has_own slot s d small own) ∙ has_d))
 
-pub claimed_there : (o : Option State) (slot : SlotJob) (other : State) (d : ℕ) (r : Bool) → is_some o ≡ true → own_numbers (unwrap_or o other) ≡ device_numbers slot → d < device_limit
-    → has_device slot d ≡ true → IfSome o (λ (s : State). is_some (fixture_at s.stock.claims d) ≡ true → r ≡ is_claimed s.stock.claims d) → r ≡ is_claimed (unwrap_or o other).stock.claims d
-claimed_there None slot other d r there own small has_d is = cc
-claimed_there (Some s) slot other d r there own small has_d is = is (sym (has_own slot s d small own) ∙ has_d)
+-- and it shows whether its own device is claimed
+pub claimed_there : (o : Option State) (other : State) (d : ℕ) (r : Bool) → is_some o ≡ true → is_some (own_fixture_at (unwrap_or o other).stock.claims d) ≡ true
+    → IfSome o (λ (s : State). is_some (own_fixture_at s.stock.claims d) ≡ true → r ≡ is_claimed s.stock.claims d) → r ≡ is_claimed (unwrap_or o other).stock.claims d
+claimed_there None other d r there own is = cc
+claimed_there (Some s) other d r there own is = is own
 
 -- and where it hasn't, there is none
-pub no_device : (slot : SlotJob) (s : State) (d : ℕ) → own_numbers s ≡ device_numbers slot → d < device_limit → has_device slot d ≡ false → fixture_at s.stock.claims d ≡ None
-no_device slot s d own small hasnt = none_there (fixture_at s.stock.claims d) (sym (has_own slot s d small own) ∙ hasnt)
+pub no_device : (slot : SlotJob) (s : State) (d : ℕ) → own_numbers s ≡ device_numbers slot → d < device_limit → has_device slot d ≡ false → own_fixture_at s.stock.claims d ≡ None
+no_device slot s d own small hasnt = none_there (own_fixture_at s.stock.claims d) (sym (has_own slot s d small own) ∙ hasnt)
 
-pub not_claimed : (slot : SlotJob) (s : State) (d : ℕ) → own_numbers s ≡ device_numbers slot → d < device_limit → has_device slot d ≡ false → is_claimed s.stock.claims d ≡ false
-not_claimed slot s d own small hasnt = unclaimed_there s.stock.claims d (no_device slot s d own small hasnt)
+-- its stints
+pub stints_there : (o : Option State) (other : State) (n : ℕ) → is_some o ≡ true → IsSomeAnd o (λ (s : State). n ≡ length (lendings s.stock)) → n ≡ length (lendings (unwrap_or o other).stock)
+stints_there None other n there is = cc
+stints_there (Some s) other n there is = is
+
+pub stint_within : (o : Option State) (other : State) (i : ℕ) → is_some o ≡ true → i < length (lendings (unwrap_or o other).stock) → IsSomeAnd o (λ (s : State). i < length (lendings s.stock))
+stint_within None other i there lt = absurd cc
+stint_within (Some s) other i there lt = lt
+
+pub stint_there : (o : Option State) (other : State) (i d : ℕ) (given : Bool) (device : Device) → is_some o ≡ true
+    → IsSomeAnd o (λ (s : State). IfSome (slice_get (lendings s.stock) i) (λ (x : Lending). IsStint x d given device))
+    → IfSome (slice_get (lendings (unwrap_or o other).stock) i) (λ (x : Lending). IsStint x d given device)
+stint_there None other i d given device there is = absurd cc
+stint_there (Some s) other i d given device there is = is

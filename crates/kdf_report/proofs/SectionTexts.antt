@@ -6,14 +6,14 @@ use Rattle.kdf_journal.specs.declared.entry.Entry.{Entry}
 use Rattle.kdf_processor.specs.declared.registers.Registers.{Registers}
 use Rattle.kdf_processor.specs.declared.spooled.Spooled.{Spooled}
 use Rattle.kdf_processor.specs.Claims.{is_claimed}
-use Rattle.kdf_processor.specs.State.{State, device_at, device_limit, fixture_at}
+use Rattle.kdf_processor.specs.State.{State, device_at, device_limit, lendings, own_fixture_at}
 use Rattle.kdf_transfer.specs.Devices.{Fixture, Progress}
 use Rattle.kdf_job.specs.declared.job.SlotJob.{SlotJob as ReadSlot}
 use Rattle.kdf_job.specs.Job.{Job, SlotJob}
 use Rattle.kdf_job.specs.Shows.{shown_slot}
 use Rattle.kdf_text.specs.Text.{text}
 use Rattle.kdf_text.proofs.Texts.{text_more}
-use Rattle.kdf_report.specs.Devices.{described, device_lines, device_numbers}
+use Rattle.kdf_report.specs.Devices.{device_lines, device_numbers, own_lines, stint_lines}
 use Rattle.kdf_report.specs.MadeFrom.{own_numbers}
 use Rattle.kdf_report.specs.Text.{registers_lines, show_lines, spool_line, section, alone_line, end_line, alone_text, entry_line, head_line, report_lines, report_text}
 
@@ -26,7 +26,7 @@ flat_map-filter {A} {B} f p none (x ∷ xs) = go (p x) refl (flat_map-filter f p
     go true e later = ap (λ (ys : List B). f x ++ ys) later
     go false e later = later ∙ ap (λ (ys : List B). ys ++ flat_map f xs) (sym (none x e))
 
-no_lines : (d : ℕ) (claimed : Bool) (f : Option Fixture) (x : Progress) → is_some f ≡ false → described d claimed f x ≡ []
+no_lines : (d : ℕ) (claimed : Bool) (f : Option Fixture) (x : Progress) → is_some f ≡ false → own_lines d claimed f x ≡ []
 no_lines d claimed None x e = refl
 no_lines d claimed (Some f) x e = cc
 
@@ -34,25 +34,26 @@ no_lines d claimed (Some f) x e = cc
 devices_of_slot : (slot : SlotJob) (s : State) → own_numbers s ≡ device_numbers slot → flat_map (device_lines s) (range_with_len 0 device_limit) ≡ flat_map (device_lines s) (device_numbers slot)
 unfolding device_lines own_numbers
 devices_of_slot slot s own =
-    sym (flat_map-filter (device_lines s) (λ d. is_some (fixture_at s.stock.claims d))
-    (λ d e. no_lines d (is_claimed s.stock.claims d) (fixture_at s.stock.claims d) (device_at s d) e) (range_with_len 0 device_limit))
+    sym (flat_map-filter (device_lines s) (λ d. is_some (own_fixture_at s.stock.claims d))
+    (λ d e. no_lines d (is_claimed s.stock.claims d) (own_fixture_at s.stock.claims d) (device_at s d) e) (range_with_len 0 device_limit))
     ∙ ap (flat_map (device_lines s)) own
 
-pub section_text : (slot : SlotJob) (s : State) (r : Registers) (shows : List (ℕ × ℕ)) (spooled : List Spooled) (old slot_written registers_written shows_written spool_written new : List ℕ)
+pub section_text : (slot : SlotJob) (s : State) (r : Registers) (shows : List (ℕ × ℕ)) (spooled : List Spooled) (old slot_written registers_written shows_written spool_written devices_written new : List ℕ)
     → own_numbers s ≡ device_numbers slot → r ≡ s.registers → shows ≡ slot.shows → spooled ≡ s.stock.spooled
     → slot_written ≡ old ++ text ((codes "SLOT " ++ decimal slot.p) ∷ [])
     → registers_written ≡ slot_written ++ text (registers_lines r)
     → shows_written ≡ registers_written ++ text (flat_map (show_lines s) shows)
     → spool_written ≡ shows_written ++ text (map spool_line spooled)
-    → new ≡ spool_written ++ text (flat_map (device_lines s) (range_with_len 0 device_limit))
+    → devices_written ≡ spool_written ++ text (flat_map (device_lines s) (range_with_len 0 device_limit))
+    → new ≡ devices_written ++ text (flat_map stint_lines (lendings s.stock))
     → new ≡ old ++ text (section slot s)
 unfolding section
-section_text slot s r shows spooled old slot_written registers_written shows_written spool_written new own is_r is_shows is_spooled first second third fourth fifth =
+section_text slot s r shows spooled old slot_written registers_written shows_written spool_written devices_written new own is_r is_shows is_spooled first second third fourth fifth sixth =
     let registers = subst (λ x. registers_written ≡ slot_written ++ text (registers_lines x)) is_r second in
     let words = subst (λ x. shows_written ≡ registers_written ++ text (flat_map (show_lines s) x)) is_shows third in
     let texts = subst (λ x. spool_written ≡ shows_written ++ text (map spool_line x)) is_spooled fourth in
-    let devices = subst (λ x. new ≡ spool_written ++ text x) (devices_of_slot slot s own) fifth in
-    text_more _ _ _ _ _ (text_more _ _ _ _ _ (text_more _ _ _ _ _ (text_more _ _ _ _ _ first registers) words) texts) devices
+    let devices = subst (λ x. devices_written ≡ spool_written ++ text x) (devices_of_slot slot s own) fifth in
+    text_more _ _ _ _ _ (text_more _ _ _ _ _ (text_more _ _ _ _ _ (text_more _ _ _ _ _ (text_more _ _ _ _ _ first registers) words) texts) devices) sixth
 
 pub whole_text : (slot : SlotJob) (s : State) (none head body all : List ℕ) → none ≡ []
     → head ≡ none ++ text (alone_line slot.p ∷ []) → body ≡ head ++ text (section slot s) → all ≡ body ++ text (end_line ∷ [])

@@ -35,7 +35,7 @@ own_of_slot slots J p slot words is at =
     subst (λ o. IsProgramOf slot (lone (start_of o) (answers p J) (ran p J))) (sym at) (program_of slot words (answers p J) (ran p J) is)
 
 seen_like : (flights : ℕ → Option Flight) (slot : SlotJob) (s : State) → IsProgramOf slot s → IsProgramOf slot (seen flights s)
-seen_like flights slot s is = record { size = is.size; shows = is.shows; devices = own_same (seen flights s) s refl refl ∙ is.devices }
+seen_like flights slot s is = record { size = is.size; shows = is.shows; devices = own_same (seen flights s) s refl ∙ is.devices }
 
 seen_of_slot : (slots : List Slot) (J : List Entry) (p : ℕ) (slot : SlotJob) (words : List ℕ) → IsSlot slot → slot_of slots p ≡ Some (loaded slot words) → IsProgramOf slot (seen_of slots J p)
 seen_of_slot slots J p slot words is at = seen_like (flights_of slots J p) slot (own slots J p) (own_of_slot slots J p slot words is at)

@@ -12,7 +12,7 @@ use Rattle.kdf_processor.specs.State.{State}
 use Rattle.kdf_place.specs.Assembled.{image_words}
 use Rattle.kdf_job.specs.Job.{Job, SlotJob}
 use Rattle.kdf_job.specs.Reading.{job, job_fault}
-use Rattle.kdf_job.specs.SlotLines.{slot_lines}
+use Rattle.kdf_job.specs.SlotLines.{pool_lines, slot_lines}
 use Rattle.kdf_job.proofs.SlotReadings.{slots_told_alike}
 use Rattle.kdf_director.specs.Legal.{IsLegal}
 use Rattle.kdf_director.specs.Loading as loading
@@ -62,12 +62,12 @@ pub same_slots : (first second : List ℕ) (J K : List Entry) (p : ℕ) → job_
 same_slots first second J K p free free' same legal legal' told over over' =
     same_section (job first) (job second) J K p (loaded_slots first free) legal (loaded_slots second free') legal' same told over over'
 
-pub same_lines : (first second : List ℕ) (J K : List Entry) (p : ℕ) → job_fault first ≡ None → job_fault second ≡ None → slot_lines p first ≡ slot_lines p second
+pub same_lines : (first second : List ℕ) (J K : List Entry) (p : ℕ) → job_fault first ≡ None → job_fault second ≡ None → slot_lines p first ≡ slot_lines p second → pool_lines first ≡ pool_lines second
     → IsLegal (slots_of (job first)) J → IsLegal (slots_of (job second)) K → answers p J ≡ answers p K
     → is_live (own (slots_of (job first)) J p).registers.state ≡ false → is_live (own (slots_of (job second)) K p).registers.state ≡ false
     → section_of p (job first) (seen_of (slots_of (job first)) J) ≡ section_of p (job second) (seen_of (slots_of (job second)) K)
-same_lines first second J K p free free' same legal legal' told over over' =
-    same_slots first second J K p free free' (slots_told_alike first second p free free' same) legal legal' told over over'
+same_lines first second J K p free free' same common legal legal' told over over' =
+    same_slots first second J K p free free' (slots_told_alike first second p free free' same common) legal legal' told over over'
 
 -- ---- the section of a program in the report of its job
 

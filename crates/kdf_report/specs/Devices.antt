@@ -1,5 +1,5 @@
--- The lines of a program's devices, each without the byte that ends it.
-use Rattle.std.specs.Prelude.{ℕ, ◌==◌, List, [], ◌∷◌, ◌++◌, map, Bool, if◌then◌else◌, Option, Some, None, codes, decimal}
+-- The lines of a program's devices and of its stints, each without the byte that ends it.
+use Rattle.std.specs.Prelude.{ℕ, ◌==◌, not, List, [], ◌∷◌, ◌++◌, map, Bool, if◌then◌else◌, Option, Some, None, codes, decimal}
 use Rattle.std.specs.List.{filter, list_any, range_with_len}
 use Rattle.kdf_word.specs.Characters.{codes_of_all}
 use Rattle.kdf_code.specs.Code.{host_of}
@@ -9,7 +9,7 @@ use Rattle.kdf_journal.specs.declared.kind.Kind.TheVariants.{Tr, Tp, Cr, Lp, Mt}
 use Rattle.kdf_tape.specs.Tape.{Recorded}
 use Rattle.kdf_transfer.specs.Devices.{Fixture, Progress}
 use Rattle.kdf_processor.specs.Claims.{is_claimed}
-use Rattle.kdf_processor.specs.State.{State, device_at, device_limit, fixture_at}
+use Rattle.kdf_processor.specs.State.{Lending, State, device_at, device_limit, own_fixture_at}
 use Rattle.kdf_job.specs.Job.{JobDevice, SlotJob}
 
 -- characters, as the host has them
@@ -19,14 +19,14 @@ host_text characters = map host_of characters
 abbrev pub bit : Bool → List ℕ
 bit b = if b then codes "1" else codes "0"
 
--- whether the program has claimed the device
+-- whether the program holds the device
 abbrev pub holding : Bool → List ℕ
-holding claimed = if claimed then codes "HELD" else codes "FREE"
+holding held = if held then codes "HELD" else codes "FREE"
 
--- its number and kind, whether it is claimed, how far it has come, and its flag
-abbrev pub device_line : ℕ → Bool → Kind → Progress → List ℕ
-device_line d claimed kind x =
-    codes "DEVICE " ++ decimal d ++ codes " " ++ kind_name kind ++ codes " " ++ holding claimed
+-- after a word that says whose it is: its number and kind, whether it is held, how far it has come, and its flag
+abbrev pub device_line : List ℕ → ℕ → Bool → Kind → Progress → List ℕ
+device_line word d held kind x =
+    word ++ codes " " ++ decimal d ++ codes " " ++ kind_name kind ++ codes " " ++ holding held
     ++ codes " PLACE " ++ decimal x.place ++ codes " FLAG " ++ bit x.flag
 
 -- a finished block of a punch or a printer
@@ -48,15 +48,23 @@ block_lines Cr x = []
 block_lines Lp x = map block_line x.blocks
 block_lines Mt x = map tape_line x.recorded
 
--- a device that is such, and its blocks
-abbrev pub described : ℕ → Bool → Option Fixture → Progress → List (List ℕ)
-described d claimed None x = []
-described d claimed (Some f) x = device_line d claimed f.kind x ∷ block_lines f.kind x
+-- a device, and its blocks
+abbrev pub described : List ℕ → ℕ → Bool → Kind → Progress → List (List ℕ)
+described word d held kind x = device_line word d held kind x ∷ block_lines kind x
 
--- device d of a program; nothing where it has none of this number
+-- a device of the program's own that is such; it is held where it is claimed
+abbrev pub own_lines : ℕ → Bool → Option Fixture → Progress → List (List ℕ)
+own_lines d claimed None x = []
+own_lines d claimed (Some f) x = described (codes "DEVICE") d claimed f.kind x
+
+-- device d of a program's own; nothing where it has none of this number
 unfoldable pub device_lines : State → ℕ → List (List ℕ)
 device_lines s d =
-    described d (is_claimed s.stock.claims d) (fixture_at s.stock.claims d) (device_at s d)
+    own_lines d (is_claimed s.stock.claims d) (own_fixture_at s.stock.claims d) (device_at s d)
+
+-- a stint: its device is held until it is given back
+abbrev pub stint_lines : Lending → List (List ℕ)
+stint_lines x = described (codes "POOL") x.device (not x.given) x.kind x.progress
 
 -- the slot has a device of this number
 abbrev pub has_device : SlotJob → ℕ → Bool

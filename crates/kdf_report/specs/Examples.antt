@@ -1,7 +1,7 @@
 -- What the examples are computed of.
-use Rattle.std.specs.Prelude.{ℕ, Bool, true, false, List, [], ◌∷◌, Some}
+use Rattle.std.specs.Prelude.{ℕ, Bool, true, false, List, [], ◌∷◌, None, Some}
 use Rattle.kdf_journal.specs.declared.kind.Kind.{Kind}
-use Rattle.kdf_journal.specs.declared.kind.Kind.TheVariants.{Tr, Tp, Cr, Mt}
+use Rattle.kdf_journal.specs.declared.kind.Kind.TheVariants.{Tr, Tp, Cr, Lp, Mt}
 use Rattle.kdf_tape.specs.Tape.{Recorded}
 use Rattle.kdf_transfer.specs.Devices.{Fixture, Progress, new_progress}
 use Rattle.kdf_processor.specs.State.{State, new_registers}
@@ -40,9 +40,11 @@ a_slot =
       deck = [];
       devices = a_device 2 ∷ a_device 0 ∷ a_device 1 ∷ [];
       shows = (2, 3) ∷ (0, 0) ∷ [];
+      pool = [];
     }
 
--- its program: a tape is claimed, a card reader is not, and a punch is
+-- its program: a tape is claimed, a card reader is not, and a punch is; another punch it took and gave back, and a printer it
+-- has still
 abbrev pub a_program : State
 a_program =
     record {
@@ -50,14 +52,16 @@ a_program =
       stock = record {
         claims = record {
           size = 4;
-          claimed = true ∷ false ∷ true ∷ [];
+          claimed = true ∷ false ∷ true ∷ false ∷ true ∷ [];
           fixtures = Some (of_kind Mt) ∷ Some (of_kind Cr) ∷ Some (of_kind Tp) ∷ [];
-          pool = [];
+          pool = None ∷ None ∷ None ∷ Some Tp ∷ Some Lp ∷ [];
         };
         spooled = record { stream = 7; text = 33 ∷ 34 ∷ 61 ∷ [] } ∷ record { stream = 0; text = [] } ∷ [];
         asked = 0;
-        stints = [];
+        stints =
+            record { device = 3; left = Some (wrote 1 ((36 ∷ []) ∷ [])) } ∷ record { device = 4; left = None } ∷ [];
         store = 10 ∷ 11 ∷ 12 ∷ 13 ∷ [];
-        devices = on_tape ∷ come 5 true ∷ wrote 1 ((35 ∷ []) ∷ []) ∷ [];
+        devices =
+            on_tape ∷ come 5 true ∷ wrote 1 ((35 ∷ []) ∷ []) ∷ new_progress ∷ wrote 1 ((37 ∷ []) ∷ []) ∷ [];
       };
     }

@@ -2,14 +2,14 @@
 -- of each slot.
 use Rattle.std.specs.Prelude.{◌≡◌, ℕ, ◌<◌, List, All, IsSomeAnd, is_some}
 use Rattle.std.specs.List.{filter, range_with_len}
-use Rattle.kdf_processor.specs.State.{State, device_limit, fixture_at}
+use Rattle.kdf_processor.specs.State.{State, device_limit, own_fixture_at}
 use Rattle.kdf_job.specs.Job.{SlotJob}
 use Rattle.kdf_director.specs.Shown.{Shown, state_of}
 use Rattle.kdf_report.specs.Devices.{device_numbers}
 
--- the numbers of the program's devices, rising
+-- the numbers of the program's own devices, rising
 unfoldable pub own_numbers : State → List ℕ
-own_numbers s = filter (λ d. is_some (fixture_at s.stock.claims d)) (range_with_len 0 device_limit)
+own_numbers s = filter (λ d. is_some (own_fixture_at s.stock.claims d)) (range_with_len 0 device_limit)
 
 -- the program has the slot's size, the words that are to be shown, and exactly its device numbers
 pub record IsProgramOf (slot : SlotJob) (s : State) : Type 0 where

@@ -6,7 +6,7 @@ use Rattle.kdf_journal.specs.declared.kind.Kind.{Kind}
 use Rattle.kdf_journal.specs.declared.kind.Kind.TheVariants.{Tp}
 use Rattle.kdf_transfer.specs.Devices.{Fixture, Progress}
 use Rattle.kdf_processor.specs.declared.registers.Registers.{Registers}
-use Rattle.kdf_processor.specs.State.{State, device_at, fixture_at, word_at}
+use Rattle.kdf_processor.specs.State.{State, device_at, own_fixture_at, word_at}
 use Rattle.kdf_job.specs.Job.{Job, SlotJob}
 use Rattle.kdf_report.specs.Text.{end_line, life_name}
 
@@ -19,9 +19,9 @@ abbrev pub punched_on : Option Fixture → Progress → ℕ
 punched_on None x = 0
 punched_on (Some f) x = punched f.kind x
 
--- those of device d of a program
+-- those of device d of a program's own
 abbrev pub blocks_at : State → ℕ → ℕ
-blocks_at s d = punched_on (fixture_at s.stock.claims d) (device_at s d)
+blocks_at s d = punched_on (own_fixture_at s.stock.claims d) (device_at s d)
 
 -- the number of which the job was made, the bytes of the job, and how many entries its journal has
 abbrev pub make_line : ℕ → List ℕ

@@ -12,9 +12,9 @@ use Rattle.kdf_processor.specs.declared.registers.Life.{Life}
 use Rattle.kdf_processor.specs.declared.registers.Life.TheVariants as life
 use Rattle.kdf_processor.specs.declared.registers.Registers.{Registers}
 use Rattle.kdf_processor.specs.declared.spooled.Spooled.{Spooled}
-use Rattle.kdf_processor.specs.State.{State, word_at}
+use Rattle.kdf_processor.specs.State.{State, lendings, word_at}
 use Rattle.kdf_job.specs.Job.{Job, SlotJob}
-use Rattle.kdf_report.specs.Devices.{bit, device_lines, device_numbers, host_text}
+use Rattle.kdf_report.specs.Devices.{bit, device_lines, device_numbers, host_text, stint_lines}
 
 -- each number after a space
 abbrev pub spaced_numbers : List ℕ → List ℕ
@@ -81,6 +81,7 @@ section slot s =
     ++ flat_map (show_lines s) slot.shows
     ++ map spool_line s.stock.spooled
     ++ flat_map (device_lines s) (device_numbers slot)
+    ++ flat_map stint_lines (lendings s.stock)
 
 -- the first line of the text of a program that ran alone
 abbrev pub alone_line : ℕ → List ℕ

@@ -15,7 +15,7 @@ use Rattle.kdf_processor.specs.declared.spooled.Spooled.{Spooled}
 use Rattle.kdf_processor.specs.Claims.{is_claimed}
 use Rattle.kdf_processor.specs.Lone.{lone}
 use Rattle.kdf_processor.specs.State.{State, begin, device_at, word_at}
-use Rattle.kdf_director.specs.Loading.{load_of, slot_of}
+use Rattle.kdf_job.specs.Slots.{slot_of}
 use Rattle.kdf_report.specs.Devices.{device_numbers}
 
 -- a job with one slot: the line of its store, its deck, and its devices with their media and what is shown
@@ -87,7 +87,7 @@ seen slot s =
 
 -- after n orders by itself
 abbrev pub seen_after : ℕ → SlotJob → List ℕ → Seen
-seen_after n s words = seen s (lone (begin (slot_of (load_of s words))) [] n)
+seen_after n s words = seen s (lone (begin (slot_of s words)) [] n)
 
 -- of each program of a job, run alone for n orders
 abbrev pub alone : ℕ → List (List ℕ) → List Seen
@@ -96,7 +96,7 @@ alone n lines = map (λ (s : SlotJob). seen_after n s (image_words s.size s.deck
 -- a slot with devices, of which these words are shown
 abbrev pub a_slot : ℕ → List ℕ → List JobDevice → List (ℕ × ℕ) → SlotJob
 a_slot size deck devices shows =
-    record { p = 0; size = size; deck = deck; devices = devices; shows = shows }
+    record { p = 0; size = size; deck = deck; devices = devices; shows = shows; pool = [] }
 
 abbrev pub reader : ℕ → List ℕ → JobDevice
 reader d codes =

@@ -9,22 +9,22 @@ ghost use Rattle.kdf_processor.specs.declared.registers.Life.TheVariants as life
 ghost use Rattle.kdf_processor.specs.declared.registers.Life.TheVariants.{Failed};
 ghost use Rattle.kdf_processor.specs.State.{new_registers};
 ghost use Rattle.kdf_qstore.specs.Triples.{with_triple, zero_triples};
-ghost use Rattle.kdf_report.specs.Devices.{block_lines, described, device_line, device_lines, device_numbers};
+ghost use Rattle.kdf_report.specs.Devices.{block_lines, device_line, device_lines, device_numbers, own_lines, stint_lines};
 ghost use Rattle.kdf_report.specs.Examples.{a_program, a_slot, come, on_tape, two_blocks, wrote};
 ghost use Rattle.kdf_report.specs.Summary.{entries_line, job_line, make_line, punched, slot_line};
 ghost use Rattle.kdf_report.specs.Text.{entry_line, registers_lines, section, show_lines, spool_line};
 
 /// What a line says of a device: its number and kind, HELD or FREE, its place and its flag.
 pub fn devices()
-    ensures reader { device_line 3 true Tr (come 16 false)
+    ensures reader { device_line (codes "DEVICE") 3 true Tr (come 16 false)
         ≡ codes "DEVICE 3 TR HELD PLACE 16 FLAG 0" }
-    ensures cards { device_line 0 false Cr (come 2 true)
+    ensures cards { device_line (codes "DEVICE") 0 false Cr (come 2 true)
         ≡ codes "DEVICE 0 CR FREE PLACE 2 FLAG 1" }
-    ensures punch { device_line 15 true Tp (wrote 200 [])
+    ensures punch { device_line (codes "DEVICE") 15 true Tp (wrote 200 [])
         ≡ codes "DEVICE 15 TP HELD PLACE 200 FLAG 0" }
-    ensures printer { device_line 9 false Lp (wrote 0 [])
+    ensures printer { device_line (codes "DEVICE") 9 false Lp (wrote 0 [])
         ≡ codes "DEVICE 9 LP FREE PLACE 0 FLAG 0" }
-    ensures tape { device_line 10 true Mt on_tape ≡ codes "DEVICE 10 MT HELD PLACE 1 FLAG 0" }
+    ensures tape { device_line (codes "DEVICE") 10 true Mt on_tape ≡ codes "DEVICE 10 MT HELD PLACE 1 FLAG 0" }
 {}
 
 /// The blocks of a punch, of a printer and of a tape, whose block with the mark is its LAST; a reader has none.
@@ -37,7 +37,17 @@ pub fn blocks()
         ≡ codes "BLOCK         ~A|" ∷ [] }
     ensures tape { block_lines Mt on_tape
         ≡ codes "BLOCK ABCDEFGH" ∷ codes "LAST 01     ~|      >" ∷ [] }
-    ensures none { described 4 true None on_tape ≡ [] }
+    ensures none { own_lines 4 true None on_tape ≡ [] }
+{}
+
+/// What is said of a stint: HELD until its device is given back, then FREE, and its blocks in any case.
+pub fn stints()
+    ensures held { stint_lines (record { device = 9; kind = Tp; progress = wrote 1 (replicate 8 0 ∷ []); given = false })
+        ≡ codes "POOL 9 TP HELD PLACE 1 FLAG 0" ∷ codes "BLOCK         " ∷ [] }
+    ensures back { stint_lines (record { device = 15; kind = Lp; progress = wrote 2 ((33 ∷ []) ∷ [] ∷ []); given = true })
+        ≡ codes "POOL 15 LP FREE PLACE 2 FLAG 0" ∷ codes "BLOCK A" ∷ codes "BLOCK " ∷ [] }
+    ensures none { stint_lines (record { device = 0; kind = Tp; progress = wrote 0 []; given = true })
+        ≡ codes "POOL 0 TP FREE PLACE 0 FLAG 0" ∷ [] }
 {}
 
 /// What is spooled, behind its stream.
@@ -91,7 +101,7 @@ pub fn registers()
         ∷ codes "Q 1 65535 32 33" ∷ codes "Q 15 0 0 1" ∷ [] }
 {}
 
-/// The section of a slot whose devices stand in another order than that of their numbers.
+/// The section of a slot whose devices stand in another order than that of their numbers, and which took two from the pool.
 pub fn whole_section()
     ensures numbers { device_numbers a_slot ≡ 0 ∷ 1 ∷ 2 ∷ [] }
     ensures words { show_lines a_program (2, 3)
@@ -106,5 +116,9 @@ pub fn whole_section()
         ∷ codes "BLOCK ABCDEFGH" ∷ codes "LAST 01     ~|      >"
         ∷ codes "DEVICE 1 CR FREE PLACE 5 FLAG 1"
         ∷ codes "DEVICE 2 TP HELD PLACE 1 FLAG 0"
-        ∷ codes "BLOCK C" ∷ [] }
+        ∷ codes "BLOCK C"
+        ∷ codes "POOL 3 TP FREE PLACE 1 FLAG 0"
+        ∷ codes "BLOCK D"
+        ∷ codes "POOL 4 LP HELD PLACE 1 FLAG 0"
+        ∷ codes "BLOCK E" ∷ [] }
 {}

@@ -42,7 +42,15 @@ impl Program for InSlot<'_> {
     }
 
     fn claimed(&self, d: u8) -> bool {
-        has_device(self.slot, d) && self.machine.claimed(d)
+        self.machine.claimed(d)
+    }
+
+    fn stints(&self) -> usize {
+        self.machine.stints(self.slot.p)
+    }
+
+    fn stint(&self, i: usize) -> (u8, bool, &Device) {
+        self.machine.stint(self.slot.p, i)
     }
 
     fn spooled(&self) -> &[Spooled] {

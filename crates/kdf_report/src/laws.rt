@@ -6,7 +6,7 @@ ghost use Rattle.kdf_processor.specs.Lone.{is_live, lone};
 ghost use Rattle.kdf_processor.specs.State.{State, begin};
 ghost use Rattle.kdf_job.specs.Job.{Job, SlotJob};
 ghost use Rattle.kdf_job.specs.Reading.{job, job_fault};
-ghost use Rattle.kdf_job.specs.SlotLines.{slot_lines};
+ghost use Rattle.kdf_job.specs.SlotLines.{pool_lines, slot_lines};
 ghost use Rattle.kdf_job.specs.Slots.{slot_of};
 ghost use Rattle.kdf_job.specs.WellFormed.{AreSlots, IsSlot};
 ghost use Rattle.kdf_director.specs.Legal.{IsLegal};
@@ -53,12 +53,13 @@ pub fn section_in_report()
         × (report_lines job J states ≡ front ++ lines ++ rest) }
 {}
 
-/// Let two jobs without a fault have the same lines of slot p, or the same slot p, each a legal journal by which program p isn't
-/// live, and the program be answered alike in both. Then it has the same section in both reports, whatever the other slots and the
-/// schedules are.
+/// Let two jobs without a fault have the same lines of slot p and of the pool, or the same slot p, which knows the pool, each a legal
+/// journal by which program p isn't live, and the program be answered alike in both: by what it asked, and by the devices that it took
+/// from the pool. Then it has the same section in both reports, whatever the other slots and the schedules are.
 pub fn two_worlds()
     ensures lines { (first second : List ℕ) (J K : List Entry) (p : ℕ) →
         job_fault first ≡ None → job_fault second ≡ None → slot_lines p first ≡ slot_lines p second →
+        pool_lines first ≡ pool_lines second →
         IsLegal (slots_of (job first)) J → IsLegal (slots_of (job second)) K → answers p J ≡ answers p K →
         is_live (own (slots_of (job first)) J p).registers.state ≡ false →
         is_live (own (slots_of (job second)) K p).registers.state ≡ false →

@@ -16,6 +16,7 @@ mod reports;
 mod section;
 mod shows;
 mod spool;
+mod stints;
 mod summaries;
 pub mod worked;
 

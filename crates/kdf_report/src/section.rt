@@ -10,13 +10,14 @@ use crate::devices::write_devices;
 use crate::registers::write_registers;
 use crate::shows::write_shows;
 use crate::spool::write_spooled;
+use crate::stints::write_stints;
 use kdf_job::SlotJob;
 use std::alloc::AllocError;
 use std::fmt::Write;
 
-/// Writes the section of a slot: the registers of its program, the words that are to be shown, what it spooled, and its devices with
-/// their blocks, the least number first. The program has the slot's size, above all addresses that are to be shown, and exactly its
-/// device numbers. Without memory nothing is said of `out`.
+/// Writes the section of a slot: the registers of its program, the words that are to be shown, what it spooled, its devices with their
+/// blocks, the least number first, and its stints with their blocks, the first one first. The program has the slot's size, above all
+/// addresses that are to be shown, and exactly its device numbers. Without memory nothing is said of `out`.
 pub fn write_section<P: Program>(
     out: &mut String,
     slot: &SlotJob,
@@ -29,7 +30,8 @@ pub fn write_section<P: Program>(
     write_registers(out, program.registers())?;
     write_shows(out, &slot.shows, program)?;
     write_spooled(out, program.spooled())?;
-    write_devices(out, program)
+    write_devices(out, program)?;
+    write_stints(out, program)
 }
 
 #[tactic(auto, unfolding(kdf_text::specs::Text::text))]

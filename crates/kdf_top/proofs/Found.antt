@@ -1,12 +1,14 @@
 -- A slot that is found by its number, with the image of its deck.
-use Rattle.std.proofs.Common.{◌≡◌, ℕ, zero, suc, ◌+◌, ◌<◌, ◌≤◌, cond, List, [], ◌∷◌, length, map, drop, get_or, Some, All, sym, subst, ◌∙◌, ap, arith}
+use Rattle.std.proofs.Common.{◌≡◌, ℕ, zero, suc, ◌+◌, ◌<◌, ◌≤◌, cond, List, [], ◌∷◌, length, map, drop, get_or, Some, sym, subst, ◌∙◌, ap, arith}
 use Rattle.std.proofs.lemmas.Bool.{eq-eqb, ne_eqb}
 use Rattle.std.proofs.lemmas.List.{at_drop_more, get_or-map, length-map}
 use Rattle.kdf_place.specs.declared.image.Image.{Image}
 use Rattle.kdf_place.specs.Assembled.{words_or_none}
 use Rattle.kdf_job.specs.declared.job.SlotJob.{SlotJob as ReadSlot}
 use Rattle.kdf_job.specs.Shows.{shown_slot}
-use Rattle.kdf_job.specs.WellFormed.{IsSlot}
+use Rattle.kdf_job.specs.WellFormed.{AreSlots, IsSlot}
+use Rattle.kdf_alone.specs.Program.{IsApart}
+use Rattle.kdf_alone.proofs.Apart.{slot_apart}
 use Rattle.kdf_director.specs.Loading.{HaveImages}
 use Rattle.kdf_top.specs.Loaded.{HasImages, IsFound, images_of, slot_numbered}
 use Rattle.kdf_top.proofs.LoadedDecks.{picture_due, pictured, same_pictures, words_due}
@@ -45,12 +47,14 @@ module _ (slots : List ReadSlot) (images : List Image) (have : HasImages (map sh
         ap picture_due (sym is) ∙ sym (get_or-map picture_due slots k d (pictured e) lt) ∙ ap (λ ps. get_or ps k (pictured e)) (sym due)
         ∙ get_or-map pictured images k e (pictured e) (let same = as_many in omega arith) ∙ ap pictured its
 
-    pub found_here : All IsSlot (map shown_slot slots) → slot.p ≡ p → IsFound (map shown_slot slots) p slot image
+    pub found_here : AreSlots (map shown_slot slots) → slot.p ≡ p → IsFound (map shown_slot slots) p slot image
     found_here are same =
         let at : get_or (map shown_slot slots) k (shown_slot d) ≡ shown_slot slot = get_or-map shown_slot slots k d (shown_slot d) lt ∙ ap shown_slot is in
+        let inside : k < length (map shown_slot slots) = omega (arith, length-map slots shown_slot) in
         record {
           found = so_far ∙ front_is slots k p d lt (ap (λ (s : ReadSlot). s.p) is ∙ same) ∙ ap (λ (s : ReadSlot). Some (shown_slot s)) is;
-          well_formed = subst IsSlot at (are k (shown_slot d) (omega (arith, length-map slots shown_slot)));
+          well_formed = subst IsSlot at (are.each k (shown_slot d) inside);
+          apart = subst IsApart at (slot_apart (map shown_slot slots) k (shown_slot d) inside are);
           picture = picture;
           fits = subst (λ (words : List ℕ). length words ≤ slot.size) (ap words_or_none picture)
               (subst (λ (s : ReadSlot). length (words_due s) ≤ s.size) is (fits_at slots k d have.fits lt));

@@ -10,6 +10,7 @@ use Rattle.kdf_job.specs.Job.{SlotJob}
 use Rattle.kdf_job.specs.Reading.{job}
 use Rattle.kdf_job.specs.Shows.{shown_job, shown_slot}
 use Rattle.kdf_job.specs.WellFormed.{IsSlot}
+use Rattle.kdf_alone.specs.Program.{IsApart}
 use Rattle.kdf_director.specs.Loading.{HaveImages}
 pub use Rattle.kdf_report.specs.Loaded.{images_of, slot_numbered, slots_of}
 
@@ -26,6 +27,7 @@ pub record HasImages (slots : List SlotJob) (images : List Image) : Type 0 where
 pub record IsFound (slots : List SlotJob) (p : ℕ) (slot : ReadSlot) (image : Image) : Type 0 where
   pub found : slot_numbered slots p ≡ Some (shown_slot slot)
   pub well_formed : IsSlot (shown_slot slot)
+  pub apart : IsApart (shown_slot slot)
   pub picture : assembled slot.size slot.deck.items ≡ Ok (shown_image image)
   pub fits : length image.words.items ≤ slot.size
 

@@ -5,6 +5,7 @@ ghost use Rattle.kdf_place.specs.Assembled.{image_words};
 ghost use Rattle.kdf_job.specs.Limits.{most_orders};
 ghost use Rattle.kdf_job.specs.Shows.{shown_job, shown_slot};
 ghost use Rattle.kdf_job.specs.WellFormed.{IsJob, IsSlot};
+ghost use Rattle.kdf_alone.specs.Program.{IsApart};
 ghost use Rattle.kdf_report.specs.Text.{alone_text};
 ghost use Rattle.kdf_top.specs.Due.{alone_of, alone_state};
 ghost use Rattle.kdf_top.specs.Loaded.{HasImages};
@@ -38,6 +39,7 @@ fn run_slot(
     events: &[Event],
 ) -> Result<Vec<u8>, AllocError>
     requires slot { IsSlot (shown_slot slot.now) }
+    requires apart { IsApart (shown_slot slot.now) }
     requires image { image.now.words.items ≡ image_words slot.now.size slot.now.deck.items }
     requires fits { length image.now.words.items ≤ slot.now.size }
     requires few { order_count events.now ≤ most_orders }

@@ -1,7 +1,7 @@
 //! The slot of a number.
-ghost use Rattle.std.specs.Prelude.{◌≡◌, None, All, map, IfNone, IfSome};
+ghost use Rattle.std.specs.Prelude.{◌≡◌, None, map, IfNone, IfSome};
 ghost use Rattle.kdf_job.specs.Shows.{shown_slot};
-ghost use Rattle.kdf_job.specs.WellFormed.{IsSlot};
+ghost use Rattle.kdf_job.specs.WellFormed.{AreSlots};
 ghost use Rattle.kdf_top.specs.Loaded.{HasImages, IsFound, slot_numbered};
 
 use kdf_job::SlotJob;
@@ -13,7 +13,7 @@ pub fn find_slot<'a>(
     images: &'a [Image],
     p: u8,
 ) -> Option<(&'a SlotJob, &'a Image)>
-    requires slots { All IsSlot (map shown_slot slots.now) }
+    requires slots { AreSlots (map shown_slot slots.now) }
     requires images { HasImages (map shown_slot slots.now) images.now }
     ensures none { IfNone result (slot_numbered (map shown_slot slots.now) p ≡ None) }
     ensures some { IfSome result (λ found. IsFound (map shown_slot slots.now) p found.0.now found.1.now) }

@@ -65,7 +65,7 @@ const JOURNAL: &str = "RAN 0 8\n\
     ENDED 0\n";
 
 /// A job that is read, which has no fault.
-fn job_of(rt: &impl Abort, alloc: Global, text: &str) -> Result<Job, AllocError>
+pub fn job_of(rt: &impl Abort, alloc: Global, text: &str) -> Result<Job, AllocError>
     ensures { IfOk result (λ job. IsJob (shown_job job)) }
 {
     assert!(rt; text.len() < 100_000);
@@ -76,7 +76,7 @@ fn job_of(rt: &impl Abort, alloc: Global, text: &str) -> Result<Job, AllocError>
 }
 
 /// The image of a slot's deck, which has no fault.
-fn image_of(rt: &impl Abort, alloc: Global, slot: &SlotJob) -> Result<Image, AllocError>
+pub fn image_of(rt: &impl Abort, alloc: Global, slot: &SlotJob) -> Result<Image, AllocError>
     ensures { IfOk result (λ image. length image.words.items ≤ slot.now.size) }
 {
     assert!(rt; slot.deck.len() < 100_000 && slot.size <= 8192);

@@ -27,6 +27,8 @@ mod nest;
 #[cfg(test)]
 mod place;
 #[cfg(test)]
+mod pool;
+#[cfg(test)]
 mod processor;
 #[cfg(test)]
 mod qstore;

@@ -1,18 +1,11 @@
-use Rattle.std.proofs.Common.{None, sym, ◌∙◌}
-use Rattle.kdf_job.specs.Shows.{shown_slot}
-use Rattle.kdf_director.specs.Shown.{state_at, state_of}
+use Rattle.std.proofs.Common.{None}
+use Rattle.kdf_director.specs.Shown.{state_of}
 use Rattle.kdf_director.specs.Slots.{start_of}
-use Rattle.kdf_report.proofs.Numbers.{any_number, claimed_there, not_claimed}
+use Rattle.kdf_report.proofs.Numbers.{claimed_there}
 use Rattle.kdf_report.proofs.in_slot.InSlotProgram.claimed.Goals as goal
 
-pub returns-then-has_device : goal.returns-then-has_device
-returns-then-has_device c =
+pub returns : goal.returns
+returns c =
     let x = c.args.self.now in
-    claimed_there (state_of x.machine.now x.slot.now.p) (shown_slot x.slot.now) (start_of None) c.args.d c.claimed.result x.there x.numbers c.requires
-    (sym (any_number x.slot.now.devices.items c.args.d) ∙ sym c.has_device.ensures ∙ c.if-has_device.true) (c.claimed.ensures.own x.slot.now.p)
-
-pub returns-else-has_device : goal.returns-else-has_device
-returns-else-has_device c =
-    let x = c.args.self.now in
-    c.if-has_device.false ∙ sym (not_claimed (shown_slot x.slot.now) (state_at x.machine.now x.slot.now.p) c.args.d x.numbers c.requires
-    (sym (any_number x.slot.now.devices.items c.args.d) ∙ sym c.has_device.ensures ∙ c.if-has_device.false))
+    claimed_there (state_of x.machine.now x.slot.now.p) (start_of None) c.args.d c.claimed.result x.there c.requires
+    (c.claimed.ensures.own x.slot.now.p)

@@ -1,0 +1,241 @@
+//! Programs that share punches and printers, under twenty schedules: the section of each that is over is the one that it has alone,
+//! with the answers that the journal tells.
+ghost use Rattle.std.specs.Prelude.{◌≡◌, ◌<◌, ◌≤◌, IfOk, length, map};
+ghost use Rattle.kdf_place.specs.declared.image.Image.{Image as Made};
+ghost use Rattle.kdf_director.specs.Loading.{HaveImages, slots_of};
+ghost use Rattle.kdf_job.specs.Shows.{shown_job, shown_slot};
+ghost use Rattle.kdf_job.specs.WellFormed.{IsJob, IsSlot};
+ghost use Rattle.kdf_alone.specs.Program.{IsApart};
+ghost use Rattle.kdf_report.specs.MadeFrom.{IsProgramOf};
+
+mod jobs;
+
+use crate::director::{image_of, job_of};
+use jobs::{JOBS, Shared};
+use kdf_alone::Alone;
+use kdf_director::Machine;
+use kdf_job::{Job, SlotJob};
+use kdf_journal::CALL_LIMIT;
+use kdf_place::Image;
+use kdf_processor::Life;
+use kdf_report::{alone_text, sections};
+use kdf_schedule::Event;
+use std::alloc::{AllocError, Global};
+use std::fmt::Write;
+use std::process::Abort;
+use std::test::Fail;
+
+/// How many orders a round of a schedule has.
+const ORDERS: [u32; 8] = [1, 2, 3, 5, 7, 11, 20, 60];
+
+/// How many rounds a schedule has.
+const ROUNDS: u32 = 300;
+
+/// Round `i` of schedule `k`: an exchange, orders, and then of each device a word that moves or not, and its end in this round or in
+/// a later one.
+fn write_round(out: &mut String, k: u32, i: u32, devices: &[u8]) -> Result<(), AllocError> {
+    let orders = ORDERS[(k % 8) as usize];
+    let (p, q) = (i % 4, (i / 4 + k) % 4);
+    writeln!(out, "SWAP {p} {q}\nORDERS {orders}")?;
+    if k % 3 == 1 {
+        writeln!(out, "CLOCK {i}")?;
+    }
+    for d in devices {
+        if k % 4 == 2 {
+            writeln!(out, "MOVE {d} 1")?;
+        }
+        if i % (k % 5 + 1) == u32::from(*d) % (k % 5 + 1) {
+            writeln!(out, "END {d}")?;
+        }
+    }
+    Ok(())
+}
+
+/// The job under schedule `k`.
+fn job_text(alloc: Global, shared: &Shared, k: u32) -> Result<String, AllocError> {
+    let mut out = String::from_str(alloc, shared.front)?;
+    out.push_str("SCHEDULE\n")?;
+    for i in 0..ROUNDS {
+        write_round(&mut out, k, i, shared.devices)?;
+    }
+    out.push_str("ENDJOB\n")?;
+    Ok(out)
+}
+
+/// The image of each slot's deck; none of them has a fault.
+fn images_of(rt: &impl Abort, alloc: Global, slots: &[SlotJob]) -> Result<Vec<Image>, AllocError>
+    ensures { IfOk result (λ images. HaveImages (map shown_slot slots.now)
+        (map (λ (x : Made). x.words.items) images.items)) }
+{
+    let mut images = Vec::new(alloc);
+    for slot in slots {
+        images.push(image_of(rt, alloc, slot)?)?;
+    }
+    Ok(images)
+}
+
+/// A slot of a job.
+#[tactic(auto, using(crate::proofs::Tried::slot_at, crate::proofs::Tried::apart_at))]
+fn slot_at(job: &Job, place: usize) -> &SlotJob
+    requires job { IsJob (shown_job job.now) }
+    requires inside { place < length job.now.slots.items }
+    ensures slot { IsSlot (shown_slot result.now) }
+    ensures apart { IsApart (shown_slot result.now) }
+{
+    &job.slots[place]
+}
+
+fn obey(rt: &impl Abort, machine: &mut Machine, orders: u32) -> Result<(), AllocError>
+    ensures { machine.new.slots ≡ machine.old.slots }
+{
+    for _i in 0..orders {
+        assert!(rt; machine.journal().calls() < CALL_LIMIT);
+        machine.order()?;
+    }
+    Ok(())
+}
+
+fn enter(rt: &impl Abort, machine: &mut Machine, event: Event) -> Result<(), AllocError>
+    ensures { machine.new.slots ≡ machine.old.slots }
+{
+    assert!(rt; machine.room() > 0);
+    match event {
+        Event::Orders(n) => obey(rt, machine, n)?,
+        Event::Move(d, n) => {
+            assert!(rt; d < 16 && n > 0 && n <= 4096);
+            machine.move_words(d, n);
+        }
+        Event::End(d) => {
+            assert!(rt; d < 16);
+            machine.end(d);
+        }
+        Event::Clock(t) => {
+            assert!(rt; machine.journal().clock() <= t);
+            machine.clock(t);
+        }
+        Event::Swap(p, q) => {
+            assert!(rt; p < 4 && q < 4);
+            machine.swap(p, q);
+        }
+    }
+    Ok(())
+}
+
+/// Runs a machine under a schedule.
+fn run(rt: &impl Abort, machine: &mut Machine, events: &[Event]) -> Result<(), AllocError>
+    ensures { machine.new.slots ≡ machine.old.slots }
+{
+    for event in events {
+        enter(rt, machine, *event)?;
+    }
+    Ok(())
+}
+
+/// The program of a slot, run alone with these answers for so many orders.
+fn alone_after(
+    alloc: Global,
+    slot: &SlotJob,
+    image: &Image,
+    answers: &[u64],
+    orders: u32,
+) -> Result<Alone, AllocError>
+    requires slot { IsSlot (shown_slot slot.now) }
+    requires apart { IsApart (shown_slot slot.now) }
+    requires fits { length image.now.words.items ≤ slot.now.size }
+    ensures { IfOk result (λ program. IsProgramOf (shown_slot slot.now) program) }
+{
+    let mut program = Alone::load(alloc, slot, image)?;
+    program.orders(answers, orders)?;
+    Ok(program)
+}
+
+/// The program of a slot is over, and has the section that it has alone among these.
+fn compare(
+    rt: &impl Abort,
+    alloc: Global,
+    machine: &Machine,
+    slot: &SlotJob,
+    image: &Image,
+    sections: &[u8],
+) -> Result<(), AllocError>
+    requires slot { IsSlot (shown_slot slot.now) }
+    requires apart { IsApart (shown_slot slot.now) }
+{
+    assert!(rt; image.words.len() <= usize::from(slot.size));
+    let answers = machine.journal().answers(alloc, slot.p)?;
+    let orders = machine.journal().ran(slot.p);
+    let program = alone_after(alloc, slot, image, &answers, orders)?;
+    let p = slot.p;
+    assert!(rt; program.registers().state != Life::Live, "slot {p}");
+    let alone = alone_text(alloc, slot, &program)?;
+    assert!(rt; alone.len() > 24);
+    let section = &alone[13..alone.len() - 10];
+    assert!(rt;
+        sections.windows(section.len()).any(|part| part == section),
+        "slot {p}"
+    );
+    Ok(())
+}
+
+/// The sections of a machine after the schedule of its job.
+fn reported(
+    rt: &impl Abort,
+    alloc: Global,
+    machine: &mut Machine,
+    job: &Job,
+    images: &[Image],
+) -> Result<Vec<u8>, AllocError>
+    requires job { IsJob (shown_job job.now) }
+    requires images { HaveImages (map shown_slot job.now.slots.items)
+        (map (λ (x : Made). x.words.items) images.now) }
+    requires slots { machine.old.slots ≡ slots_of (map shown_slot job.now.slots.items)
+        (map (λ (x : Made). x.words.items) images.now) }
+{
+    run(rt, machine, &job.events)?;
+    let _journal = machine.journal();
+    sections(alloc, job, machine)
+}
+
+/// Compares each program of the machine with the same one alone.
+fn compare_all(
+    rt: &impl Abort,
+    alloc: Global,
+    machine: &mut Machine,
+    job: &Job,
+    images: &[Image],
+) -> Result<(), AllocError>
+    requires job { IsJob (shown_job job.now) }
+    requires images { HaveImages (map shown_slot job.now.slots.items)
+        (map (λ (x : Made). x.words.items) images.now) }
+    requires slots { machine.old.slots ≡ slots_of (map shown_slot job.now.slots.items)
+        (map (λ (x : Made). x.words.items) images.now) }
+{
+    let text = reported(rt, alloc, machine, job, images)?;
+    assert!(rt; images.len() == job.slots.len());
+    for i in 0..job.slots.len() {
+        compare(rt, alloc, machine, slot_at(job, i), &images[i], &text)?;
+    }
+    Ok(())
+}
+
+/// Compares the programs of a job under schedule `k`.
+fn check(rt: &impl Abort, alloc: Global, shared: &Shared, k: u32) -> Result<(), AllocError> {
+    let text = job_text(alloc, shared, k)?;
+    let job = job_of(rt, alloc, text.as_str())?;
+    let images = images_of(rt, alloc, &job.slots)?;
+    let mut machine = Machine::load(alloc, &job, &images)?;
+    let compared = compare_all(rt, alloc, &mut machine, &job, &images);
+    machine.close();
+    compared
+}
+
+#[test]
+fn programs_of_a_pool_end_as_alone(rt: HostRuntime) -> Result<(), Fail> {
+    for shared in &JOBS {
+        for k in 0..20u32 {
+            let name = shared.name;
+            assert!(rt; check(&rt, rt.alloc(), shared, k).is_ok(), "{name}, schedule {k}");
+        }
+    }
+    Ok(())
+}
