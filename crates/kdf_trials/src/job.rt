@@ -1,18 +1,19 @@
 //! A job that is read, and jobs that are made from numbers.
 ghost use Rattle.std.specs.Prelude.{◌+◌, ◌<◌, ◌^◌, length};
 
-use kdf_job::{TEXT_LIMIT, generated, read_job};
+use kdf_job::{TEXT_LIMIT, generated, kind_lent, read_job};
 use kdf_journal::Kind;
 use kdf_schedule::Event;
 use kdf_text::Lines;
 use kdf_transfer::Device;
 use std::test::Fail;
 
-/// A job with all kinds of devices and events.
+/// A job with all kinds of devices and events, and a pool.
 const JOB: &str = "KDF9 JOB 1\nSLOT 1\nSTORE 64\nDECK\nA;\n\n ENDDECK\nENDDECK\n\
     DEVICE 0 TR\n+\n+AB\n+C 1\nDEVICE 5 CR\n+\n+AB\nDEVICE 6 TP\nDEVICE 15 LP\n\
     DEVICE 7 MT TAPE7\n+A\n=12345678\nSHOW 0 63\nSHOW 5 5\n\
     SLOT 3\nSTORE 8192\nDECK\nENDDECK\nDEVICE 8 MT TAPE7\nDEVICE 9 MT A\nDEVICE 1 TR\n\
+    POOL\nDEVICE 2 TP\nDEVICE 10 LP\n\
     SCHEDULE\nCLOCK 7\nORDERS 20\nMOVE 3 9\nEND 14\nSWAP 3 0\nENDJOB";
 
 /// Its devices in their order: slot, number, kind, and `words`.
@@ -35,6 +36,9 @@ const DEVICES: &[(u8, u8, Kind, [u64; 3])] = &[
     (3, 9, Kind::Mt, [0o4100_0000_0000_0000, 0, 0]),
     (3, 1, Kind::Tr, [0, 0, 0]),
 ];
+
+/// The devices of its pool.
+const LENT: &[(u8, Kind)] = &[(2, Kind::Tp), (10, Kind::Lp)];
 
 /// The first two words of a reader, or of the first two cards; the label of a tape, and the first
 /// words of its two blocks, of which the second alone is marked. A word that there isn't is 0.
@@ -64,12 +68,15 @@ fn a_job_is_read(rt: HostRuntime) -> Result<(), Fail> {
             assert!(rt; rows.next() == Some(&row), "of device {d}");
             assert!(rt; slot.device(*d).map(|device| device.kind()) == Some(row.2));
         }
+        assert!(rt; slot.pool.as_slice() == LENT, "of slot {}", slot.p);
         if slot.p == 1 {
             assert!(rt; slot.size == 64 && slot.deck.as_slice() == b"A;\n\n ENDDECK\n".as_slice());
             assert!(rt; slot.shows.as_slice() == [(0, 63), (5, 5)].as_slice());
         }
     }
     assert!(rt; rows.next().is_none());
+    assert!(rt; job.pool.as_slice() == LENT);
+    assert!(rt; kind_lent(&job.pool, 10) == Some(Kind::Lp) && kind_lent(&job.pool, 1).is_none());
     let events = [
         Event::Clock(7),
         Event::Orders(20),

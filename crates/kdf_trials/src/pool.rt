@@ -234,7 +234,10 @@ fn programs_of_a_pool_end_as_alone(rt: HostRuntime) -> Result<(), Fail> {
     for shared in &JOBS {
         for k in 0..20u32 {
             let name = shared.name;
-            assert!(rt; check(&rt, rt.alloc(), shared, k).is_ok(), "{name}, schedule {k}");
+            assert!(rt;
+                check(&rt, rt.alloc(), shared, k).is_ok(),
+                "{name}, schedule {k}"
+            );
         }
     }
     Ok(())
