@@ -35,7 +35,7 @@ const ROUNDS: u32 = 300;
 /// a later one.
 fn write_round(out: &mut String, k: u32, i: u32, devices: &[u8]) -> Result<(), AllocError> {
     let orders = ORDERS[(k % 8) as usize];
-    let (p, q) = (i % 4, (i / 4 + k) % 4);
+    let (p, q) = (i % 4, (i / 4 % 4 + k % 4) % 4);
     writeln!(out, "SWAP {p} {q}\nORDERS {orders}")?;
     if k % 3 == 1 {
         writeln!(out, "CLOCK {i}")?;
