@@ -1,5 +1,5 @@
 -- The slots of a job without a fault are well formed, whatever the length of their decks.
-use Rattle.std.proofs.Common.{◌≡◌, ℕ, ◌+◌, ◌<◌, ◌≤◌, ◌%◌, Bool, true, false, cond, ◌&&◌, ◌||◌, List, [], ◌∷◌, ◌++◌, length, map, Option, Some, None, Result, Ok, Err, codes, refl, sym, ap, subst, ◌∙◌, arith, append_assoc, length-append}
+use Rattle.std.proofs.Common.{◌≡◌, ℕ, ◌+◌, ◌<◌, ◌≤◌, ◌%◌, Bool, true, false, cond, ◌||◌, List, [], ◌∷◌, ◌++◌, length, map, Option, Some, None, Result, Ok, Err, codes, refl, sym, ap, subst, ◌∙◌, arith, append_assoc, length-append}
 use Rattle.std.specs.Prelude.{is_none, nat_eq}
 use Rattle.std.specs.Option.{option_map, option_to_list}
 use Rattle.std.specs.List.{All, IsDistinct, flat_map, list_any}
@@ -30,7 +30,7 @@ use Rattle.kdf_job.proofs.Begins.{blank_sound}
 use Rattle.kdf_job.proofs.PoolDevices.{a_writer, after_free}
 use Rattle.kdf_job.proofs.Pools.{are_slots}
 use Rattle.kdf_job.proofs.Slots.{apart_more, ds, numbers_last, numbers_more, numbers_same, slots_changed, slots_first, slots_more}
-use Rattle.kdf_report.proofs.JobForms.{IsElse, IsInRange, IsToldAt, is_store, told_form}
+use Rattle.kdf_report.proofs.JobForms.{IsInRange, IsToldAt, is_store, told_form}
 
 -- ---- slots, of which what is loaded turns on everything
 
