@@ -55,7 +55,7 @@ JOB_FAULTS = [
     ("ClockFalls", HEAD + "SCHEDULE\nCLOCK 10\nCLOCK 9\nENDJOB\n", 9, 7, "the time is earlier than the one before it"),
     ("TooManyOrders", HEAD + "SCHEDULE\nORDERS 20000000\nORDERS 1\nENDJOB\n", 9, 8, "the `ORDERS` lines so far add up to more than 20000000"),
     ("TooManyEvents", HEAD + "SCHEDULE\n" + "END 1\n" * 500001 + "ENDJOB\n", 500008, 1, "this is line 500,001 of the schedule"),
-    ("PoolKind", HEAD + "POOL\nDEVICE 9 TR\n" + TAIL, 8, 10, "the pool has only punches and printers"),
+    ("PoolKind", HEAD + "POOL\nDEVICE 9 TR\n" + TAIL, 8, 10, "a device of the pool is neither a punch nor a printer"),
 ]
 
 # Texts that aren't jobs, where the fault is, the text there, and what follows the sentence on the fault.
