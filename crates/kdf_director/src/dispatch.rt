@@ -78,7 +78,9 @@ fn try_next(
     obey_next(registers, &mut turn)
 }
 
-/// Takes the devices of a program that is over out of their places, those of the first to the last of its stints that are lent still.
+/// Takes the devices of a program that is over out of their places, those of the first to the last of its stints that are lent still. It isn't
+/// inlined in the loop over the orders, which it would slow down.
+#[inline(never)]
 fn retire_all(alloc: Global, program: &mut Program, places: &mut Vec<Place>)
     ensures both { (cells : Cells) → both_of (seat_of program.new) (shared_in cells places.new.items)
         ≡ retired (length program.old.stints.items)

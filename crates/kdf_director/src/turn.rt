@@ -187,6 +187,7 @@ impl<'a> Turn<'a> {
     }
 
     /// The least device of this kind in the pool that is nobody's; there is one.
+    #[inline(never)]
     fn least_free(&self, kind: Kind) -> u8
         requires { is_pool_taken (part_of self.now).pool (shared self.now) kind ≡ false }
         ensures least { free_in (part_of self.now).pool (shared self.now).spots kind ≡ Some result }
@@ -199,6 +200,7 @@ impl<'a> Turn<'a> {
     }
 
     /// Gives a device of the pool back that the program has and that has no transfer.
+    #[inline(never)]
     fn return_pooled(&mut self, d: u8)
         requires number { d < 16 }
         requires pooled { in_pool (part_of self.old) d ≡ true }
