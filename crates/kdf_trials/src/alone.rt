@@ -1,4 +1,5 @@
 //! Programs run alone, with answers: all orders at once, and order by order.
+use crate::pool::slot_at;
 use kdf_alone::Alone;
 use kdf_job::read_job;
 use kdf_nest::Nest;
@@ -98,7 +99,7 @@ fn load(rt: &impl Abort, alloc: Global, case: &Case) -> Result<Alone, AllocError
         return Err(AllocError);
     };
     assert!(rt; !job.slots.is_empty());
-    let slot = &job.slots[0];
+    let slot = slot_at(&job, 0);
     assert!(rt; slot.deck.len() < 1000 && slot.size <= 8192);
     let Ok(deck) = read_deck(alloc, &slot.deck) else {
         return Err(AllocError);

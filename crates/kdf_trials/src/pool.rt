@@ -76,7 +76,7 @@ fn images_of(rt: &impl Abort, alloc: Global, slots: &[SlotJob]) -> Result<Vec<Im
 
 /// A slot of a job.
 #[tactic(auto, using(crate::proofs::Tried::slot_at, crate::proofs::Tried::apart_at))]
-fn slot_at(job: &Job, place: usize) -> &SlotJob
+pub fn slot_at(job: &Job, place: usize) -> &SlotJob
     requires job { IsJob (shown_job job.now) }
     requires inside { place < length job.now.slots.items }
     ensures slot { IsSlot (shown_slot result.now) }
