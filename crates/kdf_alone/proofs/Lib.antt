@@ -1,5 +1,6 @@
 pub mod Apart
 pub mod Devices
+pub mod Giving
 pub mod Rows
 pub mod Steps
 pub mod Stints

@@ -1,17 +1,17 @@
 -- The stints of a bench.
-use Rattle.std.specs.Prelude.{◌&&◌, HoldsAt, IfNone, IfSome, slice_get, unwrap_or}
-use Rattle.std.specs.List.{All, AllPairs}
+use Rattle.std.specs.Prelude.{◌&&◌, HoldsAt, slice_get, unwrap_or}
+use Rattle.std.specs.List.{All}
 use Rattle.std.specs.Option.{option_map}
 use Rattle.std.proofs.Common.{◌≡◌, ◌≢◌, ℕ, zero, suc, ◌+◌, ◌<◌, ◌≤◌, Bool, true, false, cond, eqb, ltb, List, [], ◌∷◌, ◌++◌, length, get_or, map, set, Option, Some, None, is_some, refl, sym, ap, ap₂, ◌∙◌, subst, ⊎_elim, arith}
 use Rattle.std.proofs.Math.ListN.{get_or-map}
-use Rattle.std.proofs.lemmas.Bool.{and_parts, cases_Bool, cases_eq, cases_lt, eq-eqb, false≢true, ne_eqb}
+use Rattle.std.proofs.lemmas.Bool.{and_parts, cases_Bool, cases_eq, cases_lt, eq-eqb, eqb-true, false≢true, ne_eqb}
 use Rattle.std.proofs.lemmas.Bool.Decides.{nat_tests}
-use Rattle.std.proofs.lemmas.List.{get_or_past, length-map, map-append, map-set}
+use Rattle.std.proofs.lemmas.List.{get_or_past, length-map, map-append}
 use Rattle.std.proofs.lemmas.Option.{slice_get-get_or}
-use Rattle.std.proofs.lemmas.List.Elements.{All-head, All-set, All-tail}
+use Rattle.std.proofs.lemmas.List.Elements.{All-head, All-map, All-tail}
 use Rattle.kdf_journal.specs.declared.kind.Kind.{Kind}
 use Rattle.kdf_journal.specs.declared.kind.Kind.TheVariants.{Tp}
-use Rattle.kdf_transfer.specs.Devices.{Progress, blank_fixture, is_kind, new_progress, fixture_of, progress_of}
+use Rattle.kdf_transfer.specs.Devices.{Progress, blank_fixture, is_kind, fixture_of, progress_of}
 use Rattle.kdf_transfer.specs.declared.device.Device.{Device}
 use Rattle.kdf_processor.specs.declared.registers.Registers.{Registers}
 use Rattle.kdf_processor.specs.declared.spooled.Spooled.{Spooled}
@@ -29,8 +29,8 @@ use Rattle.kdf_alone.specs.declared.place.Place.{Place}
 use Rattle.kdf_alone.specs.declared.place.Place.TheVariants.{Absent, Pooled}
 use Rattle.kdf_alone.specs.declared.stint.Stint.{Stint}
 use Rattle.kdf_alone.specs.Places.{own_fixture_in, pool_kind_in, progress_in, IsWhole}
-use Rattle.kdf_alone.specs.Stints.{lent_stock, stint_in, AreLent, IsKept, IsOpen, IsUnlent}
-use Rattle.kdf_alone.proofs.Devices.{claims, pool_is, progress_is, seen_stays, stock}
+use Rattle.kdf_alone.specs.Stints.{ended, lent_stock, stint_in, AreLent, HaveOneOpen, IsKept, IsOpen, IsUnlent}
+use Rattle.kdf_alone.proofs.Devices.{claims, pool_is, progress_is, stock}
 use Rattle.kdf_alone.proofs.Takings.{taken_again}
 
 -- ---- what holds of the places, the marks and the stints holds of all that a program has, and the other way round
@@ -91,27 +91,28 @@ module _ (size : ℕ) (claimed : List Bool) (ps : List Place) (xs : List Stint) 
 
 -- ---- a device of the pool is given back
 
-hand_other : (d e : ℕ) (p : Progress) (left : Option Device) → ((e ≡ d) × (left ≡ None) → ⊥) → handed d p (stint_in (record { d = e; left = left })) ≡ stint_in (record { d = e; left = left })
-hand_other d e p (Some device) shut =
+-- a stint of another device, or one that is over, stays
+ended_shut : (d : ℕ) (device : Device) (e : ℕ) (left : Option Device) → ((e ≡ d) × (left ≡ None) → ⊥) → ended d device (record { d = e; left = left }) ≡ record { d = e; left = left }
+ended_shut d device e (Some other) shut =
     ⊎_elim
     (λ (is : eqb e d ≡ true). rw is refl)
     (λ (no : eqb e d ≡ false). rw no refl)
     (cases_Bool (eqb e d))
-hand_other d e p None shut =
+ended_shut d device e None shut =
     ⊎_elim
     (λ (same : e ≡ d). absurd (shut (same, refl)))
     (λ (other : e ≢ d). rw (ne_eqb e d other) refl)
     (cases_eq e d)
 
-hand_open : (d e : ℕ) (p : Progress) (left : Option Device) (device : Device) → e ≡ d → left ≡ None → progress_of device ≡ p → handed d p (stint_in (record { d = e; left = left })) ≡ stint_in (record { d = e; left = Some device })
-hand_open d e p None device same unfinished came = rw (eq-eqb e d same) (ap (λ q. (let x : state.Stint = record { device = e; left = Some q } in x)) (sym came))
-hand_open d e p (Some other) device same unfinished came = absurd cc
+ended_open : (d : ℕ) (device : Device) (e : ℕ) (left : Option Device) → e ≡ d → left ≡ None → ended d device (record { d = e; left = left }) ≡ record { d = e; left = Some device }
+ended_open d device e None same unfinished = rw (eq-eqb e d same) refl
+ended_open d device e (Some other) same unfinished = absurd cc
 
--- where no stint is one of it that isn't given back, all stay
-pub hand_none : (d : ℕ) (p : Progress) (xs : List Stint) → All (λ x. IsOpen d x → ⊥) xs → map (handed d p) (map stint_in xs) ≡ map stint_in xs
-hand_none d p [] none = refl
-hand_none d p (x ∷ xs) none =
-    ap₂ (λ y ys. y ∷ ys) (hand_other d x.d p x.left (All-head (λ y. IsOpen d y → ⊥) x xs none)) (hand_none d p xs (All-tail (λ y. IsOpen d y → ⊥) x xs none))
+-- with none open, all stay
+pub ended_none : (d : ℕ) (device : Device) (xs : List Stint) → All (λ x. IsOpen d x → ⊥) xs → map (ended d device) xs ≡ xs
+ended_none d device [] none = refl
+ended_none d device (x ∷ xs) none =
+    ap₂ (λ y ys. y ∷ ys) (ended_shut d device x.d x.left (All-head (λ y. IsOpen d y → ⊥) x xs none)) (ended_none d device xs (All-tail (λ y. IsOpen d y → ⊥) x xs none))
 
 abbrev AreApart : state.Stint → state.Stint → Type 0
 AreApart x y = x.left ≡ None → y.left ≡ None → x.device ≢ y.device
@@ -119,26 +120,64 @@ AreApart x y = x.left ≡ None → y.left ≡ None → x.device ≢ y.device
 is_shut : (left : Option Device) → left ≡ None → option_map progress_of left ≡ None
 is_shut left unfinished = ap (option_map progress_of) unfinished
 
-pairs_tail : (x : state.Stint) (xs : List state.Stint) → AllPairs AreApart (x ∷ xs) → AllPairs AreApart xs
-pairs_tail x xs pairs = λ i j y less inside. pairs (suc i) (suc j) y (omega arith) (omega arith)
+one_tail : (x : Stint) (xs : List Stint) → HaveOneOpen (x ∷ xs) → HaveOneOpen xs
+one_tail x xs one = λ i j y less inside. one (suc i) (suc j) y (omega arith) (omega arith)
 
-pairs_head : (x : Stint) (xs : List Stint) → AllPairs AreApart (map stint_in (x ∷ xs)) → (j : ℕ) (y : Stint) → j < length xs → AreApart (stint_in x) (stint_in (get_or xs j y))
-pairs_head x xs pairs j y inside = subst (AreApart (stint_in x)) (get_or-map stint_in xs j y) (pairs zero (suc j) (stint_in y) (omega arith) (let n = length-map xs stint_in in omega arith))
+one_head : (x : Stint) (xs : List Stint) → HaveOneOpen (x ∷ xs) → (j : ℕ) (y : Stint) → j < length xs → AreApart (stint_in x) (stint_in (get_or xs j y))
+one_head x xs one j y inside = subst (AreApart (stint_in x)) (get_or-map stint_in xs j y) (one zero (suc j) (stint_in y) (omega arith) (let n = length-map xs stint_in in omega arith))
 
--- where one is, it is the one that ends
-pub hand_at : (d : ℕ) (p : Progress) (device : Device) (xs : List Stint) (i : ℕ) → progress_of device ≡ p → i < length xs → ((y : Stint) → IsOpen d (get_or xs i y)) → AllPairs AreApart (map stint_in xs)
-    → map (handed d p) (map stint_in xs) ≡ map stint_in (set xs i (record { d = d; left = Some device }))
-hand_at d p device [] i came inside unfinished pairs = absurd (omega arith)
-hand_at d p device (x ∷ xs) zero came inside unfinished pairs =
-    let here = unfinished x in
-    ap₂ (λ y ys. y ∷ ys)
-    (hand_open d x.d p x.left device here.0 here.1 came ∙ ap (λ e. (let y : state.Stint = record { device = e; left = Some (progress_of device) } in y)) here.0)
-    (hand_none d p xs (λ j y lt is. pairs_head x xs pairs j y lt (is_shut x.left here.1) (is_shut (get_or xs j y).left is.1) (here.0 ∙ sym is.0)))
-hand_at d p device (x ∷ xs) (suc i) came inside unfinished pairs =
-    let there = unfinished x in
-    ap₂ (λ y ys. y ∷ ys)
-    (hand_other d x.d p x.left (λ is. pairs_head x xs pairs i x (omega arith) (is_shut x.left is.1) (is_shut (get_or xs i x).left there.1) (is.0 ∙ sym there.0)))
-    (hand_at d p device xs i came (omega arith) (λ y. unfinished y) (pairs_tail (stint_in x) (map stint_in xs) pairs))
+-- one that is open is the one that ends
+pub ended_at : (d : ℕ) (device : Device) (xs : List Stint) (i : ℕ) (y : Stint) → i < length xs → IsOpen d (get_or xs i y) → HaveOneOpen xs → map (ended d device) xs ≡ set xs i (record (get_or xs i y) { left = Some device })
+ended_at d device [] i y inside open_ one = absurd (omega arith)
+ended_at d device (x ∷ xs) zero y inside open_ one =
+    ap₂ (λ z zs. z ∷ zs)
+    (ended_open d device x.d x.left open_.0 open_.1)
+    (ended_none d device xs (λ j z lt is. one_head x xs one j z lt (is_shut x.left open_.1) (is_shut (get_or xs j z).left is.1) (open_.0 ∙ sym is.0)))
+ended_at d device (x ∷ xs) (suc i) y inside open_ one =
+    ap₂ (λ z zs. z ∷ zs)
+    (ended_shut d device x.d x.left (λ is. one_head x xs one i y (omega arith) (is_shut x.left is.1) (is_shut (get_or xs i y).left open_.1) (is.0 ∙ sym open_.0)))
+    (ended_at d device xs i y (omega arith) open_ (one_tail x xs one))
+
+-- so where it is known by another name
+pub ends_at : (d : ℕ) (device : Device) (xs : List Stint) (i : ℕ) (x y : Stint) → HaveOneOpen xs → i < length xs → HoldsAt (IsOpen d) xs i → x ≡ get_or xs i y
+    → set xs i (record x { left = Some device }) ≡ map (ended d device) xs
+ends_at d device xs i x y one inside unfinished is =
+    ap (λ z. set xs i (let w : Stint = record z { left = Some device } in w)) is ∙ sym (ended_at d device xs i y inside (unfinished y) one)
+
+-- so as a state has them
+ended_in : (d : ℕ) (device : Device) (p : Progress) (e : ℕ) (left : Option Device) → progress_of device ≡ p → stint_in (ended d device (record { d = e; left = left })) ≡ handed d p (stint_in (record { d = e; left = left }))
+ended_in d device p e (Some other) came =
+    ⊎_elim
+    (λ (is : eqb e d ≡ true). rw is refl)
+    (λ (no : eqb e d ≡ false). rw no refl)
+    (cases_Bool (eqb e d))
+ended_in d device p e None came =
+    ⊎_elim
+    (λ (is : eqb e d ≡ true). rw is (ap (λ q. (let x : state.Stint = record { device = e; left = Some q } in x)) came))
+    (λ (no : eqb e d ≡ false). rw no refl)
+    (cases_Bool (eqb e d))
+
+pub all_ended : (d : ℕ) (device : Device) (p : Progress) (xs : List Stint) → progress_of device ≡ p → map stint_in (map (ended d device) xs) ≡ map (handed d p) (map stint_in xs)
+all_ended d device p [] came = refl
+all_ended d device p (x ∷ xs) came = ap₂ (λ y ys. y ∷ ys) (ended_in d device p x.d x.left came) (all_ended d device p xs came)
+
+-- and each that is over has kept a device of the pool
+kept_one : (pool : List (Option Kind)) (d : ℕ) (device : Device) (e : ℕ) (left : Option Device) → IsKept pool (record { d = d; left = Some device }) → IsKept pool (record { d = e; left = left }) → IsKept pool (ended d device (record { d = e; left = left }))
+kept_one pool d device e (Some other) new old =
+    ⊎_elim
+    (λ (is : eqb e d ≡ true). rw is old)
+    (λ (no : eqb e d ≡ false). rw no old)
+    (cases_Bool (eqb e d))
+kept_one pool d device e None new old =
+    ⊎_elim
+    (λ (is : eqb e d ≡ true).
+    let same : e ≡ d = eqb-true e d is in
+    rw is (rw same new))
+    (λ (no : eqb e d ≡ false). rw no old)
+    (cases_Bool (eqb e d))
+
+pub ended_kept : (pool : List (Option Kind)) (d : ℕ) (device : Device) (xs : List Stint) → IsKept pool (record { d = d; left = Some device }) → All (IsKept pool) xs → All (IsKept pool) (map (ended d device) xs)
+ended_kept pool d device xs new kept = All-map (IsKept pool) (ended d device) xs (λ i x lt. kept_one pool d device (get_or xs i x).d (get_or xs i x).left new (kept i x lt))
 
 -- what a stint keeps that is over is a device of the pool
 pub kept_device : (ps : List Place) (d : ℕ) (device : Device) → get_or ps d Absent ≡ Pooled device → IsWhole (get_or ps d Absent) → IsKept (map pool_kind_in ps) (record { d = d; left = Some device })
@@ -241,36 +280,6 @@ stock_taken size claimed ps xs ys texts asked words kind a d n may is same pushe
       devices = map progress_in ps;
     }
 
--- ---- a device is given back
-
-handed_all : (d : ℕ) (p : Progress) (device : Device) (xs ys : List Stint) (at : Option ℕ) → progress_of device ≡ p → IfSome at (λ i. HoldsAt (IsOpen d) xs i) → IfSome at (λ i. i < length xs) → IfNone at (All (λ x. IsOpen d x → ⊥) xs)
-    → ((i : ℕ) → at ≡ Some i → ys ≡ set xs i (record { d = d; left = Some device })) → (at ≡ None → ys ≡ xs) → AllPairs AreApart (map stint_in xs)
-    → map stint_in ys ≡ map (handed d p) (map stint_in xs)
-handed_all d p device xs ys None came is inside none some stays pairs = ap (map stint_in) (stays refl) ∙ sym (hand_none d p xs none)
-handed_all d p device xs ys (Some i) came is inside none some stays pairs = ap (map stint_in) (some i refl) ∙ sym (hand_at d p device xs i came inside is pairs)
-
--- so under other names
-pub ended : (d : ℕ) (p : Progress) (device : Device) (xs zs zs' ys ys' : List Stint) (at : Option ℕ) → progress_of device ≡ p → zs ≡ xs → zs' ≡ xs → ys' ≡ ys
-    → IfSome at (λ i. HoldsAt (IsOpen d) zs i) → IfSome at (λ i. i < length zs) → IfNone at (All (λ x. IsOpen d x → ⊥) zs)
-    → ((i : ℕ) → at ≡ Some i → ys ≡ set zs' i (record { d = d; left = Some device })) → (at ≡ None → ys ≡ zs') → AllPairs AreApart (map stint_in xs)
-    → map stint_in ys' ≡ map (handed d p) (map stint_in xs)
-ended d p device xs zs zs' ys ys' at came e f g is inside none some stays pairs =
-    let P : List Stint → Type 0 = λ l. IfSome at (λ i. HoldsAt (IsOpen d) l i) in
-    let Q : List Stint → Type 0 = λ l. IfSome at (λ i. i < length l) in
-    let R : List Stint → Type 0 = λ l. IfNone at (All (λ x. IsOpen d x → ⊥) l) in
-    handed_all d p device xs ys' at came (subst P e is) (subst Q e inside) (subst R e none)
-    (λ i a. g ∙ some i a ∙ ap (λ l. set l i (let x : Stint = record { d = d; left = Some device } in x)) f) (λ a. g ∙ stays a ∙ f) pairs
-
--- and each that is over kept a device of the pool
-pub ended_kept : (pool : List (Option Kind)) (d : ℕ) (device : Device) (xs zs' ys ys' : List Stint) (at : Option ℕ) → IsKept pool (record { d = d; left = Some device }) → All (IsKept pool) xs → zs' ≡ xs → ys' ≡ ys
-    → ((i : ℕ) → at ≡ Some i → ys ≡ set zs' i (record { d = d; left = Some device })) → (at ≡ None → ys ≡ zs') → All (IsKept pool) ys'
-ended_kept pool d device xs zs' ys ys' None new kept f g some stays =
-    let P : List Stint → Type 0 = All (IsKept pool) in
-    subst P (sym (g ∙ stays refl ∙ f)) kept
-ended_kept pool d device xs zs' ys ys' (Some i) new kept f g some stays =
-    let P : List Stint → Type 0 = All (IsKept pool) in
-    subst P (sym (g ∙ some i refl ∙ ap (λ l. set l i (let x : Stint = record { d = d; left = Some device } in x)) f)) (All-set (IsKept pool) xs i (record { d = d; left = Some device }) new kept)
-
 -- a device that is claimed has a place
 marked : (b : Bool) (o : Option Kind) → is_some (cond b o None) ≡ true → b ≡ true
 marked true o is = refl
@@ -280,46 +289,3 @@ pub claimed_low : (c : state.Claims) (d : ℕ) → is_claimed c d ≡ true → d
 claimed_low c d is =
     let mark = (and_parts (ltb d 16) (get_or c.claimed d false) (marked (ltb d 16 && get_or c.claimed d false) (kind_at c d) is)).0 in
     grind (arith, nat_tests)
-
-module _ (size : ℕ) (claimed : List Bool) (ps : List Place) (xs : List Stint) (texts : List Spooled) (asked : ℕ) (words : List ℕ) (d n : ℕ) (place : Place) (same : n ≡ d)
-    (own : own_fixture_in place ≡ own_fixture_in (get_or ps d Absent)) (kind : pool_kind_in place ≡ pool_kind_in (get_or ps d Absent)) where
-  abbrev before : Stock
-  before = stock size claimed ps xs texts asked words
-
-  fixtures : map own_fixture_in (set ps n place) ≡ map own_fixture_in ps
-  fixtures = seen_stays own_fixture_in ps n place (own ∙ ap (λ m. own_fixture_in (get_or ps m Absent)) (sym same))
-
-  kinds : map pool_kind_in (set ps n place) ≡ map pool_kind_in ps
-  kinds = seen_stays pool_kind_in ps n place (kind ∙ ap (λ m. pool_kind_in (get_or ps m Absent)) (sym same))
-
-  -- one of the program's own
-  pub stock_own : pool_kind_in (get_or ps d Absent) ≡ None → place ≡ get_or ps d Absent → stock size (set claimed n false) (set ps n place) xs texts asked words ≡ at_once (Releases (is_pooled before.claims d) d) before
-  stock_own none stays =
-      let came : map progress_in (set ps n place) ≡ map progress_in ps = seen_stays progress_in ps n place (ap progress_in stays ∙ ap (λ m. progress_in (get_or ps m Absent)) (sym same)) in
-      let done : stock size (set claimed n false) (set ps n place) xs texts asked words ≡ released false d before =
-      λ i. record {
-        claims = record { size = size; claimed = set claimed (same i) false; fixtures = fixtures i; pool = kinds i };
-        spooled = texts;
-        asked = asked;
-        stints = map stint_in xs;
-        store = words;
-        devices = came i;
-      } in
-      done ∙ ap (λ b. released b d before) (sym (ap is_some (pool_is ps d ∙ none)))
-
-  -- one of the pool
-  pub stock_pooled : (device : Device) (ys : List Stint) → get_or ps d Absent ≡ Pooled device → progress_in place ≡ new_progress → map stint_in ys ≡ map (handed d (device_in before d)) (map stint_in xs)
-      → stock size (set claimed n false) (set ps n place) ys texts asked words ≡ at_once (Releases (is_pooled before.claims d) d) before
-  stock_pooled device ys is blank ends =
-      let gone : map progress_in (set ps n place) ≡ set (map progress_in ps) d new_progress =
-      map-set progress_in ps n place ∙ ap (set (map progress_in ps) n) blank ∙ ap (λ m. set (map progress_in ps) m new_progress) same in
-      let done : stock size (set claimed n false) (set ps n place) ys texts asked words ≡ released true d before =
-      λ i. record {
-        claims = record { size = size; claimed = set claimed (same i) false; fixtures = fixtures i; pool = kinds i };
-        spooled = texts;
-        asked = asked;
-        stints = ends i;
-        store = words;
-        devices = gone i;
-      } in
-      done ∙ ap (λ b. released b d before) (sym (ap is_some (pool_is ps d ∙ ap pool_kind_in is)))

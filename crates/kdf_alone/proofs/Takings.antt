@@ -5,7 +5,6 @@ use Rattle.kdf_journal.specs.declared.failure.Failure.TheVariants.{Liv, Nouv, Cl
 use Rattle.kdf_journal.specs.declared.kind.Kind.{Kind}
 use Rattle.kdf_journal.specs.declared.kind.Kind.TheVariants.{Mt}
 use Rattle.kdf_syllable.specs.declared.order.Order.{Order}
-use Rattle.kdf_syllable.specs.declared.order.Order.TheVariants as order
 use Rattle.kdf_qstore.specs.declared.triple.Triple.{Triple}
 use Rattle.kdf_qstore.specs.Triples.{triple_at, triple_of}
 use Rattle.kdf_transfer.specs.AtOnce.{kind_of, has_area}
@@ -19,7 +18,7 @@ use Rattle.kdf_processor.specs.Effect.{Change, Refused, Going, of_change, Effect
 use Rattle.kdf_processor.specs.Needs.{effect_or_liv, next_effect, order_at}
 use Rattle.kdf_processor.specs.Row.{done_by, next_of, perform, row, taking}
 use Rattle.kdf_processor.specs.State.{Claims, State, word_at}
-use Rattle.kdf_processor.specs.Table.{change_of, claims_found, claims_kind, claims_or_takes, device_effect, direct_effect, effect, guarded, has_bit, indirect_effect, indirect_half, is_area, moves, on_top, out_effect, plain_row, query_effect, starts, transfer_of, with_nest}
+use Rattle.kdf_processor.specs.Table.{claims_found, claims_kind, claims_or_takes, direct_effect, effect, guarded, has_bit, indirect_effect, indirect_half, is_area, moves, on_top, out_effect, query_effect, starts, transfer_of, with_nest}
 use Rattle.kdf_processor.proofs.EachEffect.{each_effect}
 use Rattle.kdf_processor.proofs.Fit.{IsFit, next_fit}
 use Rattle.kdf_processor.proofs.Stinting.{taken_can}

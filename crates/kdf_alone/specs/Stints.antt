@@ -1,9 +1,11 @@
 -- Stints as their program's state has them.
-use Rattle.std.specs.Prelude.{◌≡◌, ℕ, Bool, true, List, [], map, Option, None, is_some, slice_index_or, unwrap_or}
+use Rattle.std.specs.Prelude.{◌≡◌, ◌≢◌, ◌==◌, ◌&&◌, if◌then◌else◌, ℕ, Bool, true, List, [], map, not, Option, None, Some, is_some, slice_index_or, unwrap_or}
+use Rattle.std.specs.List.{AllPairs}
 use Rattle.std.specs.Option.{option_map}
 use Rattle.kdf_journal.specs.declared.kind.Kind.{Kind}
 use Rattle.kdf_journal.specs.declared.kind.Kind.TheVariants.{Tp}
 use Rattle.kdf_transfer.specs.Devices.{blank_fixture, fixture_of, new_progress, progress_of}
+use Rattle.kdf_transfer.specs.declared.device.Device.{Device}
 use Rattle.kdf_processor.specs.State.{State, Stock, new_registers}
 use Rattle.kdf_processor.specs.State as state
 use Rattle.kdf_processor.specs.Stints.{IsLent}
@@ -41,6 +43,17 @@ AreLent places claimed stints =
 -- a stint of a device that isn't given back
 abbrev pub IsOpen : ℕ → Stint → Type 0
 IsOpen d x = (x.d ≡ d) × (x.left ≡ None)
+
+-- a stint once this device is given back: if it is the device's, and wasn't given back, it keeps the device
+abbrev pub ended : ℕ → Device → Stint → Stint
+ended d device x =
+    if x.d == d && not (is_some x.left) then record x { left = Some device } else x
+
+-- of the stints of one device one at most isn't given back
+abbrev pub HaveOneOpen : List Stint → Type 0
+HaveOneOpen stints =
+    AllPairs (λ (x y : state.Stint). x.left ≡ None → y.left ≡ None → x.device ≢ y.device)
+    (map stint_in stints)
 
 -- a device of the pool has moved nothing
 abbrev pub IsUnlent : Place → Type 0

@@ -1,8 +1,8 @@
 //! The port of a program by itself.
-ghost use Rattle.std.specs.Prelude.{◌≡◌, ◌<◌, ℕ, [], All, length, map, slice_set, HoldsAt, IfNone, IfSome};
+ghost use Rattle.std.specs.Prelude.{◌≡◌, ◌<◌, [], All, length, map, HoldsAt, IfNone, IfSome};
 ghost use Rattle.std.proofs.Props.{props};
 ghost use Rattle.kdf_alone.specs.Places.{pool_kind_in, IsWhole};
-ghost use Rattle.kdf_alone.specs.Stints.{AreLent, IsKept, IsOpen};
+ghost use Rattle.kdf_alone.specs.Stints.{ended, AreLent, HaveOneOpen, IsKept, IsOpen};
 
 use crate::place::Place;
 use crate::stint::Stint;
@@ -239,17 +239,13 @@ fn last_unended(stints: &[Stint], d: u8) -> Option<usize>
     None
 }
 
-/// Ends the stint at this place, if there is one: it keeps the device of this number.
-fn close(stints: &mut [Stint], at: Option<usize>, d: u8, left: Device)
-    requires { IfSome at (λ i. i < length stints.old) }
-    ensures some { (i : ℕ) → at ≡ Some i → stints.new ≡ slice_set stints.old i (record { d = d; left = Some left }) }
-    ensures none { at ≡ None → stints.new ≡ stints.old }
+/// Ends the last stint of this device that isn't given back, if there is one: it keeps the device.
+fn end_stint(stints: &mut Vec<Stint>, d: u8, left: Device)
+    requires one { HaveOneOpen stints.old.items }
+    ensures { stints.new.items ≡ map (ended d left) stints.old.items }
 {
-    if let Some(i) = at {
-        stints[i] = Stint {
-            d,
-            left: Some(left),
-        };
+    if let Some(i) = last_unended(stints, d) {
+        stints[i].left = Some(left);
     }
 }
 
@@ -349,11 +345,9 @@ impl Port for Bench {
 
     fn give_back(&mut self, device: u8) {
         let place = usize::from(device);
-        let at = last_unended(&self.stints, device);
         self.claimed[place] = false;
-        match self.places[place].hand_over(self.alloc) {
-            Some(left) => close(&mut self.stints, at, device, left),
-            None => {}
+        if let Some(left) = self.places[place].hand_over(self.alloc) {
+            end_stint(&mut self.stints, device, left);
         }
     }
 

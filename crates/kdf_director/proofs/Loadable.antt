@@ -12,6 +12,8 @@ use Rattle.std.proofs.lemmas.List.Sums.{sum_by-cons}
 use Rattle.kdf_job.specs.Draft.{numbers_of, words_in}
 use Rattle.kdf_job.specs.Draft.{numbers_in as pool_numbers}
 use Rattle.kdf_job.specs.Job.{JobDevice, SlotJob}
+use Rattle.kdf_job.proofs.Numbers.{distinct_rest, has_left, has_right, lacks_left, lacks_right, lent, numbers_cons}
+use Rattle.kdf_job.proofs.Numbers.{apart as numbers_apart}
 use Rattle.kdf_job.specs.WellFormed.{AreRising, AreSlots, IsLent, IsSlot}
 use Rattle.kdf_journal.specs.declared.kind.Kind.{Kind}
 use Rattle.kdf_job.specs.Slots.{fixture_on, lent_kind, numbered, progress_on}
@@ -76,66 +78,15 @@ rising_is (s ∷ jobs) (ws ∷ images) rising =
     AllPairs-cons IsBelow (load_of s ws) (loads jobs images) (loaded_all (λ n. s.p < n) jobs images (above s jobs rising))
     (rising_is jobs images (rising_tail s jobs rising))
 
--- numbers of which none stands twice
-or_false : (a b : Bool) → a ≡ false → b ≡ false → (a || b) ≡ false
-or_false false false p q = refl
-or_false false true p q = cc
-or_false true b p q = cc
-
-not_again : (n d : ℕ) (ns : List ℕ) → n ≡ d → AllByRecursion (λ y. nat_eq n y ≡ false) ns → owns ns d ≡ false
-not_again n d [] is other = refl
-not_again n d (m ∷ ns) is other =
-    let ne : m ≢ d = λ e. cc (sym other.0 ∙ eq-eqb n m (is ∙ sym e)) in
-    or_false (eqb m d) (owns ns d) (ne_eqb m d ne) (not_again n d ns is other.1)
-
-right_of : (P : ℕ → Type 0) (ms ns : List ℕ) → AllByRecursion P (ms ++ ns) → AllByRecursion P ns
-right_of P [] ns all = all
-right_of P (m ∷ ms) ns all = right_of P ms ns all.1
-
-distinct_rest : (ms ns : List ℕ) → IsDistinct nat_eq (ms ++ ns) → IsDistinct nat_eq ns
-unfolding IsDistinct
-distinct_rest [] ns is = is
-distinct_rest (m ∷ ms) ns is = distinct_rest ms ns is.1
-
-distinct_apart : (ms ns : List ℕ) (d : ℕ) → IsDistinct nat_eq (ms ++ ns) → owns ms d ≡ true → owns ns d ≡ false
-unfolding IsDistinct
-distinct_apart [] ns d is it = cc
-distinct_apart (m ∷ ms) ns d is it =
-    ⊎_elim
-    (λ (same : m ≡ d). not_again m d ns same (right_of (λ y. nat_eq m y ≡ false) ms ns is.0))
-    (λ (other : m ≢ d). distinct_apart ms ns d is.1 (sym (ap (λ b. b || owns ms d) (ne_eqb m d other)) ∙ it))
-    (cases_eq m d)
-
-numbers_cons : (s : SlotJob) (jobs : List SlotJob) → numbers_of (s ∷ jobs) ≡ numbers_in s.devices ++ numbers_of jobs
-numbers_cons s jobs =
-    ap numbers_in (flat_map-cons (λ (t : SlotJob). t.devices) s jobs)
-    ∙ map-append (λ (x : JobDevice). x.d) s.devices (flat_map (λ (t : SlotJob). t.devices) jobs)
-
 -- a number that no slot has, none of what is loaded has
-owns_left : (ms ns : List ℕ) (d : ℕ) → owns (ms ++ ns) d ≡ false → owns ms d ≡ false
-owns_left [] ns d is = refl
-owns_left (m ∷ ms) ns d is = parts (eqb m d) (owns (ms ++ ns) d) is (owns_left ms ns d)
-  where
-    parts : (a b : Bool) → (a || b) ≡ false → (b ≡ false → owns ms d ≡ false) → (a || owns ms d) ≡ false
-    parts false b is next = next is
-    parts true b is next = cc
-
-owns_right : (ms ns : List ℕ) (d : ℕ) → owns (ms ++ ns) d ≡ false → owns ns d ≡ false
-owns_right [] ns d is = is
-owns_right (m ∷ ms) ns d is = owns_right ms ns d (rest (eqb m d) (owns (ms ++ ns) d) is)
-  where
-    rest : (a b : Bool) → (a || b) ≡ false → b ≡ false
-    rest false b is = is
-    rest true b is = cc
-
 none_has : (d : ℕ) (jobs : List SlotJob) (images : List (List ℕ)) → owns (numbers_of jobs) d ≡ false → All (λ (l : SlotLoad). has l d ≡ false) (loads jobs images)
 none_has d [] images not = All-nil (λ (l : SlotLoad). has l d ≡ false)
 none_has d (s ∷ jobs) [] not = All-nil (λ (l : SlotLoad). has l d ≡ false)
 none_has d (s ∷ jobs) (ws ∷ images) not =
     let both = sym (ap (λ ns. owns ns d) (numbers_cons s jobs)) ∙ not in
     All-cons (λ (l : SlotLoad). has l d ≡ false) (load_of s ws) (loads jobs images)
-    (owns_left (numbers_in s.devices) (numbers_of jobs) d both)
-    (none_has d jobs images (owns_right (numbers_in s.devices) (numbers_of jobs) d both))
+    (lacks_left (numbers_in s.devices) (numbers_of jobs) d both)
+    (none_has d jobs images (lacks_right (numbers_in s.devices) (numbers_of jobs) d both))
 
 apart_is : (jobs : List SlotJob) (images : List (List ℕ)) → IsDistinct nat_eq (numbers_of jobs) → AllPairs AreApart (loads jobs images)
 apart_is [] images is = no_pairs AreApart
@@ -143,19 +94,10 @@ apart_is (s ∷ jobs) [] is = no_pairs AreApart
 apart_is (s ∷ jobs) (ws ∷ images) is =
     let both = subst (IsDistinct nat_eq) (numbers_cons s jobs) is in
     AllPairs-cons AreApart (load_of s ws) (loads jobs images)
-    (λ i e lt d h. none_has d jobs images (distinct_apart (numbers_in s.devices) (numbers_of jobs) d both h) i e lt)
+    (λ i e lt d h. none_has d jobs images (numbers_apart (numbers_in s.devices) (numbers_of jobs) d both h) i e lt)
     (apart_is jobs images (distinct_rest (numbers_in s.devices) (numbers_of jobs) both))
 
--- the devices of a pool
-pool_owns : (pool : List (ℕ × Kind)) (d : ℕ) → is_some (lent_kind pool d) ≡ owns (pool_numbers pool) d
-pool_owns [] d = refl
-pool_owns (x ∷ pool) d = by_first (eqb x.0 d) (find (λ (y : ℕ × Kind). eqb y.0 d) pool) ∙ ap (λ b. eqb x.0 d || b) (pool_owns pool d)
-  where
-    by_first : (b : Bool) (o : Option (ℕ × Kind)) → is_some (option_map (λ (y : ℕ × Kind). y.1) (cond b (Some x) o)) ≡ (b || is_some (option_map (λ (y : ℕ × Kind). y.1) o))
-    by_first true o = refl
-    by_first false o = refl
-
--- have small numbers
+-- the devices of a pool have small numbers
 pool_small : (pool : List (ℕ × Kind)) (d : ℕ) → All IsLent pool → owns (pool_numbers pool) d ≡ true → d < 16
 pool_small [] d small is = cc
 pool_small (x ∷ pool) d small is =
@@ -163,23 +105,6 @@ pool_small (x ∷ pool) d small is =
     (λ (same : x.0 ≡ d). let lt = (All-head IsLent x pool small).0 in omega arith)
     (λ (other : x.0 ≢ d). pool_small pool d (All-tail IsLent x pool small) (sym (ap (λ b. b || owns (pool_numbers pool) d) (ne_eqb x.0 d other)) ∙ is))
     (cases_eq x.0 d)
-
--- a number of a slot's is one of all
-owns_front : (ms ns : List ℕ) (d : ℕ) → owns ms d ≡ true → owns (ms ++ ns) d ≡ true
-owns_front [] ns d is = cc
-owns_front (m ∷ ms) ns d is = parts (eqb m d) is (owns_front ms ns d)
-  where
-    parts : (a : Bool) → (a || owns ms d) ≡ true → (owns ms d ≡ true → owns (ms ++ ns) d ≡ true) → (a || owns (ms ++ ns) d) ≡ true
-    parts true is next = refl
-    parts false is next = next is
-
-owns_back : (ms ns : List ℕ) (d : ℕ) → owns ns d ≡ true → owns (ms ++ ns) d ≡ true
-owns_back [] ns d is = is
-owns_back (m ∷ ms) ns d is = or_true (eqb m d) (owns_back ms ns d is)
-  where
-    or_true : (a : Bool) → owns (ms ++ ns) d ≡ true → (a || owns (ms ++ ns) d) ≡ true
-    or_true true h = refl
-    or_true false h = h
 
 abbrev AreOthers : List ℕ → SlotJob → Type 0
 AreOthers whole s = IsDistinct nat_eq (whole ++ pool_numbers s.pool)
@@ -197,11 +122,11 @@ each_is whole (s ∷ jobs) (ws ∷ images) have each own all =
       groups = this.groups;
       fits = have.0;
       below = this.devices;
-      few = λ d lent. pool_small s.pool d this.lent (sym (pool_owns s.pool d) ∙ lent);
-      owned = λ d h. pool_owns s.pool d ∙ distinct_apart whole (pool_numbers s.pool) d others (all d (ap (λ ns. owns ns d) (numbers_cons s jobs) ∙ owns_front (numbers_in s.devices) (numbers_of jobs) d h));
+      few = λ d h. pool_small s.pool d this.lent (sym (lent s.pool d) ∙ h);
+      owned = λ d h. lent s.pool d ∙ numbers_apart whole (pool_numbers s.pool) d others (all d (ap (λ ns. owns ns d) (numbers_cons s jobs) ∙ has_left (numbers_in s.devices) (numbers_of jobs) d h));
     })
     (each_is whole jobs images have.1 (All-tail IsSlot s jobs each) (All-tail (AreOthers whole) s jobs own)
-    (λ d h. all d (ap (λ ns. owns ns d) (numbers_cons s jobs) ∙ owns_back (numbers_in s.devices) (numbers_of jobs) d h)))
+    (λ d h. all d (ap (λ ns. owns ns d) (numbers_cons s jobs) ∙ has_right (numbers_in s.devices) (numbers_of jobs) d h)))
 
 -- a pool that all slots have
 pool_all : (pool : List (ℕ × Kind)) (jobs : List SlotJob) (images : List (List ℕ)) → All (λ (t : SlotJob). pool ≡ t.pool) jobs → All (λ (l : SlotLoad). pool ≡ l.pool) (loads jobs images)

@@ -2,6 +2,7 @@ pub mod WordLemmas
 pub mod CodesRead
 pub mod Filling
 pub mod Schedules
+pub mod Numbers
 pub mod Slots
 pub mod Steps
 pub mod Begins
