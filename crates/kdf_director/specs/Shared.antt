@@ -37,7 +37,6 @@ answer_in q time s (IsBusy d) = one_if (is_busy_in s d)
 answer_in q time s (IsOut first last) = one_if (is_some (find (is_out_of q s) (groups_of first last)))
 answer_in q time s Time = time
 answer_in q time s (FreeOf kind) = unwrap_or (free_in q.pool s.spots kind) 0
--- no slot is served yet
 answer_in q time s (OfService word) = 0
 
 -- every device of a kind in the pool has a holder
