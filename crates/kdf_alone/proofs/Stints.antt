@@ -35,48 +35,48 @@ use Rattle.kdf_alone.proofs.Takings.{taken_again}
 
 -- ---- what holds of the places, the marks and the stints holds of all that a program has, and the other way round
 
-pub whole_lent : (r : Registers) (size : ℕ) (claimed : List Bool) (ps : List Place) (xs : List Stint) (texts : List Spooled) (asked : ℕ) (words : List ℕ)
-    → AreLent ps claimed xs → IsLent (record { registers = r; stock = stock size claimed ps xs texts asked words })
-whole_lent r size claimed ps xs texts asked words lent =
+pub whole_lent : (r : Registers) (size : ℕ) (served : Bool) (claimed : List Bool) (ps : List Place) (xs : List Stint) (texts : List Spooled) (asked : ℕ) (words : List ℕ)
+    → AreLent ps claimed xs → IsLent (record { registers = r; stock = stock size served claimed ps xs texts asked words })
+whole_lent r size served claimed ps xs texts asked words lent =
     record { places = lent.places; marks = lent.marks; few = lent.few; fresh = lent.fresh; pooled = lent.pooled; held = lent.held; one = lent.one }
 
-pub part_lent : (r : Registers) (size : ℕ) (claimed : List Bool) (ps : List Place) (xs : List Stint) (texts : List Spooled) (asked : ℕ) (words : List ℕ)
-    → IsLent (record { registers = r; stock = stock size claimed ps xs texts asked words }) → AreLent ps claimed xs
-part_lent r size claimed ps xs texts asked words lent =
+pub part_lent : (r : Registers) (size : ℕ) (served : Bool) (claimed : List Bool) (ps : List Place) (xs : List Stint) (texts : List Spooled) (asked : ℕ) (words : List ℕ)
+    → IsLent (record { registers = r; stock = stock size served claimed ps xs texts asked words }) → AreLent ps claimed xs
+part_lent r size served claimed ps xs texts asked words lent =
     record { places = lent.places; marks = lent.marks; few = lent.few; fresh = lent.fresh; pooled = lent.pooled; held = lent.held; one = lent.one }
 
 -- so where that is what an act leaves
-pub left_lent : (size : ℕ) (claimed : List Bool) (ps : List Place) (xs : List Stint) (texts : List Spooled) (asked : ℕ) (words : List ℕ) (k : Stock)
-    → stock size claimed ps xs texts asked words ≡ k → IsLent (record { registers = new_registers; stock = k }) → AreLent ps claimed xs
-left_lent size claimed ps xs texts asked words k is lent =
+pub left_lent : (size : ℕ) (served : Bool) (claimed : List Bool) (ps : List Place) (xs : List Stint) (texts : List Spooled) (asked : ℕ) (words : List ℕ) (k : Stock)
+    → stock size served claimed ps xs texts asked words ≡ k → IsLent (record { registers = new_registers; stock = k }) → AreLent ps claimed xs
+left_lent size served claimed ps xs texts asked words k is lent =
     let Q : Stock → Type 0 = λ k'. IsLent (record { registers = new_registers; stock = k' }) in
-    part_lent new_registers size claimed ps xs texts asked words (subst Q (sym is) lent)
+    part_lent new_registers size served claimed ps xs texts asked words (subst Q (sym is) lent)
 
-module _ (size : ℕ) (claimed : List Bool) (ps : List Place) (xs : List Stint) (texts : List Spooled) (asked : ℕ) (words : List ℕ) (lent : AreLent ps claimed xs) where
+module _ (size : ℕ) (served : Bool) (claimed : List Bool) (ps : List Place) (xs : List Stint) (texts : List Spooled) (asked : ℕ) (words : List ℕ) (lent : AreLent ps claimed xs) where
   abbrev k : Stock
-  k = stock size claimed ps xs texts asked words
+  k = stock size served claimed ps xs texts asked words
 
   abbrev s : State
   s = record { registers = new_registers; stock = k }
 
   all_lent : IsLent s
-  all_lent = whole_lent new_registers size claimed ps xs texts asked words lent
+  all_lent = whole_lent new_registers size served claimed ps xs texts asked words lent
 
-  pub stays_lent : (ps' : List Place) → stock size claimed ps' xs texts asked words ≡ k → AreLent ps' claimed xs
-  stays_lent ps' is = left_lent size claimed ps' xs texts asked words k is all_lent
+  pub stays_lent : (ps' : List Place) → stock size served claimed ps' xs texts asked words ≡ k → AreLent ps' claimed xs
+  stays_lent ps' is = left_lent size served claimed ps' xs texts asked words k is all_lent
 
   -- a transfer on a device that is claimed
   pub start_lent : (ps' : List Place) (words' : List ℕ) (d : ℕ) (o : TransferOrder) (first last : ℕ) → is_kind (kind_of o) (claim k.claims d) ≡ true
-      → stock size claimed ps' xs texts asked words' ≡ at_once (Starts d o first last) k → AreLent ps' claimed xs
+      → stock size served claimed ps' xs texts asked words' ≡ at_once (Starts d o first last) k → AreLent ps' claimed xs
   start_lent ps' words' d o first last is left =
-      left_lent size claimed ps' xs texts asked words' (at_once (Starts d o first last) k) left
+      left_lent size served claimed ps' xs texts asked words' (at_once (Starts d o first last) k) left
       (moved_lent s all_lent new_registers d o first last (fixture_at k.claims d) (mark_of k.claims d (kind_of o) is))
 
   -- a device of the pool is taken
   pub take_lent : (claimed' : List Bool) (xs' : List Stint) (asked' : ℕ) (kind : Kind) (a : ℕ) → may_take k.claims kind ≡ true
-      → stock size claimed' ps xs' texts asked' words ≡ at_once (Asks (FreeOf kind) a) k → AreLent ps claimed' xs'
+      → stock size served claimed' ps xs' texts asked' words ≡ at_once (Asks (FreeOf kind) a) k → AreLent ps claimed' xs'
   take_lent claimed' xs' asked' kind a may left =
-      left_lent size claimed' ps xs' texts asked' words (at_once (Asks (FreeOf kind) a) k) left
+      left_lent size served claimed' ps xs' texts asked' words (at_once (Asks (FreeOf kind) a) k) left
       (taken_lent s all_lent new_registers kind a (taken_can k.claims kind a may))
 
   released_lent : (d : ℕ) (pooled : Bool) → is_pooled k.claims d ≡ pooled → IsLent (record { registers = new_registers; stock = released pooled d k })
@@ -85,9 +85,9 @@ module _ (size : ℕ) (claimed : List Bool) (ps : List Place) (xs : List Stint) 
 
   -- a device is given back
   pub give_lent : (claimed' : List Bool) (ps' : List Place) (xs' : List Stint) (d : ℕ)
-      → stock size claimed' ps' xs' texts asked words ≡ at_once (Releases (is_pooled k.claims d) d) k → AreLent ps' claimed' xs'
+      → stock size served claimed' ps' xs' texts asked words ≡ at_once (Releases (is_pooled k.claims d) d) k → AreLent ps' claimed' xs'
   give_lent claimed' ps' xs' d left =
-      left_lent size claimed' ps' xs' texts asked words (at_once (Releases (is_pooled k.claims d) d) k) left (released_lent d (is_pooled k.claims d) refl)
+      left_lent size served claimed' ps' xs' texts asked words (at_once (Releases (is_pooled k.claims d) d) k) left (released_lent d (is_pooled k.claims d) refl)
 
 -- ---- a device of the pool is given back
 
@@ -247,10 +247,10 @@ told_given k x device is kept =
     }
 
 -- and one that wasn't
-pub told_held : (size : ℕ) (claimed : List Bool) (ps : List Place) (xs : List Stint) (texts : List Spooled) (asked : ℕ) (words : List ℕ) (x : Stint) (device : Device)
-    → x.left ≡ None → get_or ps x.d Absent ≡ Pooled device → IsWhole (get_or ps x.d Absent) → IsStint (lending_of (stock size claimed ps xs texts asked words) (stint_in x)) x.d false device
-told_held size claimed ps xs texts asked words x device none is whole =
-    let k = stock size claimed ps xs texts asked words in
+pub told_held : (size : ℕ) (served : Bool) (claimed : List Bool) (ps : List Place) (xs : List Stint) (texts : List Spooled) (asked : ℕ) (words : List ℕ) (x : Stint) (device : Device)
+    → x.left ≡ None → get_or ps x.d Absent ≡ Pooled device → IsWhole (get_or ps x.d Absent) → IsStint (lending_of (stock size served claimed ps xs texts asked words) (stint_in x)) x.d false device
+told_held size served claimed ps xs texts asked words x device none is whole =
+    let k = stock size served claimed ps xs texts asked words in
     record {
       number = refl;
       given = sym (ap (λ (o : Option Device). is_some (option_map progress_of o)) none);
@@ -260,11 +260,11 @@ told_held size claimed ps xs texts asked words x device none is whole =
 
 -- ---- a device of the pool is taken
 
-pub stock_taken : (size : ℕ) (claimed : List Bool) (ps : List Place) (xs ys : List Stint) (texts : List Spooled) (asked : ℕ) (words : List ℕ) (kind : Kind) (a d n : ℕ)
-    → may_take (claims size claimed ps) kind ≡ true → d ≡ taken (claims size claimed ps) kind a → n ≡ d → ys ≡ xs ++ record { d = d; left = None } ∷ []
-    → stock size (set claimed n true) ps ys texts (asked + 1) words ≡ at_once (Asks (FreeOf kind) (taken (claims size claimed ps) kind a)) (stock size claimed ps xs texts asked words)
-stock_taken size claimed ps xs ys texts asked words kind a d n may is same pushed =
-    let c = claims size claimed ps in
+pub stock_taken : (size : ℕ) (served : Bool) (claimed : List Bool) (ps : List Place) (xs ys : List Stint) (texts : List Spooled) (asked : ℕ) (words : List ℕ) (kind : Kind) (a d n : ℕ)
+    → may_take (claims size served claimed ps) kind ≡ true → d ≡ taken (claims size served claimed ps) kind a → n ≡ d → ys ≡ xs ++ record { d = d; left = None } ∷ []
+    → stock size served (set claimed n true) ps ys texts (asked + 1) words ≡ at_once (Asks (FreeOf kind) (taken (claims size served claimed ps) kind a)) (stock size served claimed ps xs texts asked words)
+stock_taken size served claimed ps xs ys texts asked words kind a d n may is same pushed =
+    let c = claims size served claimed ps in
     let e : ℕ = taken c kind (taken c kind a) in
     let number : d ≡ e = is ∙ sym (taken_again c kind a may) in
     let mark : n ≡ e = same ∙ number in
@@ -272,7 +272,7 @@ stock_taken size claimed ps xs ys texts asked words kind a d n may is same pushe
     ap (map stint_in) pushed ∙ map-append stint_in xs (record { d = d; left = None } ∷ [])
     ∙ ap (λ m. map stint_in xs ++ (let x : state.Stint = record { device = m; left = None } in x) ∷ []) number in
     λ i. record {
-      claims = record { size = size; claimed = set claimed (mark i) true; fixtures = map own_fixture_in ps; pool = map pool_kind_in ps };
+      claims = record { size = size; claimed = set claimed (mark i) true; fixtures = map own_fixture_in ps; pool = map pool_kind_in ps; served = served };
       spooled = texts;
       asked = asked + 1;
       stints = more i;

@@ -1,5 +1,5 @@
 -- An order that takes from the pool, and is answered the device that it takes, comes to the same.
-use Rattle.std.proofs.Common.{◌≡◌, ℕ, ◌+◌, ltb, eqb, Bool, true, false, cond, List, [], ◌∷◌, length, Option, Some, None, refl, ap, ap₂}
+use Rattle.std.proofs.Common.{◌≡◌, ℕ, ◌+◌, ltb, eqb, Bool, true, false, ◌&&◌, cond, List, [], ◌∷◌, length, Option, Some, None, refl, ap, ap₂}
 use Rattle.std.specs.Prelude.{unwrap_or}
 use Rattle.kdf_journal.specs.declared.failure.Failure.TheVariants.{Liv, Nouv, Claim}
 use Rattle.kdf_journal.specs.declared.kind.Kind.{Kind}
@@ -14,11 +14,11 @@ use Rattle.kdf_transfer.specs.declared.test.Test.TheVariants.{Flag, Start, Mark}
 use Rattle.kdf_transfer.specs.declared.wanted.Wanted.TheVariants.{Kinded, Labelled}
 use Rattle.kdf_processor.specs.declared.registers.Registers.{Registers}
 use Rattle.kdf_processor.specs.Claims.{claim, free_for, is_claimed, kind_numbered, least_pooled, may_take, taken}
-use Rattle.kdf_processor.specs.Effect.{Change, Refused, Going, of_change, Effect, Failing, Ending, Changing, Fetching, Keeping, Testing, Starting, Asking, IsBusy, IsOut, Time, FreeOf, Claiming, Returning, Spooling}
+use Rattle.kdf_processor.specs.Effect.{Change, Refused, Going, of_change, Effect, Failing, Ending, Changing, Fetching, Keeping, Testing, Starting, Asking, IsBusy, IsOut, Time, FreeOf, OfService, Claiming, Returning, Spooling}
 use Rattle.kdf_processor.specs.Needs.{effect_or_liv, next_effect, order_at}
 use Rattle.kdf_processor.specs.Row.{done_by, next_of, perform, row, taking}
 use Rattle.kdf_processor.specs.State.{Claims, State, word_at}
-use Rattle.kdf_processor.specs.Table.{claims_found, claims_kind, claims_or_takes, direct_effect, effect, guarded, has_bit, indirect_effect, indirect_half, is_area, moves, on_top, out_effect, query_effect, starts, transfer_of, with_nest}
+use Rattle.kdf_processor.specs.Table.{asks_service, claims_found, claims_kind, claims_or_takes, direct_effect, effect, guarded, has_bit, indirect_effect, indirect_half, is_area, moves, on_top, out_effect, query_effect, starts, transfer_of, with_nest}
 use Rattle.kdf_processor.proofs.EachEffect.{each_effect}
 use Rattle.kdf_processor.proofs.Fit.{IsFit, next_fit}
 use Rattle.kdf_processor.proofs.Stinting.{taken_can}
@@ -60,6 +60,7 @@ guarded_by c (Asking (IsBusy d) after) h = either_by c (is_claimed c d) (Asking 
 guarded_by c (Asking (IsOut first last) after) h = either_by c (is_area c.size first last) (Asking (IsOut first last) after) (Failing Liv) tt tt
 guarded_by c (Asking Time after) h = tt
 guarded_by c (Asking (FreeOf kind) after) h = h
+guarded_by c (Asking (OfService word) after) h = tt
 guarded_by c (Claiming d after) h = tt
 guarded_by c (Returning pooled d after) h = either_by c (is_claimed c d) (Returning pooled d after) (Failing Claim) tt tt
 guarded_by c (Spooling stream first last after) h = either_by c (is_area c.size first last) (Spooling stream first last after) (Failing Liv) tt tt
@@ -113,7 +114,8 @@ out_by c r number below =
     (either_by c (eqb number 5) _ _ (top_by c below _ (λ n2 rest. kind_by c r rest (kind_numbered n2)))
     (either_by c (eqb number 6) _ _ (top_by c below _ (λ n2 rest. tt))
     (either_by c (eqb number 8) _ _ (top_by c below _ (λ n2 rest. either_by c (ltb 7 (triple_of n2).c) _ _ tt tt))
-    (either_by c (eqb number 9) _ _ tt tt))))))
+    (either_by c (eqb number 9) _ _ tt
+    (either_by c (eqb number 64 && c.served) _ _ (top_by c below (λ n2 rest. asks_service r rest n2) (λ n2 rest. tt)) tt)))))))
 
 effect_by : (c : Claims) (r : Registers) (o : Order) → IsByTaken c (effect c r o)
 effect_by c r =
@@ -143,6 +145,7 @@ performed s a (Asking Time after) fit by = refl
 performed s a (Asking (FreeOf kind) after) fit by =
     ap₂ (λ (r : Registers) (d : ℕ). (let t : State = record { registers = record r { ran = s.registers.ran + 1; state = s.registers.state }; stock = taking d (record s.stock { asked = s.stock.asked + 1 }) } in t))
     (by a fit) (taken_again s.stock.claims kind a fit)
+performed s a (Asking (OfService word) after) fit by = refl
 performed s a (Claiming d after) fit by = refl
 performed s a (Returning pooled d after) fit by = refl
 performed s a (Spooling stream first last after) fit by = refl

@@ -4,7 +4,7 @@ use Rattle.std.specs.Vec.{vec_capacity}
 use Rattle.kdf_transfer.specs.AtOnce.{is_output}
 use Rattle.kdf_transfer.specs.declared.order.TransferOrder.{TransferOrder}
 use Rattle.kdf_processor.specs.Claims.{taken}
-use Rattle.kdf_processor.specs.Effect.{Act, Question, IsBusy, IsOut, Time, FreeOf}
+use Rattle.kdf_processor.specs.Effect.{Act, Question, IsBusy, IsOut, Time, FreeOf, OfService}
 use Rattle.kdf_processor.specs.Room.{RoomFor}
 use Rattle.kdf_processor.specs.Row.{at_once}
 use Rattle.kdf_processor.specs.State.{Claims, State, Stock}
@@ -15,7 +15,7 @@ use Rattle.kdf_alone.specs.declared.place.Place.TheVariants.{Absent}
 use Rattle.kdf_alone.specs.Places.{own_fixture_in, pool_kind_in, progress_in, IsReady}
 use Rattle.kdf_alone.specs.Stints.{stint_in}
 
--- what its program is checked against: the size of its store, its devices by number, and those of the pool
+-- what its program is checked against: the size of its store, its devices by number and those of the pool, and whether it is served
 abbrev pub claims_of : Bench → Claims
 claims_of b =
     record {
@@ -23,6 +23,7 @@ claims_of b =
       claimed = b.claimed;
       fixtures = map own_fixture_in b.places.items;
       pool = map pool_kind_in b.places.items;
+      served = b.served;
     }
 
 -- what its program has beside its registers
@@ -43,6 +44,7 @@ given c a (IsBusy d) = a
 given c a (IsOut first last) = a
 given c a Time = a
 given c a (FreeOf kind) = taken c kind a
+given c a (OfService word) = a
 
 -- a program that has this, where nothing is locked out, busy or taken
 abbrev pub shown_with : Stock → ℕ → View

@@ -1,5 +1,5 @@
 -- Stints as their program's state has them.
-use Rattle.std.specs.Prelude.{◌≡◌, ◌≢◌, ◌==◌, ◌&&◌, if◌then◌else◌, ℕ, Bool, true, List, [], map, not, Option, None, Some, is_some, slice_index_or, unwrap_or}
+use Rattle.std.specs.Prelude.{◌≡◌, ◌≢◌, ◌==◌, ◌&&◌, if◌then◌else◌, ℕ, Bool, true, false, List, [], map, not, Option, None, Some, is_some, slice_index_or, unwrap_or}
 use Rattle.std.specs.List.{AllPairs}
 use Rattle.std.specs.Option.{option_map}
 use Rattle.kdf_journal.specs.declared.kind.Kind.{Kind}
@@ -27,7 +27,7 @@ IsKept pool x =
 abbrev pub lent_stock : List Place → List Bool → List Stint → Stock
 lent_stock places claimed stints =
     record {
-      claims = record { size = 0; claimed = claimed; fixtures = []; pool = map pool_kind_in places };
+      claims = record { size = 0; claimed = claimed; fixtures = []; pool = map pool_kind_in places; served = false };
       spooled = [];
       asked = 0;
       stints = map stint_in stints;

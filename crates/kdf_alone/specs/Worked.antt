@@ -34,6 +34,7 @@ with_device size d fixture progress image =
       fixtures = slice_set (replicate device_limit None) d (Some fixture);
       devices = slice_set (replicate device_limit new_progress) d progress;
       pool = [];
+      served = false;
     }
 
 -- paper tape with the letters A to P

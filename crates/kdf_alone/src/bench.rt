@@ -25,6 +25,8 @@ pub struct Bench {
     spooled: Vec<Spooled>,
     /// The stints, in the order in which their devices were taken.
     stints: Vec<Stint>,
+    /// An installation's service answers the program.
+    served: bool,
     /// How many answers were taken.
     asked: u32,
     /// What the next order is answered that asks.
@@ -40,7 +42,7 @@ pub struct Bench {
 }
 
 impl Bench {
-    ghost use Rattle.std.specs.Prelude.{◌+◌, ◌-◌, slice_index, slice_index_or, slice_get, None, true};
+    ghost use Rattle.std.specs.Prelude.{◌+◌, ◌-◌, slice_index, slice_index_or, slice_get, None, true, false};
     ghost use Rattle.std.specs.Option.{option_copied};
     ghost use Rattle.kdf_processor.specs.Claims.{can_take, free_for, is_free, least_pooled, may_take, taken};
     ghost use Rattle.kdf_processor.specs.Effect.{Acquires};
@@ -51,7 +53,7 @@ impl Bench {
     ghost use Rattle.kdf_alone.specs.Places.{own_device_in, own_fixture_in, progress_in};
     ghost use Rattle.kdf_alone.specs.Stints.{IsUnlent};
 
-    /// A store and devices, none of them claimed.
+    /// A store and devices, none of them claimed. No service answers, since no job has a slot that is served.
     #[tactic(auto, unfolding(kdf_processor::specs::State::unclaimed))]
     pub fn new(alloc: Global, size: u16, words: Vec<Word>, places: Vec<Place>) -> Bench
         requires whole { length words.items ≡ size }
@@ -64,6 +66,7 @@ impl Bench {
             claimed = unclaimed;
             fixtures = map own_fixture_in places.items;
             pool = map pool_kind_in places.items;
+            served = false;
           };
           spooled = [];
           asked = 0;
@@ -80,6 +83,7 @@ impl Bench {
             claimed: [false; 16],
             spooled: Vec::new(alloc),
             stints: Vec::new(alloc),
+            served: false,
             asked: 0,
             answer: 0,
             block: Vec::new(alloc),
@@ -317,6 +321,14 @@ impl Port for Bench {
 
     fn ask_time(&mut self) -> u64 {
         self.take_answer()
+    }
+
+    fn served(&self) -> bool {
+        self.served
+    }
+
+    fn ask_service(&mut self, _word: Word) -> Word {
+        Word::new(self.take_answer() % (1 << 48))
     }
 
     fn claim_label(&mut self, label: Word) -> Option<u8> {

@@ -10,7 +10,7 @@ use Rattle.kdf_processor.specs.declared.registers.Registers.{Registers}
 use Rattle.kdf_transfer.specs.declared.test.Test.TheVariants.{Flag, Start, Mark}
 use Rattle.kdf_transfer.specs.Devices.{is_kind}
 use Rattle.kdf_processor.specs.Claims.{claim, is_claimed, kind_at}
-use Rattle.kdf_processor.specs.Effect.{Change, Refused, Going, of_change, Effect, Failing, Ending, Changing, Fetching, Keeping, Testing, Starting, Asking, Claiming, Returning, Spooling, IsBusy, IsOut, Time, FreeOf}
+use Rattle.kdf_processor.specs.Effect.{Change, Refused, Going, of_change, Effect, Failing, Ending, Changing, Fetching, Keeping, Testing, Starting, Asking, Claiming, Returning, Spooling, IsBusy, IsOut, Time, FreeOf, OfService}
 use Rattle.kdf_processor.specs.Needs.{effect_or_liv, order_at, next_effect}
 use Rattle.kdf_processor.specs.State.{Claims, State, device_limit, word_at}
 use Rattle.kdf_transfer.specs.ByNumber.{device_count}
@@ -48,6 +48,7 @@ guarded_checked c (Asking (IsBusy d) after) = cond_both (is_claimed c d) _ _ (Is
 guarded_checked c (Asking (IsOut first last) after) = cond_both (is_area c.size first last) _ _ (IsChecked c) (λ is. tt) (λ not. tt)
 guarded_checked c (Asking Time after) = tt
 guarded_checked c (Asking (FreeOf kind) after) = tt
+guarded_checked c (Asking (OfService word) after) = tt
 guarded_checked c (Claiming d after) = tt
 guarded_checked c (Returning pooled d after) = cond_both (is_claimed c d) _ _ (IsChecked c) (λ is. tt) (λ not. tt)
 guarded_checked c (Spooling stream first last after) = cond_both (is_area c.size first last) _ _ (IsChecked c) (λ is. tt) (λ not. tt)

@@ -167,6 +167,7 @@ module _ (slots : List Slot) (J : List Entry) (reaches : List Reach) (seats : Li
       (out_same slots J reaches seats s run old i lt course)
       (busy_same slots J reaches seats s run old i lt course)
       (free_same slots J reaches seats s run old i lt course lent)
+      (λ word. refl)
       refl
 
   -- its state behind the order

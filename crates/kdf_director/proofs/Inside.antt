@@ -14,7 +14,7 @@ use Rattle.kdf_transfer.specs.declared.test.Test.TheVariants.{Flag, Start, Mark}
 use Rattle.kdf_transfer.specs.Devices.{is_kind}
 use Rattle.kdf_processor.specs.Claims.{claim, is_claimed}
 use Rattle.kdf_processor.specs.State.{Claims, State, word_at}
-use Rattle.kdf_processor.specs.Effect.{Change, Refused, Going, of_change, Effect, Failing, Ending, Changing, Fetching, Keeping, Testing, Starting, Asking, IsBusy, IsOut, Time, FreeOf, Claiming, Returning, Spooling}
+use Rattle.kdf_processor.specs.Effect.{Change, Refused, Going, of_change, Effect, Failing, Ending, Changing, Fetching, Keeping, Testing, Starting, Asking, IsBusy, IsOut, Time, FreeOf, OfService, Claiming, Returning, Spooling}
 use Rattle.kdf_processor.specs.Needs.{count_at, effect_needs, effect_or_liv, fetch_needs, needs, next_effect, order_at, syllable_needs}
 use Rattle.kdf_processor.specs.Table.{is_area, guarded, effect, on}
 use Rattle.kdf_processor.specs.View.{groups_of}
@@ -59,6 +59,7 @@ guarded_inside c (Asking (IsBusy d) after) = by_test c.size (is_claimed c d) (As
 guarded_inside c (Asking (IsOut first last) after) = by_test c.size (is_area c.size first last) (Asking (IsOut first last) after) _ (λ is. area_parts c.size first last is) (λ not. tt)
 guarded_inside c (Asking Time after) = tt
 guarded_inside c (Asking (FreeOf kind) after) = tt
+guarded_inside c (Asking (OfService word) after) = tt
 guarded_inside c (Claiming d after) = tt
 guarded_inside c (Returning pooled d after) = by_test c.size (is_claimed c d) (Returning pooled d after) _ (λ is. tt) (λ not. tt)
 guarded_inside c (Spooling stream first last after) = by_test c.size (is_area c.size first last) (Spooling stream first last after) _ (λ is. area_parts c.size first last is) (λ not. tt)

@@ -3,7 +3,7 @@ use Rattle.std.proofs.Common.{◌≡◌, ℕ, ◌+◌, List, [], ◌∷◌, Opti
 use Rattle.std.specs.Option.{option_map}
 use Rattle.kdf_processor.specs.declared.step.Need.{Need}
 use Rattle.kdf_processor.specs.declared.step.Need.TheVariants.{Group, Device, Pool}
-use Rattle.kdf_processor.specs.Effect.{Question, IsBusy, IsOut, Time, FreeOf, Asks, Effect, Asking}
+use Rattle.kdf_processor.specs.Effect.{Question, IsBusy, IsOut, Time, FreeOf, OfService, Asks, Effect, Asking}
 use Rattle.kdf_processor.specs.Needs.{next_effect}
 use Rattle.kdf_processor.specs.Row.{done_by}
 use Rattle.kdf_transfer.specs.Slots.{Slot}
@@ -67,6 +67,7 @@ told k (IsBusy d) v = refl
 told k (IsOut first last) v = refl
 told k Time v = refl
 told k (FreeOf kind) v = refl
+told k (OfService word) v = refl
 
 module _ (slots : List Slot) (fits : List Entry → ℕ → Question → ℕ → Type 0) (J : List Entry) (p : ℕ) where
   answer_fits : (n : Note) → answers_by slots fits J p n → (v : ℕ) → answer_in n ≡ Some v → IsAnswer (next_effect (own slots J p)) (fits J p) v

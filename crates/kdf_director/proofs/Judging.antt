@@ -13,7 +13,7 @@ use Rattle.kdf_transfer.specs.AtOnce.{has_area}
 use Rattle.kdf_transfer.specs.InFlight.{Covers}
 use Rattle.kdf_processor.specs.declared.step.Need.{Need}
 use Rattle.kdf_processor.specs.declared.step.Need.TheVariants.{Group, Device, Pool}
-use Rattle.kdf_processor.specs.Effect.{Question, IsBusy, IsOut, Time, Effect, Asking, FreeOf}
+use Rattle.kdf_processor.specs.Effect.{Question, IsBusy, IsOut, Time, Effect, Asking, FreeOf, OfService}
 use Rattle.kdf_processor.specs.Needs.{needs}
 use Rattle.kdf_processor.specs.Row.{done_by}
 use Rattle.kdf_transfer.specs.Devices.{is_kind}
@@ -97,12 +97,13 @@ own_from_is p test d (x ∷ spots) same =
     (own_from_is p test (d + 1) spots (λ k lt. same (suc k) (omega arith) ∙ ap test (let e : d + suc k ≡ d + 1 + k = omega arith in e)))
 
 -- what an order that asks is told decides what it does, and nothing else is asked
-pub done_alike : (a b : Question → ℕ) (size : ℕ) (e : Effect) (s : State) → IsInside size e → ((first last : ℕ) → AreNear size (map Group (groups_of first last)) → a (IsOut first last) ≡ b (IsOut first last)) → ((d : ℕ) → a (IsBusy d) ≡ b (IsBusy d)) → ((kind : Kind) → a (FreeOf kind) ≡ b (FreeOf kind)) → a Time ≡ b Time → done_by a e s ≡ done_by b e s
-done_alike a b size (Asking (IsBusy d) after) s is out busy free time = ap (λ n. done_by (λ _. n) (Asking (IsBusy d) after) s) (busy d)
-done_alike a b size (Asking (IsOut first last) after) s is out busy free time = ap (λ n. done_by (λ _. n) (Asking (IsOut first last) after) s) (out first last (near_area size first last is))
-done_alike a b size (Asking Time after) s is out busy free time = ap (λ n. done_by (λ _. n) (Asking Time after) s) time
-done_alike a b size (Asking (FreeOf kind) after) s is out busy free time = ap (λ n. done_by (λ _. n) (Asking (FreeOf kind) after) s) (free kind)
-done_alike a b size e s is out busy free time = refl
+pub done_alike : (a b : Question → ℕ) (size : ℕ) (e : Effect) (s : State) → IsInside size e → ((first last : ℕ) → AreNear size (map Group (groups_of first last)) → a (IsOut first last) ≡ b (IsOut first last)) → ((d : ℕ) → a (IsBusy d) ≡ b (IsBusy d)) → ((kind : Kind) → a (FreeOf kind) ≡ b (FreeOf kind)) → ((word : ℕ) → a (OfService word) ≡ b (OfService word)) → a Time ≡ b Time → done_by a e s ≡ done_by b e s
+done_alike a b size (Asking (IsBusy d) after) s is out busy free served time = ap (λ n. done_by (λ _. n) (Asking (IsBusy d) after) s) (busy d)
+done_alike a b size (Asking (IsOut first last) after) s is out busy free served time = ap (λ n. done_by (λ _. n) (Asking (IsOut first last) after) s) (out first last (near_area size first last is))
+done_alike a b size (Asking Time after) s is out busy free served time = ap (λ n. done_by (λ _. n) (Asking Time after) s) time
+done_alike a b size (Asking (FreeOf kind) after) s is out busy free served time = ap (λ n. done_by (λ _. n) (Asking (FreeOf kind) after) s) (free kind)
+done_alike a b size (Asking (OfService word) after) s is out busy free served time = ap (λ n. done_by (λ _. n) (Asking (OfService word) after) s) (served word)
+done_alike a b size e s is out busy free served time = refl
 
 module _ (slots : List Slot) (J : List Entry) (reaches : List Reach) (seats : List Seat) (s : Shared) (run : IsRunning reaches seats s) (old : AreFollowing slots J reaches seats s) (i : ℕ) (lt : i < length seats) (course : IsOnCourse slots J (seat_at seats i).p) where
   abbrev q : Part

@@ -13,7 +13,7 @@ use Rattle.kdf_transfer.specs.declared.test.Test.TheVariants.{Flag, Start, Mark}
 use Rattle.kdf_transfer.specs.Devices.{is_kind}
 use Rattle.kdf_processor.specs.Claims.{claim, is_claimed, may_take}
 use Rattle.kdf_processor.specs.State.{Claims, is_pooled, own_fixture_at}
-use Rattle.kdf_processor.specs.Effect.{Change, Refused, Going, of_change, Effect, Failing, Ending, Changing, Fetching, Keeping, Testing, Starting, Asking, IsBusy, IsOut, Time, Claiming, Returning, Spooling, FreeOf}
+use Rattle.kdf_processor.specs.Effect.{Change, Refused, Going, of_change, Effect, Failing, Ending, Changing, Fetching, Keeping, Testing, Starting, Asking, IsBusy, IsOut, Time, Claiming, Returning, Spooling, FreeOf, OfService}
 use Rattle.kdf_processor.specs.Needs.{order_at, effect_or_liv, effect_at}
 use Rattle.kdf_processor.specs.Table.{is_area, guarded, effect, out_effect, transfer_of}
 use Rattle.kdf_processor.specs.View.{View, first_pending, is_pending}
@@ -61,6 +61,7 @@ guarded_lawful c (Asking (IsBusy d) after) fit = by_test c (is_claimed c d) (Ask
 guarded_lawful c (Asking (IsOut first last) after) fit = by_test c (is_area c.size first last) (Asking (IsOut first last) after) _ (λ is. tt) (λ not. tt)
 guarded_lawful c (Asking Time after) fit = tt
 guarded_lawful c (Asking (FreeOf kind) after) fit = fit
+guarded_lawful c (Asking (OfService word) after) fit = tt
 guarded_lawful c (Claiming d after) fit = fit
 guarded_lawful c (Returning pooled d after) fit = by_test c (is_claimed c d) (Returning pooled d after) (Failing Claim) (λ is. (fit, is)) (λ not. tt)
 guarded_lawful c (Spooling stream first last after) fit = by_test c (is_area c.size first last) (Spooling stream first last after) _ (λ is. tt) (λ not. tt)

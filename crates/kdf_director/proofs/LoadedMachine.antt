@@ -435,7 +435,7 @@ module _ (xs : List SlotLoad) (are : AreLoads xs) (windows : List Window) (windo
 
     stock_is : own_stock q 0 s ≡ (begin (slot_of l)).stock
     stock_is = λ k. record {
-      claims = record { size = size_same k; claimed = unclaimed; fixtures = fixtures_are k; pool = by_number (lent_kind l.pool) };
+      claims = record { size = size_same k; claimed = unclaimed; fixtures = fixtures_are k; pool = by_number (lent_kind l.pool); served = false };
       spooled = [];
       asked = 0;
       stints = [];

@@ -3,7 +3,7 @@ use Rattle.std.proofs.Common.{◌≡◌, ℕ, ◌+◌, ◌<◌, true, false, Lis
 use Rattle.std.proofs.lemmas.Bool.{eq-eqb, ne_eqb}
 use Rattle.kdf_processor.specs.declared.registers.Registers.{Registers}
 use Rattle.kdf_processor.specs.declared.step.Need.TheVariants.{Device}
-use Rattle.kdf_processor.specs.Effect.{Effect, Failing, Ending, Changing, Fetching, Keeping, Testing, Starting, Asking, IsBusy, IsOut, Time, FreeOf, Claiming, Returning, Spooling}
+use Rattle.kdf_processor.specs.Effect.{Effect, Failing, Ending, Changing, Fetching, Keeping, Testing, Starting, Asking, IsBusy, IsOut, Time, FreeOf, OfService, Claiming, Returning, Spooling}
 use Rattle.kdf_processor.specs.Lone.{is_live}
 use Rattle.kdf_processor.specs.Needs.{effect_needs}
 use Rattle.kdf_processor.specs.Outcome.{done}
@@ -45,6 +45,7 @@ module _ (q : Part) (t : ℕ) (s : Shared) (r : Registers) (own : List ℕ) (sou
   live_by (Asking (IsBusy x) after) lawful free on d = refl
   live_by (Asking (IsOut first last) after) lawful free on d = refl
   live_by (Asking Time after) lawful free on d = refl
+  live_by (Asking (OfService word) after) lawful free on d = refl
   live_by (Claiming x after) lawful free on d = refl
   live_by (Returning true x after) lawful free on d =
       at_spot s.spots x (blank_spot (spot_at s.spots x)) (inside x (part.kept.few x (give_its q t s x after part lawful free).pooled))

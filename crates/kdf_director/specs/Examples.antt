@@ -19,6 +19,7 @@ holding one two at_one at_two =
           claimed = false ∷ true ∷ true ∷ [];
           fixtures = None ∷ Some one ∷ Some two ∷ [];
           pool = [];
+          served = false;
         };
         spooled = [];
         asked = 0;

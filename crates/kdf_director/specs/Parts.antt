@@ -134,10 +134,10 @@ abbrev pub own_progress : Part → List Spot → ℕ → Progress
 own_progress q spots d =
     if has_device q (spot_at spots d) then (spot_at spots d).progress else left_in q.stints d
 
--- what a program's orders are checked against
+-- what a program's orders are checked against; no slot is served
 abbrev pub own_claims : Part → Shared → Claims
 own_claims q s =
-    record { size = q.size; claimed = q.claimed; fixtures = by_number (own_fixture q s.spots); pool = q.pool }
+    record { size = q.size; claimed = q.claimed; fixtures = by_number (own_fixture q s.spots); pool = q.pool; served = false }
 
 -- what a program has beside its registers, after so many answers
 abbrev pub own_stock : Part → ℕ → Shared → Stock

@@ -9,7 +9,7 @@ use Rattle.kdf_transfer.specs.Devices.{is_kind}
 use Rattle.kdf_transfer.specs.declared.order.TransferOrder.{TransferOrder}
 use Rattle.kdf_transfer.specs.AtOnce.{is_input, has_area, addressed}
 use Rattle.kdf_transfer.specs.InFlight.{Motion, moved_by, words_of, total_of, ended_progress}
-use Rattle.kdf_processor.specs.Effect.{Question, IsBusy, IsOut, Time, FreeOf, Act, Nothing, Writes, Starts, Asks, Acquires, Releases, Spools}
+use Rattle.kdf_processor.specs.Effect.{Question, IsBusy, IsOut, Time, FreeOf, OfService, Act, Nothing, Writes, Starts, Asks, Acquires, Releases, Spools}
 use Rattle.kdf_processor.specs.View.{View, by_itself, groups_of}
 use Rattle.kdf_director.specs.True.{one_if}
 use Rattle.kdf_director.specs.Spots.{Held, Spot, blank_spot, lent_spot, spot_at, own_from, fixture_or}
@@ -37,6 +37,7 @@ answer_in q time s (IsBusy d) = one_if (is_busy_in s d)
 answer_in q time s (IsOut first last) = one_if (is_some (find (is_out_of q s) (groups_of first last)))
 answer_in q time s Time = time
 answer_in q time s (FreeOf kind) = unwrap_or (free_in q.pool s.spots kind) 0
+answer_in q time s (OfService word) = 0
 
 -- every device of a kind in the pool has a holder
 abbrev pub is_pool_taken : List (Option Kind) → Shared → Kind → Bool

@@ -1,5 +1,5 @@
 -- The slots that are loaded, and each program's state at its start.
-use Rattle.std.specs.Prelude.{◌≡◌, ◌≢◌, ℕ, ◌<◌, ◌≤◌, ◌==◌, ◌⊎◌, true, List, [], Option, Some, None, is_some, find, length, slice_index_or}
+use Rattle.std.specs.Prelude.{◌≡◌, ◌≢◌, ℕ, ◌<◌, ◌≤◌, ◌==◌, ◌⊎◌, true, false, List, [], Option, Some, None, is_some, find, length, slice_index_or}
 use Rattle.std.specs.List.{All, AllPairs}
 use Rattle.kdf_transfer.specs.Devices.{Fixture}
 use Rattle.kdf_transfer.specs.Slots.{Slot}
@@ -8,7 +8,7 @@ use Rattle.kdf_processor.specs.State.{State, begin, device_limit}
 
 -- a slot without words and devices
 abbrev pub no_slot : Slot
-no_slot = record { p = 0; size = 0; words = []; fixtures = []; devices = []; pool = [] }
+no_slot = record { p = 0; size = 0; words = []; fixtures = []; devices = []; pool = []; served = false }
 
 -- the slot with this number
 abbrev pub slot_of : List Slot → ℕ → Option Slot

@@ -6,7 +6,7 @@ use Rattle.kdf_journal.specs.declared.kind.Kind.{Kind}
 use Rattle.kdf_journal.specs.Counts.{clock}
 use Rattle.kdf_processor.specs.declared.step.Need.{Need}
 use Rattle.kdf_processor.specs.declared.step.Need.TheVariants.{Group, Device}
-use Rattle.kdf_processor.specs.Effect.{Question, IsBusy, IsOut, Time, FreeOf}
+use Rattle.kdf_processor.specs.Effect.{Question, IsBusy, IsOut, Time, FreeOf, OfService}
 use Rattle.kdf_processor.specs.View.{groups_of}
 use Rattle.kdf_director.specs.World.{World}
 
@@ -15,12 +15,13 @@ abbrev pub one_if : Bool → ℕ
 one_if is = if is then 1 else 0
 
 -- whether the device has a transfer, whether a group of the area is locked out, the time, and the least device of the kind in
--- the pool that is free
+-- the pool that is free; what the service answers is 0, as long as no slot is served
 abbrev pub known : (pending : Need → Bool) (time : ℕ) (free : Kind → Option ℕ) → Question → ℕ
 known pending time free (IsBusy d) = one_if (pending (Device d))
 known pending time free (IsOut first last) = one_if (list_any (λ g. pending (Group g)) (groups_of first last))
 known pending time free Time = time
 known pending time free (FreeOf kind) = unwrap_or (free kind) 0
+known pending time free (OfService word) = 0
 
 -- what program p is truly answered in this world, after the journal J: what of it is pending,
 -- the time that was set last, and what is free of the pool

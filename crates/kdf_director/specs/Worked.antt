@@ -29,6 +29,7 @@ slot_with p size words fixtures =
       fixtures = fixtures;
       devices = replicate device_count new_progress;
       pool = [];
+      served = false;
     }
 
 -- no device, and one device

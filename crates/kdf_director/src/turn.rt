@@ -319,6 +319,15 @@ impl Port for Turn<'_> {
         time
     }
 
+    fn served(&self) -> bool {
+        false
+    }
+
+    fn ask_service(&mut self, _word: Word) -> Word {
+        self.tell(0);
+        Word::default()
+    }
+
     fn claim_label(&mut self, label: Word) -> Option<u8> {
         self.claim(&Wanted::Labelled(label))
     }

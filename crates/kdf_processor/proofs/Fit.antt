@@ -2,7 +2,7 @@
 -- kind isn't claimed; and a device goes back to the pool exactly where it is of the pool.
 use Rattle.std.specs.Prelude.{find}
 use Rattle.std.specs.List.{range_with_len}
-use Rattle.std.proofs.Common.{◌≡◌, ℕ, ◌+◌, ◌%◌, ◌^◌, ltb, eqb, Bool, true, false, cond, not, List, [], ◌∷◌, length, Option, Some, None, is_some, refl, sym, ap, ◌∙◌, subst, ⊎_elim}
+use Rattle.std.proofs.Common.{◌≡◌, ℕ, ◌+◌, ◌%◌, ◌^◌, ltb, eqb, Bool, true, false, ◌&&◌, cond, not, List, [], ◌∷◌, length, Option, Some, None, is_some, refl, sym, ap, ◌∙◌, subst, ⊎_elim}
 use Rattle.std.proofs.lemmas.Bool.{and_parts, cases_Bool, false≢true}
 use Rattle.kdf_journal.specs.declared.failure.Failure.TheVariants.{Liv, Nouv, Out, Claim}
 use Rattle.kdf_journal.specs.declared.kind.Kind.{Kind}
@@ -21,9 +21,9 @@ use Rattle.kdf_processor.proofs.Frees.{none_of_kind}
 use Rattle.kdf_transfer.specs.Devices.{Fixture, is_kind, is_wanted}
 use Rattle.kdf_transfer.specs.declared.wanted.Wanted.{Wanted}
 use Rattle.kdf_processor.specs.State.{Claims, device_limit, is_pooled, own_fixture_at}
-use Rattle.kdf_processor.specs.Effect.{Change, Refused, Going, of_change, Effect, Failing, Ending, Changing, Fetching, Keeping, Testing, Starting, Asking, IsBusy, IsOut, Time, FreeOf, Claiming, Returning, Spooling}
+use Rattle.kdf_processor.specs.Effect.{Change, Refused, Going, of_change, Effect, Failing, Ending, Changing, Fetching, Keeping, Testing, Starting, Asking, IsBusy, IsOut, Time, OfService, FreeOf, Claiming, Returning, Spooling}
 use Rattle.kdf_processor.specs.Needs.{effect_at, effect_or_liv, order_at}
-use Rattle.kdf_processor.specs.Table.{answered_in_tr, change_of, claims_found, claims_kind, claims_or_takes, device_effect, direct_effect, effect, guarded, has_bit, indirect_address, indirect_effect, indirect_half, is_area, moves, on_top, out_effect, plain_row, query_effect, sets_tr, spools, starts, transfer_of, with_nest}
+use Rattle.kdf_processor.specs.Table.{answered_in_tr, asks_service, change_of, claims_found, claims_kind, claims_or_takes, device_effect, direct_effect, effect, guarded, has_bit, indirect_address, indirect_effect, indirect_half, is_area, moves, on_top, out_effect, plain_row, query_effect, sets_tr, spools, starts, transfer_of, with_nest}
 
 abbrev pub IsFit : Claims → Effect → Type 0
 IsFit c (Asking (FreeOf kind) after) = may_take c kind ≡ true
@@ -58,6 +58,7 @@ guarded_fit c (Asking (IsBusy d) after) h = either_fit c (is_claimed c d) (Askin
 guarded_fit c (Asking (IsOut first last) after) h = either_fit c (is_area c.size first last) (Asking (IsOut first last) after) (Failing Liv) (λ _. tt) tt
 guarded_fit c (Asking Time after) h = tt
 guarded_fit c (Asking (FreeOf kind) after) h = h
+guarded_fit c (Asking (OfService word) after) h = tt
 guarded_fit c (Claiming d after) h = h
 guarded_fit c (Returning pooled d after) h = either_fit c (is_claimed c d) (Returning pooled d after) (Failing Claim) (λ _. h) tt
 guarded_fit c (Spooling stream first last after) h = either_fit c (is_area c.size first last) (Spooling stream first last after) (Failing Liv) (λ _. tt) tt
@@ -149,7 +150,8 @@ out_fit c r number below =
     (either_fit c (eqb number 5) _ _ (λ _. top_fit c below _ (λ n2 rest. kind_fit c r rest (kind_numbered n2)))
     (either_fit c (eqb number 6) _ _ (λ _. top_fit c below (λ n2 rest. Returning (is_pooled c n2) n2 (with_nest 1 rest r)) (λ n2 rest. refl))
     (either_fit c (eqb number 8) _ _ (λ _. top_fit c below _ (λ n2 rest. spools_fit c r rest (triple_of n2)))
-    (either_fit c (eqb number 9) _ _ (λ _. tt) tt))))))
+    (either_fit c (eqb number 9) _ _ (λ _. tt)
+    (either_fit c (eqb number 64 && c.served) _ _ (λ _. top_fit c below (λ n2 rest. asks_service r rest n2) (λ n2 rest. tt)) tt)))))))
 
 effect_fit : (c : Claims) (r : Registers) (o : Order) → IsFit c (effect c r o)
 effect_fit c r (order.Plain code) =

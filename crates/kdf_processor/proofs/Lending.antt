@@ -16,7 +16,7 @@ use Rattle.kdf_transfer.specs.declared.order.TransferOrder.{TransferOrder}
 use Rattle.kdf_processor.specs.declared.registers.Registers.{Registers}
 use Rattle.kdf_transfer.specs.declared.test.Test.TheVariants.{Flag, Start, Mark}
 use Rattle.kdf_processor.specs.Claims.{can_take, claim, is_claimed, kind_at, taken}
-use Rattle.kdf_processor.specs.Effect.{Question, FreeOf, Change, Refused, Going, of_change, Effect, Failing, Ending, Changing, Fetching, Keeping, Testing, Starting, Asking, IsBusy, IsOut, Time, Claiming, Returning, Spooling}
+use Rattle.kdf_processor.specs.Effect.{Question, FreeOf, Change, Refused, Going, of_change, Effect, Failing, Ending, Changing, Fetching, Keeping, Testing, Starting, Asking, IsBusy, IsOut, Time, OfService, Claiming, Returning, Spooling}
 use Rattle.kdf_processor.specs.Needs.{effect_at, effect_or_liv, next_effect, order_at}
 use Rattle.kdf_processor.specs.Row.{answered, handed, perform, released, row, transferred}
 use Rattle.kdf_transfer.specs.Slots.{Slot}
@@ -59,6 +59,7 @@ guarded_begun c (Asking (IsBusy d) after) = either_begun c (is_claimed c d) (Ask
 guarded_begun c (Asking (IsOut first last) after) = either_begun c (is_area c.size first last) (Asking (IsOut first last) after) (Failing Liv) (λ _. tt) tt
 guarded_begun c (Asking Time after) = tt
 guarded_begun c (Asking (FreeOf kind) after) = tt
+guarded_begun c (Asking (OfService word) after) = tt
 guarded_begun c (Claiming d after) = tt
 guarded_begun c (Returning pooled d after) = either_begun c (is_claimed c d) (Returning pooled d after) (Failing Claim) (λ is. is) tt
 guarded_begun c (Spooling stream first last after) = either_begun c (is_area c.size first last) (Spooling stream first last after) (Failing Liv) (λ _. tt) tt

@@ -3,7 +3,7 @@ use Rattle.std.proofs.Common.{ℕ, refl}
 use Rattle.kdf_journal.specs.declared.kind.Kind.{Kind}
 use Rattle.kdf_transfer.specs.declared.order.TransferOrder.{TransferOrder}
 use Rattle.kdf_processor.specs.Ahead.{IsSmall, IsTaking}
-use Rattle.kdf_processor.specs.Effect.{Act, Nothing, Writes, Starts, Asks, IsBusy, IsOut, Time, FreeOf, Acquires, Releases, Spools}
+use Rattle.kdf_processor.specs.Effect.{Act, Nothing, Writes, Starts, Asks, IsBusy, IsOut, Time, OfService, FreeOf, Acquires, Releases, Spools}
 use Rattle.kdf_processor.specs.Fetch.{IsFetchedAt}
 use Rattle.kdf_processor.specs.Outcome.{outcome}
 use Rattle.kdf_processor.specs.Room.{RoomFor}
@@ -22,6 +22,7 @@ little_room can_start can_spool can_take can_ask (Asks (IsBusy d) answer) can sm
 little_room can_start can_spool can_take can_ask (Asks (IsOut first last) answer) can small = can
 little_room can_start can_spool can_take can_ask (Asks Time answer) can small = can
 little_room can_start can_spool can_take can_ask (Asks (FreeOf kind) answer) can small = absurd small
+little_room can_start can_spool can_take can_ask (Asks (OfService word) answer) can small = can
 little_room can_start can_spool can_take can_ask (Acquires d) can small = tt
 little_room can_start can_spool can_take can_ask (Releases pooled d) can small = tt
 little_room can_start can_spool can_take can_ask (Spools stream first last) can small = absurd small
@@ -36,6 +37,7 @@ taking_room room small takes (Asks (IsBusy d) answer) taking = small (Asks (IsBu
 taking_room room small takes (Asks (IsOut first last) answer) taking = small (Asks (IsOut first last) answer) tt
 taking_room room small takes (Asks Time answer) taking = small (Asks Time answer) tt
 taking_room room small takes (Asks (FreeOf kind) answer) taking = takes kind answer
+taking_room room small takes (Asks (OfService word) answer) taking = small (Asks (OfService word) answer) tt
 taking_room room small takes (Acquires d) taking = small (Acquires d) tt
 taking_room room small takes (Releases pooled d) taking = small (Releases pooled d) tt
 taking_room room small takes (Spools stream first last) taking = absurd taking

@@ -24,7 +24,7 @@ use Rattle.kdf_processor.specs.Fetch.{IsFetchedAt}
 use Rattle.kdf_processor.specs.declared.fetch.Fetched.{Fetched}
 use Rattle.kdf_processor.specs.declared.fetch.Fetched.TheVariants.{Spelt, Bad, Held}
 use Rattle.kdf_processor.specs.State.{Claims}
-use Rattle.kdf_processor.specs.Effect.{Change, Refused, Going, of_change, Effect, Failing, Ending, Changing, Fetching, Keeping, Testing, Starting, Asking, IsBusy, IsOut, Time, FreeOf, Claiming, Returning, Spooling}
+use Rattle.kdf_processor.specs.Effect.{Change, Refused, Going, of_change, Effect, Failing, Ending, Changing, Fetching, Keeping, Testing, Starting, Asking, IsBusy, IsOut, Time, OfService, FreeOf, Claiming, Returning, Spooling}
 use Rattle.kdf_processor.specs.Needs.{effect_or_liv, effect_needs, effect_at, needs_at, fetch_needs, order_at}
 use Rattle.kdf_processor.specs.Outcome.{Outcome, done, held_or, outcome, try_effect}
 use Rattle.kdf_processor.specs.Plan.{try_decoded}
@@ -80,6 +80,7 @@ guarded_mild c (Asking (IsBusy d) after) h = either_mild _ (Asking (IsBusy d) af
 guarded_mild c (Asking (IsOut first last) after) h = either_mild _ (Asking (IsOut first last) after) (Failing Liv) tt tt
 guarded_mild c (Asking Time after) h = tt
 guarded_mild c (Asking (FreeOf kind) after) h = absurd h
+guarded_mild c (Asking (OfService word) after) h = tt
 guarded_mild c (Claiming d after) h = tt
 guarded_mild c (Returning pooled d after) h = either_mild _ (Returning pooled d after) (Failing Claim) tt tt
 guarded_mild c (Spooling stream first last after) h = absurd h

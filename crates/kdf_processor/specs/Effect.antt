@@ -6,13 +6,14 @@ use Rattle.kdf_transfer.specs.declared.order.TransferOrder.{TransferOrder}
 use Rattle.kdf_processor.specs.declared.registers.Registers.{Registers}
 use Rattle.kdf_transfer.specs.declared.test.Test.{Test}
 
--- What an order asks the machine: whether a device has a transfer, whether a group of an area is locked out, the time, and
--- which device of a kind in the pool it may take.
+-- What an order asks the machine: whether a device has a transfer, whether a group of an area is locked out, the time,
+-- which device of a kind in the pool it may take, and what the installation's service answers to a word.
 pub data Question : Type 0 where
   IsBusy : (device : ℕ) → Question
   IsOut : (first last : ℕ) → Question
   Time : Question
   FreeOf : (kind : Kind) → Question
+  OfService : (word : ℕ) → Question
 
 -- What an order does that reads and changes registers alone.
 pub data Change : Type 0 where

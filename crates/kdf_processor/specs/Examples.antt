@@ -77,7 +77,7 @@ word a = 2 ^ 24 * a + 7
 abbrev pub shown : View
 shown =
     record {
-      claims = record { size = 64; claimed = unclaimed; fixtures = []; pool = [] };
+      claims = record { size = 64; claimed = unclaimed; fixtures = []; pool = []; served = false };
       word = word;
       test = λ d what. false;
       answer = λ q. 0;
@@ -134,6 +134,7 @@ claiming n =
       claimed = replicate n true ++ replicate (16 - n) false;
       fixtures = devices;
       pool = [];
+      served = false;
     }
 
 -- with devices that have come so far, and an answer to each question
@@ -197,6 +198,14 @@ replaces nest act = does (record (linked 61 nest []) { ran = 41 }) act
 abbrev pub rejects : List ℕ → Failure → Outcome
 rejects nest kind = fails (calling nest) kind
 
+-- OUT of a program that is served, the answer to each question being 2^50 + 9
+abbrev pub served : View
+served =
+    record (equipped 0 new_progress (2 ^ 50 + 9)) { claims = record (claiming 0) { served = true } }
+
+abbrev pub calls_served : List ℕ → Outcome
+calls_served nest = obeyed_over served (calling nest) (order.Plain 0x21)
+
 -- what an order needs behind the groups of its syllables, the program having transfers on devices 2 and 5
 abbrev pub waits_for : Registers → Order → List Need
 waits_for r o = effect_needs (2 ∷ 5 ∷ []) (effect (claiming 6) r o)
@@ -209,7 +218,7 @@ ends_behind nest = ends (record (linked 61 nest []) { ran = 41 })
 abbrev pub kept : List Bool → List Spooled → ℕ → List ℕ → Progress → Stock
 kept claimed spooled asked store progress =
     record {
-      claims = record { size = 4; claimed = claimed; fixtures = Some (paper ab) ∷ []; pool = [] };
+      claims = record { size = 4; claimed = claimed; fixtures = Some (paper ab) ∷ []; pool = []; served = false };
       spooled = spooled;
       asked = asked;
       stints = [];

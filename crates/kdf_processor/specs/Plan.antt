@@ -5,7 +5,7 @@ use Rattle.kdf_syllable.specs.declared.order.Order.TheVariants as order
 use Rattle.kdf_syllable.specs.Spelling.{IsQ}
 use Rattle.kdf_processor.specs.declared.plan.Access.{Access}
 use Rattle.kdf_processor.specs.declared.plan.Plan.{Plan}
-use Rattle.kdf_processor.specs.declared.plan.Plan.TheVariants.{Fail, End, Fetch, Keep, Count, Begin, Examine, Await, AskBusy, AskArea, AskTime, ClaimLabel, ClaimKind, GiveBack, Spool}
+use Rattle.kdf_processor.specs.declared.plan.Plan.TheVariants.{Fail, End, Fetch, Keep, Count, Begin, Examine, Await, AskBusy, AskArea, AskTime, AskService, ClaimLabel, ClaimKind, GiveBack, Spool}
 use Rattle.kdf_processor.specs.declared.plan.Beginning.{Beginning}
 use Rattle.kdf_processor.specs.declared.registers.Registers.{Registers}
 use Rattle.kdf_transfer.specs.declared.test.Test.TheVariants.{Flag}
@@ -19,7 +19,7 @@ use Rattle.kdf_processor.specs.Effect.{Effect, Failing, Ending, Changing, Fetchi
 use Rattle.kdf_processor.specs.Needs.{effect_or_liv}
 use Rattle.kdf_processor.specs.Outcome.{Outcome, done, try_effect}
 use Rattle.kdf_processor.specs.View.{View}
-use Rattle.kdf_processor.specs.Table.{with_nest, part_of, with_part, counts_on, effect, change_of, sets_tr, answered_in_tr, claims_found, claims_or_takes}
+use Rattle.kdf_processor.specs.Table.{with_nest, part_of, with_part, counts_on, asks_service, effect, change_of, sets_tr, answered_in_tr, claims_found, claims_or_takes}
 
 -- the top of a nest
 abbrev pub top : List ℕ → ℕ
@@ -51,6 +51,7 @@ planned c (Await d) r = Testing d Flag (λ is. with_nest 2 r.nest r)
 planned c (AskBusy d) r = Asking (IsBusy d) (answered_in_tr r)
 planned c (AskArea first last) r = Asking (IsOut first last) (answered_in_tr r)
 planned c AskTime r = Asking Time (λ t. with_nest 1 (t % 2 ^ 48 ∷ below_top r.nest) r)
+planned c (AskService word) r = asks_service r (below_two r.nest) word
 planned c (ClaimLabel label) r = claims_found r (below_two r.nest) (free_for (Labelled label) c)
 planned c (ClaimKind kind) r = claims_or_takes c r (below_two r.nest) kind (free_for (Kinded kind) c)
 planned c (GiveBack d) r = Returning (is_pooled c d) d (with_nest 1 (below_two r.nest) r)
@@ -82,6 +83,7 @@ IsSound c (Examine d what) = is_claimed c d ≡ true
 IsSound c (Await d) = is_claimed c d ≡ true
 IsSound c (AskBusy d) = is_claimed c d ≡ true
 IsSound c (AskArea first last) = IsArea first last c.size
+IsSound c (AskService word) = c.served ≡ true
 IsSound c (GiveBack d) = is_claimed c d ≡ true
 IsSound c (Spool stream first last) = (stream ≤ 7) × IsArea first last c.size
 IsSound c _ = Unit {0}
@@ -104,6 +106,7 @@ HasOperands nest (Fetch a) = length nest < 16
 HasOperands nest (Keep a) = 0 < length nest
 HasOperands nest Count = 0 < length nest
 HasOperands nest AskTime = 0 < length nest
+HasOperands nest (AskService word) = 1 < length nest
 HasOperands nest (ClaimLabel label) = 1 < length nest
 HasOperands nest (ClaimKind kind) = 1 < length nest
 HasOperands nest (GiveBack d) = 1 < length nest

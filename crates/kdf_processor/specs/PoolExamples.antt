@@ -73,6 +73,7 @@ stocking claimed asked stints blocks =
         claimed = false ∷ false ∷ claimed ∷ [];
         fixtures = [];
         pool = Some Tp ∷ Some Lp ∷ Some Tp ∷ [];
+        served = false;
       };
       spooled = [];
       asked = asked;
@@ -103,6 +104,7 @@ beside pool image =
       fixtures = replicate device_limit None;
       devices = replicate device_limit new_progress;
       pool = pool;
+      served = false;
     }
 
 -- no device, and punch 9

@@ -13,13 +13,14 @@ use Rattle.kdf_processor.specs.declared.spooled.Spooled.{Spooled}
 abbrev pub device_limit : ℕ
 device_limit = 16
 
--- what an order is checked against, and no transfer hides: the size of the store, and by number the program's own
--- devices, the kinds of those in the pool, and which of both are claimed
+-- what an order is checked against, and no transfer hides: the size of the store, by number the program's own
+-- devices, the kinds of those in the pool, and which of both are claimed, and whether a service answers the program
 pub record Claims : Type 0 where
   pub size : ℕ
   pub claimed : List Bool
   pub fixtures : List (Option Fixture)
   pub pool : List (Option Kind)
+  pub served : Bool
 
 -- a stint: that a device of the pool was taken. Until it is given back, the device of its number tells how far it has come;
 -- then the stint keeps that
@@ -124,7 +125,13 @@ unclaimed = replicate device_limit false
 abbrev pub stocked : Slot → Stock
 stocked s =
     record {
-      claims = record { size = s.size; claimed = unclaimed; fixtures = s.fixtures; pool = s.pool };
+      claims = record {
+        size = s.size;
+        claimed = unclaimed;
+        fixtures = s.fixtures;
+        pool = s.pool;
+        served = s.served;
+      };
       spooled = [];
       asked = 0;
       stints = [];

@@ -23,7 +23,7 @@ use Rattle.kdf_transfer.specs.Devices.{is_kind}
 use Rattle.kdf_transfer.specs.declared.wanted.Wanted.TheVariants.{Kinded, Labelled}
 use Rattle.kdf_processor.specs.Claims.{claim, is_claimed, free_for, kind_numbered, may_take, taken}
 use Rattle.kdf_processor.specs.Effect.{Change, Refused, Going, Decision, Undecided, Decided, of_change}
-use Rattle.kdf_processor.specs.Effect.{Effect, Failing, Ending, Changing, Fetching, Keeping, Testing, Starting, Asking, IsBusy, IsOut, Time, FreeOf, Claiming, Returning, Spooling}
+use Rattle.kdf_processor.specs.Effect.{Effect, Failing, Ending, Changing, Fetching, Keeping, Testing, Starting, Asking, IsBusy, IsOut, Time, FreeOf, OfService, Claiming, Returning, Spooling}
 
 -- the syllable that follows n syllables on; they are counted modulo 6 times 8,192
 abbrev pub on : ℕ → ℕ → ℕ
@@ -122,6 +122,10 @@ abbrev pub spools : Registers → List ℕ → Triple → Effect
 spools r rest t =
     if nat_lt 7 t.c then Failing Out else Spooling t.c t.i t.m (with_nest 1 rest r)
 
+-- the service is asked for its answer to a word, and the answer takes the place of two words
+abbrev pub asks_service : Registers → List ℕ → ℕ → Effect
+asks_service r rest word = Asking (OfService word) (λ a. with_nest 1 (a % 2 ^ 48 ∷ rest) r)
+
 -- OUT, by the number on top.
 unfoldable pub out_effect : Claims → Registers → ℕ → List ℕ → Effect
 out_effect c r number below =
@@ -136,7 +140,9 @@ out_effect c r number below =
     -- spool a text
     else (if number == 8 then on_top (Failing Nouv) below (λ n2 rest. spools r rest (triple_of n2))
     else (if number == 9 then Asking Time (λ t. with_nest 1 (t % 2 ^ 48 ∷ below) r)  -- the time
-    else Failing Out))))))
+    -- ask the service, where the program is served
+    else (if number == 64 && c.served then on_top (Failing Nouv) below (λ n2 rest. asks_service r rest n2)
+    else Failing Out)))))))
 
 -- ---- two syllables
 

@@ -45,15 +45,23 @@ fn drop_two(registers: &mut Registers)
     registers.at = behind(registers.at, 1);
 }
 
+/// Puts a word in place of two, behind OUT.
+fn replace_two(registers: &mut Registers, word: Word)
+    requires { 1 < length registers.old.nest }
+    ensures { registers.new ≡ with_nest 1 (word ∷ below_two registers.old.nest) registers.old }
+{
+    registers.nest.pop();
+    registers.nest.pop();
+    registers.nest.push(word);
+    registers.at = behind(registers.at, 1);
+}
+
 /// Puts a device's number in place of two words, behind OUT.
 pub fn take_number(registers: &mut Registers, device: u8)
     requires { 1 < length registers.old.nest }
     ensures { registers.new ≡ with_nest 1 (device ∷ below_two registers.old.nest) registers.old }
 {
-    registers.nest.pop();
-    registers.nest.pop();
-    registers.nest.push(Word::new(u64::from(device)));
-    registers.at = behind(registers.at, 1);
+    replace_two(registers, Word::new(u64::from(device)));
 }
 
 /// Puts the number of orders obeyed in place of the top.
@@ -160,6 +168,22 @@ pub fn ask_time<P: Port>(registers: &mut Registers, port: &mut P) -> Step
 {
     let time = Word::new(port.ask_time() % (1 << 48));
     replace_top(registers, time);
+    count(registers);
+    Step::Done
+}
+
+/// Puts the service's answer to a word in place of two words.
+pub fn ask_service<P: Port>(registers: &mut Registers, port: &mut P, word: Word) -> Step
+    requires ran { registers.old.ran < u32.MAX }
+    requires there { 1 < length registers.old.nest }
+    requires served { (P.shows port.old).claims.served ≡ true }
+    requires room { P.room port.old
+        (done_plan (P.shows port.old) registers.old (Plan.AskService word)).act }
+    ensures { Obeyed P.acts (done_plan (P.shows port.old) registers.old (Plan.AskService word))
+        port.old port.new registers.new result }
+{
+    let answer = port.ask_service(word);
+    replace_two(registers, answer);
     count(registers);
     Step::Done
 }

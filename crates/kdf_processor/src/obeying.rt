@@ -15,8 +15,8 @@ ghost use Rattle.kdf_processor.specs.Table.{with_nest};
 ghost use Rattle.kdf_processor.specs.View.{first_pending};
 
 use crate::acting::{
-    ask_area, ask_busy, ask_time, begin, count_orders, examine, give_back, pass, spool,
-    take_number, take_pool,
+    ask_area, ask_busy, ask_service, ask_time, begin, count_orders, examine, give_back, pass,
+    spool, take_number, take_pool,
 };
 use crate::change::change;
 use crate::counting::count;
@@ -120,6 +120,7 @@ fn carry_out<P: Port>(registers: &mut Registers, port: &mut P, plan: Plan) -> St
         Plan::AskBusy { device } => ask_busy(registers, port, device),
         Plan::AskArea { first, last } => ask_area(registers, port, first, last),
         Plan::AskTime => ask_time(registers, port),
+        Plan::AskService { word } => ask_service(registers, port, word),
         Plan::GiveBack { device } => give_back(registers, port, device),
         Plan::Spool {
             stream,

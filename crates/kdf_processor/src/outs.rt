@@ -34,6 +34,7 @@ pub fn plan_out<P: Port>(registers: &Registers, port: &P) -> Plan
         3 => Plan::Count,
         4 | 5 | 6 | 8 => plan_with_operand(registers, port, number),
         9 => Plan::AskTime,
+        64 => plan_asking_service(registers, port),
         _ => Plan::Fail(Failure::Out),
     }
 }
@@ -59,6 +60,25 @@ fn plan_with_operand<P: Port>(registers: &Registers, port: &P, number: u64) -> P
         },
         6 => plan_giving_back(port, operand),
         _ => plan_spooling(port, operand),
+    }
+}
+
+/// Asking the service, where the program is served, for its answer to the word below the number.
+#[tactic(auto, unfolding(crate::specs::Table::out_effect, crate::specs::Table::guarded))]
+fn plan_asking_service<P: Port>(registers: &Registers, port: &P) -> Plan
+    requires there { 0 < length registers.now.nest }
+    ensures { IsPlanOf (P.shows port.now).claims registers.now
+        (guarded (P.shows port.now).claims (out_effect (P.shows port.now).claims registers.now
+        64 (below_top registers.now.nest))) result }
+{
+    if !port.served() {
+        return Plan::Fail(Failure::Out);
+    }
+    if registers.nest.depth() == 1 {
+        return Plan::Fail(Failure::Nouv);
+    }
+    Plan::AskService {
+        word: registers.nest.peek(1),
     }
 }
 

@@ -62,6 +62,8 @@ pub enum Plan {
     AskArea { first: u16, last: u16 },
     /// It puts the time in place of the top.
     AskTime,
+    /// It puts the service's answer to a word in place of two words.
+    AskService { word: Word },
     /// It claims a tape, if there is one to be claimed, and puts its number in place of two words.
     ClaimLabel { label: Word },
     /// It claims a device, or takes one from the pool, if there is one to be had, and puts its number in place of two words.

@@ -1,10 +1,10 @@
 //! The view of one program that an order is obeyed over.
-ghost use Rattle.std.specs.Prelude.{◌≡◌, ◌<◌, ◌≤◌, nat_lt, not, find, true, false, None, OnOk, OnErr, IfSome, IfNone, if◌then◌else◌};
+ghost use Rattle.std.specs.Prelude.{◌≡◌, ◌<◌, ◌≤◌, ◌%◌, ◌^◌, nat_lt, not, find, true, false, None, OnOk, OnErr, IfSome, IfNone, if◌then◌else◌};
 ghost use Rattle.kdf_transfer.specs.AtOnce.{has_area, kind_of, IsArea};
 ghost use Rattle.kdf_transfer.specs.Devices.{is_kind};
 ghost use Rattle.kdf_transfer.specs.declared.wanted.Wanted.TheVariants.{Kinded, Labelled};
 ghost use Rattle.kdf_processor.specs.Claims.{can_take, claim, is_claimed, free_for, may_take};
-ghost use Rattle.kdf_processor.specs.Effect.{Act, Nothing, Writes, Starts, Asks, IsBusy, IsOut, Time, FreeOf, Acquires, Releases, Spools};
+ghost use Rattle.kdf_processor.specs.Effect.{Act, Nothing, Writes, Starts, Asks, IsBusy, IsOut, Time, FreeOf, OfService, Acquires, Releases, Spools};
 ghost use Rattle.kdf_processor.specs.Needs.{group_of};
 ghost use Rattle.kdf_processor.specs.Plan.{claim_act};
 ghost use Rattle.kdf_processor.specs.State.{device_limit, is_pooled};
@@ -105,6 +105,19 @@ pub trait Port {
         requires room { room self.old (Asks Time ((shows self.old).answer Time)) }
         ensures answer { result ≡ (shows self.old).answer Time }
         ensures recorded { acts self.old (Asks Time ((shows self.old).answer Time)) self.new };
+
+    /// Whether an installation's service answers the program.
+    fn served(&self) -> bool
+        ensures { result ≡ (shows self.now).claims.served };
+
+    /// Asks the service for its answer to a word, and records the answer.
+    fn ask_service(&mut self, word: Word) -> Word
+        requires served { (shows self.old).claims.served ≡ true }
+        requires room { room self.old
+            (Asks (OfService word) ((shows self.old).answer (OfService word))) }
+        ensures answer { result ≡ (shows self.old).answer (OfService word) % 2 ^ 48 }
+        ensures recorded { acts self.old
+            (Asks (OfService word) ((shows self.old).answer (OfService word))) self.new };
 
     /// Claims the least tape with this label that isn't claimed. Where there is none, nothing changes.
     fn claim_label(&mut self, label: Word) -> Option<u8>

@@ -69,7 +69,11 @@ pub fn first_need<P: Port>(port: &P, plan: &Plan) -> Option<Need>
             busy_device(port, device)
         }
         Plan::Spool { first, last, .. } => group_out(port, first, last),
-        Plan::Count | Plan::AskBusy { .. } | Plan::AskArea { .. } | Plan::AskTime => None,
+        Plan::Count
+        | Plan::AskBusy { .. }
+        | Plan::AskArea { .. }
+        | Plan::AskTime
+        | Plan::AskService { .. } => None,
         Plan::ClaimLabel { .. } | Plan::ClaimKind { .. } => unreachable!(),
     }
 }

@@ -55,6 +55,7 @@ a_program =
           claimed = true ∷ false ∷ true ∷ false ∷ true ∷ [];
           fixtures = Some (of_kind Mt) ∷ Some (of_kind Cr) ∷ Some (of_kind Tp) ∷ [];
           pool = None ∷ None ∷ None ∷ Some Tp ∷ Some Lp ∷ [];
+          served = false;
         };
         spooled = record { stream = 7; text = 33 ∷ 34 ∷ 61 ∷ [] } ∷ record { stream = 0; text = [] } ∷ [];
         asked = 0;

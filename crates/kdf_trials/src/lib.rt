@@ -37,6 +37,8 @@ mod relocate;
 #[cfg(test)]
 mod schedule;
 #[cfg(test)]
+mod service;
+#[cfg(test)]
 mod syllable;
 #[cfg(test)]
 mod tape;

@@ -32,7 +32,7 @@ struct Case {
 }
 
 /// Orders, and what each needs, in its order.
-const ORDERS: [Case; 23] = [
+const ORDERS: [Case; 25] = [
     Case {
         name: "a transfer needs its own words, then its device, then the groups of its area",
         word: 0x7210_0000_0000,
@@ -140,6 +140,31 @@ const ORDERS: [Case; 23] = [
         tries: &[
             ((0, 16, 16, false), Step::Held(Need::Group(0))),
             ((3, 0, 0, true), Step::Done),
+        ],
+    },
+    Case {
+        name: "OUT 64 asks the service, and needs nothing",
+        word: 0x2100_0000_0000,
+        at: 0,
+        nest: &[64, 7],
+        q: (0, 0, 0),
+        call: Call::AsksService(7),
+        tries: &[
+            ((0, 16, 16, false), Step::Held(Need::Group(0))),
+            ((3, 0, 0, true), Step::Done),
+        ],
+    },
+    Case {
+        name: "OUT 64 without a word",
+        word: 0x2100_0000_0000,
+        at: 0,
+        nest: &[64],
+        q: (0, 0, 0),
+        call: Call::Nothing,
+        tries: &[
+            ((0, 5, 2, false), Step::Held(Need::Group(0))),
+            ((2, 5, 2, false), Step::Held(Need::Device(2))),
+            ((2, 5, 16, false), Step::Fails(Failure::Nouv)),
         ],
     },
     Case {
@@ -338,7 +363,7 @@ const ORDERS: [Case; 23] = [
 
 /// A word whose first syllables are an order, the nest, C, I and M of Q1, a group that is out, and
 /// what lies ahead.
-const LOOKS: [(u64, &[u64], (u16, u16, u16), u16, Ahead); 11] = [
+const LOOKS: [(u64, &[u64], (u16, u16, u16), u16, Ahead); 12] = [
     (0x7210_0000_0000, &[], (0, 90, 170), 6, STARTS),
     (0x7210_0000_0000, &[], (0, 90, 170), 2, Ahead::Else),
     (0x7210_0000_0000, &[], (0, 90, 170), 0, Ahead::Else),
@@ -361,6 +386,7 @@ const LOOKS: [(u64, &[u64], (u16, u16, u16), u16, Ahead); 11] = [
     (0x2100_0000_0000, &[5, 1], (0, 0, 0), 0, Ahead::Else),
     (0x2100_0000_0000, &[4, 1], (0, 0, 0), 6, Ahead::Else),
     (0x2100_0000_0000, &[9], (0, 0, 0), 6, Ahead::Else),
+    (0x2100_0000_0000, &[64, 7], (0, 0, 0), 6, Ahead::Else),
     (0x0100_0000_0000, &[], (0, 0, 0), 6, Ahead::Else),
 ];
 

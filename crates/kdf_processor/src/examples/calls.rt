@@ -4,8 +4,8 @@
 
 ghost use Rattle.std.specs.Prelude.{◌≡◌, ◌+◌, ◌-◌, ◌^◌, [], ◌∷◌, false};
 ghost use Rattle.kdf_journal.specs.declared.failure.Failure.TheVariants.{Liv, Nouv, Out, Claim};
-ghost use Rattle.kdf_processor.specs.Effect.{Nothing, Asks, Time, Acquires, Releases, Spools};
-ghost use Rattle.kdf_processor.specs.Examples.{calls, replaces, rejects, ends_behind, label_a, label_ab, label_b};
+ghost use Rattle.kdf_processor.specs.Effect.{Nothing, Asks, Time, OfService, Acquires, Releases, Spools};
+ghost use Rattle.kdf_processor.specs.Examples.{calls, calls_served, replaces, rejects, ends_behind, label_a, label_ab, label_b};
 
 /// OUT 0 ends the program, and takes its number.
 pub fn end()
@@ -91,13 +91,23 @@ pub fn time()
     ensures words_below { calls 0 (9 ∷ 5 ∷ []) ≡ replaces (9 ∷ 5 ∷ []) (Asks Time (2 ^ 50 + 9)) }
 {}
 
+/// OUT 64 of a program that is served pushes the service's answer to the word below its number in place of both, without what it has from
+/// 2^48 on. The answer is 2^50 + 9.
+pub fn ask_service()
+    ensures two_words { calls_served (64 ∷ 7 ∷ []) ≡ replaces (9 ∷ []) (Asks (OfService 7) (2 ^ 50 + 9)) }
+    ensures words_below { calls_served (64 ∷ 7 ∷ 5 ∷ []) ≡ replaces (9 ∷ 5 ∷ []) (Asks (OfService 7) (2 ^ 50 + 9)) }
+    ensures no_word { calls_served (64 ∷ []) ≡ rejects (64 ∷ []) Nouv }
+    ensures not_served { calls 0 (64 ∷ 7 ∷ []) ≡ rejects (64 ∷ 7 ∷ []) Out }
+    ensures not_served_and_no_word { calls 0 (64 ∷ []) ≡ rejects (64 ∷ []) Out }
+    ensures another_number { calls_served (65 ∷ 7 ∷ []) ≡ rejects (65 ∷ 7 ∷ []) Out }
+{}
+
 /// No other number is one of OUT, and it has a number.
 pub fn no_call()
     ensures one { calls 16 (1 ∷ 5 ∷ []) ≡ rejects (1 ∷ 5 ∷ []) Out }
     ensures two { calls 16 (2 ∷ 5 ∷ []) ≡ rejects (2 ∷ 5 ∷ []) Out }
     ensures seven { calls 16 (7 ∷ 5 ∷ []) ≡ rejects (7 ∷ 5 ∷ []) Out }
     ensures ten { calls 16 (10 ∷ 5 ∷ []) ≡ rejects (10 ∷ 5 ∷ []) Out }
-    ensures sixty_four { calls 16 (64 ∷ []) ≡ rejects (64 ∷ []) Out }
     ensures all_bits { calls 16 ((2 ^ 48 - 1) ∷ 5 ∷ []) ≡ rejects ((2 ^ 48 - 1) ∷ 5 ∷ []) Out }
     ensures no_number { calls 16 [] ≡ rejects [] Nouv }
 {}

@@ -13,6 +13,7 @@ pub enum Call {
     AsksBusy(u8),
     AsksArea(u16, u16),
     AsksTime,
+    AsksService(u64),
     Takes(u8),
     Acquires(u8),
     Releases(u8),
@@ -20,7 +21,8 @@ pub enum Call {
 }
 
 /// A store of 256 words, all alike, and three devices: punch 0, which is claimed, printer 1, and
-/// punch 2, the only device of a pool. Each question is answered 2, and no act changes any of this.
+/// punch 2, the only device of a pool. A service answers the program. Each question is answered 2, and no act changes
+/// any of this.
 #[derive(Drop)]
 pub struct Bench {
     /// The word at each address.
@@ -48,6 +50,7 @@ impl Port for Bench {
         fixtures = Some (record { kind = Tp; label = 0; codes = []; cards = [] })
             ∷ Some (record { kind = Lp; label = 0; codes = []; cards = [] }) ∷ [];
         pool = None ∷ None ∷ Some Tp ∷ [];
+        served = true;
       };
       word = λ address. b.word;
       test = λ d what. false;
@@ -127,6 +130,15 @@ impl Port for Bench {
     fn ask_time(&mut self) -> u64 {
         self.call = Call::AsksTime;
         2
+    }
+
+    fn served(&self) -> bool {
+        true
+    }
+
+    fn ask_service(&mut self, word: Word) -> Word {
+        self.call = Call::AsksService(word.bits());
+        Word::new(2)
     }
 
     #[tactic(auto, unfolding(kdf_processor::specs::Claims::free_for))]

@@ -19,7 +19,7 @@ returns-clause-keeps c =
     let there : c.from-place.result < length ps = omega (arith, b.places.ok.0) in
     let here : held ≡ get_or ps c.from-place.result Absent = c.index_mut-held.ensures.value ∙ get_or_default ps c.from-place.result held Absent there in
     record {
-      stock = same_stock b.size b.claimed ps b.stints.items b.spooled.items b.asked b.words.items c.from-place.result c.make_ready.new.self
+      stock = same_stock b.size b.served b.claimed ps b.stints.items b.spooled.items b.asked b.words.items c.from-place.result c.make_ready.new.self
           (c.make_ready.ensures.own ∙ ap own_fixture_in here) (c.make_ready.ensures.kind ∙ ap pool_kind_in here) (c.make_ready.ensures.progress ∙ ap progress_in here);
       answer = refl;
     }
@@ -32,7 +32,7 @@ returns-clause-shows c =
     let there : c.from-place.result < length ps = omega (arith, b.places.ok.0) in
     let here : held ≡ get_or ps c.from-place.result Absent = c.index_mut-held.ensures.value ∙ get_or_default ps c.from-place.result held Absent there in
     ap (λ k. shown_with k b.answer)
-    (same_stock b.size b.claimed ps b.stints.items b.spooled.items b.asked b.words.items c.from-place.result c.make_ready.new.self
+    (same_stock b.size b.served b.claimed ps b.stints.items b.spooled.items b.asked b.words.items c.from-place.result c.make_ready.new.self
     (c.make_ready.ensures.own ∙ ap own_fixture_in here) (c.make_ready.ensures.kind ∙ ap pool_kind_in here) (c.make_ready.ensures.progress ∙ ap progress_in here))
 
 pub invariant_of-self-2-clause-sixteen : goal.invariant_of-self-2-clause-sixteen
@@ -65,6 +65,6 @@ invariant_of-self-2-clause-lent c =
     let held = c.index_mut-held.result.now in
     let there : c.from-place.result < length ps = omega (arith, b.places.ok.0) in
     let here : held ≡ get_or ps c.from-place.result Absent = c.index_mut-held.ensures.value ∙ get_or_default ps c.from-place.result held Absent there in
-    stays_lent b.size b.claimed ps b.stints.items b.spooled.items b.asked b.words.items b.lent (set ps c.from-place.result c.make_ready.new.self)
-    (same_stock b.size b.claimed ps b.stints.items b.spooled.items b.asked b.words.items c.from-place.result c.make_ready.new.self
+    stays_lent b.size b.served b.claimed ps b.stints.items b.spooled.items b.asked b.words.items b.lent (set ps c.from-place.result c.make_ready.new.self)
+    (same_stock b.size b.served b.claimed ps b.stints.items b.spooled.items b.asked b.words.items c.from-place.result c.make_ready.new.self
     (c.make_ready.ensures.own ∙ ap own_fixture_in here) (c.make_ready.ensures.kind ∙ ap pool_kind_in here) (c.make_ready.ensures.progress ∙ ap progress_in here))
