@@ -52,7 +52,7 @@ impl Alone {
         let places = places(alloc, slot)?;
         Ok(Alone {
             registers: Registers::new(),
-            bench: Bench::new(alloc, slot.size, words, places),
+            bench: Bench::new(alloc, slot.size, words, places, false),
         })
     }
 

@@ -53,9 +53,15 @@ impl Bench {
     ghost use Rattle.kdf_alone.specs.Places.{own_device_in, own_fixture_in, progress_in};
     ghost use Rattle.kdf_alone.specs.Stints.{IsUnlent};
 
-    /// A store and devices, none of them claimed. No service answers, since no job has a slot that is served.
+    /// A store and devices, none of them claimed, of a program that a service answers where it is served.
     #[tactic(auto, unfolding(kdf_processor::specs::State::unclaimed))]
-    pub fn new(alloc: Global, size: u16, words: Vec<Word>, places: Vec<Place>) -> Bench
+    pub fn new(
+        alloc: Global,
+        size: u16,
+        words: Vec<Word>,
+        places: Vec<Place>,
+        served: bool,
+    ) -> Bench
         requires whole { length words.items ≡ size }
         requires sixteen { length places.items ≡ 16 }
         requires pooled { All IsWhole places.items }
@@ -66,7 +72,7 @@ impl Bench {
             claimed = unclaimed;
             fixtures = map own_fixture_in places.items;
             pool = map pool_kind_in places.items;
-            served = false;
+            served = served;
           };
           spooled = [];
           asked = 0;
@@ -83,7 +89,7 @@ impl Bench {
             claimed: [false; 16],
             spooled: Vec::new(alloc),
             stints: Vec::new(alloc),
-            served: false,
+            served,
             asked: 0,
             answer: 0,
             block: Vec::new(alloc),

@@ -27,7 +27,7 @@ abbrev pub stock : Part → Claims → ℕ → List ℕ → List Progress → St
 stock q c n ws ds = record { claims = c; spooled = q.spooled; asked = n; stints = map stint_of q.stints; store = ws; devices = ds }
 
 abbrev pub claims : Part → List (Option Fixture) → Claims
-claims q fs = record { size = q.size; claimed = q.claimed; fixtures = fs; pool = q.pool; served = false }
+claims q fs = record { size = q.size; claimed = q.claimed; fixtures = fs; pool = q.pool; served = q.served }
 
 some_of : (o : Option (List ℕ)) → is_none o ≡ false → o ≡ Some (words_in o)
 some_of None h = cc

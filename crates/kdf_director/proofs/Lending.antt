@@ -125,7 +125,7 @@ module _ (windows : List Window) (loads : List Loaded) (seats : List Seat) (s : 
   reached_is : (i : ℕ) → i < length seats → reached (reach_at reaches i) ≡ window_at windows (seat_at seats i).p
   reached_is i lt =
       let count = length-map loads (reach_of windows) in
-      sym (get_or-map reached reaches i (record { base = 0; size = 0; devices = []; pool = [] }) (record { base = 0; size = 0 }) (omega arith))
+      sym (get_or-map reached reaches i (record { base = 0; size = 0; devices = []; pool = []; served = false }) (record { base = 0; size = 0 }) (omega arith))
       ∙ ap (λ ws. get_or ws i (let none : Window = record { base = 0; size = 0 } in none)) all_reached
       ∙ get_or-map (λ (x : Seat). window_at windows x.p) seats i no_seat (record { base = 0; size = 0 }) lt
 

@@ -206,7 +206,7 @@ is_slot l is =
     }
 
 abbrev pub no_load : SlotLoad
-no_load = record { p = 0; size = 0; words = []; devices = []; pool = [] }
+no_load = record { p = 0; size = 0; words = []; devices = []; pool = []; served = false }
 
 pairs_map : (R : Slot → Slot → Type 0) (xs : List SlotLoad) → AllPairs (λ a b. R (slot_of a) (slot_of b)) xs → AllPairs R (map slot_of xs)
 pairs_map R xs all i j d less lt =

@@ -36,7 +36,7 @@ use Rattle.kdf_transfer.proofs.Numbers.{length-numbers, limit_is, number_at, num
 use Rattle.kdf_director.proofs.Sizes.{IsWindow, size_is, window_of}
 
 abbrev no_reach : Reach
-no_reach = record { base = 0; size = 0; devices = []; pool = [] }
+no_reach = record { base = 0; size = 0; devices = []; pool = []; served = false }
 
 abbrev no_window : Window
 no_window = record { base = 0; size = 0 }
@@ -49,6 +49,7 @@ reach_in windows l =
       size = (window_at windows l.p).size;
       devices = numbers_in l.devices;
       pool = by_number (lent_kind l.pool);
+      served = l.served;
     }
 
 -- the pool is that of the first slot
@@ -435,7 +436,7 @@ module _ (xs : List SlotLoad) (are : AreLoads xs) (windows : List Window) (windo
 
     stock_is : own_stock q 0 s ≡ (begin (slot_of l)).stock
     stock_is = λ k. record {
-      claims = record { size = size_same k; claimed = unclaimed; fixtures = fixtures_are k; pool = by_number (lent_kind l.pool); served = false };
+      claims = record { size = size_same k; claimed = unclaimed; fixtures = fixtures_are k; pool = by_number (lent_kind l.pool); served = l.served };
       spooled = [];
       asked = 0;
       stints = [];
@@ -452,7 +453,7 @@ module _ (xs : List SlotLoad) (are : AreLoads xs) (windows : List Window) (windo
 -- what is loaded is what the slots reach
 reach_same : (windows : List Window) (l : Loaded) → reach_of windows l ≡ reach_in windows (loaded l)
 reach_same windows l =
-    ap (λ ns. (let r : Reach = record { base = (window_at windows l.p).base; size = (window_at windows l.p).size; devices = ns; pool = by_number (lent_kind l.pool.items) } in r))
+    ap (λ ns. (let r : Reach = record { base = (window_at windows l.p).base; size = (window_at windows l.p).size; devices = ns; pool = by_number (lent_kind l.pool.items); served = l.served } in r))
     (sym (map_twice (λ (x : JobDevice). x.d) shown_device l.devices.items))
 
 reaches_same : (windows : List Window) (ls : List Loaded) → reaches_in windows ls ≡ map (reach_in windows) (map loaded ls)

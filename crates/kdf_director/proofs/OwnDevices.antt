@@ -60,12 +60,12 @@ owner_has windows slots d i is =
     let many = length-map slots (reach_of windows) in (
       omega arith,
       subst (λ k. has d (reach_at (reaches_in windows slots) k) ≡ true) (sym same ∙ e)
-          (passes_at_first (has d) (reaches_in windows slots) (record { base = 0; size = 0; devices = []; pool = [] }) (omega arith)),
+          (passes_at_first (has d) (reaches_in windows slots) (record { base = 0; size = 0; devices = []; pool = []; served = false }) (omega arith)),
     )
 
 pub owner_none : (windows : List Window) (slots : List Loaded) (d i : ℕ) → owner_in slots d ≡ None → i < length slots → owns (reach_at (reaches_in windows slots) i).devices d ≡ false
 owner_none windows slots d i is lt =
-    fails_before_first (has d) (reaches_in windows slots) i (record { base = 0; size = 0; devices = []; pool = [] })
+    fails_before_first (has d) (reaches_in windows slots) i (record { base = 0; size = 0; devices = []; pool = []; served = false })
     (let same = first_map (reach_of windows) (has d) slots in
     let none = none_left (ltb (first windows slots d) (length slots)) (first windows slots d) is in
     ⊎_elim

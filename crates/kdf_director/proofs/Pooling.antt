@@ -216,7 +216,7 @@ module _ (q : Part) (s : Shared) (t : ℕ) (sound : IsSound s) (kept : IsKept q 
       (map_push stint_of q.stints (record { device = t; loan = Lent })) (taken_progress active)
     where
       parted : List (Option Fixture) → List Stint → List ℕ → List Progress → Stock
-      parted fs xs ws ps = record { claims = record { size = q.size; claimed = set q.claimed t true; fixtures = fs; pool = q.pool; served = false }; spooled = q.spooled; asked = n + 1; stints = xs; store = ws; devices = ps }
+      parted fs xs ws ps = record { claims = record { size = q.size; claimed = set q.claimed t true; fixtures = fs; pool = q.pool; served = q.served }; spooled = q.spooled; asked = n + 1; stints = xs; store = ws; devices = ps }
 
   -- and to another program
   module _ (r : Part) (ne : r.p ≢ q.p) where
@@ -367,7 +367,7 @@ module _ (q : Part) (s : Shared) (d : ℕ) (sound : IsSound s) (kept : IsKept q 
       (gone_progress active)
     where
       parted : List (Option Fixture) → List Stint → List ℕ → List Progress → Stock
-      parted fs xs ws ps = record { claims = record { size = q.size; claimed = set q.claimed d false; fixtures = fs; pool = q.pool; served = false }; spooled = q.spooled; asked = n; stints = xs; store = ws; devices = ps }
+      parted fs xs ws ps = record { claims = record { size = q.size; claimed = set q.claimed d false; fixtures = fs; pool = q.pool; served = q.served }; spooled = q.spooled; asked = n; stints = xs; store = ws; devices = ps }
 
   -- nothing, where the program is over and keeps it
   left_progress : own_progress (giver q.claimed d (Left (fixture_or x.fixture) x.progress) q) (emptied d s).spots ≡ own_progress q s.spots

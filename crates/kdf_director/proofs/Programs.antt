@@ -1,7 +1,7 @@
 -- One program of all, and its slot.
 use Rattle.std.specs.Prelude.{find}
 use Rattle.std.specs.List.{range_with_len}
-use Rattle.std.proofs.Common.{◌≡◌, ℕ, ◌-◌, ◌<◌, eqb, true, List, [], length, map, get_or, set, Option, None, sym, ap, ap₂, ◌∙◌, subst, arith}
+use Rattle.std.proofs.Common.{◌≡◌, ℕ, ◌-◌, ◌<◌, eqb, true, false, List, [], length, map, get_or, set, Option, None, sym, ap, ap₂, ◌∙◌, subst, arith}
 use Rattle.std.proofs.Math.Seq.{map-set_same}
 use Rattle.std.proofs.lemmas.List.{map-set, get_or-map, length-map}
 use Rattle.kdf_relocate.specs.declared.window.Window.{Window}
@@ -23,7 +23,7 @@ use Rattle.kdf_director.specs.Turned.{HasRun, HasTurned}
 use Rattle.kdf_director.proofs.Turned.{turned, turned_running}
 
 abbrev no_reach : Reach
-no_reach = record { base = 0; size = 0; devices = []; pool = [] }
+no_reach = record { base = 0; size = 0; devices = []; pool = []; served = false }
 
 module _ (windows : List Window) (slots : List Loaded) (programs : List Program) (i : ℕ) (lt : i < length programs) (many : length slots ≡ length programs) (slot : Loaded) (program : Program) (slot_is : slot ≡ get_or slots i slot) (program_is : program ≡ get_or programs i program) where
   pub reach_is : reach_of windows slot ≡ reach_at (reaches_in windows slots) i

@@ -67,6 +67,7 @@ loaded l =
       words = l.words.items;
       devices = map shown_device l.devices.items;
       pool = l.pool.items;
+      served = l.served;
     }
 
 -- the size of the slot with a number, 0 where it is absent

@@ -35,11 +35,11 @@ pub record IsActive (q : Part) (s : Shared) : Type 0 where
   pub none_left : All (λ (x : Keeping). is_left x.loan ≡ false) q.stints
 
 -- a program with these fields keeps what it has: neither its marks nor what it spooled, nor the words, matter to that
-abbrev pub IsKeptBy : ℕ → Window → List (ℕ × Device) → List (ℕ × Kind) → List KeptStint → List Place → Type 0
-IsKeptBy p window devices pool stints places =
-    IsKept (part_with p window devices pool [] [] stints) (shared_in [] places)
+abbrev pub IsKeptBy : ℕ → Window → List (ℕ × Device) → List (ℕ × Kind) → Bool → List KeptStint → List Place → Type 0
+IsKeptBy p window devices pool served stints places =
+    IsKept (part_with p window devices pool served [] [] stints) (shared_in [] places)
 
 -- and is live, with these marks
-abbrev pub IsActiveBy : ℕ → Window → List (ℕ × Device) → List (ℕ × Kind) → List Bool → List KeptStint → List Place → Type 0
-IsActiveBy p window devices pool claimed stints places =
-    IsActive (part_with p window devices pool claimed [] stints) (shared_in [] places)
+abbrev pub IsActiveBy : ℕ → Window → List (ℕ × Device) → List (ℕ × Kind) → Bool → List Bool → List KeptStint → List Place → Type 0
+IsActiveBy p window devices pool served claimed stints places =
+    IsActive (part_with p window devices pool served claimed [] stints) (shared_in [] places)

@@ -1,26 +1,28 @@
 -- What is loaded: the slots of a job with the words of their images, the store, the programs and the places of the devices.
-use Rattle.std.specs.Prelude.{ℕ, ◌≤◌, List, [], ◌∷◌, length, map}
+use Rattle.std.specs.Prelude.{ℕ, ◌≤◌, Bool, false, List, [], ◌∷◌, length, map}
 use Rattle.kdf_journal.specs.declared.kind.Kind.{Kind}
 use Rattle.kdf_transfer.specs.Slots.{Slot}
 use Rattle.kdf_job.specs.Job.{JobDevice, SlotJob}
 use Rattle.kdf_job.specs.Slots.{slot_with}
 
 -- what is loaded as a slot: its number, the size of its store, the words of its image, its devices, and those of the pool, in the order
--- of the job
+-- of the job; and whether it is served
 pub record SlotLoad : Type 0 where
   pub p : ℕ
   pub size : ℕ
   pub words : List ℕ
   pub devices : List JobDevice
   pub pool : List (ℕ × Kind)
+  pub served : Bool
 
 -- the slot: the words at the front of its store, and its devices by number
 abbrev pub slot_of : SlotLoad → Slot
-slot_of l = slot_with l.p l.size l.words l.devices l.pool
+slot_of l = slot_with l.p l.size l.words l.devices l.pool l.served
 
 -- what is loaded of a job: each slot with the words of its image
 abbrev pub load_of : SlotJob → List ℕ → SlotLoad
-load_of s words = record { p = s.p; size = s.size; words = words; devices = s.devices; pool = s.pool }
+load_of s words =
+    record { p = s.p; size = s.size; words = words; devices = s.devices; pool = s.pool; served = false }
 
 abbrev pub loads : List SlotJob → List (List ℕ) → List SlotLoad
 loads [] images = []

@@ -48,12 +48,14 @@ abbrev pub seat_of : Program → Seat
 seat_of program =
     seat program.p program.registers program.claimed program.spooled.items (map keeping_of program.stints.items)
 
--- what a slot reaches of the machine: its window, the devices of these numbers, and by number the kinds of those in the pool
+-- what a slot reaches of the machine: its window, the devices of these numbers, by number the kinds of those in the pool, and the service
+-- where it is served
 pub record Reach : Type 0 where
   pub base : ℕ
   pub size : ℕ
   pub devices : List ℕ
   pub pool : List (Option Kind)
+  pub served : Bool
 
 -- the numbers of a slot's devices
 abbrev pub numbers : List (ℕ × Device) → List ℕ
@@ -62,12 +64,18 @@ numbers devices = map (λ (x : ℕ × Device). x.0) devices
 abbrev pub window_at : List Window → ℕ → Window
 window_at windows p = slice_index_or windows p (record { base = 0; size = 0 })
 
-abbrev pub reach : Window → List (ℕ × Device) → List (ℕ × Kind) → Reach
-reach window devices pool =
-    record { base = window.base; size = window.size; devices = numbers devices; pool = by_number (lent_kind pool) }
+abbrev pub reach : Window → List (ℕ × Device) → List (ℕ × Kind) → Bool → Reach
+reach window devices pool served =
+    record {
+      base = window.base;
+      size = window.size;
+      devices = numbers devices;
+      pool = by_number (lent_kind pool);
+      served = served;
+    }
 
 abbrev pub reach_of : List Window → Loaded → Reach
-reach_of windows slot = reach (window_at windows slot.p) slot.devices.items slot.pool.items
+reach_of windows slot = reach (window_at windows slot.p) slot.devices.items slot.pool.items slot.served
 
 -- a program's part of the machine
 pub record Part : Type 0 where
@@ -76,6 +84,7 @@ pub record Part : Type 0 where
   pub size : ℕ
   pub devices : List ℕ
   pub pool : List (Option Kind)
+  pub served : Bool
   pub claimed : List Bool
   pub spooled : List Spooled
   pub stints : List Keeping
@@ -88,20 +97,22 @@ part_in seat reach =
       size = reach.size;
       devices = reach.devices;
       pool = reach.pool;
+      served = reach.served;
       claimed = seat.claimed;
       spooled = seat.spooled;
       stints = seat.stints;
     }
 
 -- that of a program with these fields over a window
-abbrev pub part_with : ℕ → Window → List (ℕ × Device) → List (ℕ × Kind) → List Bool → List Spooled → List KeptStint → Part
-part_with p window devices pool claimed spooled stints =
+abbrev pub part_with : ℕ → Window → List (ℕ × Device) → List (ℕ × Kind) → Bool → List Bool → List Spooled → List KeptStint → Part
+part_with p window devices pool served claimed spooled stints =
     record {
       p = p;
       base = window.base;
       size = window.size;
       devices = numbers devices;
       pool = by_number (lent_kind pool);
+      served = served;
       claimed = claimed;
       spooled = spooled;
       stints = map keeping_of stints;
@@ -134,10 +145,10 @@ abbrev pub own_progress : Part → List Spot → ℕ → Progress
 own_progress q spots d =
     if has_device q (spot_at spots d) then (spot_at spots d).progress else left_in q.stints d
 
--- what a program's orders are checked against; no slot is served
+-- what a program's orders are checked against
 abbrev pub own_claims : Part → Shared → Claims
 own_claims q s =
-    record { size = q.size; claimed = q.claimed; fixtures = by_number (own_fixture q s.spots); pool = q.pool; served = false }
+    record { size = q.size; claimed = q.claimed; fixtures = by_number (own_fixture q s.spots); pool = q.pool; served = q.served }
 
 -- what a program has beside its registers, after so many answers
 abbrev pub own_stock : Part → ℕ → Shared → Stock

@@ -1,5 +1,5 @@
 -- The programs of a machine over what they share: each program's own state, and what holds at each moment.
-use Rattle.std.specs.Prelude.{◌≡◌, ℕ, ◌+◌, ◌*◌, ◌%◌, ◌<◌, ◌≤◌, List, [], length, map, true, Option, Some, None, is_some, slice_index_or, slice_set, ◌==◌, if◌then◌else◌}
+use Rattle.std.specs.Prelude.{◌≡◌, ℕ, ◌+◌, ◌*◌, ◌%◌, ◌<◌, ◌≤◌, List, [], length, map, true, false, Option, Some, None, is_some, slice_index_or, slice_set, ◌==◌, if◌then◌else◌}
 use Rattle.kdf_relocate.specs.declared.window.Window.{Window}
 use Rattle.kdf_transfer.specs.AtOnce.{written}
 use Rattle.kdf_transfer.specs.InFlight.{total_of, ended_progress}
@@ -26,7 +26,7 @@ abbrev pub seat_at : List Seat → ℕ → Seat
 seat_at seats i = slice_index_or seats i no_seat
 
 abbrev pub reach_at : List Reach → ℕ → Reach
-reach_at reaches i = slice_index_or reaches i (record { base = 0; size = 0; devices = []; pool = [] })
+reach_at reaches i = slice_index_or reaches i (record { base = 0; size = 0; devices = []; pool = []; served = false })
 
 abbrev pub reaches_in : List Window → List Loaded → List Reach
 reaches_in windows slots = map (reach_of windows) slots

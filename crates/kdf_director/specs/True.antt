@@ -15,7 +15,7 @@ abbrev pub one_if : Bool → ℕ
 one_if is = if is then 1 else 0
 
 -- whether the device has a transfer, whether a group of the area is locked out, the time, and the least device of the kind in
--- the pool that is free; what the service answers is 0, as long as no slot is served
+-- the pool that is free; what the service answers is 0
 abbrev pub known : (pending : Need → Bool) (time : ℕ) (free : Kind → Option ℕ) → Question → ℕ
 known pending time free (IsBusy d) = one_if (pending (Device d))
 known pending time free (IsOut first last) = one_if (list_any (λ g. pending (Group g)) (groups_of first last))

@@ -19,7 +19,7 @@ use Rattle.kdf_director.specs.Spots.{IsReady}
 
 abbrev pub part_of : Turn → Part
 part_of t =
-    part_with t.p t.window t.devices.now t.pool.now t.claimed.now t.spooled.now.items t.stints.now.items
+    part_with t.p t.window t.devices.now t.pool.now t.served t.claimed.now t.spooled.now.items t.stints.now.items
 
 -- what a turn shares
 abbrev pub shared : Turn → Shared

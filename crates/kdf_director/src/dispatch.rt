@@ -44,6 +44,7 @@ fn try_next(
     time: u64,
     devices: &[(u8, Device)],
     pool: &[(u8, Kind)],
+    served: bool,
     registers: &mut Registers,
     claimed: &mut [bool; 16],
     spooled: &mut Vec<Spooled>,
@@ -58,10 +59,10 @@ fn try_next(
     requires sixteen { length places.old.items ≡ 16 }
     requires dry { AreDry places.old.items }
     requires kept { IsKept (part_in (seat p registers.old claimed.old spooled.old.items (map keeping_of stints.old.items))
-        (reach window devices.now pool.now)) (shared_in store.old places.old.items) }
+        (reach window devices.now pool.now served)) (shared_in store.old places.old.items) }
     requires active { IsActive (part_in (seat p registers.old claimed.old spooled.old.items (map keeping_of stints.old.items))
-        (reach window devices.now pool.now)) (shared_in store.old places.old.items) }
-    ensures tried { IfOk result (λ x. HasTried (reach window devices.now pool.now) time
+        (reach window devices.now pool.now served)) (shared_in store.old places.old.items) }
+    ensures tried { IfOk result (λ x. HasTried (reach window devices.now pool.now served) time
         (seat p registers.old claimed.old spooled.old.items (map keeping_of stints.old.items))
         (shared_in store.old places.old.items)
         (seat p registers.new claimed.new spooled.new.items (map keeping_of stints.new.items))
@@ -73,7 +74,8 @@ fn try_next(
 {
     let mut block = Vec::new(alloc);
     let mut turn = Turn::new(
-        alloc, p, window, time, devices, pool, claimed, spooled, stints, store, places, &mut block,
+        alloc, p, window, time, devices, pool, served, claimed, spooled, stints, store, places,
+        &mut block,
     );
     obey_next(registers, &mut turn)
 }
@@ -143,6 +145,7 @@ pub(crate) fn run(
         time,
         &slot.devices,
         &slot.pool,
+        slot.served,
         &mut program.registers,
         &mut program.claimed,
         &mut program.spooled,

@@ -16,4 +16,6 @@ pub struct Loaded {
     pub devices: Vec<(u8, Device)>,
     /// The devices of the pool, with their numbers, 0 to 15, and their kinds.
     pub pool: Vec<(u8, Kind)>,
+    /// The installation's service answers its program.
+    pub served: bool,
 }

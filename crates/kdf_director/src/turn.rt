@@ -30,6 +30,8 @@ pub struct Turn<'a> {
     time: u64,
     devices: &'a [(u8, Device)],
     pool: &'a [(u8, Kind)],
+    /// The installation's service answers the program.
+    served: bool,
     claimed: &'a mut [bool; 16],
     spooled: &'a mut Vec<Spooled>,
     stints: &'a mut Vec<Stint>,
@@ -43,8 +45,8 @@ pub struct Turn<'a> {
     ghost in_store: { window.base + window.size ≤ 32 * length store.now },
     ghost sixteen: { length places.now.items ≡ 16 },
     ghost dry: { AreDry places.now.items },
-    ghost kept: { IsKeptBy p window devices.now pool.now stints.now.items places.now.items },
-    ghost active: { IsActiveBy p window devices.now pool.now claimed.now stints.now.items places.now.items },
+    ghost kept: { IsKeptBy p window devices.now pool.now served stints.now.items places.now.items },
+    ghost active: { IsActiveBy p window devices.now pool.now served claimed.now stints.now.items places.now.items },
 }
 
 impl<'a> Turn<'a> {
@@ -66,6 +68,7 @@ impl<'a> Turn<'a> {
         time: u64,
         devices: &'a [(u8, Device)],
         pool: &'a [(u8, Kind)],
+        served: bool,
         claimed: &'a mut [bool; 16],
         spooled: &'a mut Vec<Spooled>,
         stints: &'a mut Vec<Stint>,
@@ -77,12 +80,12 @@ impl<'a> Turn<'a> {
         requires in_store { window.base + window.size ≤ 32 * length store.old }
         requires sixteen { length places.old.items ≡ 16 }
         requires dry { AreDry places.old.items }
-        requires kept { IsKept (part_with p window devices.now pool.now claimed.old spooled.old.items stints.old.items)
+        requires kept { IsKept (part_with p window devices.now pool.now served claimed.old spooled.old.items stints.old.items)
             (shared_in store.old places.old.items) }
-        requires active { IsActive (part_with p window devices.now pool.now claimed.old spooled.old.items stints.old.items)
+        requires active { IsActive (part_with p window devices.now pool.now served claimed.old spooled.old.items stints.old.items)
             (shared_in store.old places.old.items) }
         ensures part { part_of result
-            ≡ part_with p window devices.now pool.now claimed.old spooled.old.items stints.old.items }
+            ≡ part_with p window devices.now pool.now served claimed.old spooled.old.items stints.old.items }
         ensures time { result.time ≡ time }
         ensures store { result.store.now ≡ store.old }
         ensures places { result.places.now ≡ places.old }
@@ -102,6 +105,7 @@ impl<'a> Turn<'a> {
             time,
             devices,
             pool,
+            served,
             claimed,
             spooled,
             stints,
@@ -320,7 +324,7 @@ impl Port for Turn<'_> {
     }
 
     fn served(&self) -> bool {
-        false
+        self.served
     }
 
     fn ask_service(&mut self, _word: Word) -> Word {

@@ -1,5 +1,5 @@
 -- The slot as which a job's slot is loaded with the words of its image.
-use Rattle.std.specs.Prelude.{ℕ, ◌==◌, List, false, find, Option, Some, None}
+use Rattle.std.specs.Prelude.{ℕ, ◌==◌, Bool, List, false, find, Option, Some, None}
 use Rattle.std.specs.Option.{option_map}
 use Rattle.kdf_journal.specs.declared.kind.Kind.{Kind}
 use Rattle.kdf_transfer.specs.ByNumber.{by_number}
@@ -23,10 +23,10 @@ progress_on (Some x) = x.progress
 abbrev pub lent_kind : List (ℕ × Kind) → ℕ → Option Kind
 lent_kind pool d = option_map (λ (x : ℕ × Kind). x.1) (find (λ (x : ℕ × Kind). x.0 == d) pool)
 
--- a slot of this number and size: these words at the front of its store, and these devices and those of the pool by
--- number; no job has a slot that is served
-abbrev pub slot_with : ℕ → ℕ → List ℕ → List JobDevice → List (ℕ × Kind) → Slot
-slot_with p size words devices pool =
+-- a slot of this number and size: these words at the front of its store, these devices and those of the pool by
+-- number, and whether it is served
+abbrev pub slot_with : ℕ → ℕ → List ℕ → List JobDevice → List (ℕ × Kind) → Bool → Slot
+slot_with p size words devices pool served =
     record {
       p = p;
       size = size;
@@ -34,9 +34,9 @@ slot_with p size words devices pool =
       fixtures = by_number (λ d. fixture_on (numbered devices d));
       devices = by_number (λ d. progress_on (numbered devices d));
       pool = by_number (lent_kind pool);
-      served = false;
+      served = served;
     }
 
--- a slot of a job with these words
+-- a slot of a job with these words; no job has a slot that is served
 abbrev pub slot_of : SlotJob → List ℕ → Slot
-slot_of s words = slot_with s.p s.size words s.devices s.pool
+slot_of s words = slot_with s.p s.size words s.devices s.pool false

@@ -7,10 +7,10 @@ use Rattle.kdf_director.proofs.dispatch.run.Goals as goal
 use Rattle.kdf_director.proofs.dispatch.run.Goals.{After-try_next}
 
 -- what the slot reaches
-reached : (c : After-try_next) → reach c.window_of-window.result c.deref.result.now c.deref-2.result.now ≡ reach_of c.args.windows.now c.args.slot.now
+reached : (c : After-try_next) → reach c.window_of-window.result c.deref.result.now c.deref-2.result.now c.args.slot.now.served ≡ reach_of c.args.windows.now c.args.slot.now
 reached c =
-    ap₂ (λ w ds. reach w ds c.deref-2.result.now) c.window_of-window.ensures c.deref.ensures.value
-    ∙ ap (reach (window_at c.args.windows.now c.args.slot.now.p) c.args.slot.now.devices.items) c.deref-2.ensures.value
+    ap₂ (λ w ds. reach w ds c.deref-2.result.now c.args.slot.now.served) c.window_of-window.ensures c.deref.ensures.value
+    ∙ ap (λ ps. reach (window_at c.args.windows.now c.args.slot.now.p) c.args.slot.now.devices.items ps c.args.slot.now.served) c.deref-2.ensures.value
 
 pub returns-clause-ran : goal.returns-clause-ran
 returns-clause-ran c =

@@ -59,7 +59,7 @@ invariant_of-self-clause-active c =
     let t = c.args.self.now in
     let at = (goal.at.invariant_of-self-clause-active c).After-take_back_at in
     let by = (goal.at.invariant_of-self-clause-active c).After-hand_in in
-    subst (λ e. IsActiveBy t.p t.window t.devices.now t.pool.now (set t.claimed.now e false) c.hand_in.new.stints.items c.take_back_at.new.places.items) (sym c.from-2.ensures)
+    subst (λ e. IsActiveBy t.p t.window t.devices.now t.pool.now t.served (set t.claimed.now e false) c.hand_in.new.stints.items c.take_back_at.new.places.items) (sym c.from-2.ensures)
     (give_active t c.args.d c.hand_in.new.stints.items c.take_back_at.new.places.items (inside at) (its at) (are by (leaves at)) (shows at))
 
 pub returns : goal.returns

@@ -53,7 +53,7 @@ invariant_of-self-clause-active c =
     let t = c.args.self.now in
     let from = (goal.at.invariant_of-self-clause-active c).After-from in
     let at = (goal.at.invariant_of-self-clause-active c).After-push_reserved in
-    subst (λ e. IsActiveBy t.p t.window t.devices.now t.pool.now (set t.claimed.now e true) c.push_reserved.new.self.items c.lend_at.new.places.items) (sym c.from-2.ensures)
+    subst (λ e. IsActiveBy t.p t.window t.devices.now t.pool.now t.served (set t.claimed.now e true) c.push_reserved.new.self.items c.lend_at.new.places.items) (sym c.from-2.ensures)
     (take_active t c.least_free-d.result c.push_reserved.new.self.items c.lend_at.new.places.items (inside from) (free from) (are at) (shows at))
 
 pub returns-clause-can : goal.returns-clause-can
