@@ -221,9 +221,9 @@ export class Replay {
     return make("div", {}, make("p", {}, `${said}${transfer}.`), ...shown);
   }
 
-  /** Who has each device of the pool after the call, and who waits for one; nothing if the job has no pool. */
+  /** Who has each device of the pool after the call, and who waits for one; nothing if the pool has no devices. */
   drawPool(call) {
-    if (!this.job.pool) return [];
+    if (!this.job.pool?.devices.length) return [];
     const holderOf = (device, after) => this.timeline.lendingAfter(device, after);
     const devices = this.job.pool.devices.map(({ number, kind }) => {
       const holder = holderOf(Number(number), call), isChanged = call > 0 && holder !== holderOf(Number(number), call - 1);
