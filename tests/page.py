@@ -128,6 +128,14 @@ def parts_and_text_are_in_step(shown):
     yield "a device and a program are added", None if "\nDEVICE 0 TR\n" in job and "\nSLOT 1\nSTORE 32\nDECK\n" in job else job
     got = shown.run("run")
     yield "and the job runs", None if got[1] == 0 and "\nSLOT 1\n" in got[0] else f"{got}"
+    text = (ROOT / "tests/cases/last-line-without-its-end.job").read_text(encoding="ascii")
+    shown.write_job(text)
+    shown.view("parts")
+    shown.run("run")
+    shown.click("look")
+    shown.page.wait("document.querySelector('.programs') !== null")
+    kept, hidden = shown.js("[kdf9.job(), document.querySelector('.notice').hidden]")
+    yield "a last line without its end", None if (kept, hidden) == (text, True) else f"{hidden} {kept!r}"
     shown.write_job("KDF9 JOB 1\nSTORE 7\n")
     shown.view("parts")
     seen = shown.js("[document.querySelector('.notice').hidden, document.querySelector('.parts').hidden]")

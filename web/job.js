@@ -109,7 +109,7 @@ export function readJob(text) {
   const pool = reader.pool();
   if (reader.take("SCHEDULE") !== "") return null;
   const end = reader.lines.length - 1;
-  const job = { slots, pool, schedule: textOf(reader.lines.slice(reader.at, end)) };
+  const job = { slots, pool, schedule: textOf(reader.lines.slice(reader.at, end)), lacksLastEnd: !text.endsWith("\n") };
   return reader.lines[end] === "ENDJOB" && end >= reader.at && writeJob(job) === text ? job : null;
 }
 
@@ -141,8 +141,11 @@ export function placedLines(job) {
   return placed;
 }
 
-/** The text of a job by parts. */
-export const writeJob = (job) => textOf(placedLines(job).map(({ text }) => text));
+/** The text of a job by parts. Its last line has no end if it had none when it was read. */
+export function writeJob(job) {
+  const text = textOf(placedLines(job).map((line) => line.text));
+  return job.lacksLastEnd ? text.slice(0, -1) : text;
+}
 
 /** The lines of a medium as they are edited: those of a tape unchanged, since they begin with + or =, and all others without their +. */
 export function editedMedia({ kind, media }) {
