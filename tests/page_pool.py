@@ -88,7 +88,8 @@ CALLS_OF_KEY = """(() => {
 })()"""
 
 # The width of what is drawn for lent devices and for programs that wait.
-DRAWN = """['.lent', '.waits'].map((kind) => [...document.querySelectorAll(`#replay ${kind}`)].map((it) => [it.getAttribute('class'), Number(it.getAttribute('width'))]))"""
+DRAWN = """['.lent', '.waits'].map((kind) => [...document.querySelectorAll(`#replay ${kind}`)]
+    .map((it) => [it.getAttribute('class'), Number(it.getAttribute('width'))]))"""
 WIDTH = 900
 
 NAMES = {"TP": "punch", "LP": "printer"}
@@ -189,7 +190,10 @@ def stints_are_in_the_results(shown):
     shown.write_job((ROOT / f"{SHARED}.job").read_text(encoding="ascii"))
     shown.run("run")
     rows = shown.js("[...document.querySelectorAll('#sections details td')].map((it) => it.textContent)")
-    for said in ("program 0 took device 9 from the pool", "program 1 is held up by the pool, of which every punch has a holder", "program 0 gave device 9 back to the pool"):
+    for said in (
+        "program 0 took device 9 from the pool", "program 1 is held up by the pool, of which every punch has a holder",
+        "program 0 gave device 9 back to the pool",
+    ):
         yield f"the journal: {said}", None if rows.count(said) == 1 else f"{rows}"
 
 

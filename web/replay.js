@@ -142,7 +142,7 @@ export class Replay {
     return `${held} by group ${number}, words ${32 * number} to ${32 * number + 31}${of}`;
   }
 
-  /** Who has had each of the pool's devices of a kind, and since when, in words. Of a program that waits for one more itself, its slot is given. */
+  /** Who has had each of the pool's devices of a kind, and since when, in words. The program in `slot` waits for one more, and may have some of them itself. */
   holdersOf(kind, slot, call) {
     const devices = [...this.timeline.pool.keys()].filter((device) => this.timeline.pool.get(device) === kind);
     return devices.map((device) => {
