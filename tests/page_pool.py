@@ -99,7 +99,12 @@ STATES = {"LIVE": "held", "ENDED": "held until the program ended", "FAILED": "he
 def jobs():
     """The jobs that are looked at call by call, by their names."""
     texts = {path: (ROOT / f"{path}.job").read_text(encoding="ascii") for path in (SHARED, FAILS, QUICKER)}
-    return {**texts, "two that wait for each other": RING, "one that wants one more": ONE_MORE}
+    return {**texts, "two that wait for each other": RING, "one that wants one more": ONE_MORE, "one with a reader too": with_reader(texts[SHARED])}
+
+
+def with_reader(text):
+    """A job whose first program also has a device of its own."""
+    return text.replace("ENDDECK\nSLOT 1\n", "ENDDECK\nDEVICE 2 TR\n+ABC\nSLOT 1\n")
 
 
 def pool_is_edited(shown):
@@ -176,25 +181,29 @@ def wrong_explanation(shown, text):
 
 def stints_are_in_the_results(shown):
     """What came of a job has the stints of each program, in the order of taking."""
-    for path, words, due in (
+    all_jobs = jobs()
+    for name, words, due in (
         (SHARED, ["run"], ["given back, place 2, flag 0|PROGRAM0\nPROGRAM0", "given back, place 1, flag 0|PROGRAM1"]),
         (FAILS, ["run"], ["held until the program failed, place 1, flag 0|PROGRAM0", "held until the program ended, place 1, flag 0|PROGRAM1"]),
         (SHARED, ["alone", "1"], ["given back, place 1, flag 0|PROGRAM1"]),
+        ("one with a reader too", ["alone", "0"], ["given back, place 2, flag 0|PROGRAM0\nPROGRAM0"]),
     ):
-        shown.write_job((ROOT / f"{path}.job").read_text(encoding="ascii"))
+        shown.write_job(all_jobs[name])
         shown.run(*words)
         seen = shown.js("""[...document.querySelectorAll('#sections p')].filter((it) => it.textContent.startsWith('Pool device'))
             .map((it) => `${it.textContent}|${it.nextSibling.textContent}`)""")
         due = [f"Pool device 9, TP: {stint}" for stint in due]
-        yield f"stints of {path}, {' '.join(words)}", None if seen == due else f"{seen}"
-    shown.write_job((ROOT / f"{SHARED}.job").read_text(encoding="ascii"))
-    shown.run("run")
+        yield f"stints of {name}, {' '.join(words)}", None if seen == due else f"{seen}"
+    shown.write_job(all_jobs[SHARED])
+    report = read_report(shown.run("run")[0], "the page's report")
     rows = shown.js("[...document.querySelectorAll('#sections details td')].map((it) => it.textContent)")
     for said in (
         "program 0 took device 9 from the pool", "program 1 is held up by the pool, of which every punch has a holder",
         "program 0 gave device 9 back to the pool",
     ):
         yield f"the journal: {said}", None if rows.count(said) == 1 else f"{rows}"
+    due = [f"{calls}" for calls, _ in timed(report.entries)]
+    yield "the journal: calls before each entry", None if rows[1::2] == due else f"{rows[1::2]} in place of {due}"
 
 
 def pool_is_looked_at(shown):

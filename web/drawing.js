@@ -4,9 +4,9 @@ import { make } from "./dom.js";
 import { FLYING, HELD, LENT, RAN, READY, WAITS, columnsOf } from "./timeline.js";
 
 const NAMESPACE = "http://www.w3.org/2000/svg";
-const NAME = 90, WIDTH = 900, ROW = 22, HEIGHT = 14, DIGIT = 11, MOST_COLUMNS = 450;
+const NAME = 100, WIDTH = 900, ROW = 22, HEIGHT = 14, DIGIT = 11, MOST_COLUMNS = 450;
 const LEGEND = "Full: obeyed orders, or a transfer for the program whose number it has. Hatched: held up. Thin line: could go on while another ran.";
-const LEGEND_OF_POOL = " Dotted: waits for a device of the pool. Pale, in a frame: a device of the pool, lent to the program whose number it has.";
+const LEGEND_OF_POOL = " Dotted: waits for a device of the pool. In a frame: a device of the pool, lent to the program whose number it has.";
 
 function svg(name, attributes, ...children) {
   const element = document.createElementNS(NAMESPACE, name);

@@ -165,7 +165,7 @@ export class JobView {
 
   /** What is on a device, unless it begins empty. */
   drawMedia(device, at, index) {
-    if (KINDS_OF_POOL.includes(device.kind) && device.media.length === 0) return [];
+    if ((at === POOL || KINDS_OF_POOL.includes(device.kind)) && device.media.length === 0) return [];
     const what = { TR: "The characters on the tape", CR: "The cards, one to a line", MT: "The blocks, one to a line: + before each, or = if it has its mark" };
     const editor = new Editor({
       label: what[device.kind] ?? "What is on it", text: editedMedia(device), paint: () => [],
