@@ -8,6 +8,7 @@ import tempfile
 
 import browser
 from browser import Browser
+from page_pool import SUITES as POOL
 from page_runs import orders_are_those_of_the_program, runs_are_looked_at, runs_are_those_of_the_program
 from page_worker import worker_alone
 from shown import CTRL, Shown, id_of
@@ -30,8 +31,9 @@ FAULTY_PARTS = [
     ("", "ORDERS 5\nPRINT", "The lines of the schedule", "Line 2, column 1: BadLine: PRINT."),
 ]
 
-# The example and the call that are shown in a picture.
+# The examples that are shown in a picture, each at a call.
 PICTURED, PICTURED_CALL = "adds-cards-while-a-tape-is-copied", 37
+SHARED, SHARED_CALL = "two-programs-share-a-punch", 20
 
 # Schedules that write themselves: an example, what is typed into the three boxes, and the arguments of the tool that writes the same.
 SCHEDULES = [
@@ -40,6 +42,7 @@ SCHEDULES = [
     ("adds-cards-while-a-tape-is-copied", ("25", "", ""), ["--after", "25"]),
     ("computes-while-it-reads", ("3", "5", ""), ["--after", "3", "--every", "5"]),
     ("adds-5-and-7", ("0", "", ""), ["--after", "0"]),
+    (SHARED, ("9", "", ""), ["--after", "9"]),
 ]
 
 
@@ -115,15 +118,24 @@ def parts_and_text_are_in_step(shown):
         shown.view("parts")
         kept = shown.js("kdf9.job()")
         parts = shown.js("document.querySelectorAll('.slot').length")
-        yield f"parts of {path.stem}", None if kept == text and parts == text.count("\nSLOT ") + 1 else f"{parts} parts"
+        due = text.count("\nSLOT ") + text.count("\nPOOL\n") + 1
+        yield f"parts of {path.stem}", None if kept == text and parts == due else f"{parts} parts"
     shown.example("reads-tape")
     shown.view("parts")
     shown.js("[...document.querySelectorAll('.devices > button')].at(-1).click()")
-    shown.js("[...document.querySelectorAll('.parts > button')].at(-1).click()")
+    shown.js("[...document.querySelectorAll('.parts > button')].find((it) => it.textContent === 'Add a program').click()")
     job = shown.js("kdf9.job()")
     yield "a device and a program are added", None if "\nDEVICE 0 TR\n" in job and "\nSLOT 1\nSTORE 32\nDECK\n" in job else job
     got = shown.run("run")
     yield "and the job runs", None if got[1] == 0 and "\nSLOT 1\n" in got[0] else f"{got}"
+    text = (ROOT / "tests/cases/last-line-without-its-end.job").read_text(encoding="ascii")
+    shown.write_job(text)
+    shown.view("parts")
+    shown.run("run")
+    shown.click("look")
+    shown.page.wait("document.querySelector('.programs') !== null")
+    kept, hidden = shown.js("[kdf9.job(), document.querySelector('.notice').hidden]")
+    yield "a last line without its end", None if (kept, hidden) == (text, True) else f"{hidden} {kept!r}"
     shown.write_job("KDF9 JOB 1\nSTORE 7\n")
     shown.view("parts")
     seen = shown.js("[document.querySelector('.notice').hidden, document.querySelector('.parts').hidden]")
@@ -233,18 +245,21 @@ def browsers_without_the_machine(opened, address):
 
 def controls_have_names(shown):
     """Each control has a name for a screen reader, no two elements have the same id, and nothing is wider than a narrow window."""
-    shown.example("adds-cards-while-a-tape-is-copied")
-    shown.view("parts")
-    shown.run("run")
-    nameless = shown.js("""[...document.querySelectorAll('button, input, select, textarea')].filter((it) => !(it.textContent.trim() && it.tagName === 'BUTTON')
-        && !it.getAttribute('aria-label') && !it.labels?.length).map((it) => it.outerHTML.slice(0, 80))""")
-    yield "names of controls", None if nameless == [] else f"are missing: {nameless}"
-    twice = shown.js("[...document.querySelectorAll('[id]')].map((it) => it.id).filter((it, at, all) => all.indexOf(it) !== at)")
-    yield "ids", None if twice == [] else f"stand twice: {twice}"
-    shown.page.send("Emulation.setDeviceMetricsOverride", width=360, height=800, deviceScaleFactor=1, mobile=False)
-    width = shown.js("document.documentElement.scrollWidth")
-    yield "a narrow window", None if width <= 360 else f"is {width} wide"
-    shown.page.send("Emulation.setDeviceMetricsOverride", width=1280, height=900, deviceScaleFactor=1, mobile=False)
+    for name in (PICTURED, SHARED):
+        shown.example(name)
+        shown.view("parts")
+        shown.run("run")
+        shown.click("look")
+        shown.page.wait("document.querySelector('.programs') !== null")
+        nameless = shown.js("""[...document.querySelectorAll('button, input, select, textarea')].filter((it) => !(it.textContent.trim() && it.tagName === 'BUTTON')
+            && !it.getAttribute('aria-label') && !it.labels?.length).map((it) => it.outerHTML.slice(0, 80))""")
+        yield f"names of controls, {name}", None if nameless == [] else f"are missing: {nameless}"
+        twice = shown.js("[...document.querySelectorAll('[id]')].map((it) => it.id).filter((it, at, all) => all.indexOf(it) !== at)")
+        yield f"ids, {name}", None if twice == [] else f"stand twice: {twice}"
+        shown.page.send("Emulation.setDeviceMetricsOverride", width=360, height=800, deviceScaleFactor=1, mobile=False)
+        width = shown.js("document.documentElement.scrollWidth")
+        yield f"a narrow window, {name}", None if width <= 360 else f"is {width} wide"
+        shown.page.send("Emulation.setDeviceMetricsOverride", width=1280, height=900, deviceScaleFactor=1, mobile=False)
 
 
 def nothing_is_fetched(running, address):
@@ -259,7 +274,7 @@ def nothing_is_fetched(running, address):
 
 SUITES = (
     runs_are_looked_at, faults_are_shown, faults_stand_at_their_parts, parts_and_text_are_in_step, schedules_write_themselves, runs_are_stopped,
-    faults_stand_at_their_places, controls_have_names, orders_are_those_of_the_program, runs_are_those_of_the_program,
+    faults_stand_at_their_places, *POOL, controls_have_names, orders_are_those_of_the_program, runs_are_those_of_the_program,
 )
 
 
@@ -293,15 +308,21 @@ def take_pictures(opened, address):
     shown.page.wait("document.querySelector('.fault') !== null")
     shown.js("document.querySelector('.fault button').click()")
     shown.page.picture(docs / "page-fault.png", x=0, y=310, width=600, height=400)
-    shown.example(PICTURED)
+    for name, call, file in ((PICTURED, PICTURED_CALL, "page-calls.png"), (SHARED, SHARED_CALL, "page-pool.png")):
+        show_call(shown, name, call)
+        shown.page.picture(docs / file)
+    shown.page.close()
+
+
+def show_call(shown, name, call):
+    """Runs an example and shows it after a call."""
+    shown.example(name)
     shown.run("run")
     shown.click("look")
     shown.page.wait("document.querySelector('.programs') !== null")
-    shown.js(f"(() => {{ const it = document.querySelector('#replay input'); it.value = {PICTURED_CALL}; it.dispatchEvent(new Event('input')); }})()")
-    shown.page.wait(f"{id_of('state')}.textContent.startsWith('After call {PICTURED_CALL}:')")
+    shown.js(f"(() => {{ const it = document.querySelector('#replay input'); it.value = {call}; it.dispatchEvent(new Event('input')); }})()")
+    shown.page.wait(f"{id_of('state')}.textContent.startsWith('After call {call}:')")
     shown.js("document.getElementById('replay').scrollIntoView()")
-    shown.page.picture(docs / "page-calls.png")
-    shown.page.close()
 
 
 def make_page(file, *words):

@@ -23,7 +23,7 @@ LONGEST_WRITTEN = 100000
 # Runs that are looked at call by call; of a longer one only every so many calls.
 LOOKED_AT = (
     "adds-5-and-7", "subroutine", "walks-over-a-table", "reads-tape", "computes-while-it-reads", "two-parts", "waits-for-its-printer", "asks-for-the-time",
-    "adds-to-nothing", "fails-with-a-transfer-in-flight",
+    "adds-to-nothing", "fails-with-a-transfer-in-flight", "two-programs-share-a-punch", "waits-until-the-other-fails",
 )
 FEW_CALLS, STEP = 80, 9
 

@@ -6,6 +6,7 @@ import { lineAndColumn, statementAt } from "./deck.js";
 // Which field of a line is the faulty one, counted from 0.
 const WORD_AT_FAULT = {
   SlotOrder: 1, SizeNotGroups: 1, StoreFull: 1, DeviceTwice: 1, BadLabel: 3, LabelTwice: 3, ShowRange: 1, ClockFalls: 1, TooManyOrders: 1,
+  PoolKind: 2,
 };
 
 /** The least and the greatest value of each field of a line that is a number. */
@@ -16,6 +17,9 @@ export const RANGES = {
 
 const NO_CHARACTER = /[^ -`|]|[#&\\]/;
 const LONGEST = { CR: 80, MT: 32768 };
+
+/** The kinds of devices that begin empty, and what stands for a kind directly after the line POOL. */
+const EMPTY = ["TP", "LP", "POOL"];
 
 /** The decks of a job by their slots: the index in the whole text where each begins and ends, and its first line. A deck begins three lines below its SLOT. */
 function decksOf(lines) {
@@ -78,14 +82,15 @@ export function wordOfBadNumber(text) {
   return 1 + (RANGES[keyword] ?? []).findIndex(isWrong);
 }
 
-/** The kind of the device to whose medium a line belongs. */
+/** The kind of the device to whose medium a line belongs, or POOL directly after that line. */
 export function kindAbove(lines, line) {
-  return lines.slice(0, line).findLast((text) => text.startsWith("DEVICE "))?.split(" ")[2] ?? "";
+  const above = lines.slice(0, line).findLast((text) => text.startsWith("DEVICE ") || text === "POOL") ?? "";
+  return above === "POOL" ? above : above.split(" ")[2] ?? "";
 }
 
 /** The column at which a line of a medium is wrong: that of its `+` or `=`, of the first byte that isn't a character, or of the first one too many. */
 function columnInMedium(text, kind) {
-  if (kind === "TP" || kind === "LP" || (text[0] === "=" && kind !== "MT") || text.length === 1) return 1;
+  if (EMPTY.includes(kind) || (text[0] === "=" && kind !== "MT") || text.length === 1) return 1;
   const stranger = text.slice(1).search(NO_CHARACTER);
   return stranger >= 0 ? stranger + 2 : Math.min(text.length, (LONGEST[kind] ?? text.length) + 1) + 1;
 }

@@ -13,13 +13,14 @@ const PIECES = 16, FEW_PIECES = 4;
 /** How many blank lines before a job count as a slip. */
 const BLANK_LINES = 9;
 
-/** The form of each line of a job that has more than one field. */
+/** The forms of the lines of a job. */
 const FORMS = {
   SLOT: "SLOT p", STORE: "STORE n", DEVICE: "DEVICE d k, or DEVICE d MT label", SHOW: "SHOW a b", ORDERS: "ORDERS n", MOVE: "MOVE d n", END: "END d",
-  CLOCK: "CLOCK t", SWAP: "SWAP p q",
+  CLOCK: "CLOCK t", SWAP: "SWAP p q", POOL: "POOL, with nothing after it",
 };
+const POOL_DEVICE = "DEVICE d TP, or DEVICE d LP";
 const SCHEDULED = ["ORDERS", "MOVE", "END", "CLOCK", "SWAP", "ENDJOB"];
-const KEYWORDS = [...Object.keys(RANGES), "DECK", "ENDDECK", "SCHEDULE", "ENDJOB"];
+const KEYWORDS = [...Object.keys(RANGES), "DECK", "ENDDECK", "POOL", "SCHEDULE", "ENDJOB"];
 
 /** Orders of the KDF9 that this machine leaves out, besides floating point, and what comes closest to each. */
 const LEFT_OUT = [
@@ -103,12 +104,27 @@ function hintOfJob(fault, lines) {
   if (line !== spaced(line)) return "fields are separated by exactly one space, and a line doesn't begin or end with one";
   if (/ 0[0-9]/.test(line) && fault.name === "BadNumber") return "a number has no leading zeros";
   if (fault.name === "BadNumber") return hintOfNumber(line);
-  if (fault.name === "BadLine") return hintOfLine(line, expectedAt(lines, fault.line));
+  if (fault.name === "BadLine") return hintOfPool(line, lines.slice(0, fault.line - 1)) ?? hintOfLine(line, expectedAt(lines, fault.line));
+  if (fault.name === "PoolKind") {
+    return `the pool has punches and printers; a device of kind ${line.split(" ")[2]} belongs to a slot, and comes before POOL`;
+  }
   if (fault.name === "ShowRange") return `the store has words 0 to ${storeAbove(lines, fault.line) - 1}`;
   return null;
 }
 
+/** A hint for a line that has to do with the pool and isn't allowed after the lines before it, or null. */
+function hintOfPool(line, before) {
+  const [word] = line.split(" "), isPooled = isInPool(before);
+  if (line === "POOL" && !isInDeck(before)) {
+    if (isPooled) return "the job already has a line POOL; all devices of the pool come after it";
+    return "POOL comes once, after the last slot and before SCHEDULE";
+  }
+  if (isPooled && (word === "SLOT" || word === "SHOW")) return "POOL comes after the last slot and all its lines";
+  return isPooled && word === "DEVICE" ? `the form of this line is ${POOL_DEVICE}` : null;
+}
+
 function hintOfMedium(line, kind, column) {
+  if (kind === "POOL") return "the devices of the pool begin empty, so they have no lines";
   if (kind === "TP" || kind === "LP") return `a device of kind ${kind} begins empty, so it has no lines`;
   return /[a-z]/.test(line.slice(column - 1, column)) ? "lowercase letters aren't characters" : null;
 }
@@ -135,11 +151,12 @@ function expectedAt(lines, line) {
   if (lines.slice(0, line - 1).includes("SCHEDULE") && !isInDeck(lines.slice(0, line - 1))) {
     return before === "ENDJOB" ? ["the end of the job"] : SCHEDULED;
   }
-  const first = { KDF9: ["SLOT"], SLOT: ["STORE"], STORE: ["DECK"], SHOW: ["SHOW", "SLOT", "SCHEDULE"] };
+  if (isInPool(lines.slice(0, line - 1))) return ["DEVICE", "SCHEDULE"];
+  const first = { KDF9: ["SLOT"], SLOT: ["STORE"], STORE: ["DECK"], SHOW: ["SHOW", "SLOT", "POOL", "SCHEDULE"] };
   if (word in first) return first[word];
   const media = { TR: ["+"], CR: ["+"], MT: ["+", "="] };
   const hasDevice = word === "DEVICE" || /^[+=]/.test(before);
-  return [...(hasDevice ? media[kindAbove(lines, line)] ?? [] : []), "DEVICE", "SHOW", "SLOT", "SCHEDULE"];
+  return [...(hasDevice ? media[kindAbove(lines, line)] ?? [] : []), "DEVICE", "SHOW", "SLOT", "POOL", "SCHEDULE"];
 }
 
 function storeAbove(lines, line) {
@@ -149,3 +166,9 @@ function storeAbove(lines, line) {
 
 /** Whether these lines of a job end within a deck. */
 const isInDeck = (lines) => lines.lastIndexOf("DECK") > lines.lastIndexOf("ENDDECK");
+
+/** Whether these lines of a job end among the devices of the pool. */
+function isInPool(lines) {
+  const after = lines.slice(lines.lastIndexOf("ENDDECK") + 1);
+  return lines.includes("ENDDECK") && after.includes("POOL") && !after.includes("SCHEDULE") && !isInDeck(lines);
+}

@@ -1,7 +1,14 @@
-// The text of a job, and the same job by parts: its programs with their stores, decks and devices and the words to be shown, and its schedule.
+// The text of a job, and the same job by parts: its programs with their stores, decks and devices and the words to be shown, its pool, and its schedule.
 
 export const HEADER = "KDF9 JOB 1";
 export const KINDS = { TR: "paper tape reader", TP: "paper tape punch", CR: "card reader", LP: "line printer", MT: "magnetic tape" };
+
+/** The kinds of devices that a pool may have. Devices of these kinds begin empty. */
+export const KINDS_OF_POOL = ["TP", "LP"];
+
+/** What stands for the pool where a slot of the job is named by its index. */
+export const POOL = "pool";
+
 export const EMPTY_JOB = `${HEADER}
 SLOT 0
 STORE 32
@@ -63,12 +70,24 @@ class Reader {
     const number = this.take("SLOT "), store = this.take("STORE ");
     const deck = this.take("DECK") === "" ? this.until("ENDDECK") : null;
     if (number === null || store === null || deck === null) return null;
-    const slot = { number, store, deck: textOf(deck), devices: [], shows: [] };
-    for (let device = this.take("DEVICE "); device !== null; device = this.take("DEVICE ")) {
-      slot.devices.push(this.media(readDevice(`DEVICE ${device}`)));
-    }
+    const slot = { number, store, deck: textOf(deck), devices: this.devices(), shows: [] };
     for (let show = this.take("SHOW "); show !== null; show = this.take("SHOW ")) slot.shows.push(show);
     return slot;
+  }
+
+  /** The pool, or null if the job has none. */
+  pool() {
+    if (this.lines[this.at] !== "POOL") return null;
+    this.at += 1;
+    return { devices: this.devices() };
+  }
+
+  devices() {
+    const devices = [];
+    for (let device = this.take("DEVICE "); device !== null; device = this.take("DEVICE ")) {
+      devices.push(this.media(readDevice(`DEVICE ${device}`)));
+    }
+    return devices;
   }
 
   media(device) {
@@ -87,37 +106,46 @@ export function readJob(text) {
     if (slot === null) return null;
     slots.push(slot);
   }
+  const pool = reader.pool();
   if (reader.take("SCHEDULE") !== "") return null;
   const end = reader.lines.length - 1;
-  const job = { slots, schedule: textOf(reader.lines.slice(reader.at, end)) };
+  const job = { slots, pool, schedule: textOf(reader.lines.slice(reader.at, end)), lacksLastEnd: !text.endsWith("\n") };
   return reader.lines[end] === "ENDJOB" && end >= reader.at && writeJob(job) === text ? job : null;
 }
 
 /** The lines of a job by parts, each with the part that it belongs to: the name of the part, the indices of its slot and of its device, and the
- * number of the line in the part, counted from 0. */
+ * number of the line in the part, counted from 0. The pool has POOL instead of the index of a slot. */
 export function placedLines(job) {
   const placed = [{ text: HEADER, part: "header" }];
-  job.slots.forEach((slot, at) => {
-    const add = (part, lines, device) => lines.forEach((text, line) => placed.push({ text, part, slot: at, device, line }));
-    add("number", [`SLOT ${slot.number}`]);
-    add("store", [`STORE ${slot.store}`]);
-    add("deck", ["DECK"]);
-    add("deck", linesOf(slot.deck));
-    add("deck", ["ENDDECK"]);
-    slot.devices.forEach((device, index) => {
-      add("device", [lineOfDevice(device)], index);
-      add("media", device.media, index);
-    });
-    add("shows", slot.shows.map((show) => `SHOW ${show}`));
+  const add = (slot, part, lines, device) => lines.forEach((text, line) => placed.push({ text, part, slot, device, line }));
+  const addDevices = (slot, devices) => devices.forEach((device, index) => {
+    add(slot, "device", [lineOfDevice(device)], index);
+    add(slot, "media", device.media, index);
   });
+  job.slots.forEach((slot, at) => {
+    add(at, "number", [`SLOT ${slot.number}`]);
+    add(at, "store", [`STORE ${slot.store}`]);
+    add(at, "deck", ["DECK"]);
+    add(at, "deck", linesOf(slot.deck));
+    add(at, "deck", ["ENDDECK"]);
+    addDevices(at, slot.devices);
+    add(at, "shows", slot.shows.map((show) => `SHOW ${show}`));
+  });
+  if (job.pool) {
+    add(POOL, "pool", ["POOL"]);
+    addDevices(POOL, job.pool.devices);
+  }
   placed.push({ text: "SCHEDULE", part: "schedule", line: 0 });
   linesOf(job.schedule).forEach((text, line) => placed.push({ text, part: "schedule", line }));
   placed.push({ text: "ENDJOB", part: "schedule", line: linesOf(job.schedule).length });
   return placed;
 }
 
-/** The text of a job by parts. */
-export const writeJob = (job) => textOf(placedLines(job).map(({ text }) => text));
+/** The text of a job by parts. Its last line has no end if it had none when it was read. */
+export function writeJob(job) {
+  const text = textOf(placedLines(job).map((line) => line.text));
+  return job.lacksLastEnd ? text.slice(0, -1) : text;
+}
 
 /** The lines of a medium as they are edited: those of a tape unchanged, since they begin with + or =, and all others without their +. */
 export function editedMedia({ kind, media }) {

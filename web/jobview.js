@@ -3,7 +3,7 @@
 import { button, choice, freshId, labelled, make } from "./dom.js";
 import { Editor } from "./editor.js";
 import { painted } from "./deck.js";
-import { HEADER, KINDS, editedMedia, editedShows, linesOf, placedLines, readJob, readMedia, readShows, writeJob } from "./job.js";
+import { HEADER, KINDS, KINDS_OF_POOL, POOL, editedMedia, editedShows, linesOf, placedLines, readJob, readMedia, readShows, writeJob } from "./job.js";
 
 const NO_PARTS = "This text can't be shown by parts, because one of its lines isn't allowed where it is. Here is the whole text.";
 const TOO_LONG = "This job is too long to be edited here. It can be run and saved as it is.";
@@ -89,19 +89,21 @@ export class JobView {
   drawParts() {
     const free = ["0", "1", "2", "3"].find((number) => this.job.slots.every((slot) => slot.number < number));
     const add = button("Add a program", () => this.addSlot(free), { disabled: this.job.slots.length >= MOST_SLOTS || free === undefined });
-    return [...this.job.slots.map((slot, at) => this.drawSlot(slot, at)), add, this.drawSchedule()];
+    this.controls.set("add", add);
+    return [...this.job.slots.map((slot, at) => this.drawSlot(slot, at)), add, this.drawPool(), this.drawSchedule()];
   }
 
   addSlot(number) {
     this.job.slots.push({ number, store: "32", deck: NEW_DECK, devices: [], shows: [] });
-    this.redraw();
-    this.controls.get(`deck ${this.job.slots.length - 1}`).textarea.focus();
+    this.redraw(`deck ${this.job.slots.length - 1}`);
   }
 
-  /** Draws the parts again, after one was added or removed. */
-  redraw() {
+  /** Draws the parts again, after one was added or removed. The control of this name gets the focus. */
+  redraw(name) {
     this.partChanged();
     this.draw();
+    const control = this.controls.get(name);
+    (control instanceof Editor ? control.textarea : control)?.focus();
   }
 
   drawSlot(slot, at) {
@@ -112,8 +114,8 @@ export class JobView {
       labelled("Store, in words", this.input(`store ${at}`, slot.store, (value) => { slot.store = value; }, { inputmode: "numeric", size: "6" })),
       labelled("Show the words from, to", this.input(`shows ${at}`, editedShows(slot.shows), (value) => { slot.shows = readShows(value); },
         { size: "16", placeholder: "0 7, 32 40" })),
-      button("Remove", () => { this.job.slots.splice(at, 1); this.redraw(); }, { "aria-label": `Remove the program in slot ${slot.number}` }));
-    return make("section", { class: "slot", "aria-labelledby": heading.id }, heading, deck.element, fields, this.drawDevices(slot, at));
+      button("Remove", () => { this.job.slots.splice(at, 1); this.redraw("add"); }, { "aria-label": `Remove the program in slot ${slot.number}` }));
+    return make("section", { class: "slot", "aria-labelledby": heading.id }, heading, deck.element, fields, this.drawDevices(slot, at, `slot ${slot.number}`));
   }
 
   input(name, value, take, attributes) {
@@ -124,34 +126,46 @@ export class JobView {
     return control;
   }
 
-  drawDevices(slot, at) {
-    const taken = new Set(this.job.slots.flatMap(({ devices }) => devices.map(({ number }) => number)));
-    const free = Array.from({ length: MOST_DEVICES }, (_, number) => `${number}`).find((number) => !taken.has(number));
-    const add = button("Add a device", () => { slot.devices.push({ number: free, kind: "TR", label: "", media: [] }); this.redraw(); },
-      { disabled: free === undefined, "aria-label": `Add a device to slot ${slot.number}` });
-    return make("div", { class: "devices" }, ...slot.devices.map((device, index) => this.drawDevice(slot, at, device, index)), add);
+  /** The devices of a slot or of the pool, which is called `name`. */
+  drawDevices(owner, at, name) {
+    const free = this.freeNumber();
+    const add = button("Add a device", () => this.addDevice(owner, at, free), { disabled: free === undefined, "aria-label": `Add a device to ${name}` });
+    this.controls.set(`add ${at}`, add);
+    return make("div", { class: "devices" }, ...owner.devices.map((device, index) => this.drawDevice(owner, at, device, index)), add);
   }
 
-  drawDevice(slot, at, device, index) {
-    const kinds = Object.entries(KINDS).map(([kind, name]) => [kind, `${kind}, ${name}`]);
-    if (!(device.kind in KINDS)) kinds.push([device.kind, device.kind]);
-    const kind = choice(kinds, device.kind, () => {
+  /** The least number that no device of the job has, or undefined if there is none. */
+  freeNumber() {
+    const owners = [...this.job.slots, ...(this.job.pool ? [this.job.pool] : [])];
+    const taken = new Set(owners.flatMap(({ devices }) => devices.map(({ number }) => number)));
+    return Array.from({ length: MOST_DEVICES }, (_, number) => `${number}`).find((number) => !taken.has(number));
+  }
+
+  addDevice(owner, at, number) {
+    owner.devices.push({ number, kind: at === POOL ? KINDS_OF_POOL[0] : "TR", label: "", media: [] });
+    this.redraw(`device ${at} ${owner.devices.length - 1}`);
+  }
+
+  drawDevice(owner, at, device, index) {
+    const kinds = new Set([...(at === POOL ? KINDS_OF_POOL : Object.keys(KINDS)), device.kind]);
+    const kind = choice([...kinds].map((each) => [each, each in KINDS ? `${each}, ${KINDS[each]}` : each]), device.kind, () => {
       device.kind = kind.value;
       device.label = kind.value === "MT" ? device.label || "TAPE" : "";
-      device.media = kind.value === "TP" || kind.value === "LP" ? [] : readMedia(device.kind, device.media.map((line) => line.slice(1)).join("\n"));
-      this.redraw();
+      device.media = KINDS_OF_POOL.includes(kind.value) ? [] : readMedia(device.kind, device.media.map((line) => line.slice(1)).join("\n"));
+      this.redraw(`kind ${at} ${index}`);
     });
+    this.controls.set(`kind ${at} ${index}`, kind);
     const number = this.input(`device ${at} ${index}`, device.number, (value) => { device.number = value; }, { size: "3", inputmode: "numeric" });
     const named = this.input(`label ${at} ${index}`, device.label, (value) => { device.label = value; }, { size: "9" });
     const label = device.kind === "MT" || device.label ? [labelled("Label", named)] : [];
-    const remove = button("Remove", () => { slot.devices.splice(index, 1); this.redraw(); }, { "aria-label": `Remove device ${device.number}` });
+    const remove = button("Remove", () => { owner.devices.splice(index, 1); this.redraw(`add ${at}`); }, { "aria-label": `Remove device ${device.number}` });
     const fields = make("div", { class: "fields" }, labelled("Device", number), labelled("Kind", kind), ...label, remove);
     return make("fieldset", {}, make("legend", {}, `Device ${device.number}`), fields, ...this.drawMedia(device, at, index));
   }
 
   /** What is on a device, unless it begins empty. */
   drawMedia(device, at, index) {
-    if ((device.kind === "TP" || device.kind === "LP") && device.media.length === 0) return [];
+    if ((at === POOL || KINDS_OF_POOL.includes(device.kind)) && device.media.length === 0) return [];
     const what = { TR: "The characters on the tape", CR: "The cards, one to a line", MT: "The blocks, one to a line: + before each, or = if it has its mark" };
     const editor = new Editor({
       label: what[device.kind] ?? "What is on it", text: editedMedia(device), paint: () => [],
@@ -159,6 +173,26 @@ export class JobView {
     });
     this.controls.set(`media ${at} ${index}`, editor);
     return [editor.element];
+  }
+
+  addPool(number) {
+    this.job.pool = { devices: [] };
+    this.addDevice(this.job.pool, POOL, number);
+  }
+
+  /** The pool, or the button that adds one. */
+  drawPool() {
+    const { pool } = this.job, free = this.freeNumber();
+    const add = button("Add a pool", () => this.addPool(free), { disabled: free === undefined });
+    const remove = button("Remove", () => { this.job.pool = null; this.redraw("add pool"); }, { "aria-label": "Remove the pool" });
+    if (!pool) {
+      this.controls.set("add pool", add);
+      return add;
+    }
+    this.controls.set(POOL, remove);
+    const heading = make("h3", { id: freshId("pool") }, "Pool");
+    return make("section", { class: "slot", "aria-labelledby": heading.id }, heading, make("p", {}, "Punches and printers that all programs share."),
+      make("div", { class: "fields" }, remove), this.drawDevices(pool, POOL, "the pool"));
   }
 
   drawSchedule() {
@@ -195,11 +229,17 @@ export class JobView {
       return { control: this.controls.get(`deck ${at}`), place, line, column, end: endOfStatement(deck, place) };
     }
     const { part, slot, device, line } = placedLines(this.job)[fault.line - 1] ?? { part: "schedule", line: linesOf(this.job.schedule).length };
-    const names = [/Label/.test(fault.name) && `label ${slot} ${device}`, `${part} ${slot} ${device}`, `${part} ${slot}`, part, `store ${slot}`, "schedule"];
+    const field = /Label/.test(fault.name) ? "label" : fault.name === "PoolKind" ? "kind" : part;
+    const names = [`${field} ${slot} ${device}`, `${part} ${slot} ${device}`, `${part} ${slot}`, part, `store ${slot}`, "schedule"];
     const control = this.controls.get(names.find((name) => this.controls.has(name)));
     if (!(control instanceof Editor)) return { control };
-    const isShort = part === "media" && this.job.slots[slot].devices[device].kind !== "MT";
+    const isShort = part === "media" && this.ownerAt(slot).devices[device].kind !== "MT";
     return this.placeInLine(control, line + 1, Math.max(1, fault.column - (isShort ? 1 : 0)));
+  }
+
+  /** The slot with this index, or the pool. */
+  ownerAt(at) {
+    return at === POOL ? this.job.pool : this.job.slots[at];
   }
 
   placeInWhole(fault) {

@@ -3,7 +3,7 @@
 
 import { button, choice, labelled, make, table } from "./dom.js";
 import { readJob, writeJob } from "./job.js";
-import { callsOf, numberOf, readReport, saidOf } from "./report.js";
+import { NAMES_OF_POOL, callsOf, numberOf, readReport, saidOf, stateOfStint } from "./report.js";
 import { readSchedule, writeSchedule } from "./schedule.js";
 import { Timeline } from "./timeline.js";
 import { drawTimeline } from "./drawing.js";
@@ -108,7 +108,7 @@ export class Replay {
     this.mark(call);
     const programs = now.map((section, at) => this.drawProgram(call, section, before[at]));
     const said = `After call ${call}: ${now.map((section, at) => this.sentence(call, section, before[at])).join("; ")}.`;
-    this.shown.replaceChildren(make("p", { class: "said" }, said), make("div", { class: "programs" }, ...programs), this.drawJournal(call));
+    this.shown.replaceChildren(make("p", { class: "said" }, said), make("div", { class: "programs" }, ...programs), ...this.drawPool(call), this.drawJournal(call));
     this.say(said);
   }
 
@@ -118,29 +118,49 @@ export class Replay {
     if (section.orders > before.orders) {
       const obeyed = layout?.statementOf(...before.at)?.written ?? "an order that no statement wrote";
       const words = changedWords(section, before).slice(0, 3).map(({ address, octal }) => `, ${layout?.nameOf(address) ?? `E${address}`} is ${numberOf(octal)}`);
-      return `${name} obeyed ${obeyed}${words.join("")}`;
+      return `${name} obeyed ${obeyed}${words.join("")}${this.exchangeOf(section.slot, call)}`;
     }
     const state = section.state.split(" ")[0];
     if (state !== "LIVE") return `${name} ${state === "ENDED" ? "has ended" : "has failed"}`;
-    const reason = this.holdOf(section.slot, call);
-    return reason ? `${name} has been ${saidOfHold(reason)}` : `${name} can go on`;
+    const reason = this.timeline.holdAfter(section.slot, call);
+    return reason ? `${name} has been ${this.saidOfHold(reason, section.slot, call)}` : `${name} can go on`;
   }
 
-  /** What holds a program up after a call, or null. */
-  holdOf(slot, call) {
-    const spans = this.timeline.slots.get(slot), found = spans?.find(({ start, end }) => start <= call && call < end);
-    return found?.reason ?? null;
+  /** What the order of a program did with a device of the pool in the call, in words. */
+  exchangeOf(slot, call) {
+    const did = { TAKE: (device) => `took device ${device} from the pool`, GIVE: (device) => `gave device ${device} back to the pool` };
+    const found = this.timeline.entries.find(({ calls, entry: [kind, taker] }) => calls === call && kind in did && taker === slot);
+    return found ? ` and ${did[found.entry[0]](found.entry[2])}` : "";
+  }
+
+  /** Why a program is held up, and since when, in words. */
+  saidOfHold({ kind, number, since, devices }, slot, call) {
+    const held = `held up since call ${since}`;
+    if (kind === "BUSY") return `${held} by device ${number}, which has a transfer`;
+    if (kind === "WAIT") return `${held}: it waits for a ${NAMES_OF_POOL[number]} of the pool, and ${this.holdersOf(number, slot, call).join(", and ")}`;
+    const of = devices.length ? `, by the transfer of device ${devices.join(" or ")}` : "";
+    return `${held} by group ${number}, words ${32 * number} to ${32 * number + 31}${of}`;
+  }
+
+  /** Who has had each of the pool's devices of a kind, and since when, in words. The program in `slot` waits for one more, and may have some of them itself. */
+  holdersOf(kind, slot, call) {
+    const devices = [...this.timeline.pool.keys()].filter((device) => this.timeline.pool.get(device) === kind);
+    return devices.map((device) => {
+      const lending = this.timeline.lendingAfter(device, call);
+      return `${lending.slot === slot ? "it has itself" : `program ${lending.slot} has`} had device ${device} since call ${lending.start}`;
+    });
   }
 
   drawProgram(call, section, before) {
-    const layout = this.layouts.get(section.slot), reason = this.holdOf(section.slot, call);
+    const layout = this.layouts.get(section.slot), reason = this.timeline.holdAfter(section.slot, call);
     const next = layout?.statementOf(...section.at);
-    const state = section.state === "LIVE" ? (reason ? saidOfHold(reason) : "can go on") : section.state.toLowerCase();
+    const state = section.state === "LIVE" ? (reason ? this.saidOfHold(reason, section.slot, call) : "can go on") : section.state.toLowerCase();
     return make("section", { class: `slot ${reason ? "held" : ""}`, "aria-label": `Program ${section.slot}` },
       make("h3", {}, `Program ${section.slot}: ${state}`),
       make("p", {}, `After ${section.orders} order${section.orders === 1 ? "" : "s"}. Next: ${nextOf(section, next)}.`),
       this.drawDeck(section, next), this.drawRegisters(section, before), this.drawWords(section, before, layout),
-      ...section.devices.map((device, at) => this.drawDevice(call, device, before.devices[at])));
+      ...section.devices.map((device, at) => this.drawOwnDevice(call, device, before.devices[at])),
+      ...section.stints.map((_, at) => this.drawStint(call, section, before, at)));
   }
 
   /** The deck with the next statement marked. */
@@ -178,16 +198,42 @@ export class Replay {
       `${changed.has(address) ? CHANGED : ""}${layout?.nameOf(address) ?? `E${address}`}`, make("code", {}, octal), `${numberOf(octal)}`]));
   }
 
-  drawDevice(call, device, before) {
-    const flight = this.timeline.devices.get(device.number)?.find(({ start, end }) => start <= call && call < end);
-    const isMove = ({ calls, entry: [kind, number] }) => kind === "MOVE" && number === device.number && calls >= flight.start && calls <= call;
+  drawOwnDevice(call, device, before) {
+    const isChanged = JSON.stringify(device) !== JSON.stringify(before), state = device.isClaimed ? "claimed" : "not claimed";
+    return this.drawDevice(call, device, { isChanged, name: `device ${device.number}`, state, flight: this.timeline.flightAfter(device.number, call) });
+  }
+
+  /** What the program has done in a stint with a device of the pool. The device's transfer belongs to its holder. */
+  drawStint(call, section, before, at) {
+    const stint = section.stints[at], old = before.stints[at], state = stateOfStint(stint, section);
+    const isChanged = !old || JSON.stringify(stint) !== JSON.stringify(old) || state !== stateOfStint(old, before);
+    const flight = this.timeline.flightAfter(stint.number, call), own = stint.isClaimed && flight?.slot === section.slot ? flight : undefined;
+    return this.drawDevice(call, stint, { isChanged, name: `pool device ${stint.number}`, state, flight: own });
+  }
+
+  drawDevice(call, { number, kind, place, blocks }, { isChanged, name, state, flight }) {
+    const isMove = ({ calls, entry: [what, device] }) => what === "MOVE" && device === number && calls >= flight.start && calls <= call;
     const moves = flight ? this.timeline.entries.filter(isMove) : [];
-    const isChanged = JSON.stringify(device) !== JSON.stringify(before);
-    const state = `${isChanged ? CHANGED : ""}Device ${device.number}, ${device.kind}: ${device.isClaimed ? "claimed" : "not claimed"}, place ${device.place}`;
+    const said = `${isChanged ? CHANGED : ""}${name[0].toUpperCase()}${name.slice(1)}, ${kind}: ${state}, place ${place}`;
     const transfer = flight ? `; a transfer since call ${flight.start}, ${moves.reduce((sum, { entry }) => sum + entry[2], 0)} words moved by MOVE` : "";
-    const attributes = { class: "blocks", tabindex: "0", "aria-label": `The blocks of device ${device.number}` };
-    const blocks = device.blocks.length ? [make("pre", attributes, device.blocks.map(({ text }) => text).join("\n"))] : [];
-    return make("div", {}, make("p", {}, `${state}${transfer}.`), ...blocks);
+    const attributes = { class: "blocks", tabindex: "0", "aria-label": `The blocks of ${name}` };
+    const shown = blocks.length ? [make("pre", attributes, blocks.map(({ text }) => text).join("\n"))] : [];
+    return make("div", {}, make("p", {}, `${said}${transfer}.`), ...shown);
+  }
+
+  /** Who has each device of the pool after the call, and who waits for one; nothing if the pool has no devices. */
+  drawPool(call) {
+    if (!this.job.pool?.devices.length) return [];
+    const holderOf = (device, after) => this.timeline.lendingAfter(device, after);
+    const devices = this.job.pool.devices.map(({ number, kind }) => {
+      const holder = holderOf(Number(number), call), isChanged = call > 0 && holder !== holderOf(Number(number), call - 1);
+      const had = holder ? `program ${holder.slot} has had it since call ${holder.start}` : "nobody has it";
+      return `${isChanged ? CHANGED : ""}Device ${number}, ${kind}: ${had}.`;
+    });
+    const waits = [...this.timeline.slots.keys()].map((slot) => [slot, this.timeline.holdAfter(slot, call)]).filter(([, reason]) => reason?.kind === "WAIT")
+      .map(([slot, { number, since }]) => `Program ${slot} has waited for a ${NAMES_OF_POOL[number]} since call ${since}.`);
+    const items = [...devices, ...waits].map((line) => make("li", {}, line));
+    return [make("section", { class: "slot", "aria-label": "Pool" }, make("h3", {}, "Pool"), make("ul", { class: "journal" }, ...items))];
   }
 
   /** The entries of the journal before and after the call. The entry for the call is marked. */
@@ -213,10 +259,4 @@ function nextOf({ state, orders }, next) {
   if (next) return next.written;
   if (state === "ENDED") return "none";
   return orders ? "an order that no statement wrote" : "the jump to the main part";
-}
-
-function saidOfHold({ kind, number, since, devices }) {
-  if (kind === "BUSY") return `held up since call ${since} by device ${number}, which has a transfer`;
-  const of = devices.length ? `, by the transfer of device ${devices.join(" or ")}` : "";
-  return `held up since call ${since} by group ${number}, words ${32 * number} to ${32 * number + 31}${of}`;
 }

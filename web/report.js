@@ -1,5 +1,14 @@
 // The texts that say what became of programs: the report of a run, and the text of a program that ran alone.
 
+/** A device of a section, or a stint with one of the pool. */
+function readDevice(rest) {
+  const [number, kind, claim, , place, , flag] = rest.split(" ");
+  return { number: Number(number), kind, isClaimed: claim === "HELD", place, flag, blocks: [] };
+}
+
+/** The device or the stint to which a block in the next line belongs. The stints of a section come last. */
+const lastOf = ({ stints, devices }) => stints.at(-1) ?? devices.at(-1);
+
 /** How each line of a section is read. */
 const READERS = {
   STATE: (section, rest) => { section.state = rest; },
@@ -17,16 +26,14 @@ const READERS = {
     section.words.push({ address: Number(address), octal });
   },
   SPOOL: (section, rest) => { section.spools.push(rest); },
-  DEVICE: (section, rest) => {
-    const [number, kind, claim, , place, , flag] = rest.split(" ");
-    section.devices.push({ number: Number(number), kind, isClaimed: claim === "HELD", place, flag, blocks: [] });
-  },
-  BLOCK: (section, rest) => section.devices.at(-1).blocks.push({ text: rest, isLast: false }),
-  LAST: (section, rest) => section.devices.at(-1).blocks.push({ text: rest, isLast: true }),
+  DEVICE: (section, rest) => section.devices.push(readDevice(rest)),
+  POOL: (section, rest) => section.stints.push(readDevice(rest)),
+  BLOCK: (section, rest) => lastOf(section).blocks.push({ text: rest, isLast: false }),
+  LAST: (section, rest) => lastOf(section).blocks.push({ text: rest, isLast: true }),
 };
 
 const emptySection = (slot) => ({
-  slot, state: "", orders: 0, at: [0, 0], flags: [0, 0], nest: [], links: [], qStores: [], words: [], spools: [], devices: [],
+  slot, state: "", orders: 0, at: [0, 0], flags: [0, 0], nest: [], links: [], qStores: [], words: [], spools: [], devices: [], stints: [],
 });
 
 /** The entries and the sections of a report, or of the text of a lone run, which has no entries. */
@@ -52,7 +59,16 @@ export function numberOf(octal) {
 /** How many calls of the machine an entry records. */
 export function callsOf([kind, ...numbers]) {
   if (kind === "RAN" || kind === "IDLE") return numbers.at(-1);
-  return kind === "BUSY" || kind === "LOV" ? 1 : 0;
+  return kind === "BUSY" || kind === "LOV" || kind === "WAIT" ? 1 : 0;
+}
+
+/** What a device of the pool is called, by its kind. */
+export const NAMES_OF_POOL = { TP: "punch", LP: "printer" };
+
+/** Whether a program has a device of the pool after a stint with it, in words. One that is over has none, also if it gave none back. */
+export function stateOfStint({ isClaimed }, { state }) {
+  if (!isClaimed) return "given back";
+  return { ENDED: "held until the program ended", FAILED: "held until the program failed" }[state.split(" ")[0]] ?? "held";
 }
 
 const many = (number, what) => `${number.toLocaleString("en")} ${what}${number === 1 ? "" : "s"}`;
@@ -62,10 +78,13 @@ const SAID = {
   RAN: (p, n) => `program ${p} obeyed ${many(n, "order")}`,
   START: (p, d, k) => `order ${k} of program ${p} began a transfer on device ${d}`,
   ANSWER: (p, v) => `program ${p} asked, and was answered ${v}`,
+  TAKE: (p, d) => `program ${p} took device ${d} from the pool`,
+  GIVE: (p, d) => `program ${p} gave device ${d} back to the pool`,
   FAIL: (p, kind) => `program ${p} failed: ${kind}`,
   ENDED: (p) => `program ${p} ended`,
   LOV: (p, g) => `program ${p} is held up by group ${g}, words ${32 * g} to ${32 * g + 31}, which is locked out`,
   BUSY: (p, d) => `program ${p} is held up by device ${d}, which has a transfer`,
+  WAIT: (p, kind) => `program ${p} is held up by the pool, of which every ${NAMES_OF_POOL[kind]} has a holder`,
   IDLE: (n) => `${many(n, "call")} found all live programs held up`,
   MOVE: (d, n) => `the transfer of device ${d} moved ${many(n, "word")}, or those that were left`,
   END: (d) => `the transfer of device ${d} ended`,

@@ -3,7 +3,7 @@
 import { make, table } from "./dom.js";
 import { Layout, readListing } from "./deck.js";
 import { readJob } from "./job.js";
-import { callsOf, numberOf, readReport, saidOf } from "./report.js";
+import { callsOf, numberOf, readReport, saidOf, stateOfStint } from "./report.js";
 
 const FLAGS = ["V, the overflow flag", "TR, the test register"];
 
@@ -55,14 +55,17 @@ function sectionOf(section, layout) {
   if (set.length) parts.push(make("p", {}, `Set: ${set.join("; ")}.`));
   if (section.links.length) parts.push(make("p", {}, `Links, the top first: ${section.links.join(", ")}.`));
   for (const spool of section.spools) parts.push(make("p", {}, "Spooled: ", make("code", {}, spool)));
-  return make("section", {}, ...parts, ...section.devices.map(deviceOf));
+  const devices = section.devices.map((device) => deviceOf(`device ${device.number}`, device, device.isClaimed ? "claimed" : "not claimed"));
+  const stints = section.stints.map((stint) => deviceOf(`pool device ${stint.number}`, stint, stateOfStint(stint, section)));
+  return make("section", {}, ...parts, ...devices, ...stints);
 }
 
-function deviceOf({ number, kind, isClaimed, place, flag, blocks }) {
-  const said = make("p", {}, `Device ${number}, ${kind}: ${isClaimed ? "claimed" : "not claimed"}, place ${place}, flag ${flag}`);
+/** A device, or a stint with one of the pool, which is called `name`. */
+function deviceOf(name, { kind, place, flag, blocks }, state) {
+  const said = make("p", {}, `${name[0].toUpperCase()}${name.slice(1)}, ${kind}: ${state}, place ${place}, flag ${flag}`);
   if (!blocks.length) return said;
   const lines = blocks.map(({ text, isLast }) => `${text}${isLast ? "   (last block mark)" : ""}`).join("\n");
-  return make("div", {}, said, make("pre", { class: "blocks", tabindex: "0", "aria-label": `The blocks of device ${number}` }, lines));
+  return make("div", {}, said, make("pre", { class: "blocks", tabindex: "0", "aria-label": `The blocks of ${name}` }, lines));
 }
 
 function journalOf(entries) {

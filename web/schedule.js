@@ -40,7 +40,7 @@ function readTransfers(report) {
     const [word, ...rest] = line.split(" ");
     if (word === "RAN" || word === "IDLE") calls += Number(rest.at(-1));
     else if (word === "START") begun.push({ calls, device: rest[1] });
-    else if (word === "BUSY" || word === "LOV") calls += 1;
+    else if (word === "BUSY" || word === "LOV" || word === "WAIT") calls += 1;
     else if (word === "SLOT" || word === "ENDREPORT") break;
   }
   return { begun, calls };

@@ -1,50 +1,72 @@
-// A journal over time: what each program did and which transfers each device had. Time is counted in calls of the machine.
-
-import { callsOf } from "./report.js";
+// A journal over time: what each program did, which transfers each device had, and to whom the pool lent its devices. Time is counted in calls of the machine.
 
 export const RAN = "ran";
 export const HELD = "held";
+export const WAITS = "waits";
 export const READY = "ready";
 export const FLYING = "flying";
+export const LENT = "lent";
 
 /** What is known of a program while its journal is read. */
-const program = () => ({ does: READY, since: 0, reason: null, waitsFor: new Set() });
+const program = () => ({ does: READY, since: 0, reason: null, waitsFor: new Set(), wait: null });
 
-/** A run over time. Each slot and each device has its spans, each with the number of calls before its beginning and before its end. There are also the calls
- * after which something happened (`events`), those that found a program held up (`holds`), and the entries, each with the number of calls before it. */
+/** How each entry is taken. The others change nothing that is shown over time. */
+const TAKERS = {
+  RAN: (timeline, slot, orders) => timeline.ran(slot, orders),
+  IDLE: (timeline, calls) => { timeline.total += calls; },
+  LOV: (timeline, slot, group) => timeline.hold("LOV", slot, group),
+  BUSY: (timeline, slot, device) => timeline.hold("BUSY", slot, device),
+  WAIT: (timeline, slot, kind) => timeline.wait(slot, kind),
+  START: (timeline, slot, device) => timeline.flying.set(device, { start: timeline.total, slot }),
+  END: (timeline, device) => timeline.end(device),
+  TAKE: (timeline, slot, device) => timeline.lend(slot, device),
+  GIVE: (timeline, slot, device) => timeline.takeBack([device]),
+  FAIL: (timeline, slot) => timeline.stop(slot),
+  ENDED: (timeline, slot) => timeline.stop(slot),
+};
+
+/** A run over time. Each slot and each device has its spans, each with the number of calls before its beginning and before its end. A span is open if it
+ * goes on when the run stops. The devices of the pool also have the spans for which they were lent; a report has only those that were taken. There are also
+ * the calls after which something happened (`events`), those that found a program held up (`holds`), and the entries, each with the number of calls before it. */
 export class Timeline {
   constructor({ entries, sections }) {
+    const own = sections.flatMap(({ devices }) => devices), stints = sections.flatMap(({ stints: each }) => each);
     this.total = 0;
     this.entries = [];
+    this.pool = new Map(stints.map(({ number, kind }) => [number, kind]).sort(([one], [other]) => one - other));
     this.slots = new Map(sections.map(({ slot }) => [slot, []]));
-    this.devices = new Map(sections.flatMap(({ devices }) => devices).map(({ number }) => [number, []]));
+    this.devices = new Map([...own.map(({ number }) => number), ...this.pool.keys()].map((number) => [number, []]));
+    this.lendings = new Map([...this.pool.keys()].map((number) => [number, []]));
     this.events = [];
     this.holds = [];
     this.programs = new Map(sections.map(({ slot }) => [slot, program()]));
     this.flying = new Map();
+    this.lent = new Map();
+    this.isOver = false;
     for (const entry of entries) {
       this.entries.push({ calls: this.total, entry });
       this.take(entry);
     }
+    this.isOver = true;
     for (const slot of this.programs.keys()) this.turn(slot, null);
     for (const device of [...this.flying.keys()]) this.land(device);
+    this.takeBack([...this.lent.keys()]);
+  }
+
+  /** What goes on from a number of calls to now. */
+  span(start, what, rest) {
+    return { start, end: this.total, isOpen: this.isOver, what, ...rest };
   }
 
   /** The program does something else from now on; null if it is over. */
   turn(slot, does, reason = null) {
     const it = this.programs.get(slot);
-    if (it.does && this.total > it.since) this.slots.get(slot).push({ start: it.since, end: this.total, what: it.does, reason: it.reason });
+    if (it.does && this.total > it.since) this.slots.get(slot).push(this.span(it.since, it.does, { reason: it.reason }));
     Object.assign(it, { does, since: this.total, reason });
   }
 
-  take(entry) {
-    const [kind, ...numbers] = entry;
-    if (kind === "RAN") this.ran(...numbers);
-    else if (kind === "LOV" || kind === "BUSY") this.hold(kind, ...numbers);
-    else if (kind === "START") this.flying.set(numbers[1], { start: this.total, slot: numbers[0], moved: 0 });
-    else if (kind === "FAIL" || kind === "ENDED") this.turn(numbers[0], null);
-    else if (kind === "END") this.end(numbers[0]);
-    else this.total += callsOf(entry);
+  take([kind, ...numbers]) {
+    TAKERS[kind]?.(this, ...numbers);
     if (kind !== "RAN" && kind !== "IDLE") this.events.push(this.total);
   }
 
@@ -52,7 +74,7 @@ export class Timeline {
     this.turn(slot, READY);
     this.slots.get(slot).push({ start: this.total, end: this.total + orders, what: RAN });
     this.total += orders;
-    this.programs.get(slot).since = this.total;
+    Object.assign(this.programs.get(slot), { since: this.total, wait: null });
   }
 
   /** A program that a group holds up counts as held up until it goes on, or until the last of its transfers in flight has ended. */
@@ -60,6 +82,17 @@ export class Timeline {
     const own = [...this.flying].filter(([device, flight]) => (kind === "BUSY" ? device === number : flight.slot === slot)).map(([device]) => device);
     this.turn(slot, HELD, { kind, number, since: this.total + 1, devices: own });
     this.programs.get(slot).waitsFor = new Set(own);
+    this.countHold();
+  }
+
+  wait(slot, kind) {
+    const reason = { kind: "WAIT", number: kind, since: this.total + 1 };
+    this.turn(slot, WAITS, reason);
+    this.programs.get(slot).wait = reason;
+    this.countHold();
+  }
+
+  countHold() {
     this.total += 1;
     this.holds.push(this.total);
   }
@@ -76,12 +109,58 @@ export class Timeline {
   land(device) {
     const { start, slot } = this.flying.get(device);
     this.flying.delete(device);
-    this.devices.get(device)?.push({ start, end: this.total, what: FLYING, slot });
+    this.devices.get(device)?.push(this.span(start, FLYING, { slot }));
   }
 
-  /** What a program did in this call, or undefined after its end. */
-  spanAt(spans, call) {
-    return spans.find(({ start, end }) => start < call && call <= end);
+  lend(slot, device) {
+    this.lent.set(device, { start: this.total, slot });
+    this.lookAtWaits();
+  }
+
+  /** These devices of the pool have no holder from now on. */
+  takeBack(devices) {
+    for (const device of devices) {
+      const { start, slot } = this.lent.get(device);
+      this.lent.delete(device);
+      this.lendings.get(device).push(this.span(start, LENT, { slot }));
+    }
+    this.lookAtWaits();
+  }
+
+  /** A program waits for the pool while all devices of the kind have holders, also after another was quicker to take one that was given back. */
+  lookAtWaits() {
+    for (const [slot, { does, wait }] of this.programs) {
+      if (!does || !wait) continue;
+      const isHeld = [...this.pool].every(([device, kind]) => kind !== wait.number || this.lent.has(device));
+      if (isHeld !== (does === WAITS)) this.turn(slot, isHeld ? WAITS : READY, isHeld ? wait : null);
+    }
+  }
+
+  /** A program that is over holds nothing of the pool. */
+  stop(slot) {
+    this.turn(slot, null);
+    this.takeBack([...this.lent].filter(([, lending]) => lending.slot === slot).map(([device]) => device));
+  }
+
+  /** The span that goes on after a call, or undefined. */
+  spanAfter(spans, call) {
+    return spans?.find(({ start, end, isOpen }) => start <= call && (call < end || isOpen));
+  }
+
+  /** The transfer that a device has after a call, or undefined. */
+  flightAfter(device, call) {
+    return this.spanAfter(this.devices.get(device), call);
+  }
+
+  /** To whom the pool lends a device after a call, or undefined. */
+  lendingAfter(device, call) {
+    return this.spanAfter(this.lendings.get(device), call);
+  }
+
+  /** What holds a program up after a call, or null. */
+  holdAfter(slot, call) {
+    const reason = this.spanAfter(this.slots.get(slot), call)?.reason;
+    return reason && reason.since <= call ? reason : null;
   }
 
   /** The next call in which a program obeys an order, or the last call if there is none. */
@@ -96,7 +175,7 @@ export class Timeline {
   }
 }
 
-/** The columns of a row of the picture: the share of each kind of span in each column, and for a device the slot of its transfer. */
+/** The columns of a row of the picture: the share of each kind of span in each column, and for a device the slot of its transfer or its holder. */
 export function columnsOf(spans, total, count) {
   const columns = Array.from({ length: count }, () => ({}));
   const length = total / count;
