@@ -8,7 +8,7 @@ import tempfile
 from page_runs import job_of
 from shown import Shown, id_of
 from slips import RING
-from toolkit import ROOT, kdf9
+from toolkit import ROOT, job_of_deck, kdf9
 
 sys.path.insert(0, str(ROOT / "tools"))
 from kdf9.job import read_lines, read_slots
@@ -39,6 +39,12 @@ SEEN = """[...document.querySelectorAll('#theorem .programs > section')].map((it
 # The rows of the tables of both journals and of both schedules.
 BOTH = """[...document.querySelectorAll('#compared > details')].map((it) =>
     [...it.querySelectorAll('tbody tr')].map((row) => [...row.children].map((cell) => cell.textContent)))"""
+
+# Which buttons of the panel can't be pressed.
+DISABLED = "['see', 'compare-alone', 'compare-before', 'shuffle'].map((name) => document.getElementById(name).disabled)"
+
+# A job that runs for some time.
+LOOP = job_of_deck("PROGRAM; 1; J1; FINISH;").replace("ORDERS 10\n", "ORDERS 20000000\n")
 
 IN_FLIGHT = re.compile(r", except for the transfer in flight of device")
 
@@ -238,18 +244,24 @@ def panel_is_for_everybody(shown):
     run(shown, text_of(SHARED))
     seen = compared(shown, "see")
     focus = shown.js("document.activeElement.id")
-    yield "the button above leads to the panel", None if [each["verdict"] for each in seen] == ["The same."] * 2 and focus == "theorem" else f"{focus} {seen}"
+    is_there = [each["verdict"] for each in seen] == ["The same."] * 2 and focus == "theorem"
+    yield "the button above leads to the panel", None if is_there else f"{focus} {seen}"
     shown.example("reads-tape")
-    left = shown.js(f"[{id_of('compared')}.childElementCount, ...['see', 'compare-alone', 'compare-before'].map((name) => document.getElementById(name).disabled)]")
-    yield "another job clears the panel", None if left == [0, True, True, True] else f"{left}"
+    left = shown.js(f"[{id_of('compared')}.childElementCount, {DISABLED}]")
+    yield "another job clears the panel", None if left == [0, [True, True, True, False]] else f"{left}"
+    shown.write_job(LOOP)
+    shown.click("shuffle")
+    shown.page.press("Escape", 27)
+    shown.idle()
+    stopped = [shown.state(), shown.js(DISABLED)]
+    yield "a shuffle is stopped", None if stopped == ["▸ Stopped.", [True, True, True, False]] else f"{stopped}"
 
 
 def no_run_before(opened, address):
     """A fresh page compares nothing; after the first run it compares with the lone runs, and after the second with the run before."""
     shown = Shown(opened(address))
-    buttons = "['compare-alone', 'compare-before', 'shuffle'].map((name) => document.getElementById(name).disabled)"
-    for due in ([True, True, False], [False, True, False], [False, False, False]):
-        seen = shown.js(buttons)
+    for due in ([True, True, True, False], [False, False, True, False], [False, False, False, False]):
+        seen = shown.js(DISABLED)
         yield f"buttons of the panel: {json.dumps(due)}", None if seen == due else f"are {seen}"
         shown.run("run")
     shown.page.close()

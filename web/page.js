@@ -217,7 +217,7 @@ async function shuffle() {
     if (lastRun === null) return;
     if (view.text !== mixed.text) mixed.from = view.text;
     mixed.text = await shuffled(ask, mixed.from, seed);
-    if (mixed.text === mixed.from) return say("There is nothing to shuffle: a job of one program without transfers has only this schedule.", true);
+    if (mixed.text === mixed.from) return say("There is nothing to shuffle: this job has one program and no transfers.", true);
     view.show(mixed.text);
     changed();
     await runNow(["run"]);

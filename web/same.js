@@ -167,7 +167,7 @@ export class Alone {
 
 /** The first order that was answered differently in the two worlds, or undefined. */
 function firstParting(one, other) {
-  return [...one.answers].filter(([order, answer]) => other.answers.has(order) && other.answers.get(order) !== answer).map(([order]) => order).sort((a, b) => a - b)[0];
+  return [...one.answers].find(([order, answer]) => other.answers.has(order) && other.answers.get(order) !== answer)?.[0];
 }
 
 /** Whether a line may differ while these devices have transfers. */

@@ -8,7 +8,7 @@ import { callsOf, numberOf, saidOf } from "./report.js";
 import { Alone, Shared, Whole, callOfOrder, compare } from "./same.js";
 import { Timeline } from "./timeline.js";
 
-export const THIS_RUN = "in this run", RUN_BEFORE = "in the run before";
+const THIS_RUN = "in this run", RUN_BEFORE = "in the run before";
 
 // How many words of a program, and lines of a journal or a schedule, are shown at most.
 const MOST_WORDS = 60, MOST_LINES = 300;
@@ -57,7 +57,7 @@ export class Theorem {
     this.show(said, whole, found, ...drawRuns(whole, other));
   }
 
-  /** Shows what was found of each program of a run, below whatever comes first. */
+  /** Shows what is said of a run, then `more`, and then what was found of each of its programs. */
   show(said, whole, found, ...more) {
     const isDue = found.every((each) => each.isDue), verdicts = found.map((each) => `${each.name}: ${each.said}.`);
     const wrong = "This isn't as the theorem says: the machine or this page has a bug.";
@@ -67,9 +67,10 @@ export class Theorem {
   }
 
   drawProgram(whole, { slot, name, said, isDue, changes, ...found }) {
-    const heading = [make("h3", {}, name), make("p", { class: "verdict" }, make("strong", {}, `${isDue ? "" : "▸ "}${said[0].toUpperCase()}${said.slice(1)}.`))];
+    const verdict = `${isDue ? "" : "▸ "}${said[0].toUpperCase()}${said.slice(1)}.`;
     const parts = found.lines ? this.drawSections(whole.slot(slot), { ...found, changes }) : [];
-    return make("section", { class: `slot ${isDue ? "" : "fault"}`, "aria-label": name }, ...heading, ...parts);
+    return make("section", { class: `slot ${isDue ? "" : "fault"}`, "aria-label": name },
+      make("h3", {}, name), make("p", { class: "verdict" }, make("strong", {}, verdict)), ...parts);
   }
 
   /** The sections of a program in two worlds, side by side. Of its words, those are shown that have names or that the job shows, and all that differ. */
@@ -163,6 +164,6 @@ function cellOf(key, line) {
   if (word === "AT") return `word ${rest[0]}, syllable ${rest[1]}`;
   if (word === "FLAGS") return rest.join(", ");
   if (word === "Q") return rest.slice(1).join("/");
-  if (word === "DEVICE" || word === "POOL") return make("pre", {}, line.slice(key.length + 1));
+  if (word === "DEVICE" || word === "POOL") return make("pre", {}, `\n${line}`.replaceAll(`\n${key} `, "\n").slice(1));
   return word === "SPOOL" ? make("pre", {}, line) : rest.join(" ");
 }
