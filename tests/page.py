@@ -10,6 +10,7 @@ import browser
 from browser import Browser
 from page_pool import SUITES as POOL
 from page_runs import orders_are_those_of_the_program, runs_are_looked_at, runs_are_those_of_the_program
+from page_theorem import SUITES as THEOREM, no_run_before
 from page_worker import worker_alone
 from shown import CTRL, Shown, id_of
 from toolkit import HEAD, ROOT, TAIL, job_of_deck, kdf9
@@ -34,6 +35,9 @@ FAULTY_PARTS = [
 # The examples that are shown in a picture, each at a call.
 PICTURED, PICTURED_CALL = "adds-cards-while-a-tape-is-copied", 37
 SHARED, SHARED_CALL = "two-programs-share-a-punch", 20
+
+# The schedule of the first of them is shuffled with this seed in a picture.
+PICTURED_SEED = 18
 
 # Schedules that write themselves: an example, what is typed into the three boxes, and the arguments of the tool that writes the same.
 SCHEDULES = [
@@ -274,7 +278,7 @@ def nothing_is_fetched(running, address):
 
 SUITES = (
     runs_are_looked_at, faults_are_shown, faults_stand_at_their_parts, parts_and_text_are_in_step, schedules_write_themselves, runs_are_stopped,
-    faults_stand_at_their_places, *POOL, controls_have_names, orders_are_those_of_the_program, runs_are_those_of_the_program,
+    faults_stand_at_their_places, *POOL, *THEOREM, controls_have_names, orders_are_those_of_the_program, runs_are_those_of_the_program,
 )
 
 
@@ -290,6 +294,7 @@ def cases(file):
         shown = Shown(opened(address))
         for suite in SUITES:
             yield from suite(shown)
+        yield from no_run_before(opened, address)
         yield from links_hold_jobs(shown, opened, address)
         yield from browsers_without_the_machine(opened, address)
         yield from nothing_is_fetched(running, address)
@@ -311,6 +316,13 @@ def take_pictures(opened, address):
     for name, call, file in ((PICTURED, PICTURED_CALL, "page-calls.png"), (SHARED, SHARED_CALL, "page-pool.png")):
         show_call(shown, name, call)
         shown.page.picture(docs / file)
+    shown.example(PICTURED)
+    shown.run("run")
+    shown.js(f"{id_of('seed')}.value = {PICTURED_SEED}")
+    shown.click("shuffle")
+    shown.idle()
+    top = shown.js(f"{id_of('theorem')}.getBoundingClientRect().top + scrollY")
+    shown.page.picture(docs / "page-theorem.png", whole=True, x=0, y=top, width=1200, height=1110)
     shown.page.close()
 
 

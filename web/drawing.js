@@ -52,16 +52,13 @@ function rowOf(timeline, device) {
   return timeline.pool.has(device) ? { name: `pool device ${device}`, spans: [...timeline.lendings.get(device), ...spans] } : { name: `device ${device}`, spans };
 }
 
-/** The picture of a timeline, and a function that marks a call in it. `choose` is called with the call that is clicked. */
-export function drawTimeline(timeline, choose) {
+/** The picture of a timeline, and a function that marks a call in it. `choose` is called with the call that is clicked. The picture has room for `calls`. */
+export function drawTimeline(timeline, choose, { name: title = "The run over time", hasLegend = true, calls = timeline.total } = {}) {
   const rows = [
     ...[...timeline.slots].map(([slot, spans]) => ({ name: `program ${slot}`, spans, slot })),
     ...[...timeline.devices.keys()].map((device) => rowOf(timeline, device)),
   ];
-  const total = Math.max(1, timeline.total), count = Math.min(total, MOST_COLUMNS), height = ROW * rows.length + 6;
-  const hatch = svg("pattern", { id: "hatch", width: 5, height: 5, patternUnits: "userSpaceOnUse", patternTransform: "rotate(45)" },
-    svg("rect", { width: 1.6, height: 5, class: "stroke" }));
-  const dots = svg("pattern", { id: "dots", width: 5, height: 5, patternUnits: "userSpaceOnUse" }, svg("circle", { cx: 2.5, cy: 2.5, r: 1.4, class: "stroke" }));
+  const total = Math.max(1, calls), count = Math.min(total, MOST_COLUMNS), height = ROW * rows.length + 6;
   const legend = LEGEND + (timeline.pool.size ? LEGEND_OF_POOL : "");
   const drawn = rows.flatMap(({ name, spans, slot }, at) => {
     const columns = columnsOf(spans, total, count), top = 4 + at * ROW;
@@ -72,8 +69,8 @@ export function drawTimeline(timeline, choose) {
     ];
   });
   const line = svg("line", { y1: 0, y2: height, class: "now" });
-  const picture = svg("svg", { viewBox: `0 0 ${NAME + WIDTH + 2} ${height}`, role: "img", "aria-label": `The run over time: ${timeline.total} calls. ${legend}` },
-    svg("defs", {}, hatch, dots), ...drawn, line);
+  const picture = svg("svg", { viewBox: `0 0 ${NAME + WIDTH + 2} ${height}`, role: "img", "aria-label": `${title}: ${timeline.total} calls. ${legend}` },
+    ...drawn, line);
   picture.addEventListener("click", (event) => {
     const { left, width } = picture.getBoundingClientRect();
     const x = (event.clientX - left) * (NAME + WIDTH + 2) / width - NAME;
@@ -84,6 +81,6 @@ export function drawTimeline(timeline, choose) {
     line.setAttribute("x1", x);
     line.setAttribute("x2", x);
   };
-  const scrolled = make("div", { tabindex: "0", role: "group", "aria-label": "Picture of the run" }, picture);
-  return { picture: make("div", { class: "timeline" }, scrolled, make("p", {}, legend)), mark };
+  const scrolled = make("div", { tabindex: "0", role: "group", "aria-label": `Picture: ${title.toLowerCase()}` }, picture);
+  return { picture: make("div", { class: "timeline" }, scrolled, ...(hasLegend ? [make("p", {}, legend)] : [])), mark };
 }

@@ -10,6 +10,8 @@ import { hasJob, jobOfLink, packedJob, saveFile } from "./link.js";
 import { isReadable, layoutsOf, resultsOf, shownText } from "./results.js";
 import { Replay } from "./replay.js";
 import { NoSchedule, scheduled } from "./schedule.js";
+import { MOST_SEED, shuffled } from "./shuffle.js";
+import { Theorem } from "./theorem.js";
 
 const DONE = 0, JOB_HAS_FAULT = 2, DECK_HAS_FAULT = 3;
 const MEBIBYTE = 2 ** 20;
@@ -25,8 +27,12 @@ let lastText = "";
 let lastRun = null; // what can be shown call by call: the job, its report, and the layouts of its decks
 let pause = 0;
 
+// The job with the schedule that was shuffled last, and the job that it was made from. So a seed gives the same schedule however often it was shuffled before.
+const mixed = { text: null, from: null };
+
 const ask = (words, job) => engine.ask(words, job);
 const replay = new Replay(byId("replay"), { ask, say, failed: (error) => sayFailed(error) });
+const theorem = new Theorem(byId("compared"), { ask, say });
 
 /** Says what has happened, in the line of the page that is read aloud. */
 function say(text, isWrong = false) {
@@ -86,13 +92,16 @@ function words() {
 
 /** Shows whether the machine is at work. */
 function setBusy(isBusy) {
-  byId("run").disabled = byId("schedule").disabled = isBusy || !engine;
+  byId("run").disabled = byId("schedule").disabled = byId("shuffle").disabled = isBusy || !engine;
+  byId("compare-alone").disabled = isBusy || lastRun === null;
+  byId("compare-before").disabled = isBusy || lastRun === null || theorem.before === null;
   byId("stop").disabled = !isBusy;
   byId("results").setAttribute("aria-busy", `${isBusy}`);
 }
 
-/** Does some work with the machine. Stop ends it. */
+/** Does some work with the machine. Stop ends it. A button that is disabled loses the focus, and gets it back after the work. */
 async function work(text, task) {
+  const { activeElement } = document;
   clearTimeout(pause);
   setBusy(true);
   say(text);
@@ -102,22 +111,26 @@ async function work(text, task) {
     sayFailed(error);
   }
   setBusy(false);
+  if (document.activeElement === document.body) activeElement?.focus({ preventScroll: true });
 }
 
 async function run() {
-  if (byId("run").disabled) return;
-  await work("Running.", async () => {
-    const { text } = view, asked = words();
-    showText("", []);
-    const answer = await ask(asked, text);
-    const fault = await showFault(answer, text);
-    const layouts = answer.status === DONE && asked[0] !== "make" ? await layoutsOf(ask, text) : new Map();
-    showText(answer.text, answer.status === DONE ? resultsOf(answer.text, layouts) : []);
-    lastRun = answer.status === DONE && asked[0] === "run" && isReadable(answer.text) ? { text, report: answer.text, layouts } : null;
-    byId("look").disabled = lastRun === null;
-    byId("stale").hidden = text === view.text;
-    sayAnswer(answer, fault);
-  });
+  if (!byId("run").disabled) await work("Running.", () => runNow(words()));
+}
+
+/** Shows what the machine answers to the words of a command for the job. */
+async function runNow(asked) {
+  const { text } = view;
+  showText("", []);
+  const answer = await ask(asked, text);
+  const fault = await showFault(answer, text);
+  const layouts = answer.status === DONE && asked[0] !== "make" ? await layoutsOf(ask, text) : new Map();
+  showText(answer.text, answer.status === DONE ? resultsOf(answer.text, layouts) : []);
+  lastRun = answer.status === DONE && asked[0] === "run" && isReadable(answer.text) ? { text, report: answer.text, layouts } : null;
+  if (lastRun) theorem.take(lastRun);
+  byId("look").disabled = byId("see").disabled = lastRun === null;
+  byId("stale").hidden = text === view.text;
+  sayAnswer(answer, fault);
 }
 
 function sayAnswer({ status, milliseconds, memory }, fault) {
@@ -141,16 +154,29 @@ async function explain(job) {
 /** Shows the last run call by call. */
 function look() {
   replay.open(lastRun.text, lastRun.report, lastRun.layouts);
-  byId("replay").focus();
-  byId("replay").scrollIntoView();
+  goTo("replay");
+}
+
+/** Goes to the comparisons. If there is none yet, it is that with the lone runs. */
+function see() {
+  goTo("theorem");
+  if (!byId("compared").childElementCount && !byId("compare-alone").disabled) compareWithAlone();
+}
+
+const compareWithAlone = () => work("Comparing each program with its lone run.", () => theorem.withAlone());
+
+function goTo(part) {
+  byId(part).focus();
+  byId(part).scrollIntoView();
 }
 
 function showText(text, sections) {
   lastText = text;
   byId("stale").hidden = true;
   lastRun = null;
-  byId("look").disabled = true;
+  for (const id of ["look", "see", "compare-alone", "compare-before"]) byId(id).disabled = true;
   replay.close();
+  theorem.clear();
   const shown = shownText(text);
   byId("report").textContent = shown.text;
   byId("rest").textContent = shown.rest;
@@ -177,6 +203,25 @@ async function writeSchedule() {
     view.show(await scheduled(ask, view.text, { after: Number(numbers[0] || 20), every: Number(numbers[1]), devices }));
     changed();
     return say("The schedule is written. It can be changed like any other text.");
+  });
+}
+
+/** Runs the job with another schedule, and compares the run with the one before, which is of the job as it was. */
+async function shuffle() {
+  const typed = byId("seed").value.trim(), seed = typed === "" ? Math.floor(Math.random() * (MOST_SEED + 1)) : Number(typed);
+  if (!/^\d*$/.test(typed) || seed > MOST_SEED) return say(`A seed is a number from 0 to ${MOST_SEED}.`, true);
+  return work("Shuffling the schedule.", async () => {
+    byId("command").value = "run";
+    chooseCommand();
+    if (lastRun?.text !== view.text) await runNow(["run"]);
+    if (lastRun === null) return;
+    if (view.text !== mixed.text) mixed.from = view.text;
+    mixed.text = await shuffled(ask, mixed.from, seed);
+    if (mixed.text === mixed.from) return say("There is nothing to shuffle: this job has one program and no transfers.", true);
+    view.show(mixed.text);
+    changed();
+    await runNow(["run"]);
+    if (lastRun) return theorem.withBefore(`The schedule was shuffled with seed ${seed}. Here is this run beside the run before.`);
   });
 }
 
@@ -256,6 +301,10 @@ function attend() {
   byId("stop").onclick = stop;
   byId("schedule").onclick = writeSchedule;
   byId("look").onclick = look;
+  byId("shuffle").onclick = shuffle;
+  byId("see").onclick = see;
+  byId("compare-alone").onclick = compareWithAlone;
+  byId("compare-before").onclick = () => work("Comparing this run with the run before.", () => theorem.withBefore());
   byId("open").onclick = () => byId("file").click();
   byId("file").onchange = openFile;
   byId("save").onclick = () => saveFile("kdf9.job", view.text);

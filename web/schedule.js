@@ -55,13 +55,16 @@ function eventsOf(transfer, { after, devices, every }) {
 }
 
 /** The text of a job with a schedule in which each transfer ends as `delays` says. Its own MOVE and END lines are replaced. */
-export async function scheduled(ask, text, delays) {
+export const scheduled = (ask, text, delays) => withTransfers(ask, text, (transfer) => eventsOf(transfer, delays));
+
+/** The text of a job with a schedule in which each transfer has the events that `eventsFor` gives for it, from first to last, and always the same. */
+export async function withTransfers(ask, text, eventsFor) {
   const job = readJob(text);
   const { calls: total, events } = readSchedule(job.schedule);
   const kept = events.filter(({ line }) => !/^(MOVE|END) /.test(line));
   const found = [];
   const withEnds = (calls) => {
-    const all = [...kept, ...found.flatMap((transfer) => eventsOf(transfer, delays))].filter((event) => event.calls < calls);
+    const all = [...kept, ...found.flatMap(eventsFor)].filter((event) => event.calls < calls);
     if (all.length > MOST_LINES) throw new NoSchedule(`the schedule would have more than ${MOST_LINES.toLocaleString("en")} lines`);
     return writeSchedule({ calls, events: all.sort((one, other) => one.calls - other.calls) });
   };
@@ -72,7 +75,7 @@ export async function scheduled(ask, text, delays) {
     if (status) throw new NoSchedule(report.trim());
     const journal = readTransfers(report);
     const next = journal.begun.filter(({ calls }) => calls > known);
-    const right = Math.min(until, ...next.map((transfer) => eventsOf(transfer, delays)[0].calls));
+    const right = Math.min(until, ...next.map((transfer) => eventsFor(transfer)[0].calls));
     found.push(...next.filter(({ calls }) => calls <= right));
     window = next.length ? USUAL_WINDOW : 2 * window;
     known = right;

@@ -1,4 +1,4 @@
-//! The program `kdf9`: hands the words behind its name, standard input and standard output to the
+//! The program `kdf9`: hands the words after its name, standard input and standard output to the
 //! top call, and ends with the number of its status.
 #![tactic(auto)]
 
@@ -22,7 +22,7 @@ fn main(rt: HostRuntime) -> ExitCode {
     ExitCode::from(code)
 }
 
-/// The words behind the program's name. Words of which one is no text are no command, and are taken
+/// The words after the program's name. Words of which one is no text are no command, and are taken
 /// as no words at all.
 fn words(rt: &(impl Env + AllocGlobal)) -> Result<Vec<String>, AllocError> {
     match env::args(rt) {

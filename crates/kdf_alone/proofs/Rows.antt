@@ -20,7 +20,7 @@ step_over old b answer r stock is =
     ∙ ap (λ k. (next_of (state r k) (λ _. b.answer)).step) stock
     ∙ ap (λ a. (next_of (state_with r old) (λ _. a)).step) is
 
--- and the state behind it
+-- and the state after it
 pub row_over : (old b new : Bench) (answer : ℕ) (r r' : Registers) → stock_of b ≡ stock_of old → b.answer ≡ answer → r' ≡ (outcome (shown b) r).registers → Acts b (outcome (shown b) r).act new → state_with r' new ≡ row (state_with r old) (λ _. answer)
 row_over old b new answer r r' stock is registers acted =
     row_alone (stock_of b) (stock_of new) (given (stock_of b).claims b.answer) r r' registers acted

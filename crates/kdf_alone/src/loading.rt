@@ -15,7 +15,7 @@ use kdf_transfer::Device;
 use kdf_word::Word;
 use std::alloc::{AllocError, Global};
 
-/// The words of a store of this size with an image at its front, and zeros behind.
+/// The words of a store of this size with an image at its front, and zeros after.
 pub fn store(alloc: Global, size: u16, image: &[Word]) -> Result<Vec<Word>, AllocError>
     requires { length image.now ≤ size }
     ensures words { IfOk result (λ words. words.items ≡ filled size image.now) }

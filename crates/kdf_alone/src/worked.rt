@@ -40,7 +40,7 @@ pub fn prints_up_to_end_message()
 {}
 
 /// It reads the first two words of the first block of a tape of three, writes them with a mark in
-/// place of the second block, behind which the tape then ends, and finds the mark.
+/// place of the second block, after which the tape then ends, and finds the mark.
 pub fn writes_tape_with_the_mark()
     ensures { seen 6 32 33 (writes 12) ≡ record {
       life = Ended;

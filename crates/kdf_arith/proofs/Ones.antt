@@ -11,7 +11,7 @@ pub bits_of : (w k : ℕ) → count_ones w ≡ k → obeyed 0x0E (w ∷ []) ≡ 
 unfolding obey plain_row
 bits_of w k e = ap (λ n. leaves (n ∷ [])) e
 
--- a one with k noughts behind it
+-- a one with k noughts after it
 pub ones_of_power : (k : ℕ) → count_ones (1 * 2 ^ k + 0) ≡ 1
 ones_of_power k = ones_cat k 1 0 (pow_pos k) ∙ ap (λ n. n + count_ones 0) (ones-ones 1) ∙ ap (λ n. 1 + n) (ones-ones 0)
 

@@ -19,7 +19,7 @@ abbrev pub moved : ℕ → ℤ → ℕ
 moved w (pos n) = w * 2 ^ n
 moved w (negsuc k) = w / 2 ^ suc k
 
--- a word turned to the left by n, which is below 48: its first n bits go behind the others
+-- a word turned to the left by n, which is below 48: its first n bits go after the others
 abbrev pub turned : ℕ → ℕ → ℕ
 turned n w = w % 2 ^ (48 - n) * 2 ^ n + w / 2 ^ (48 - n)
 

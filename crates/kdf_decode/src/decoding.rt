@@ -15,7 +15,7 @@ use kdf_syllable::Order;
 #[derive(Clone, Copy, PartialEq, Eq)]
 pub struct BadCode;
 
-/// The order whose spelling begins the bytes, or `BadCode` where there is none. What stands behind
+/// The order whose spelling begins the bytes, or `BadCode` where there is none. What stands after
 /// the spelling is not looked at.
 #[inline(always)]
 pub fn decode(bytes: &[u8; 3]) -> Result<Order, BadCode>

@@ -200,7 +200,7 @@ seen_twice fewer more s part =
     ∙ twice_device (fewer d) (more d) d (device_at s d) (part d)
     ∙ sym (seen_device_at more s d within))
 
--- the transfers behind an order are those before it, or more
+-- the transfers after an order are those before it, or more
 after_more : (flights : ℕ → Option Flight) (mine : List ℕ) (s : State) (e : Effect) → HidesNone (pending flights) (effect_needs mine e) → (x : ℕ) → (flights x ≡ None) ⊎ (flights x ≡ flights_after flights s e x)
 after_more flights mine s (Starting d o first last after) none x =
     ⊎_elim
@@ -209,7 +209,7 @@ after_more flights mine s (Starting d o first last after) none x =
     (cases_eq x d)
 after_more flights mine s e none x = inr refl
 
--- an order in one step, of which is seen what the transfers behind it leave to be seen
+-- an order in one step, of which is seen what the transfers after it leave to be seen
 pub hidden_seen : (flights : ℕ → Option Flight) (mine : List ℕ) (answer : Question → ℕ) (s : State) → HidesNone (pending flights) (needs s mine) → seen (flights_after flights s (next_effect s)) (row (seen flights s) answer) ≡ seen (flights_after flights s (next_effect s)) (row s answer)
 hidden_seen flights mine answer s none =
     ap (seen (flights_after flights s (next_effect s))) (row_seen flights mine s none answer)

@@ -1,4 +1,4 @@
--- A machine behind one call, over its fields.
+-- A machine after one call, over its fields.
 use Rattle.std.specs.Prelude.{Result, Ok, Err, OnErr, IfOk}
 use Rattle.std.specs.List.{list_any}
 use Rattle.std.specs.Option.{option_map}

@@ -124,7 +124,7 @@ above_none : (a from : ℕ) (ws : List ℕ) → length ws ≤ from + 1 → from 
 above_none a from [] fits lt = refl
 above_none a from (w ∷ ws) fits lt = rw (ne_eqb from a (λ e. omega arith)) (above_none a (from - 1) ws (omega arith) (omega arith))
 
--- behind address 0 there is no more word
+-- after address 0 there is no more word
 down_zero : (ws : List ℕ) (a from : ℕ) → length ws ≤ from → from ≡ 0 → list_any (λ x. eqb x.0 a) (down_addresses (from - 1) ws) ≡ false
 down_zero [] a from fits e = refl
 down_zero (w ∷ ws) a from fits e = absurd (omega arith)

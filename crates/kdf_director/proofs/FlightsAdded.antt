@@ -167,7 +167,7 @@ module _ (slots : List Slot) (J : List Entry) (p : ℕ) (asked : (own slots J p)
 abbrev pub begun_at : ℕ → ℕ → Option (ℕ × ℕ)
 begun_at p k = Some (p, k)
 
--- the transfer of device x behind an effect, which own order k of program p had
+-- the transfer of device x after an effect, which own order k of program p had
 abbrev pub pending_behind : ℕ → ℕ → ℕ → Option (ℕ × ℕ) → Effect → Option (ℕ × ℕ)
 pending_behind p k x o (Starting d order first last after) = cond (eqb d x) (begun_at p k) o
 pending_behind p k x o e = o

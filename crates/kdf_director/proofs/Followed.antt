@@ -170,7 +170,7 @@ module _ (slots : List Slot) (J : List Entry) (reaches : List Reach) (seats : Li
       (λ word. refl)
       refl
 
-  -- its state behind the order
+  -- its state after the order
   tried_is : tried (outcome_at reaches seats s (clock J) n i) mine ≡ seen_of slots J' p
   tried_is =
       ap (λ o. tried o mine) outcome_is
@@ -395,7 +395,7 @@ module _ (slots : List Slot) (J : List Entry) (reaches : List Reach) (seats : Li
   busy_by (Returning false x after) lawful clear k d = old.busy d
   busy_by e lawful clear k d = old.busy d
 
-  -- all programs, behind the turn
+  -- all programs, after the turn
   pub turn_follows : (seats' : List Seat) (s' : Shared) (ended : Ended) (noted : Noted) → HasTurned reaches (clock J) i seats s seats' s' ended noted → AreFollowing slots J' reaches seats' s'
   turn_follows seats' s' ended noted turned =
       record {

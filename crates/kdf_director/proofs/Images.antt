@@ -46,7 +46,7 @@ images_there windows cells (l ∷ xs) (suc i) a lt store nought inside out =
     (λ j less. inside (suc j) (omega arith))
     (λ j less ne. out (suc j) (omega arith) (λ e. ne (omega arith)))
 
--- zeros behind the words
+-- zeros after the words
 pub zeros_at : (n i : ℕ) → get_or (zeros n) i 0 ≡ 0
 zeros_at n i =
     ⊎_elim

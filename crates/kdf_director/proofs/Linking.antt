@@ -135,7 +135,7 @@ module _ (q : Part) (d : ℕ) (h : Held) (f : Flight) (link : IsLink q d h f) wh
       omega arith)
       (cases_Bool (is_input f.order)))
 
-  -- how the device stands behind the transfer
+  -- how the device stands after the transfer
   pub ended_is : ended_progress m ≡ device_in (completed d f) d
   ended_is =
       ap (λ o. device_after o m.first m.last ws m.fixture m.progress) link.order

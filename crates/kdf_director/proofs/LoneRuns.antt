@@ -54,7 +54,7 @@ told_done answer given n (Asking (FreeOf kind) after) s last = behind given n (a
 told_done answer given n (Asking question after) s last = behind given n (answer question) last
 told_done answer given n e s last = tt
 
--- behind the answers that were given, the note tells the one that the order takes
+-- after the answers that were given, the note tells the one that the order takes
 pub told_next : (answer : Question → ℕ) (given : List ℕ) (s : State) → s.stock.asked ≡ length given → IsSameAnswer (λ _. get_or (given ++ answer_in_note (note_of s answer)) s.stock.asked 0) answer (question_of (next_effect s))
 told_next answer given s last = told_done answer given s.stock.asked (next_effect s) s last
 

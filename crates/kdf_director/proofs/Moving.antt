@@ -23,7 +23,7 @@ use Rattle.kdf_director.proofs.Beginning.{with_flight_is, with_flight_other, loo
 abbrev pub next_word : ℕ → Flight → ℕ × ℕ
 next_word d f = get_or (arrivals d f) f.moved (0, 0)
 
--- none of those behind a word goes to its address
+-- none of those after a word goes to its address
 distinct_rest : (ms : List (ℕ × ℕ)) (n : ℕ) → AreDistinct ms → n < length ms → list_any (λ x. eqb x.0 (get_or ms n (0, 0)).0) (drop (n + 1) ms) ≡ false
 distinct_rest [] n distinct lt = absurd (omega arith)
 distinct_rest (m ∷ ms) zero distinct lt = distinct.0

@@ -129,7 +129,7 @@ mine_behind p k d flights s o (Starting x order first last after) mine =
     (cases_eq d x)
 mine_behind p k d flights s o e mine = mine
 
--- an order behind which the program isn't live begins no transfer
+-- an order after which the program isn't live begins no transfer
 over_after : (flights : ℕ → Option Flight) (answer : Question → ℕ) (e : Effect) (s : State) → is_live s.registers.state ≡ true → is_live (perform answer e s).registers.state ≡ false → flights_after flights s e ≡ flights
 over_after flights answer (Failing kind) s live over = refl
 over_after flights answer (Ending after) s live over = refl

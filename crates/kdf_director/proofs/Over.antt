@@ -37,7 +37,7 @@ filter_apart hidden test from (suc n) d low high is none =
     rest : List ℕ
     rest = filter test (range_with_len (from + 1) n)
 
--- an effect behind which the program isn't live waits for all its transfers
+-- an effect after which the program isn't live waits for all its transfers
 over_apart : (hidden : Need → Bool) (mine : List ℕ) (answer : Question → ℕ) (e : Effect) (s : State) → is_live s.registers.state ≡ true → is_live (perform answer e s).registers.state ≡ false → HidesNone hidden (effect_needs mine e) → list_any hidden (map Device mine) ≡ false
 over_apart hidden mine answer (Failing kind) s live over none = none
 over_apart hidden mine answer (Ending after) s live over none = none

@@ -75,7 +75,7 @@ hold_free : (ended : Ending) → IsNotHeld ended → hold_left ended ≡ None
 hold_free (ending.Held need) free = absurd free
 hold_free ended free = refl
 
--- ---- what a machine is behind a call
+-- ---- what a machine is after a call
 
 abbrev pub holds_in : List Seat → List Entry → List (Option Need)
 holds_in seats J = map (λ (x : Seat). option_map need_of (last_hold x.p J)) seats

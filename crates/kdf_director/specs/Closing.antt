@@ -6,7 +6,7 @@ use Rattle.kdf_director.specs.declared.place.Place.{Place}
 use Rattle.kdf_director.specs.Spots.{Spot, no_spot, spot_of}
 use Rattle.kdf_director.specs.Parts.{Shared}
 
--- those that are left, and none behind them
+-- those that are left, and none after them
 abbrev pub padded : List Spot → List Spot
 padded spots = spots ++ replicate (device_count - length spots) no_spot
 

@@ -29,7 +29,7 @@ holding one two at_one at_two =
       };
     }
 
--- the lone state behind a transfer on a device
+-- the lone state after a transfer on a device
 abbrev pub behind : ℕ → Flight → State
 behind d f = record f.before { stock = completed d f }
 
@@ -44,7 +44,7 @@ reading = beginning Prq 0 1 ready
 abbrev pub punching : Flight
 punching = beginning Pwq 32 33 (behind 1 reading)
 
--- the lone state behind both
+-- the lone state after both
 abbrev pub done : State
 done = behind 2 punching
 
@@ -58,7 +58,7 @@ both read punched =
 abbrev pub sevens : List ℕ
 sevens = replicate 7 0 ++ 7 ∷ replicate 7 0 ++ 7 ∷ []
 
--- a tape as device 1, behind its one block of two words
+-- a tape as device 1, after its one block of two words
 abbrev pub wound : State
 wound = holding reel (writer Tp) (winding (block (all_a ∷ all_b ∷ []) false ∷ []) 1 false false) (having [])
 

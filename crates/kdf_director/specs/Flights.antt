@@ -41,7 +41,7 @@ arrivals d f = if is_input f.order then all_moves d f else []
 abbrev pub unmoved : ℕ → Flight → List (ℕ × ℕ)
 unmoved d f = drop f.moved (arrivals d f)
 
--- what the program has behind the whole transfer
+-- what the program has after the whole transfer
 abbrev pub completed : ℕ → Flight → Stock
 completed d f =
     transferred d f.order f.first f.last (fixture_at f.before.stock.claims d) f.before.stock
@@ -74,7 +74,7 @@ with_moved d n f flights = with_flight d (Some (moved_to n f)) flights
 abbrev pub beginning : TransferOrder → (first last : ℕ) → State → Flight
 beginning o first last s = record { order = o; first = first; last = last; before = s; moved = 0 }
 
--- the transfers behind an order that had this effect in the lone state
+-- the transfers after an order that had this effect in the lone state
 abbrev pub flights_after : (ℕ → Option Flight) → State → Effect → ℕ → Option Flight
 flights_after flights s (Starting d o first last after) =
     with_flight d (Some (beginning o first last s)) flights

@@ -35,7 +35,7 @@ entries_in (End d) = 1
 entries_in (Clock t) = 1
 entries_in (Swap p q) = 1
 
--- the time behind an event
+-- the time after an event
 abbrev pub time_behind : ℕ → Event → ℕ
 time_behind t (Orders n) = t
 time_behind t (Move d n) = t

@@ -24,7 +24,7 @@ abbrev pub size_in : List Slot → ℕ → ℕ
 size_in [] p = 0
 size_in (s ∷ slots) p = if s.p == p then s.size else size_in slots p
 
--- the windows of the slots 0 to 3, one behind the other from place 1,024 on
+-- the windows of the slots 0 to 3, one after the other from place 1,024 on
 abbrev pub windows_in : List Slot → List Window
 windows_in slots =
     windows_from 1024 (size_in slots 0 ∷ size_in slots 1 ∷ size_in slots 2 ∷ size_in slots 3 ∷ [])

@@ -4,7 +4,7 @@ use Rattle.kdf_processor.specs.Effect.{Question, FreeOf, Act, Nothing, Writes, S
 use Rattle.kdf_director.specs.declared.note.Note.{Note}
 use Rattle.kdf_director.specs.declared.note.Note.TheVariants.{Quiet, Began, Told, Took, Gave}
 
--- the note behind an act
+-- the note after an act
 abbrev pub note_after : Act → Note → Note
 note_after Nothing note = note
 note_after (Writes a w) note = note

@@ -15,7 +15,7 @@ use Rattle.kdf_director.specs.Spots.{spot_at}
 abbrev pub outcome_over : Seat → Reach → ℕ → Shared → Outcome
 outcome_over seat reach time s = outcome (view (part_in seat reach) time s) seat.registers
 
--- the program behind an outcome
+-- the program after an outcome
 abbrev pub seat_after : Part → Shared → Outcome → Seat
 seat_after q s o =
     record {

@@ -23,7 +23,7 @@ pub fn reads_tape()
         ≡ placed 16 false }
 {}
 
-/// Its journal, cut behind so many calls: an entry of orders or of idle calls has those before the cut, and a note stays with
+/// Its journal, cut after so many calls: an entry of orders or of idle calls has those before the cut, and a note stays with
 /// its order.
 pub fn is_cut()
     ensures idle { cut 10 reads_journal ≡ Ran 0 8 ∷ Start 0 3 8 ∷ Lov 0 1 ∷ Idle 1 ∷ [] }

@@ -1,4 +1,4 @@
--- The reader behind a source, the writer behind a sink, and how often they have failed.
+-- The reader after a source, the writer after a sink, and how often they have failed.
 use Rattle.std.specs.Prelude.{ℕ}
 use Rattle.kdf_io.specs.declared.read_from.ReadFrom.{ReadFrom}
 use Rattle.kdf_io.specs.declared.write_to.WriteTo.{WriteTo}

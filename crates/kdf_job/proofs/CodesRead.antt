@@ -5,7 +5,7 @@ use Rattle.std.proofs.Math.ListN.{drop_of_length-le}
 use Rattle.kdf_code.specs.Code.{code_of}
 use Rattle.kdf_job.specs.Media.{codes_in, with_code}
 
--- the codes that were read, with those of the text from a place on behind them
+-- the codes that were read, with those of the text from a place on after them
 unfoldable pub behind : List ℕ → ℕ → List ℕ → Option (List ℕ)
 behind codes i text = option_map (λ more. codes ++ more) (codes_in (drop i text))
 

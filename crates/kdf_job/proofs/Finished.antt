@@ -25,7 +25,7 @@ finished words numbers d was place =
 abbrev made : List SlotJob → Draft → Job
 made slots d = record { slots = slots; events = d.events; pool = d.pool }
 
--- its last slot is put behind the others, and each slot has the pool
+-- its last slot is put after the others, and each slot has the pool
 pub with_slots : (d e : Draft) (slots : List SlotJob) → e ≡ record d { slots = slots_told d; slot = None } → slots ≡ map (with_pool e.pool) e.slots → IsJob (job_of d)
     → IsJob (record { slots = slots; events = e.events; pool = e.pool })
 with_slots d e slots shown shared job =

@@ -23,7 +23,7 @@ steps-next : (n k : ℕ) → after_steps n (k + 1) ≡ step (after_steps n k)
 unfolding after_steps
 steps-next n k = sym (steps-more n k 1)
 
--- the letters behind so many
+-- the letters after so many
 letters-more : (n a b : ℕ) → letters_from (after_steps n a) b ≡ letters_from n (a + b)
 unfolding letters_from
 letters-more n a b = ap (λ (f : ℕ → ℕ). map f (range_with_len 0 16)) (fun_ext one)

@@ -22,7 +22,7 @@ use Rattle.kdf_job.proofs.PoolReadings.{lent_of_lines, pool_told}
 
 -- ---- slots that lines tell, of which only the places and the slot that is read count
 
--- the slot behind a line of this form
+-- the slot after a line of this form
 abbrev next_slot : Form → Place → Option SlotDraft → Option SlotDraft
 next_slot (AStore n) place slot = Some (new_slot (number_at place) n)
 next_slot form place slot = option_map (tells form) slot
@@ -194,7 +194,7 @@ inside p place s (line ∷ ls) away is = step (told_at place line) refl (λ (at 
     step (Ok (AStore n)) e rest = absurd (away (stores_only place line n e))
     step (Ok form) e rest = rest (behind form) (tells form s) (λ no. no) is
 
--- behind `SLOT p`
+-- after `SLOT p`
 begun : (p : ℕ) (slot : Option SlotDraft) (ls : List (List ℕ)) → IsOther p slot
     → find (is_slot p) (slots_from (BehindSlot p) slot ls) ≡ option_map slot_of (slot_within (BehindSlot p) None ls)
 begun p slot [] other = not_found_last p slot other

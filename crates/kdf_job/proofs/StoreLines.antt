@@ -1,4 +1,4 @@
--- A line tells the size of a store behind `SLOT p` alone, and a device of the pool in the pool alone.
+-- A line tells the size of a store after `SLOT p` alone, and a device of the pool in the pool alone.
 use Rattle.std.proofs.Common.{◌≡◌, ℕ, Bool, true, false, cond, List, [], ◌∷◌, Option, Some, None, Result, Ok, Err, subst}
 use Rattle.std.specs.Prelude.{◌==◌, codes}
 use Rattle.kdf_text.specs.Lines.{is_text, words}
@@ -120,7 +120,7 @@ tells_none InSchedule line away out =
     (event_none (event line), (choice (is_text (codes "ENDJOB") line) (Some (Ok AnEndJob)) None (tt {0}) (tt {0}), tt {0}))
 tells_none BehindEnd line away out = tt {0}
 
--- behind `SLOT p`, and in the pool
+-- after `SLOT p`, and in the pool
 abbrev IsStoreTold : Result Form JobFault → Type 0
 IsStoreTold (Ok (AStore n)) = Unit {0}
 IsStoreTold (Ok _) = ⊥

@@ -1,4 +1,4 @@
--- What the lines so far tell of a job, and what is wrong with a line behind them.
+-- What the lines so far tell of a job, and what is wrong with a line after them.
 use Rattle.std.specs.Prelude.{ℕ, ◌+◌, ◌%◌, ◌==◌, ◌&&◌, not, nat_le, nat_lt, Bool, true, false, List, [], ◌∷◌, ◌++◌, length, map, fold, sum_by, Option, Some, None, is_none, if◌then◌else◌}
 use Rattle.std.specs.List.{list_any, flat_map}
 use Rattle.std.specs.Option.{option_map, option_to_list}
@@ -17,7 +17,7 @@ use Rattle.kdf_job.specs.Job.{JobDevice, SlotJob, Job}
 use Rattle.kdf_job.specs.Limits.{group, most_words_together, most_orders, most_events}
 use Rattle.kdf_job.specs.Media.{is_label, word_of_text, new_device, with_medium}
 
--- the slot that is being read: the device whose medium may go on stands behind the others, and it has the labels
+-- the slot that is being read: the device whose medium may go on stands after the others, and it has the labels
 -- of its tapes
 pub record SlotDraft : Type 0 where
   pub p : ℕ
@@ -227,7 +227,7 @@ event_fault (Orders n) events =
     if nat_lt most_orders (order_count events + n) then Some TooManyOrders else count_fault events
 event_fault _ events = count_fault events
 
--- what is wrong with a line of this form behind the lines of a draft: the least of its faults
+-- what is wrong with a line of this form after the lines of a draft: the least of its faults
 abbrev pub fault_of : Form → Draft → Option JobFault
 fault_of (ASlot p) d = slot_fault p d.slot
 fault_of (AStore n) d = store_fault n (slots_told d)

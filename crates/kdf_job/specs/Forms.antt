@@ -31,7 +31,7 @@ pub data Form : Type 0 where
   AnEvent : (what : Event) → Form
   AnEndJob : Form
 
--- where the line behind one of this form stands
+-- where the line after one of this form stands
 abbrev pub behind : Form → Place
 behind AHeader = BehindHeader
 behind (ASlot p) = BehindSlot p
@@ -162,11 +162,11 @@ abbrev pub no_medium : Told → Told
 no_medium None = None
 no_medium (Some medium) = Some (Err BadMedium)
 
--- the forms that may stand behind the last slot
+-- the forms that may stand after the last slot
 abbrev pub job_ends : List ℕ → List Told
 job_ends line = alone (codes "POOL") APool line ∷ alone (codes "SCHEDULE") ASchedule line ∷ []
 
--- the forms that may stand behind a slot's devices and what it shows
+-- the forms that may stand after a slot's devices and what it shows
 abbrev pub slot_ends : List ℕ → List Told
 slot_ends line = show_line line ∷ slot_line line ∷ job_ends line
 

@@ -9,7 +9,7 @@ use Rattle.kdf_job.specs.Job.{SlotJob}
 use Rattle.kdf_job.specs.WellFormed.{AreRising, IsLent, IsSchedule, IsSlot}
 use Rattle.kdf_job.specs.Limits.{most_words_together}
 
--- the first slot is behind no other
+-- the first slot is after no other
 abbrev pub IsBegun : List SlotJob → Option SlotDraft → Type 0
 IsBegun slots None = slots ≡ []
 IsBegun slots (Some s) = Unit {0}

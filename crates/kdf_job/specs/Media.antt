@@ -55,7 +55,7 @@ new_device d kind label =
       progress = at_start [];
     }
 
--- characters of a card, with spaces behind them
+-- characters of a card, with spaces after them
 abbrev pub card_of : List ℕ → List ℕ
 card_of codes = codes ++ replicate (card_length - length codes) 0
 
@@ -80,7 +80,7 @@ with_block marked codes x =
       };
     }
 
--- whether a line of so many characters may stand behind a device of this kind. A line that is marked begins with `=`
+-- whether a line of so many characters may stand after a device of this kind. A line that is marked begins with `=`
 abbrev pub fits : Kind → Bool → ℕ → Bool
 fits Tr marked n = not marked
 fits Tp marked n = false

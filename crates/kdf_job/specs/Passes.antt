@@ -1,4 +1,4 @@
--- What is said of a line that was read: what comes of the lines behind it is what comes of all.
+-- What is said of a line that was read: what comes of the lines after it is what comes of all.
 use Rattle.std.specs.Prelude.{◌≡◌, ◌+◌, ◌<◌, ◌≤◌, length}
 use Rattle.kdf_text.specs.declared.lines.Lines.{Lines}
 use Rattle.kdf_text.specs.Ahead.{ahead}

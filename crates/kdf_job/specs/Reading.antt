@@ -24,7 +24,7 @@ with_told d (Ok form) = or_fault form d (fault_of form d)
 unfoldable pub read_line : Draft → List ℕ → Result Draft JobFault
 read_line d line = with_told d (told_at d.place line)
 
--- the end of the text counts as a line more, which has no form; it stands behind ENDJOB alone
+-- the end of the text counts as a line more, which has no form; it stands after ENDJOB alone
 abbrev pub end_fault : Place → Option JobFault
 end_fault First = Some Header
 end_fault BehindEnd = None
@@ -39,7 +39,7 @@ abbrev pub behind_line : ℕ → Result Draft JobFault → (Draft → Option (Jo
 behind_line n (Err fault) follows = Some (fault, n)
 behind_line n (Ok d) follows = follows d
 
--- the first fault of the lines, from number n on, behind those of a draft
+-- the first fault of the lines, from number n on, after those of a draft
 abbrev pub fault_from : ℕ → Draft → List (List ℕ) → Option (JobFault × ℕ)
 fault_from n d [] = at_line n (end_fault d.place)
 fault_from n d (line ∷ rest) = behind_line n (read_line d line) (λ e. fault_from (n + 1) e rest)
@@ -48,7 +48,7 @@ fault_from n d (line ∷ rest) = behind_line n (read_line d line) (λ e. fault_f
 unfoldable pub job_fault : List ℕ → Option (JobFault × ℕ)
 job_fault bytes = fault_from 1 blank (lines bytes)
 
--- the draft behind a line; one with a fault tells nothing
+-- the draft after a line; one with a fault tells nothing
 abbrev pub or_same : Draft → Result Draft JobFault → Draft
 or_same d (Err fault) = d
 or_same d (Ok e) = e

@@ -6,7 +6,7 @@ use Rattle.kdf_job.specs.declared.place.Place.TheVariants.{First, BehindSlot, Be
 use Rattle.kdf_job.specs.declared.fault.JobFault.{JobFault}
 use Rattle.kdf_job.specs.Forms.{Form, ASlot, APool, ASchedule, behind, told_at}
 
--- where the line behind one stands, which tells this at its place; a line without a form changes nothing
+-- where the line after one stands, which tells this at its place; a line without a form changes nothing
 abbrev pub place_behind : Place → Result Form JobFault → Place
 place_behind place (Ok form) = behind form
 place_behind place (Err fault) = place
@@ -52,7 +52,7 @@ abbrev pub closes : Result Form JobFault → Bool
 closes (Ok ASchedule) = true
 closes _ = false
 
--- the lines behind `POOL` before the one that ends the pool
+-- the lines after `POOL` before the one that ends the pool
 abbrev pub rest_of_pool : List (List ℕ) → List (List ℕ)
 rest_of_pool [] = []
 rest_of_pool (line ∷ lines) =

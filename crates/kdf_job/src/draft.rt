@@ -34,7 +34,7 @@ pub struct Draft {
     pub place: Place,
     /// The slots of which all lines are read.
     slots: Vec<SlotJob>,
-    /// The slot behind them.
+    /// The slot after them.
     slot: Option<SlotDraft>,
     /// The sum of the sizes of all stores.
     words: u32,
@@ -104,7 +104,7 @@ impl Draft {
         Ok(())
     }
 
-    /// Puts the slot of which all lines are read behind the others.
+    /// Puts the slot of which all lines are read after the others.
     fn finish_slot(&mut self, alloc: Global) -> Result<(), AllocError>
         ensures shown { OnOk result (shown_draft self.new ≡ record (shown_draft self.old) {
           slots = slots_told (shown_draft self.old);

@@ -69,7 +69,7 @@ pub fn pool_lines_tell()
     ensures schedule { told_at place.BehindPool (codes "SCHEDULE") ≡ Ok ASchedule }
 {}
 
-/// Labels, cards and blocks, and which lines may stand behind which kinds.
+/// Labels, cards and blocks, and which lines may stand after which kinds.
 pub fn media()
     ensures label { is_label (codes "A1B2C3D4") ≡ true }
     ensures no_label { is_label [] ≡ false }

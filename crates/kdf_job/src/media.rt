@@ -65,7 +65,7 @@ fn is_label_byte(byte: u8) -> bool
     (byte >= b'A' && byte <= b'Z') || (byte >= b'0' && byte <= b'9')
 }
 
-/// A card of these characters, with spaces behind them.
+/// A card of these characters, with spaces after them.
 pub fn card_of(codes: &[u8]) -> [u8; CARD_LENGTH]
     requires short { length codes.now ≤ 80 }
     requires small { All (λ c. c < 64) codes.now }

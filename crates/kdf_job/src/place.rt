@@ -19,7 +19,7 @@ pub enum Place {
     BehindDevice,
     /// Behind a line that tells what is shown.
     BehindShow,
-    /// In the pool: behind the line that begins it, or a device of it.
+    /// In the pool: after the line that begins it, or a device of it.
     BehindPool,
     /// In the schedule.
     InSchedule,

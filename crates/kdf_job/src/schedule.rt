@@ -38,7 +38,7 @@ impl Schedule {
         }
     }
 
-    /// Adds an event, if it may stand behind the others.
+    /// Adds an event, if it may stand after the others.
     #[tactic(auto, using(crate::proofs::Schedules::order_count_push, crate::proofs::Schedules::clock_push, crate::proofs::Schedules::schedule_push, crate::proofs::Schedules::few_orders))]
     pub fn add(&mut self, event: Event) -> Result<(), LineError>
         requires in_range { IsInRange event }
@@ -56,7 +56,7 @@ impl Schedule {
         Ok(())
     }
 
-    /// What is wrong with an event behind the others.
+    /// What is wrong with an event after the others.
     fn fault(&self, event: Event) -> Option<JobFault>
         requires { IsInRange event }
         ensures { result ≡ event_fault event self.now.events.items }
@@ -90,7 +90,7 @@ fn orders_in(event: Event) -> u32
     }
 }
 
-/// The time behind an event.
+/// The time after an event.
 fn clock_behind(clock: u64, event: Event) -> u64
     ensures { result ≡ clock_behind clock event }
 {

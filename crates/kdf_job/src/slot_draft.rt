@@ -28,7 +28,7 @@ pub struct SlotDraft {
     deck: Vec<u8>,
     /// The devices whose media are read.
     devices: Vec<(u8, Device)>,
-    /// The device behind them, whose medium may go on.
+    /// The device after them, whose medium may go on.
     device: Option<DeviceDraft>,
     /// The labels of its tapes.
     labels: Vec<Word>,
@@ -97,7 +97,7 @@ impl SlotDraft {
         Ok(())
     }
 
-    /// Puts the device whose medium was read behind the others.
+    /// Puts the device whose medium was read after the others.
     fn settle(&mut self, alloc: Global) -> Result<(), AllocError>
         ensures { OnOk result (shown_slot_draft self.new ≡ record (shown_slot_draft self.old) {
           devices = all_devices (shown_slot_draft self.old);

@@ -141,7 +141,7 @@ impl Draft {
         Ok(())
     }
 
-    /// Takes a medium line, a device, or what may stand behind devices.
+    /// Takes a medium line, a device, or what may stand after devices.
     fn take_medium_or_device(&mut self, alloc: Global, line: &[u8]) -> Result<(), LineError>
         requires sound { IsSound self.old }
         requires there { is_some (shown_draft self.old).slot ≡ true }
@@ -168,7 +168,7 @@ impl Draft {
         self.add_medium_line(alloc, line)
     }
 
-    /// Takes a device, or what may stand behind devices.
+    /// Takes a device, or what may stand after devices.
     fn take_device_or_end(&mut self, alloc: Global, line: &[u8]) -> Result<(), LineError>
         requires sound { IsSound self.old }
         requires there { is_some (shown_draft self.old).slot ≡ true }
@@ -200,7 +200,7 @@ impl Draft {
         Ok(())
     }
 
-    /// Takes addresses that are shown, or what may stand behind them.
+    /// Takes addresses that are shown, or what may stand after them.
     fn take_show_or_end(&mut self, line: &[u8]) -> Result<(), LineError>
         requires sound { IsSound self.old }
         requires there { is_some (shown_draft self.old).slot ≡ true }
@@ -229,7 +229,7 @@ impl Draft {
         Ok(())
     }
 
-    /// Takes the number of the next slot, or what may stand behind the last one.
+    /// Takes the number of the next slot, or what may stand after the last one.
     fn take_slot_or_end(&mut self, line: &[u8]) -> Result<(), LineError>
         requires sound { IsSound self.old }
         requires there { is_some (shown_draft self.old).slot ≡ true }

@@ -43,7 +43,7 @@ read-32 a small = number-decimal 0 4294967295 a (omega arith) (omega arith) (ome
 read-64 : (a : ℕ) → a < 2 ^ 64 → number_64 (decimal a) ≡ Some a
 read-64 a small = number-decimal 0 18446744073709551615 a (omega arith) (omega arith) (omega arith)
 
--- an entry of one word behind its name, of two and of three
+-- an entry of one word after its name, of two and of three
 again-one : (name a line : List ℕ) → has 32 name ≡ false → has 32 a ≡ false → line ≡ name ++ 32 ∷ a → entry_in line ≡ of_one name a
 unfolding entry_in
 again-one name a line f g is = ap of_words (ap words is ∙ words-one name a f g)

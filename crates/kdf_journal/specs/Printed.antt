@@ -94,7 +94,7 @@ abbrev pub of_all : (ℕ → ℕ → ℕ → Entry) → Option ℕ → Option �
 of_all make (Some a) b c = of_both (make a) b c
 of_all make None b c = None
 
--- by the name, behind which stand one, two and three words
+-- by the name, after which stand one, two and three words
 abbrev pub of_one : (name a : List ℕ) → Option Entry
 of_one name a =
     if is_text (codes "ENDED") name then option_map Ended (number_8 a)

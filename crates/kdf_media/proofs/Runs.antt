@@ -8,7 +8,7 @@ use Rattle.std.proofs.lemmas.List.Splits.{slice_split-cons_yes, slice_split-cons
 use Rattle.std.proofs.lemmas.List.Elements.{All-head, All-tail, All-cons}
 use Rattle.kdf_media.specs.Media.{printed}
 
--- the room in a run behind a character, None where it isn't printed
+-- the room in a run after a character, None where it isn't printed
 abbrev pub room_behind : ℕ → ℕ → Option ℕ
 room_behind c room = cond (eqb c 2) (Some 160) (cond (eqb room 0) None (Some (room - 1)))
 
@@ -94,7 +94,7 @@ pub printed-is : (cs : List ℕ) → printed_from 160 cs ≡ printed cs
 unfolding printed
 printed-is cs = cut_by_runs 160 cs ∙ ap joined (fresh (runs cs))
 
--- what a cut in place has done before character i: the first `kept` characters are printed, and what is behind is as it was
+-- what a cut in place has done before character i: the first `kept` characters are printed, and what is after is as it was
 pub record IsCut (kept i room end : ℕ) (items block : List ℕ) : Type 0 where
   pub before : kept ≤ i
   pub many : length items ≡ end

@@ -1,4 +1,4 @@
--- The words of a text up to its End Message, found word by word: the word that has the first one is filled up behind it.
+-- The words of a text up to its End Message, found word by word: the word that has the first one is filled up after it.
 use Rattle.std.proofs.Common.{◌≡◌, ℕ, zero, suc, ◌+◌, ◌-◌, ◌*◌, ◌/◌, ◌<◌, ◌≤◌, true, false, cond, eqb, List, [], ◌∷◌, ◌++◌, length, take, drop, get_or, replicate, arith, refl, sym, ap, subst, ◌∙◌, ⊎_elim, length-drop, length-take, length-append}
 use Rattle.std.specs.Prelude.{◌||◌}
 use Rattle.std.specs.List.{All}
@@ -11,7 +11,7 @@ use Rattle.kdf_media.specs.Media.{has_end, through_end}
 use Rattle.kdf_media.proofs.Ends.{through_end_within, through_end_some}
 use Rattle.kdf_media.proofs.Whole.{through_end-behind, through_end-front}
 
--- words up to the first with an End Message, filled up behind it
+-- words up to the first with an End Message, filled up after it
 abbrev pub ended_words : List ℕ → List ℕ
 ended_words [] = []
 ended_words (w ∷ words) = cond (has_end (codes_of w)) (first_word (through_end (codes_of w)) ∷ []) (w ∷ ended_words words)
@@ -33,7 +33,7 @@ words_of-cons codes some =
     let many : length (words_of codes) ≡ length (first_word codes ∷ words_of (drop 8 codes)) = omega (arith, l, m, d, some) in
     ext_get_or 0 (words_of codes) (first_word codes ∷ words_of (drop 8 codes)) many (λ i h. word_at codes i (omega (arith, l, h)))
 
--- code 0 behind some codes is what a word is filled up with
+-- code 0 after some codes is what a word is filled up with
 abbrev blanks : ℕ → List ℕ
 blanks n = replicate n 0
 

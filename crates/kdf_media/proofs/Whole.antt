@@ -6,7 +6,7 @@ use Rattle.std.proofs.lemmas.Bool.{cases_Bool, or_parts}
 use Rattle.kdf_word.specs.Characters.{codes_of, codes_of_all}
 use Rattle.kdf_media.specs.Media.{has_end, through_end, through_end_word}
 
--- the first End Message lies in the front, or behind it
+-- the first End Message lies in the front, or after it
 pub through_end-front : (xs ys : List ℕ) → has_end xs ≡ true → through_end (xs ++ ys) ≡ through_end xs
 through_end-front [] ys h = absurd cc
 through_end-front (c ∷ xs) ys h =

@@ -68,7 +68,7 @@ impl Cards {
         })
     }
 
-    /// Word `i` of the card at a place, of its ten; None behind them, or where there is no card.
+    /// Word `i` of the card at a place, of its ten; None after them, or where there is no card.
     pub fn take_word(&self, from: u32, i: u16) -> Option<Word>
         ensures { result ≡ slice_get (card_words from self.now.cards) i }
     {
@@ -97,7 +97,7 @@ fn word_of_cards(cards: &[[u8; 80]], place: usize, i: u16) -> Option<Word>
     }
 }
 
-/// Word `i` of a card's ten, None behind them.
+/// Word `i` of a card's ten, None after them.
 #[tactic(auto, using(crate::proofs::CardWords::card_within, crate::proofs::CardWords::card_past))]
 fn word_of_card(card: &[u8; 80], i: u16) -> Option<Word>
     requires { All (λ code. code < 64) card.now }

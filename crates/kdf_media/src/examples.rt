@@ -31,7 +31,7 @@ pub fn read_on()
 {}
 
 /// PREQ: no End Message, one as the first and as the last character of a word, one in the last word, one as the last character of the
-/// medium, and one behind the area.
+/// medium, and one after the area.
 pub fn read_to_end_message()
     ensures absent { after_read true 2 (reader (letters 12) 0 false) ≡ reader (letters 12) 12 true }
     ensures absent_full { after_read true 1 (reader (letters 12) 0 false)

@@ -25,7 +25,7 @@ pub fn cut(block: &mut Vec<u8>)
     block.truncate(kept);
 }
 
-/// The room in a run behind a character, of which there was so much before it; None where it isn't printed.
+/// The room in a run after a character, of which there was so much before it; None where it isn't printed.
 fn room_behind(code: u8, room: u8) -> Option<u8>
     ensures { result ≡ (if code == 2 then Some 160 else (if room == 0 then None else Some (room - 1))) }
 {

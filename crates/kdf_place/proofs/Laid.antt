@@ -38,7 +38,7 @@ syllable-plain m ss k are lt same =
     same ∙ get_or_append_left (words_of all) (replicate (sum m.groups) 0) 0 (k / 6) within in
     rw word (syllable-words_of all k (bytes-all m front ss are) within)
 
--- a word at or behind this statement's place
+-- a word at or after this statement's place
 one-before : (m : Names) (here : Here) (s : Statement) (ws : List ℕ) (w : ℕ) → wrongs m here (s ∷ []) ≡ []
     → 6 * (here.section.base + here.section.stores) ≤ here.at → here.at ≤ 6 * w + 5
     → get_or (with_constants m here (s ∷ []) ws) w 0 ≡ get_or ws w 0
@@ -46,7 +46,7 @@ one-before m here s ws w ok end low =
     let none = nil-founds s.place (wrong m here s.what) (nil-both _ [] ok).0 in
     one-untouched m here s.what ws w none (inl (omega arith))
 
--- the words that the statements before, this one and those behind leave as they are
+-- the words that the statements before, this one and those after leave as they are
 same-word : (m : Names) (before behind : List Statement) (s : Statement) (ws : List ℕ) (k : ℕ) → wrongs m front (before ++ s ∷ behind) ≡ []
     → (walked front before).at ≤ k → k < (after (walked front before) s).at → Misses (after (walked front before) s).section (k / 6)
     → get_or (with_constants m front (before ++ s ∷ behind) ws) (k / 6) 0 ≡ get_or ws (k / 6) 0
@@ -96,7 +96,7 @@ order-section m here place (Program v) order e = absurd cc
 order-section m here place (Part p v) order e = absurd cc
 order-section m here place what order e = refl
 
--- the image reaches behind each statement
+-- the image reaches after each statement
 within : (m : Names) (before behind : List Statement) (s : Statement) → (after (walked front before) s).at ≤ 6 * length (words m (before ++ s ∷ behind))
 within m before behind s =
     let ss = before ++ s ∷ behind in

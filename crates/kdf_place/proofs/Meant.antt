@@ -53,7 +53,7 @@ means-entry {T = T} fault all es e later is none =
     let split : twice fault [] (es ++ e ∷ later) ≡ [] = ap (twice fault []) (sym is) ∙ none in
     ap (λ (xs : List (Entry T)). first e.section e.number xs) is ∙ first-new es e later (stood_not fault [] es e later split)
 
--- the next order behind a statement
+-- the next order after a statement
 next-order-behind : (before between behind : List Statement) (s : Statement) → AllPassed between → EndsAt behind
     → next_order (after (walked front before) s).at (between ++ behind) ≡ (walked front (before ++ s ∷ between)).at
 next-order-behind before between behind s passed ends =

@@ -94,7 +94,7 @@ constants-split here (s ∷ before) behind =
     ap (λ (es : List (Entry (Unit {0}))). one ++ es) (constants-split (after here s) before behind)
     ∙ sym (append_assoc one (constants (after here s) before) (constants (walked (after here s) before) behind))
 
--- this part, or a part that begins behind the word
+-- this part, or a part that begins after the word
 abbrev IsLater : Section → Section → ℕ → Type 0
 IsLater now section w = (now ≡ section) ⊎ (w < now.base)
 

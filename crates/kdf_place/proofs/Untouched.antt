@@ -51,7 +51,7 @@ untouched-later names here (s ∷ ss) ws w ok misses low =
     (misses-after here s.place s.what w misses low) (omega (arith, low, after-above names here s))
     ∙ one-untouched names here s.what ws w (nil-founds s.place (wrong names here s.what) both.0) misses
 
--- a word behind all these statements
+-- a word after all these statements
 pub untouched-before : (names : Names) (here : Here) (ss : List Statement) (ws : List ℕ) (w : ℕ) → wrongs names here ss ≡ []
     → 6 * (here.section.base + here.section.stores) ≤ here.at → (walked here ss).at ≤ 6 * w + 5
     → get_or (with_constants names here ss ws) w 0 ≡ get_or ws w 0

@@ -27,7 +27,7 @@ two_parts =
     ∷ at_place 60 (Plain (orders.Plain 0x03)) ∷ at_place 65 (Reference 2) ∷ at_place 68 Finish ∷ []
 
 -- Word 0 jumps to the first order. JSP3 goes on from word 1 in word 2, which is filled; word 3 is the
--- V-store of part 3. A reference without an order behind it means the place where one would stand.
+-- V-store of part 3. A reference without an order after it means the place where one would stand.
 abbrev pub two_parts_image : Picture
 two_parts_image = record {
   words = 0xa00001010101 ∷ 0x09a08004a100 ∷ 0x04a000010101 ∷ 0 ∷ 0xa00001030101 ∷ [];

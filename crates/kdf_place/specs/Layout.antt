@@ -38,7 +38,7 @@ words_for syllables = (syllables + 5) / 6
 abbrev pub round_up : ℕ → ℕ
 round_up at = 6 * words_for at
 
--- the syllable behind a statement at `at`: a part begins on a new word, with its V-stores
+-- the syllable after a statement at `at`: a part begins on a new word, with its V-stores
 abbrev pub advance : ℕ → What → ℕ
 advance at Star = round_up at
 advance at (Program v) = round_up at + 6 * stores v
@@ -48,7 +48,7 @@ advance at what = at + size_of what
 abbrev pub opened : ℕ → ℕ → ℕ → Option ℕ → Section
 opened at place p v = record { opened = place; part = p; base = words_for at; stores = stores v }
 
--- the part behind a statement at this place of the deck
+-- the part after a statement at this place of the deck
 abbrev pub section_after : Here → ℕ → What → Section
 section_after here place (Program v) = opened here.at place 0 v
 section_after here place (Part p v) = opened here.at place p v
@@ -66,11 +66,11 @@ walked here (s ∷ ss) = walked (after here s) ss
 abbrev pub front : Here
 front = record { section = record { opened = 0; part = 0; base = 0; stores = 0 }; at = 6 }
 
--- the syllable behind all statements
+-- the syllable after all statements
 abbrev pub end_of : Here → List Statement → ℕ
 end_of here ss = (walked here ss).at
 
--- the next order of the part from `at` on, or where one would stand behind its last statement
+-- the next order of the part from `at` on, or where one would stand after its last statement
 abbrev pub next_order : ℕ → List Statement → ℕ
 next_order at [] = at
 next_order at (s ∷ ss) =

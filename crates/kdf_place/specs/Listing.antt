@@ -16,7 +16,7 @@ head_line slot = codes "KDF9 LISTING " ++ decimal slot
 abbrev pub start_line : ℕ → List ℕ
 start_line start = codes "START " ++ place start
 
--- each word behind its address
+-- each word after its address
 abbrev pub word_lines : List ℕ → List (List ℕ)
 word_lines words = map (λ x. word_line x.0 x.1) (enumerate_from 0 words)
 

@@ -88,7 +88,7 @@ pub record Names : Type 0 where
   pub parts : ℕ → Option Opening
   pub labels : ℕ → ℕ → Option Mark
   pub groups : List ℕ
-  -- the address of the first Y-store: they stand behind all parts
+  -- the address of the first Y-store: they stand after all parts
   pub behind : ℕ
 
 abbrev pub names : List Statement → Names
@@ -116,7 +116,7 @@ abbrev pub v_store : Option Section → ℕ → Result ℕ DeckFault
 v_store None n = Err PartMissing
 v_store (Some section) n = store_at section.base section.stores VRange n
 
--- the stores of a group stand behind those of all groups before it
+-- the stores of a group stand after those of all groups before it
 abbrev pub y_store : Names → ℕ → ℕ → Result ℕ DeckFault
 y_store names group n =
     let base = names.behind + sum (take group names.groups) in

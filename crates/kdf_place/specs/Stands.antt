@@ -77,7 +77,7 @@ pub record IsLaidOut (ss : List Statement) (image : Picture) : Type 0 where
   -- the last word of the deck is filled too
   pub filled_last : IsFilled image.words (walked front ss).at
   -- a reference means the place of the next order of its part, or, where none follows, the place
-  -- behind its last statement
+  -- after its last statement
   pub references : (before between behind : List Statement) (s : Statement) (r : ℕ)
       → ss ≡ before ++ s ∷ (between ++ behind) → s.what ≡ Reference r
       → AllPassed between → EndsAt behind

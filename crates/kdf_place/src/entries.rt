@@ -20,7 +20,7 @@ fn part_opened(what: &What) -> Option<u16>
     }
 }
 
-/// The next order of the part from `at` on, or where one would stand behind its last statement.
+/// The next order of the part from `at` on, or where one would stand after its last statement.
 fn next_order(at: u64, statements: &[Statement]) -> u64
     requires near { at < 2 ^ 61 }
     requires few { length statements.now < 2 ^ 40 }
@@ -151,7 +151,7 @@ pub fn groups(statements: &[Statement]) -> [u32; 27]
     groups
 }
 
-/// The syllable behind all statements.
+/// The syllable after all statements.
 pub fn end_of(statements: &[Statement]) -> u64
     requires { length statements.now < 2 ^ 40 }
     ensures value { result ≡ end_of front statements.now }

@@ -7,7 +7,7 @@ ghost use Rattle.kdf_place.specs.Listing.{absent_listing, listing_lines};
 ghost use Rattle.kdf_place.specs.Placement.{placed};
 ghost use Rattle.kdf_place.specs.Examples.{two_parts, two_parts_image, reference_twice};
 
-/// Two parts, with references before, between and behind their orders.
+/// Two parts, with references before, between and after their orders.
 pub fn two_parts()
     ensures image { placed two_parts 75 5 ≡ Ok two_parts_image }
     ensures too_large { placed two_parts 75 4 ≡ Err (found TooLarge 75) }

@@ -18,7 +18,7 @@ pub struct Section {
     pub stores: u64,
 }
 
-/// The part, and the syllable, counted from the begin of the image, behind all that stands before.
+/// The part, and the syllable, counted from the begin of the image, after all that stands before.
 #[derive(Clone, Copy)]
 pub struct Here {
     pub section: Section,
@@ -81,7 +81,7 @@ pub fn round_up(at: u64) -> u64
     6 * words_for(at)
 }
 
-/// The syllable behind a statement that stands at `at`.
+/// The syllable after a statement that stands at `at`.
 pub fn advance(at: u64, what: &What) -> u64
     requires { at < 2 ^ 62 }
     ensures value { result ≡ advance at what.now }
@@ -122,7 +122,7 @@ impl Here {
         }
     }
 
-    /// The part behind a statement.
+    /// The part after a statement.
     fn section_after(self, place: u32, what: &What) -> Section
         requires { self.at < 2 ^ 62 }
         ensures { result ≡ section_after self place what.now }
@@ -134,7 +134,7 @@ impl Here {
         }
     }
 
-    /// The place behind a statement that stands here.
+    /// The place after a statement that stands here.
     pub fn after(self, statement: &Statement) -> Self
         requires { self.at < 2 ^ 62 }
         ensures value { result ≡ after self statement.now }

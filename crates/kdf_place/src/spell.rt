@@ -102,7 +102,7 @@ fn order_of(meanings: &Meanings, section: Section, what: &What) -> Option<Order>
     }
 }
 
-/// Puts the syllables of an order behind the others.
+/// Puts the syllables of an order after the others.
 fn push_order(syllables: &mut Vec<u8>, order: &Order) -> Result<(), AllocError>
     requires { IsOrder order.now }
     ensures { OnOk result (syllables.new.items ≡ syllables.old.items ++ spelling order.now) }
@@ -111,7 +111,7 @@ fn push_order(syllables: &mut Vec<u8>, order: &Order) -> Result<(), AllocError>
     syllables.extend_from_slice(&spelt.bytes[..usize::from(spelt.size)])
 }
 
-/// Puts one syllable so many times behind the others.
+/// Puts one syllable so many times after the others.
 fn push_copies(syllables: &mut Vec<u8>, count: u64, syllable: u8) -> Result<(), AllocError>
     ensures { OnOk result (syllables.new.items ≡ syllables.old.items ++ replicate count syllable) }
 {
@@ -121,7 +121,7 @@ fn push_copies(syllables: &mut Vec<u8>, count: u64, syllable: u8) -> Result<(), 
     Ok(())
 }
 
-/// Puts DUMMY behind the others, up to the next begin of a word.
+/// Puts DUMMY after the others, up to the next begin of a word.
 fn push_filling(syllables: &mut Vec<u8>, at: u64) -> Result<(), AllocError>
     requires { at < 2 ^ 62 }
     ensures { OnOk result (syllables.new.items ≡ syllables.old.items ++ filling at) }
@@ -129,7 +129,7 @@ fn push_filling(syllables: &mut Vec<u8>, at: u64) -> Result<(), AllocError>
     push_copies(syllables, round_up(at) - at, DUMMY)
 }
 
-/// Puts the opening of a part behind the others: it begins on a new word, with its V-stores, zero.
+/// Puts the opening of a part after the others: it begins on a new word, with its V-stores, zero.
 fn push_opening(syllables: &mut Vec<u8>, at: u64, last: Option<u16>) -> Result<(), AllocError>
     requires { at < 2 ^ 62 }
     ensures { OnOk result (syllables.new.items
@@ -139,7 +139,7 @@ fn push_opening(syllables: &mut Vec<u8>, at: u64, last: Option<u16>) -> Result<(
     push_copies(syllables, 6 * stores(last), 0)
 }
 
-/// Puts the syllables of the order that a statement has, if it has one, behind the others.
+/// Puts the syllables of the order that a statement has, if it has one, after the others.
 fn push_spelt(
     syllables: &mut Vec<u8>,
     meanings: &Meanings,
@@ -156,7 +156,7 @@ fn push_spelt(
     }
 }
 
-/// Puts the syllables of a statement that stands here behind the others.
+/// Puts the syllables of a statement that stands here after the others.
 fn push_statement(
     syllables: &mut Vec<u8>,
     meanings: &Meanings,
@@ -183,7 +183,7 @@ pub fn start_of(meanings: &Meanings) -> u16
     syllable_number(number(meanings.first_order(0)))
 }
 
-/// Puts word 0 behind the others: a jump to the first order, and three DUMMY.
+/// Puts word 0 after the others: a jump to the first order, and three DUMMY.
 fn push_first_word(syllables: &mut Vec<u8>, meanings: &Meanings) -> Result<(), AllocError>
     ensures { OnOk result (syllables.new.items
         ≡ syllables.old.items ++ first_word (meaning meanings.now)) }

@@ -19,7 +19,7 @@ pub fn words_of(alloc: Global, syllables: &[u8]) -> Result<Vec<Word>, AllocError
     Ok(words)
 }
 
-/// Puts so many words that are zero behind the others.
+/// Puts so many words that are zero after the others.
 pub fn push_zeros(words: &mut Vec<Word>, count: u64) -> Result<(), AllocError>
     ensures { OnOk result (words.new.items ≡ words.old.items ++ replicate count 0) }
 {

@@ -24,7 +24,7 @@ count_is v n a k p s =
     let first = byte_is v n a p in
     ap (λ b. cond b (size_of_first (syllable_at v.word n)) 1) first.0 ∙ ap size_of_first first.1 ∙ s
 
--- the order is that of its syllables, whatever stands behind them
+-- the order is that of its syllables, whatever stands after them
 by_size : (a b c k : ℕ) → size_of_first a ≡ k → decoded (take k (a ∷ b ∷ c ∷ [])) ≡ first_decoded (a ∷ b ∷ c ∷ [])
 by_size a b c k s = ap (λ n. decoded (take n (a ∷ b ∷ c ∷ []))) (sym s)
 

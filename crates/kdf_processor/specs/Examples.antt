@@ -166,12 +166,12 @@ begins t o = does (counted 62 [] t) (Starts t.c o t.i t.m)
 abbrev pub refuses : Triple → Failure → Outcome
 refuses t kind = fails (counted 60 [] t) kind
 
--- an order on Q1 that asks, behind TR
+-- an order on Q1 that asks, after TR
 abbrev pub asks : ℕ → Bool → ℕ → Triple → Outcome
 asks b tr answer t =
     obeyed_over (equipped 6 new_progress answer) (with_tr tr (counted 60 [] t)) (order.Query b 1)
 
--- an order on Q1 that tests devices which have come so far, behind TR
+-- an order on Q1 that tests devices which have come so far, after TR
 abbrev pub tests : ℕ → Bool → Progress → Triple → Outcome
 tests b tr progress t =
     obeyed_over (equipped 6 progress 0) (with_tr tr (counted 60 [] t)) (order.Query b 1)
@@ -206,7 +206,7 @@ served =
 abbrev pub calls_served : List ℕ → Outcome
 calls_served nest = obeyed_over served (calling nest) (order.Plain 0x21)
 
--- what an order needs behind the groups of its syllables, the program having transfers on devices 2 and 5
+-- what an order needs after the groups of its syllables, the program having transfers on devices 2 and 5
 abbrev pub waits_for : Registers → Order → List Need
 waits_for r o = effect_needs (2 ∷ 5 ∷ []) (effect (claiming 6) r o)
 

@@ -59,6 +59,6 @@ outcome v r =
     held_or r (first_pending v (needs_at v.claims v.word r v.mine))
     (done v r (effect_at v.claims v.word r))
 
--- one effect, behind the fetch
+-- one effect, after the fetch
 abbrev pub try_effect : View → Registers → Effect → Outcome
 try_effect v r e = held_or r (first_pending v (effect_needs v.mine e)) (done v r e)

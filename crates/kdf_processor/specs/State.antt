@@ -112,7 +112,7 @@ new_registers =
       state = Live;
     }
 
--- the image in a store of so many words, with zeros behind
+-- the image in a store of so many words, with zeros after
 abbrev pub filled : ℕ → List ℕ → List ℕ
 filled size image = image ++ replicate (size - length image) 0
 

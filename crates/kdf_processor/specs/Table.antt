@@ -345,7 +345,7 @@ jumps_so target (Decided jumps after) = Going (goes after jumps target)
 abbrev pub jump_row : Registers → ℕ → ℕ → Change
 jump_row r c target = jumps_so target (decision r c)
 
--- EXIT: a link is popped, and it goes on three times n syllables behind
+-- EXIT: a link is popped, and it goes on three times n syllables after
 unfoldable pub exit_row : Registers → ℕ → List ℕ → Change
 exit_row r n [] = Refused Nouv
 exit_row r n (link ∷ links) =

@@ -16,7 +16,7 @@ use crate::{Port, Registers, Step, Test};
 use kdf_journal::Kind;
 use kdf_word::Word;
 
-/// Sets TR, behind an order of two syllables.
+/// Sets TR, after an order of two syllables.
 fn set_tr(registers: &mut Registers, tr: bool)
     ensures { registers.new ≡ sets_tr registers.old tr }
 {
@@ -24,7 +24,7 @@ fn set_tr(registers: &mut Registers, tr: bool)
     registers.at = behind(registers.at, 2);
 }
 
-/// Puts a word in place of the top, behind OUT.
+/// Puts a word in place of the top, after OUT.
 fn replace_top(registers: &mut Registers, word: Word)
     requires { 0 < length registers.old.nest }
     ensures { registers.new
@@ -35,7 +35,7 @@ fn replace_top(registers: &mut Registers, word: Word)
     registers.at = behind(registers.at, 1);
 }
 
-/// Takes two words, behind OUT.
+/// Takes two words, after OUT.
 fn drop_two(registers: &mut Registers)
     requires { 1 < length registers.old.nest }
     ensures { registers.new ≡ with_nest 1 (below_two registers.old.nest) registers.old }
@@ -45,7 +45,7 @@ fn drop_two(registers: &mut Registers)
     registers.at = behind(registers.at, 1);
 }
 
-/// Puts a word in place of two, behind OUT.
+/// Puts a word in place of two, after OUT.
 fn replace_two(registers: &mut Registers, word: Word)
     requires { 1 < length registers.old.nest }
     ensures { registers.new ≡ with_nest 1 (word ∷ below_two registers.old.nest) registers.old }
@@ -56,7 +56,7 @@ fn replace_two(registers: &mut Registers, word: Word)
     registers.at = behind(registers.at, 1);
 }
 
-/// Puts a device's number in place of two words, behind OUT.
+/// Puts a device's number in place of two words, after OUT.
 pub fn take_number(registers: &mut Registers, device: u8)
     requires { 1 < length registers.old.nest }
     ensures { registers.new ≡ with_nest 1 (device ∷ below_two registers.old.nest) registers.old }

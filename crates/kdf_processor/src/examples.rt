@@ -19,7 +19,7 @@ ghost use Rattle.kdf_processor.specs.Examples.{parts, linked, counted, single, l
 ghost use Rattle.kdf_processor.specs.Needs.{fetch_needs, order_at};
 ghost use Rattle.kdf_processor.specs.Table.{change_of, with_v, with_tr};
 
-/// Orders of one syllable. The syllable behind the last of word 8191 is the first of word 0.
+/// Orders of one syllable. The syllable after the last of word 8191 is the first of word 0.
 pub fn one_syllable()
     ensures dummy { change_of (linked 49151 (5 ∷ []) []) (order.Plain 0x01)
         ≡ Going (linked 0 (5 ∷ []) []) }
@@ -295,7 +295,7 @@ pub fn depths()
     ensures not_links { jump 0x31 (linked 60 [] (0 ∷ [])) ≡ taken (linked 60 [] (0 ∷ [])) }
 {}
 
-/// EXIT goes on half words behind the link, around the end of the store. A link of syllable 6 or 7 is none.
+/// EXIT goes on half words after the link, around the end of the store. A link of syllable 6 or 7 is none.
 pub fn exits()
     ensures back { change_of (linked 60 [] ((8192 * 3 + 2) ∷ 7 ∷ [])) (order.Exit 0)
         ≡ Going (linked 15 [] (7 ∷ [])) }

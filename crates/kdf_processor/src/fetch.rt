@@ -15,7 +15,7 @@ const SYLLABLES: u16 = 49_152;
 /// What the fetch of an order gives.
 #[derive(Clone, Copy, PartialEq, Eq)]
 pub enum Fetched {
-    /// These syllables, which the spelling begins. What stands behind it counts for nothing.
+    /// These syllables, which the spelling begins. What stands after it counts for nothing.
     Spelt { first: u8, second: u8, third: u8 },
     /// The spelling runs out of the store.
     Bad,
@@ -60,7 +60,7 @@ pub fn fetch_order<P: Port>(port: &P, at: u16) -> Fetched
     }
 }
 
-/// The order at a syllable behind which two others stand in its word.
+/// The order at a syllable after which two others stand in its word.
 #[inline(always)]
 fn fetch_within<P: Port>(port: &P, at: u16) -> Fetched
     requires least { at < 49152 }
@@ -132,7 +132,7 @@ fn fetch_sixth<P: Port>(port: &P, at: u16) -> Fetched
     }
 }
 
-/// The order at syllable `i` of a word, behind which two others stand.
+/// The order at syllable `i` of a word, after which two others stand.
 #[inline(always)]
 fn spelt_within(word: Word, i: u8) -> Fetched
     requires { i < 4 }

@@ -19,7 +19,7 @@ pub fn jump(registers: &mut Registers, c: u8, target: u16) -> Result<(), Failure
     Ok(())
 }
 
-/// Goes to the target, or on behind the jump.
+/// Goes to the target, or on after the jump.
 fn go(registers: &mut Registers, jumps: bool, target: u16)
     ensures { registers.new ≡ goes registers.old jumps target }
 {

@@ -7,7 +7,7 @@ use crate::{Failure, Registers};
 use kdf_nest::DEPTH;
 use kdf_word::Word;
 
-/// Pushes a word behind an order of `size` syllables, or fails where there is no room.
+/// Pushes a word after an order of `size` syllables, or fails where there is no room.
 pub fn push(registers: &mut Registers, size: u16, word: Word) -> Result<(), Failure>
     ensures { Comes (pushes registers.old size word) registers.old registers.new result }
 {

@@ -65,7 +65,7 @@ pub fn changed(code: u8, triple: Triple) -> Triple
     }
 }
 
-/// Leaves these parts in Qq, behind an order of two syllables.
+/// Leaves these parts in Qq, after an order of two syllables.
 pub fn leave(registers: &mut Registers, q: u8, triple: Triple)
     requires { IsQ q }
     ensures { registers.new ≡ with_nest 2 registers.old.nest (with_q q triple registers.old) }

@@ -16,7 +16,7 @@ four (a ∷ b ∷ c ∷ []) n = absurd (omega arith)
 four (a ∷ b ∷ c ∷ d ∷ []) n = refl
 four (a ∷ b ∷ c ∷ d ∷ e ∷ xs) n = absurd (omega arith)
 
--- four windows, each behind the one before it
+-- four windows, each after the one before it
 pub windows_four : (xs : List ℕ) (w x y : Window) → length xs ≡ 4 → w ≡ window (1024 + get_or xs 0 0) (get_or xs 1 0) → x ≡ window (w.base + w.size) (get_or xs 2 0) → y ≡ window (x.base + x.size) (get_or xs 3 0) → window 1024 (get_or xs 0 0) ∷ w ∷ x ∷ y ∷ [] ≡ windows_from 1024 xs
 windows_four xs w x y n ew ex ey =
     let a = get_or xs 0 0 in

@@ -7,12 +7,12 @@ use Rattle.kdf_relocate.specs.declared.window.Window.{Window}
 abbrev pub window : ℕ → ℕ → Window
 window base size = record { base = base; size = size }
 
--- windows of these sizes, one behind the other, the first from a place of the store on
+-- windows of these sizes, one after the other, the first from a place of the store on
 abbrev pub windows_from : ℕ → List ℕ → List Window
 windows_from base [] = []
 windows_from base (size ∷ sizes) = window base size ∷ windows_from (base + size) sizes
 
--- whole groups of 32 words, which fit the store of 32,768 words behind its first 1,024
+-- whole groups of 32 words, which fit the store of 32,768 words after its first 1,024
 abbrev pub have_windows : List ℕ → Bool
 have_windows sizes = list_all (λ size. size % 32 == 0) sizes && nat_le (sum sizes) 31744
 
@@ -20,7 +20,7 @@ have_windows sizes = list_all (λ size. size % 32 == 0) sizes && nat_le (sum siz
 abbrev pub IsBefore : Window → Window → Type 0
 IsBefore a b = a.base + a.size ≤ b.base
 
--- it has only places of the store behind the first 1,024
+-- it has only places of the store after the first 1,024
 pub record IsInStore (w : Window) : Type 0 where
   pub from : 1024 ≤ w.base
   pub to : w.base + w.size ≤ 32768

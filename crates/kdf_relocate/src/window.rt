@@ -7,7 +7,7 @@ ghost use Rattle.kdf_relocate.specs.Windows.{have_windows, windows_from, window,
 /// The words that Director keeps for itself, at the begin of the store.
 const FIRST: u32 = 1_024;
 
-/// The words behind them.
+/// The words after them.
 const ROOM: u32 = 31_744;
 
 /// The words of a group.
@@ -38,7 +38,7 @@ impl Window {
         }
     }
 
-    /// The window of so many words behind this one.
+    /// The window of so many words after this one.
     fn behind(self, size: u16) -> Window
         requires { self.base + self.size < 2 ^ 32 }
         ensures { result ≡ window (self.base + self.size) size }
@@ -50,7 +50,7 @@ impl Window {
     }
 }
 
-/// The windows of the slots, one behind the other from place 1,024 on, for sizes in words; a slot that is absent has size 0.
+/// The windows of the slots, one after the other from place 1,024 on, for sizes in words; a slot that is absent has size 0.
 /// None where a size isn't a number of whole groups of 32 words, or where together they are more than 31,744.
 #[tactic(auto, using(crate::proofs::Four::room_of))]
 pub fn windows(sizes: &[u16; 4]) -> Option<[Window; 4]>

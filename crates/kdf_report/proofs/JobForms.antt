@@ -31,7 +31,7 @@ is_store form = false
 abbrev pub IsElse : Form → Type 0
 IsElse form = IsInRange form × (is_store form ≡ false)
 
--- a size is told behind the number of a slot alone
+-- a size is told after the number of a slot alone
 abbrev pub IsToldAt : Place → Form → Type 0
 IsToldAt (BehindSlot p) form = IsInRange form
 IsToldAt place form = IsElse form
@@ -152,7 +152,7 @@ ends_fit line = (show_fits line, (slot_fits line, job_ends_fit line))
 device_or_end_fit : (line : List ℕ) → FitAll IsElse (device_or_end line)
 device_or_end_fit line = (device_fits line, ends_fit line)
 
--- behind a pool
+-- after a pool
 pooled_fits : (one : Told) → Fits IsElse one → Fits IsElse (pooled one)
 pooled_fits None fits = tt
 pooled_fits (Some (Err fault)) fits = tt

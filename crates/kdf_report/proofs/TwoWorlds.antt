@@ -71,7 +71,7 @@ same_lines first second J K p free free' same common legal legal' told over over
 
 -- ---- the section of a program in the report of its job
 
--- what stands before it and behind it
+-- what stands before it and after it
 abbrev Around : List (List ℕ) → List (List ℕ) → Type 0
 Around all lines = (front : List (List ℕ)) × (rest : List (List ℕ)) × (all ≡ front ++ lines ++ rest)
 

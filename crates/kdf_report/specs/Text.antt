@@ -29,11 +29,11 @@ life_name (life.Failed kind) = codes "FAILED " ++ name_of kind
 abbrev pub life_line : Life → List ℕ
 life_line life = codes "STATE " ++ life_name life
 
--- the nest, the top first, behind its number of words
+-- the nest, the top first, after its number of words
 abbrev pub nest_line : List ℕ → List ℕ
 nest_line nest = codes "NEST " ++ decimal (length nest) ++ flat_map (λ w. codes " " ++ octal w) nest
 
--- the links, the top first, behind their number: of each the word and the syllable
+-- the links, the top first, after their number: of each the word and the syllable
 abbrev pub links_line : List ℕ → List ℕ
 links_line links =
     codes "LINKS " ++ decimal (length links)
@@ -69,7 +69,7 @@ word_line s a = line_of_word a (word_at s a)
 abbrev pub show_lines : State → ℕ × ℕ → List (List ℕ)
 show_lines s show = map (word_line s) (range_with_len show.0 (show.1 + 1 - show.0))
 
--- a text that was spooled, behind its stream
+-- a text that was spooled, after its stream
 abbrev pub spool_line : Spooled → List ℕ
 spool_line x = codes "SPOOL " ++ decimal x.stream ++ codes " " ++ host_text x.text
 

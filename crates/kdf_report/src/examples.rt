@@ -50,7 +50,7 @@ pub fn stints()
         ≡ codes "POOL 0 TP FREE PLACE 0 FLAG 0" ∷ [] }
 {}
 
-/// What is spooled, behind its stream.
+/// What is spooled, after its stream.
 pub fn spool()
     ensures text { spool_line (record { stream = 7; text = 33 ∷ 34 ∷ 61 ∷ [] })
         ≡ codes "SPOOL 7 AB|" }

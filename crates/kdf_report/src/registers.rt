@@ -77,7 +77,7 @@ pub fn digit(flag: bool) -> &'static str
     if flag { "1" } else { "0" }
 }
 
-/// The words of a nest, the top first, behind their number.
+/// The words of a nest, the top first, after their number.
 #[tactic(auto, unfolding(kdf_text::specs::Text::text))]
 fn write_nest(out: &mut String, nest: &Nest) -> Result<(), AllocError>
     ensures { OnOk result (Adds out.old out.new (nest_line nest.now ∷ [])) }
@@ -88,7 +88,7 @@ fn write_nest(out: &mut String, nest: &Nest) -> Result<(), AllocError>
     writeln!(out)
 }
 
-/// Each word of a nest behind a space.
+/// Each word of a nest after a space.
 fn write_words(out: &mut String, nest: &Nest) -> Result<(), AllocError>
     ensures { OnOk result (string_bytes out.new
         ≡ string_bytes out.old ++ flat_map (λ w. codes " " ++ octal w) nest.now) }
@@ -100,7 +100,7 @@ fn write_words(out: &mut String, nest: &Nest) -> Result<(), AllocError>
     Ok(())
 }
 
-/// The places of the links, the top first, behind their number.
+/// The places of the links, the top first, after their number.
 #[tactic(auto, unfolding(kdf_text::specs::Text::text))]
 fn write_links(out: &mut String, links: &Links) -> Result<(), AllocError>
     ensures { OnOk result (Adds out.old out.new (links_line links.now ∷ [])) }
@@ -111,7 +111,7 @@ fn write_links(out: &mut String, links: &Links) -> Result<(), AllocError>
     writeln!(out)
 }
 
-/// The word and the syllable of each link, behind a space.
+/// The word and the syllable of each link, after a space.
 fn write_places(out: &mut String, links: &Links) -> Result<(), AllocError>
     ensures { OnOk result (string_bytes out.new ≡ string_bytes out.old
         ++ flat_map (λ l. codes " " ++ decimal (l % 8192) ++ codes "/" ++ decimal (l / 8192)) links.now) }

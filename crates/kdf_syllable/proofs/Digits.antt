@@ -4,7 +4,7 @@ use Rattle.std.proofs.Math.Nat.{pow-suc}
 use Rattle.std.proofs.lemmas.Nat.{mul-add-lt, div-mul-add, pow-add}
 use Rattle.kdf_syllable.specs.Packing.{packed, syllable}
 
--- the number behind which these digits are written
+-- the number after which these digits are written
 behind : ℕ → List ℕ → ℕ
 behind number [] = number
 behind number (byte ∷ bytes) = behind (256 * number + byte) bytes

@@ -21,7 +21,7 @@ pub enum Order {
     /// A jump on the condition `c`, 00 to 31. The target is 8192 times a syllable, 0 to 5, and a
     /// word below 8192.
     Jump { c: u8, target: u16 },
-    /// The return from a subroutine, `n` half words behind the order that called it.
+    /// The return from a subroutine, `n` half words after the order that called it.
     Exit { n: u8 },
     /// A fetch, or a store where `t` is true, at the sum of the address `a`, below 32768, and the
     /// modifier of Q-store `q`, which is stepped where `u` is true.

@@ -1,4 +1,4 @@
--- Magnetic tape: the blocks before and behind the place, and what an order leaves.
+-- Magnetic tape: the blocks before and after the place, and what an order leaves.
 use Rattle.std.specs.Prelude.{◌≡◌, ℕ, ◌+◌, ◌-◌, ◌%◌, ◌^◌, ◌<◌, ◌≤◌, nat_lt, Bool, true, false, if◌then◌else◌, Option, None, Some, List, [], ◌∷◌, ◌++◌, length, take, drop, reverse}
 use Rattle.std.specs.List.{All, slice_get}
 
@@ -26,7 +26,7 @@ pub record IsInside (blocks : List Recorded) (place : ℕ) : Type 0 where
   pub few : length blocks < 2 ^ 32
   pub inside : place ≤ length blocks
 
--- the blocks that lie behind the place, or before it, the nearest first
+-- the blocks that lie after the place, or before it, the nearest first
 abbrev pub ahead : Bool → TapeState → List Recorded
 ahead forward t = if forward then drop t.place t.blocks else reverse (take t.place t.blocks)
 

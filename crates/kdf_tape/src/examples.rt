@@ -5,7 +5,7 @@ ghost use Rattle.std.specs.Prelude.{◌≡◌, [], ◌∷◌, ◌++◌, true, fa
 ghost use Rattle.kdf_tape.specs.Examples.{block, blocks, empty, holding, tape};
 ghost use Rattle.kdf_tape.specs.Tape.{after_skip, after_write, nearest, rewound};
 
-/// MFRQ and MBRQ: the block behind the place and the one before it, their marks, and the ends of the tape.
+/// MFRQ and MBRQ: the block after the place and the one before it, their marks, and the ends of the tape.
 pub fn reads()
     ensures forward { nearest true (tape 0 false false) ≡ Some (block (1 ∷ 2 ∷ []) false) }
     ensures passed { after_skip true 1 (tape 0 false false) ≡ tape 1 false false }

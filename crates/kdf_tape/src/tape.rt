@@ -116,7 +116,7 @@ impl MagTape {
         self.blocks.reserve(1)
     }
 
-    /// The block behind the place.
+    /// The block after the place.
     pub fn forward(&self) -> Option<&TapeBlock>
         ensures { option_copied result ≡ nearest true self.now }
     {

@@ -132,7 +132,7 @@ bare_parses name (word ∷ rest) (Some m) h found = absurd (bare_some name word 
 pub no_value : (app : App) (name : Text) (words : List Text) (r : Option ArgMatches) → app ≡ bare name → any_hyphen words ≡ false → Parses app words r → is_some r ≡ is_empty words
 no_value app name words r e h found = bare_parses name words r h (subst (λ a. Parses a words r) e found)
 
--- a command that takes one value: where the walk is behind the first word
+-- a command that takes one value: where the walk is after the first word
 one_held : Text → Text → Held
 one_held id word = record { rows = []; pending = Some (id, word ∷ []); skip = 0 }
 

@@ -1,4 +1,4 @@
--- The words behind the program's name that are a command.
+-- The words after the program's name that are a command.
 use Rattle.std.specs.Prelude.{◌<◌, ℕ, Bool, true, false, List, [], ◌∷◌, Option, Some, None, is_some, length, nat_lt, option_map, if◌then◌else◌, codes}
 use Rattle.kdf_text.specs.Lines.{is_text}
 use Rattle.kdf_text.specs.Numbers.{number_in}

@@ -13,7 +13,7 @@ use Rattle.kdf_job.specs.Job.{SlotJob}
 abbrev pub IsDeck : ReadSlot → Type 0
 IsDeck s = (s.size ≤ 8192) × (length s.deck.items ≤ TEXT_LIMIT)
 
--- the fault of slot p, or the first of those behind it
+-- the fault of slot p, or the first of those after it
 abbrev pub first_of : ℕ → Result Picture Found → Option (ℕ × Found) → Option (ℕ × Found)
 first_of p (Ok picture) later = later
 first_of p (Err fault) later = Some (p, fault)

@@ -1,4 +1,4 @@
--- The words behind a command's name, as `clap` reads them.
+-- The words after a command's name, as `clap` reads them.
 use Rattle.std.specs.Prelude.{◌≡◌, ◌≢◌, ℕ, ◌==◌, Bool, true, false, List, [], ◌∷◌, Option, Some, None, MatchOption, slice_index}
 use Rattle.std.specs.List.{list_any}
 use Rattle.clap.specs.Words.{App, Rule, Text, fault_of, found_of, matches_of, new_app, new_rule, rows_of, with_rule}

@@ -10,7 +10,7 @@ use kdf_text::number_in;
 use std::alloc::{AllocError, Global};
 use values::{Values, any_hyphen};
 
-/// What the words behind the program's name ask for. A slot is below 4.
+/// What the words after the program's name ask for. A slot is below 4.
 #[derive(Clone, Copy, PartialEq, Eq)]
 pub enum Command {
     /// `run`: reads a job, runs it under Director and writes its report.

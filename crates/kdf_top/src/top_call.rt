@@ -29,7 +29,7 @@ use std::alloc::{AllocError, Global};
 /// Answers the words of a command: reads its job from the source or makes it, assembles its decks, and writes the command's text to
 /// the sink, or why there is none.
 ///
-/// The words are those behind the program's name. The text is made whole before its first byte is written.
+/// The words are those after the program's name. The text is made whole before its first byte is written.
 pub fn run<S: Source, K: Sink>(
     alloc: Global,
     words: &[String],

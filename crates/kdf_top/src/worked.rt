@@ -6,7 +6,7 @@ ghost use Rattle.kdf_job.specs.declared.fault.JobFault.TheVariants.{Header, Show
 ghost use Rattle.kdf_top.specs.Answers.{called_for};
 ghost use Rattle.kdf_top.specs.declared.status.Status.TheVariants as status;
 
-/// A job without a line of deck is answered by the deck's fault, unless the job has a fault itself, though behind the deck; and other
+/// A job without a line of deck is answered by the deck's fault, unless the job has a fault itself, though after the deck; and other
 /// words than those of a command by neither.
 pub fn answers_of_faults()
     ensures deck { called_for (codes "run" ∷ []) (text (codes "KDF9 JOB 1" ∷ codes "SLOT 0" ∷ codes "STORE 32"

@@ -10,7 +10,7 @@ use Rattle.kdf_media.specs.Media.{has_end, through_end, through_end_word}
 use Rattle.kdf_transfer.specs.declared.order.TransferOrder.{TransferOrder}
 use Rattle.kdf_transfer.specs.AtOnce.{is_input, stops_at_end, is_last, fill, filled, stopped}
 
--- an order stops behind a word with an End Message, or goes on
+-- an order stops after a word with an End Message, or goes on
 ends_here : List ℕ → Bool → ℕ → List ℕ
 ends_here rest b w = cond b (w ∷ []) (w ∷ rest)
 
@@ -49,7 +49,7 @@ stopped-at o ws i = at (stops_at_end o)
         get_or-map (filled o) (through_end_word ws) i 0 0 within ∙ ap (filled o) (through-at ws i within)
     at false lt = refl
 
--- the words that are moved of those from a word on: none, this one alone, or this one and those behind it
+-- the words that are moved of those from a word on: none, this one alone, or this one and those after it
 pub stopped_end : (o : TransferOrder) → stopped o [] ≡ []
 stopped_end o = at (stops_at_end o)
   where

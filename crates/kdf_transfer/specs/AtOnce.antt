@@ -1,4 +1,4 @@
--- Transfers at once: which words an order moves, and how its device stands behind it.
+-- Transfers at once: which words an order moves, and how its device stands after it.
 use Rattle.std.specs.Prelude.{ℕ, ◌+◌, ◌-◌, ◌<◌, ◌≤◌, ◌||◌, ◌&&◌, Bool, true, false, if◌then◌else◌, Option, None, Some, List, [], ◌∷◌, ◌++◌, map, take, drop, reverse, slice_set}
 use Rattle.kdf_word.specs.Characters.{codes_of, codes_of_all, first_word, words_of}
 use Rattle.kdf_journal.specs.declared.kind.Kind.{Kind}
@@ -50,7 +50,7 @@ abbrev pub is_backward : TransferOrder → Bool
 is_backward Mbrq = true
 is_backward _ = false
 
--- the orders that stop behind the first word with an End Message
+-- the orders that stop after the first word with an End Message
 abbrev pub stops_at_end : TransferOrder → Bool
 stops_at_end Preq = true
 stops_at_end Pweq = true
@@ -80,7 +80,7 @@ given Mfrq f p = words_in (nearest true (tape_at f p))
 given Mbrq f p = reverse (words_in (nearest false (tape_at f p)))
 given _ f p = []
 
--- a word that PREQ reads: behind its End Message it is filled up with code 00
+-- a word that PREQ reads: after its End Message it is filled up with code 00
 abbrev pub filled : TransferOrder → ℕ → ℕ
 filled o word = if is_input o then first_word (through_end (codes_of word)) else word
 
@@ -88,7 +88,7 @@ filled o word = if is_input o then first_word (through_end (codes_of word)) else
 abbrev pub fill : TransferOrder → ℕ → ℕ
 fill o word = if stops_at_end o then filled o word else word
 
--- the order stops behind this word
+-- the order stops after this word
 abbrev pub is_last : TransferOrder → ℕ → Bool
 is_last o word = stops_at_end o && has_end (codes_of word)
 
@@ -126,7 +126,7 @@ addressed o first last ws = if is_backward o then down_addresses last ws else at
 abbrev pub moves : TransferOrder → ℕ → ℕ → List ℕ → Fixture → Progress → List (ℕ × ℕ)
 moves o first last words f p = addressed o first last (moved_words o first last words f p)
 
--- a device that stands so behind an order
+-- a device that stands so after an order
 abbrev pub has_read : ReaderState → Progress → Progress
 has_read r p = record p { place = r.place; flag = r.flag }
 
@@ -139,7 +139,7 @@ has_wound t p = record p { place = t.place; flag = t.flag; mark = t.mark; record
 abbrev pub has_written : List ℕ → Progress → Progress
 has_written block p = record p { place = p.place + 1; flag = false; blocks = p.blocks ++ block ∷ [] }
 
--- the new state of a device behind an order with an area of n words, which moved these characters to it
+-- the new state of a device after an order with an area of n words, which moved these characters to it
 unfoldable pub finished : TransferOrder → ℕ → List ℕ → Fixture → Progress → Progress
 finished Prq n codes f p = has_read (after_read false n (reader_at f p)) p
 finished Preq n codes f p = has_read (after_read true n (reader_at f p)) p
@@ -168,7 +168,7 @@ words_out o words = if is_input o then [] else stopped o (if is_output o then wo
 abbrev pub device_after : TransferOrder → ℕ → ℕ → List ℕ → Fixture → Progress → Progress
 device_after o first last words f p = finished o (area_len o first last) (codes_of_all (words_out o words)) f p
 
--- a list of words behind moves into it
+-- a list of words after moves into it
 abbrev pub written : List (ℕ × ℕ) → List ℕ → List ℕ
 written [] words = words
 written (m ∷ ms) words = written ms (slice_set words m.0 m.1)
@@ -177,7 +177,7 @@ written (m ∷ ms) words = written ms (slice_set words m.0 m.1)
 abbrev pub order_words : TransferOrder → ℕ → ℕ → List ℕ → List ℕ
 order_words o first last words = if has_area o then take (last + 1 - first) (drop first words) else []
 
--- a list of words behind an order whose area lies in it
+-- a list of words after an order whose area lies in it
 abbrev pub stored : TransferOrder → ℕ → ℕ → List ℕ → Fixture → Progress → List ℕ
 stored o first last words f p =
     if is_input o then written (moves o first last (order_words o first last words) f p) words else words

@@ -55,7 +55,7 @@ abbrev pub winding : List Recorded → ℕ → Bool → Bool → Progress
 winding recorded place flag mark =
     record { place = place; flag = flag; mark = mark; blocks = []; recorded = recorded }
 
--- the words that an order moved, in their sequence and each with its place, and the device behind it
+-- the words that an order moved, in their sequence and each with its place, and the device after it
 pub record Behind : Type 0 where
   pub moved : List (ℕ × ℕ)
   pub device : Progress

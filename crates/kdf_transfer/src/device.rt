@@ -167,7 +167,7 @@ impl Device {
         self.reserve()
     }
 
-    /// Word `i` of those that an input order gives to an area without bound; None behind them.
+    /// Word `i` of those that an input order gives to an area without bound; None after them.
     #[tactic(auto, unfolding(crate::specs::AtOnce::given))]
     pub(crate) fn given_word(&self, order: TransferOrder, i: u16) -> Option<Word>
         requires kind { (fixture_of self.now).kind ≡ kind_of order }
@@ -186,7 +186,7 @@ impl Device {
         }
     }
 
-    /// Its state behind an order with an area of so many words, which moved these characters to it. It takes no memory.
+    /// Its state after an order with an area of so many words, which moved these characters to it. It takes no memory.
     pub(crate) fn finish(&mut self, order: TransferOrder, words: u16, block: Vec<u8>)
         requires kind { (fixture_of self.old).kind ≡ kind_of order }
         requires room { blocks_out order ≤ room_of self.old }
@@ -207,7 +207,7 @@ impl Device {
     }
 }
 
-/// Word `i` of a block; None behind its words, or where there is no block.
+/// Word `i` of a block; None after its words, or where there is no block.
 fn word_of(block: Option<&TapeBlock>, i: u16) -> Option<Word>
     ensures { result ≡ slice_get (words_in (option_copied block.entry)) i }
 {
@@ -217,7 +217,7 @@ fn word_of(block: Option<&TapeBlock>, i: u16) -> Option<Word>
     }
 }
 
-/// Word `i` of a block, None behind its words.
+/// Word `i` of a block, None after its words.
 #[tactic(auto, using(crate::proofs::Blocks::word_there, std::proofs::lemmas::Option::slice_get_past))]
 fn word_within(block: &TapeBlock, i: u16) -> Option<Word>
     ensures { result ≡ slice_get block.now.words i }

@@ -36,7 +36,7 @@ fn has_end(word: Word) -> bool
     codes(word).contains(&END_MESSAGE)
 }
 
-/// The word with code 00 in place of what stands behind its End Message.
+/// The word with code 00 in place of what stands after its End Message.
 #[tactic(auto, using(crate::proofs::EndMessage::small_through))]
 fn filled(word: Word) -> Word
     ensures { result ≡ first_word (through_end (codes_of word)) }
@@ -44,14 +44,14 @@ fn filled(word: Word) -> Word
     Word::of_codes(through_end(&codes(word)))
 }
 
-/// Whether an order stops behind a word.
+/// Whether an order stops after a word.
 pub(crate) fn is_last(order: TransferOrder, word: Word) -> bool
     ensures { result ≡ is_last order word }
 {
     order.stops_at_end() && has_end(word)
 }
 
-/// A word as it is moved: behind the End Message at which PREQ stops it is filled up.
+/// A word as it is moved: after the End Message at which PREQ stops it is filled up.
 pub(crate) fn fill_up(order: TransferOrder, word: Word) -> Word
     ensures { result ≡ fill order word }
 {
@@ -79,7 +79,7 @@ pub fn push_codes(block: &mut Vec<u8>, word: Word)
     block.push_reserved(word.character(7));
 }
 
-/// Cuts characters behind their first End Message.
+/// Cuts characters after their first End Message.
 #[tactic(auto, using(crate::proofs::EndMessage::through_front))]
 pub(crate) fn cut(block: &mut Vec<u8>)
     ensures { block.new.items ≡ through_end block.old.items }

@@ -1,5 +1,5 @@
 //! Examples computed from the definitions, each as the contract of a function that does nothing. For each order and each rule of it: the
-//! words that it moves in their sequence, each with its place, and the device behind it; and what it leaves of a list in which its area lies.
+//! words that it moves in their sequence, each with its place, and the device after it; and what it leaves of a list in which its area lies.
 #![tactic(auto, unfolding(crate::specs::AtOnce::given, crate::specs::AtOnce::offered, crate::specs::AtOnce::finished, kdf_media::specs::Media::after_read, kdf_media::specs::Media::after_card, kdf_media::specs::Media::printed, kdf_tape::specs::Tape::after_skip, kdf_tape::specs::Tape::after_write, kdf_tape::specs::Tape::rewound, kdf_word::specs::Characters::first_word, kdf_word::specs::Characters::words_of))]
 
 ghost use Rattle.std.specs.Prelude.{◌≡◌, [], ◌∷◌, ◌++◌, true, false, map, replicate};
@@ -263,7 +263,7 @@ pub fn lpeq()
         ≡ 1 ∷ 61 ∷ 3 ∷ 4 ∷ [] }
 {}
 
-/// MFRQ: the first words of the block behind the place, upwards; an area of fewer words than it has, of as many, and of more.
+/// MFRQ: the first words of the block after the place, upwards; an area of fewer words than it has, of as many, and of more.
 pub fn mfrq()
     ensures less { reads Mfrq 1 reel (winding blocks 0 false false)
         ≡ leaves ((4, 1) ∷ []) (winding blocks 1 false false) }

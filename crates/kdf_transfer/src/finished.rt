@@ -1,4 +1,4 @@
-//! Devices behind an order, each of its kind.
+//! Devices after an order, each of its kind.
 ghost use Rattle.std.specs.Prelude.{◌≡◌, ◌+◌, ◌%◌, ◌^◌, ◌<◌, ◌≤◌, All, length};
 ghost use Rattle.kdf_transfer.specs.AtOnce.{blocks_out, finished, kind_of};
 ghost use Rattle.kdf_transfer.specs.Devices.{fixture_of, progress_of, reader, punch, cards, printer, tape};
@@ -8,7 +8,7 @@ use crate::end_word::cut;
 use kdf_media::{Cards, Printer, Punch, Reader};
 use kdf_tape::{MagTape, TapeBlock};
 
-/// A reader behind an order over an area of so many words.
+/// A reader after an order over an area of so many words.
 #[tactic(auto, unfolding(crate::specs::AtOnce::finished, kdf_media::specs::Media::after_read))]
 pub(crate) fn finish_reader(device: &mut Reader, order: TransferOrder, words: u16, block: Vec<u8>)
     requires kind { (fixture_of (reader device.old)).kind ≡ kind_of order }
@@ -24,7 +24,7 @@ pub(crate) fn finish_reader(device: &mut Reader, order: TransferOrder, words: u1
     }
 }
 
-/// A punch behind an order that moved these characters to it.
+/// A punch after an order that moved these characters to it.
 #[tactic(auto, unfolding(crate::specs::AtOnce::finished), using(crate::proofs::EndMessage::small_through))]
 pub(crate) fn finish_punch(device: &mut Punch, order: TransferOrder, words: u16, mut block: Vec<u8>)
     requires kind { (fixture_of (punch device.old)).kind ≡ kind_of order }
@@ -46,7 +46,7 @@ pub(crate) fn finish_punch(device: &mut Punch, order: TransferOrder, words: u16,
     }
 }
 
-/// A card reader behind its order.
+/// A card reader after its order.
 #[tactic(auto, unfolding(crate::specs::AtOnce::finished, kdf_media::specs::Media::after_card))]
 pub(crate) fn finish_cards(device: &mut Cards, order: TransferOrder, words: u16, block: Vec<u8>)
     requires kind { (fixture_of (cards device.old)).kind ≡ kind_of order }
@@ -61,7 +61,7 @@ pub(crate) fn finish_cards(device: &mut Cards, order: TransferOrder, words: u16,
     }
 }
 
-/// A printer behind an order that moved these characters to it.
+/// A printer after an order that moved these characters to it.
 #[tactic(auto, unfolding(crate::specs::AtOnce::finished), using(crate::proofs::EndMessage::small_through))]
 pub(crate) fn finish_printer(
     device: &mut Printer,
@@ -88,7 +88,7 @@ pub(crate) fn finish_printer(
     }
 }
 
-/// A tape behind an order that moved the words of these characters to it.
+/// A tape after an order that moved the words of these characters to it.
 #[tactic(auto, unfolding(crate::specs::AtOnce::finished, kdf_tape::specs::Tape::after_skip, kdf_tape::specs::Tape::after_write, kdf_tape::specs::Tape::rewound))]
 pub(crate) fn finish_tape(device: &mut MagTape, order: TransferOrder, words: u16, block: Vec<u8>)
     requires kind { (fixture_of (tape device.old)).kind ≡ kind_of order }

@@ -27,7 +27,7 @@ pub(crate) struct Flight {
     pub(crate) moved: u16,
 }
 
-/// Word `i` of those that an order would move if it looked for no End Message; None behind them.
+/// Word `i` of those that an order would move if it looked for no End Message; None after them.
 pub(crate) fn offered_word(
     device: &Device,
     order: TransferOrder,
@@ -135,7 +135,7 @@ pub(crate) fn deliver(
     }
 }
 
-/// Adds the word behind those of the ring, if there is one.
+/// Adds the word after those of the ring, if there is one.
 pub(crate) fn refill(
     device: &Device,
     order: TransferOrder,

@@ -91,7 +91,7 @@ impl TransferOrder {
         }
     }
 
-    /// Whether it stops behind the first word with an End Message.
+    /// Whether it stops after the first word with an End Message.
     pub fn stops_at_end(self) -> bool
         ensures { result ≡ stops_at_end self }
     {

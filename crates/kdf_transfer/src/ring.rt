@@ -47,7 +47,7 @@ impl Ring {
         }
     }
 
-    /// Adds a word behind the others.
+    /// Adds a word after the others.
     pub(crate) fn push(&mut self, word: Word)
         requires { length self.old < 8 }
         ensures { self.new ≡ self.old ++ word ∷ [] }

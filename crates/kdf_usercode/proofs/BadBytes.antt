@@ -27,7 +27,7 @@ none-bad bytes good = position_from-zero is_bad bytes ∙ none-from 0 bytes good
 stays-first : (m n : ℕ) → m < n → lesser (Some (found BadByte m)) (Some (found BadByte n)) ≡ Some (found BadByte m)
 stays-first m n lt = grind (arith, nat_tests)
 
--- a bad byte comes before those behind it
+-- a bad byte comes before those after it
 first-bad : (m n : ℕ) (bytes : List ℕ) → m < n
     → lesser (Some (found BadByte m)) (option_map (found BadByte) (position_from is_bad n bytes)) ≡ Some (found BadByte m)
 first-bad m n [] lt = refl

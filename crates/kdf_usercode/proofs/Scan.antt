@@ -13,7 +13,7 @@ or-false : (a b : Bool) → (a || b) ≡ false → b ≡ false
 or-false true b e = absurd cc
 or-false false b e = e
 
--- where no `)` comes, none comes behind
+-- where no `)` comes, none comes after
 pub closes-behind : (n : ℕ) (bytes : List ℕ) → closes bytes ≡ false → closes (drop n bytes) ≡ false
 closes-behind zero bytes none = none
 closes-behind (suc n) [] none = refl

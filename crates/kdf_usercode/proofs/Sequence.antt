@@ -74,7 +74,7 @@ sound : (phase : Phase) (w : Parsed) → statement_faults phase w ≡ [] → (fo
 unfolding statement_faults
 sound phase w e = sound-phase phase w (is_ended phase) refl (founds-none w.place _ e)
 
--- the one statement, and the phase behind it
+-- the one statement, and the phase after it
 one-statement : (phase : Phase) (w : Parsed) (form : Form) → Sound phase w form
     → statements_of phase w ≡ record { place = w.place; what = what_of phase.stage form w.numbers w.text } ∷ []
 unfolding statements_of
@@ -284,7 +284,7 @@ pieces-forms [] = tt
 pieces-forms (p ∷ ps) =
     rw flat_map-cons (forms-append (statements_in p) (flat_map statements_in ps) (piece-forms p) (pieces-forms ps))
 
--- the first of the statements is sound, and there is no fault in those behind it
+-- the first of the statements is sound, and there is no fault in those after it
 record Goes (phase : Phase) (len : ℕ) (w : Parsed) (ws : List Parsed) (tail : List ByteAt) : Type 0 where
   pub form : Form
   pub here : Sound phase w form

@@ -34,11 +34,11 @@ semicolon = 59
 abbrev pub letter_a : ℕ
 letter_a = 65
 
--- `B`, behind which octal digits stand
+-- `B`, after which octal digits stand
 abbrev pub letter_b : ℕ
 letter_b = 66
 
--- `P`, behind which the characters of a constant stand
+-- `P`, after which the characters of a constant stand
 abbrev pub letter_p : ℕ
 letter_p = 80
 

@@ -1,4 +1,4 @@
--- Characters of a constant: what stands behind a `P`.
+-- Characters of a constant: what stands after a `P`.
 use Rattle.std.specs.Prelude.{ℕ, ◌+◌, ◌*◌, ◌^◌, Bool, not, ◌&&◌, ◌==◌, List, length, get_or, Option, Some, None, is_some}
 use Rattle.std.specs.List.{list_all}
 use Rattle.kdf_code.specs.Code.{code_of}
@@ -18,7 +18,7 @@ abbrev pub or_zero : Option ℕ → ℕ
 or_zero None = 0
 or_zero (Some code) = code
 
--- the code of character i, or that of a space behind the last
+-- the code of character i, or that of a space after the last
 abbrev pub code_at : List ℕ → ℕ → ℕ
 code_at cs i = or_zero (code_of (get_or cs i space))
 

@@ -72,7 +72,7 @@ value_names =
     (codes "-0", Down) ∷
     []
 
--- by the shape of what stands behind `=`, and the bytes of the statement
+-- by the shape of what stands after `=`, and the bytes of the statement
 unfoldable pub value_form : List ℕ → List ℕ → Option ValueForm
 value_form shape text =
     row_in value_names shape
@@ -88,7 +88,7 @@ constant_form shape text = do
 
 -- ---- ranges
 
--- a word without a sign or with `+`, with `-`, and behind a `B`
+-- a word without a sign or with `+`, with `-`, and after a `B`
 abbrev pub word_up_range : Range
 word_up_range = between 0 (2 ^ 47 - 1) ConstantRange
 
@@ -137,7 +137,7 @@ item_of item_forms.Up ns = items.Bits (slice_index ns 0)
 item_of item_forms.Down ns = items.Bits ((65536 - slice_index ns 0) % 65536)
 item_of (item_forms.Address name) ns = items.Address (named_of name ns)
 
--- the numbers behind an item
+-- the numbers after an item
 abbrev pub behind_item : ItemForm → List ℕ → List ℕ
 behind_item form ns = drop (length (item_ranges form)) ns
 

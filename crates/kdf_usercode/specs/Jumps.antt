@@ -14,7 +14,7 @@ use Rattle.kdf_usercode.specs.Range.{q_range, reference_range, part_range}
 
 -- ---- forms
 
--- what may stand behind the target, with `0` where a number stands
+-- what may stand after the target, with `0` where a number stands
 abbrev pub conditions : List (List ℕ × Test)
 conditions =
     (codes "", Of 0x20) ∷
@@ -38,11 +38,11 @@ conditions =
     (codes "C0NZ", CountNotZero) ∷
     []
 
--- what stands behind the target
+-- what stands after the target
 unfoldable pub condition_of : List ℕ → Option Test
 condition_of shape = row_in conditions shape
 
--- the target in front, and what stands behind it
+-- the target in front, and what stands after it
 unfoldable pub target_form : List ℕ → Option (TargetForm × List ℕ)
 target_form shape =
     opt_map (λ rest. (Both, rest)) (strip (codes "0P0") shape)
@@ -90,7 +90,7 @@ target_of Reference ns = record { r = Some (slice_index ns 0); p = None }
 target_of Part ns = record { r = None; p = Some (slice_index ns 0) }
 target_of Both ns = record { r = Some (slice_index ns 0); p = Some (slice_index ns 1) }
 
--- the number behind those of the target
+-- the number after those of the target
 abbrev pub behind_target : TargetForm → List ℕ → ℕ
 behind_target Reference ns = slice_index ns 1
 behind_target Part ns = slice_index ns 1

@@ -1,4 +1,4 @@
--- Octal digits: what stands behind a `B`.
+-- Octal digits: what stands after a `B`.
 use Rattle.std.specs.Prelude.{ℕ, ◌+◌, ◌-◌, ◌*◌, Bool, true, ◌&&◌, nat_le, List, [], ◌∷◌}
 use Rattle.kdf_usercode.specs.Bytes.{digit_0, digit_7}
 
@@ -9,7 +9,7 @@ abbrev pub all_octal : List ℕ → Bool
 all_octal [] = true
 all_octal (c ∷ cs) = is_octal c && all_octal cs
 
--- the value of octal digits behind digits of the value n
+-- the value of octal digits after digits of the value n
 abbrev pub octal_from : ℕ → List ℕ → ℕ
 octal_from n [] = n
 octal_from n (c ∷ cs) = octal_from (8 * n + (c - digit_0)) cs

@@ -49,7 +49,7 @@ right_range = between 0 64 BadNumber
 abbrev pub exit_range : Range
 exit_range = between 0 255 BadNumber
 
--- what SET takes without a sign or with `+`, with `-`, and behind a `B`
+-- what SET takes without a sign or with `+`, with `-`, and after a `B`
 abbrev pub up_range : Range
 up_range = between 0 32767 BadNumber
 

@@ -23,13 +23,13 @@ abbrev pub row_in : {A : Type 0} → List (List ℕ × A) → List ℕ → Optio
 row_in [] text = None
 row_in (row ∷ rows) text = if bytes_eq row.0 text then Some row.1 else row_in rows text
 
--- what stands behind a prefix
+-- what stands after a prefix
 abbrev pub strip : List ℕ → List ℕ → Option (List ℕ)
 strip prefix text =
     if nat_le (length prefix) (length text) && bytes_eq (take (length prefix) text) prefix
     then Some (drop (length prefix) text) else None
 
--- what stands behind the first such byte
+-- what stands after the first such byte
 abbrev pub behind : ℕ → List ℕ → List ℕ
 behind c [] = []
 behind c (x ∷ xs) = if x == c then xs else behind c xs

@@ -19,7 +19,7 @@ use Rattle.kdf_usercode.specs.Range.{q_range, store_range, part_range}
 
 -- ---- names
 
--- the number of the letter in front, A being 1, and what stands behind it
+-- the number of the letter in front, A being 1, and what stands after it
 abbrev pub letter_after : List ℕ → Option (ℕ × List ℕ)
 letter_after [] = None
 letter_after (c ∷ rest) =
@@ -33,7 +33,7 @@ lettered shape = do
   rest ← strip (codes "0") letter.1
   Some (Y letter.0, rest)
 
--- the store in front, and what stands behind it
+-- the store in front, and what stands after it
 unfoldable pub store_name : List ℕ → Option (StoreName × List ℕ)
 store_name shape =
     opt_map (λ rest. (E, rest)) (strip (codes "E0") shape)
@@ -50,7 +50,7 @@ not_e (name, rest) = Some (name, rest)
 unfoldable pub addressed : List ℕ → Option (StoreName × List ℕ)
 addressed shape = store_name shape >>= not_e
 
--- what stands behind a store: nothing, `Mq` or `MqQ`
+-- what stands after a store: nothing, `Mq` or `MqQ`
 unfoldable pub suffix_of : List ℕ → Option Suffix
 suffix_of shape =
     if bytes_eq shape [] then Some Nothing
@@ -99,7 +99,7 @@ named_of V ns = nameds.V (slice_index ns 0) None
 named_of VOfPart ns = nameds.V (slice_index ns 0) (Some (slice_index ns 1))
 named_of E ns = nameds.E (slice_index ns 0)
 
--- the number behind those of the name
+-- the number after those of the name
 abbrev pub behind_name : StoreName → List ℕ → ℕ
 behind_name (Y group) ns = slice_index ns 1
 behind_name V ns = slice_index ns 1

@@ -90,8 +90,8 @@ AreInRange (s ∷ ss) = IsWhat s.what × AreInRange ss
 
 -- ---- the sequence of the statements
 
--- The stage behind a statement, where it stands in its place. Headings come first, then PROGRAM; behind
--- PROGRAM and behind the opening of a part its constants; then what else the part has; FINISH ends the
+-- The stage after a statement, where it stands in its place. Headings come first, then PROGRAM; after
+-- PROGRAM and after the opening of a part its constants; then what else the part has; FINISH ends the
 -- last part.
 abbrev pub follows : Stage → What → Option Stage
 follows Ended what = None

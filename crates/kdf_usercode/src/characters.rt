@@ -1,4 +1,4 @@
-//! Characters of a constant: what stands behind a `P`.
+//! Characters of a constant: what stands after a `P`.
 
 ghost use Rattle.std.specs.Prelude.{◌≡◌, ◌<◌, ◌≤◌, ◌^◌};
 ghost use Rattle.std.specs.List.{list_all};
@@ -26,7 +26,7 @@ pub fn are_characters(text: &[u8]) -> bool
     !text.is_empty()
 }
 
-/// The code of the character at an index, or 0 behind the last.
+/// The code of the character at an index, or 0 after the last.
 fn code_at(text: &[u8], i: usize) -> u32
     ensures value { result ≡ code_at text.now i }
     ensures below { result < 64 }

@@ -112,7 +112,7 @@ fn number_item(shape: &[u8]) -> Option<(ItemForm, &[u8])>
     Some((ItemForm::Up, rest))
 }
 
-/// A part of a constant for a Q-store in front, and what stands behind it.
+/// A part of a constant for a Q-store in front, and what stands after it.
 #[tactic(auto, unfolding(crate::specs::Constants::item_form))]
 fn item_form(shape: &[u8]) -> Option<(ItemForm, &[u8])>
     ensures { opt_map (λ x. (x.0, x.1.now)) result ≡ item_form shape.now }
@@ -163,7 +163,7 @@ fn characters_value(shape: &[u8], text: &[u8]) -> Option<ValueForm>
     }
 }
 
-/// The value of a constant, by the shape of what stands behind `=` and the bytes of the statement.
+/// The value of a constant, by the shape of what stands after `=` and the bytes of the statement.
 #[tactic(auto, unfolding(crate::specs::Constants::value_form))]
 fn value_form(shape: &[u8], text: &[u8]) -> Option<ValueForm>
     ensures { result ≡ value_form shape.now text.now }

@@ -157,7 +157,7 @@ pub fn with_text(
     }
 }
 
-/// A store that is declared before `PROGRAM`, and fetched or kept behind it.
+/// A store that is declared before `PROGRAM`, and fetched or kept after it.
 fn store_of(
     stage: Stage,
     direction: Direction,

@@ -25,7 +25,7 @@ pub enum TargetForm {
     Both,
 }
 
-/// What stands behind the target of a jump, with `0` where a number stands.
+/// What stands after the target of a jump, with `0` where a number stands.
 pub const CONDITIONS: [(&str, Test); 19] = [
     ("", Test::Of { c: 0x20 }),
     ("=", Test::Of { c: 0x22 }),
@@ -55,7 +55,7 @@ fn condition_of(shape: &[u8]) -> Option<Test>
     row_in(&CONDITIONS, shape)
 }
 
-/// The target in front, and what stands behind it.
+/// The target in front, and what stands after it.
 #[tactic(auto, unfolding(crate::specs::Jumps::target_form))]
 fn target_form(shape: &[u8]) -> Option<(TargetForm, &[u8])>
     ensures { opt_map (λ x. (x.0, x.1.now)) result ≡ target_form shape.now }

@@ -1,4 +1,4 @@
-//! Octal digits: what stands behind a `B`.
+//! Octal digits: what stands after a `B`.
 
 ghost use Rattle.std.specs.Prelude.{◌≡◌, ◌+◌, ◌-◌, ◌*◌, ◌^◌, ◌≤◌};
 ghost use Rattle.kdf_usercode.specs.Octal.{is_octal, all_octal, octal};

@@ -16,7 +16,7 @@ pub fn row_in<T: Copy>(rows: &[(&str, T)], text: &[u8]) -> Option<T>
     None
 }
 
-/// What stands behind the prefix, where the text begins with it.
+/// What stands after the prefix, where the text begins with it.
 pub fn strip<'a>(text: &'a [u8], prefix: &[u8]) -> Option<&'a [u8]>
     ensures { option_copied result ≡ strip prefix.now text.now }
 {
@@ -27,7 +27,7 @@ pub fn strip<'a>(text: &'a [u8], prefix: &[u8]) -> Option<&'a [u8]>
     }
 }
 
-/// What stands behind the first such byte, or nothing.
+/// What stands after the first such byte, or nothing.
 pub fn behind(text: &[u8], byte: u8) -> &[u8]
     ensures { result.now ≡ behind byte text.now }
 {

@@ -78,7 +78,7 @@ pub fn q_at(numbers: &[u64], i: usize) -> u8
     (number(numbers, i) % 16) as u8
 }
 
-/// The numbers behind the first few.
+/// The numbers after the first few.
 pub fn behind_first(numbers: &[u64], count: usize) -> &[u64]
     ensures { result.now ≡ drop count numbers.now }
 {

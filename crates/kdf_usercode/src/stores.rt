@@ -26,7 +26,7 @@ pub enum Direction {
     Keep,
 }
 
-/// What stands behind a store.
+/// What stands after a store.
 #[derive(Clone, Copy)]
 pub enum Suffix {
     Nothing,
@@ -34,7 +34,7 @@ pub enum Suffix {
     MQ,
 }
 
-/// The number of the letter in front, A being 1, and what stands behind it.
+/// The number of the letter in front, A being 1, and what stands after it.
 fn letter_after(shape: &[u8]) -> Option<(u8, &[u8])>
     ensures { opt_map (λ x. (x.0, x.1.now)) result ≡ letter_after shape.now }
 {
@@ -54,7 +54,7 @@ fn lettered(shape: &[u8]) -> Option<(StoreName, &[u8])>
     Some((StoreName::Y { group }, rest))
 }
 
-/// The store in front, and what stands behind it.
+/// The store in front, and what stands after it.
 #[tactic(auto, unfolding(crate::specs::Stores::store_name))]
 fn store_name(shape: &[u8]) -> Option<(StoreName, &[u8])>
     ensures { opt_map (λ x. (x.0, x.1.now)) result ≡ store_name shape.now }
@@ -135,7 +135,7 @@ pub fn store_ranges(name: StoreName) -> &'static [Range]
     }
 }
 
-/// The range of each number of a store with what stands behind it.
+/// The range of each number of a store with what stands after it.
 pub fn access_ranges(name: StoreName, suffix: Suffix) -> &'static [Range]
     ensures { result.now ≡ access_ranges name suffix }
 {

@@ -48,7 +48,7 @@ pub fn claims()
         ≡ kept (true ∷ false ∷ []) [] 0 (1 ∷ []) (placed 8 true) }
 {}
 
-/// A text is spooled behind those before it, up to and with the first End Message, or whole.
+/// A text is spooled after those before it, up to and with the first End Message, or whole.
 pub fn texts()
     ensures whole { at_once (Spools 7 1 2) (kept [] [] 0 (1 ∷ all_a ∷ all_b ∷ 4 ∷ []) (placed 0 false))
         ≡ kept [] (record { stream = 7; text = ab } ∷ []) 0

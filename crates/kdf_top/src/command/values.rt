@@ -1,4 +1,4 @@
-//! The words behind a command's name, read by `clap`. It tells whether there are too few or too many; a word that begins
+//! The words after a command's name, read by `clap`. It tells whether there are too few or too many; a word that begins
 //! with `-`, which would be a flag to it, has to be refused before.
 ghost use Rattle.std.specs.Prelude.{◌≡◌, true, false, IfOk, map, option_map, string_bytes};
 ghost use Rattle.clap.specs.Words.{app_of, is_simple_and_free};
@@ -24,7 +24,7 @@ fn has_hyphen(word: &String) -> bool
     word.as_str().starts_with('-')
 }
 
-/// The words behind a command's name, of which none begins with `-`.
+/// The words after a command's name, of which none begins with `-`.
 #[derive(Clone, Copy)]
 pub struct Values<'a> {
     pub alloc: Global,
@@ -53,7 +53,7 @@ impl<'a> Values<'a> {
     }
 }
 
-/// A command that takes no value. Its words are those behind its name.
+/// A command that takes no value. Its words are those after its name.
 fn bare<'a>(alloc: Global, name: &'a str) -> Command<'a>
     ensures { app_of result ≡ bare name.now }
 {

@@ -42,7 +42,7 @@ const CODES: [(Status, u8); 8] = [
     (Status::Memory, 7),
 ];
 
-/// Each read of a job by single bytes fails, and the one behind its last byte.
+/// Each read of a job by single bytes fails, and the one after its last byte.
 fn reads_fail(rt: &impl Abort, alloc: Global) -> Result<(), AllocError> {
     for words in READING {
         for k in 1..=JOB.len() as u32 + 1 {

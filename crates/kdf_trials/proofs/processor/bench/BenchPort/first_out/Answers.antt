@@ -40,7 +40,7 @@ group_found x first last least greatest =
 group_before : (x first last : ℕ) → x < first / 32 → find (λ g. eqb g x) (groups_of first last) ≡ None
 group_before x first last below = none_before x (first / 32) (last / 32 + 1 - first / 32) below
 
--- or behind them
+-- or after them
 group_behind : (x first last : ℕ) → first / 32 ≤ last / 32 → last / 32 < x → find (λ g. eqb g x) (groups_of first last) ≡ None
 group_behind x first last order above =
     none_behind x (first / 32) (last / 32 + 1 - first / 32) (omega arith)

@@ -1,0 +1,193 @@
+// Whether a program comes to the same in two worlds: in two runs, or in a run and alone. Its states are the machine's own reports, with the whole store shown.
+
+import { readJob, writeJob } from "./job.js";
+import { callsOf, readReport } from "./report.js";
+import { readSchedule, writeSchedule } from "./schedule.js";
+
+const count = (number, what) => `${number} ${what}${number === 1 ? "" : "s"}`;
+const listed = (words) => (words.length > 1 ? `${words.slice(0, -1).join(", ")} and ${words.at(-1)}` : words[0]);
+
+/** Each entry with the number of calls before it. */
+function* timed(entries) {
+  let calls = 0;
+  for (const entry of entries) {
+    yield [calls, entry];
+    calls += callsOf(entry);
+  }
+}
+
+/** The call at which the program of a slot obeyed this order of its own; 0 for order 0. It has to have obeyed that many. */
+export function callOfOrder(entries, slot, order) {
+  let obeyed = 0;
+  for (const [calls, [kind, number, orders]] of timed(entries)) {
+    if (obeyed >= order) break;
+    if (kind !== "RAN" || number !== slot) continue;
+    if (obeyed + orders >= order) return calls + order - obeyed;
+    obeyed += orders;
+  }
+  return 0;
+}
+
+/** The entries of a program's orders that asked, or gave back a device of the pool, each with the number of its order. */
+function* askedBy(entries, slot) {
+  let obeyed = 0;
+  for (const [kind, number, value] of entries) {
+    if (number !== slot) continue;
+    if (kind === "RAN") obeyed += value;
+    else if (["ANSWER", "TAKE", "GIVE"].includes(kind)) yield [obeyed, kind, value];
+  }
+}
+
+/** What a program was answered, by the number of the order that asked. The device that it took from the pool is an answer. */
+function answersOf(entries, slot) {
+  return new Map([...askedBy(entries, slot)].filter(([, kind]) => kind !== "GIVE").map(([order, , value]) => [order, value]));
+}
+
+/** What the same orders would be answered alone, if all before were answered so: 0, or the least device of the pool that the program hasn't got. */
+function loneAnswers(entries, slot, pool) {
+  const answers = new Map(), got = new Set();
+  for (const [order, kind, value] of askedBy(entries, slot)) {
+    if (kind === "TAKE") {
+      const free = [...pool].filter(([device, what]) => what === pool.get(value) && !got.has(device)).map(([device]) => device);
+      answers.set(order, Math.min(...free));
+      got.add(value);
+    } else if (kind === "GIVE") {
+      got.delete(value);
+    } else {
+      answers.set(order, 0);
+    }
+  }
+  return answers;
+}
+
+/** The devices that have a transfer for this slot at the end of a journal. */
+function inFlight(entries, slot) {
+  const flying = new Map();
+  for (const [kind, first, second] of entries) {
+    if (kind === "START") flying.set(second, first);
+    else if (kind === "END") flying.delete(first);
+  }
+  return [...flying].filter(([, owner]) => owner === slot).map(([device]) => device);
+}
+
+/** The first words of the lines of which a section has several. */
+const NUMBERED = ["Q", "WORD", "DEVICE", "POOL"];
+
+/** The lines of each section of a report by slot, and in it by register, word or device. A device has its blocks, and one of the pool has them of each time that
+ * the program took it. */
+export function linesOfSections(text) {
+  const sections = new Map();
+  let lines = null, key = "";
+  for (const line of text.split("\n")) {
+    const [word, first] = line.split(" ", 2);
+    if (word === "ENDREPORT") break;
+    if (word === "SLOT") {
+      sections.set(Number(first), lines = new Map());
+    } else if (lines) {
+      if (word !== "BLOCK" && word !== "LAST") key = NUMBERED.includes(word) ? `${word} ${first}` : word;
+      lines.set(key, lines.has(key) ? `${lines.get(key)}\n${line}` : line);
+    }
+  }
+  return sections;
+}
+
+const withStore = (slot) => ({ ...slot, shows: [`0 ${slot.store - 1}`] });
+
+/** What a program has from its job, but for the number of its slot. */
+const lifeOf = (job, { store, deck, devices }) => JSON.stringify([store, deck, devices, job.pool?.devices ?? []]);
+
+/** The run of a job in which the report shows all stores. */
+export class Whole {
+  /** The run of the job of this text. `name` says where a program was. */
+  static async of(ask, job, name) {
+    const whole = new Whole();
+    Object.assign(whole, { ask, name, job: readJob(job) });
+    whole.schedule = readSchedule(whole.job.schedule);
+    whole.text = await whole.run(whole.schedule);
+    Object.assign(whole, readReport(whole.text));
+    whole.pool = new Map((whole.job.pool?.devices ?? []).map(({ number, kind }) => [Number(number), kind]));
+    return whole;
+  }
+
+  run(schedule) {
+    return this.report(["run"], this.job.slots, schedule);
+  }
+
+  /** The report of a job of these slots, with their whole stores. */
+  async report(words, slots, schedule) {
+    const { status, text } = await this.ask(words, writeJob({ ...this.job, slots: slots.map(withStore), schedule: writeSchedule(schedule) }));
+    if (status) throw new Error(text.trim());
+    return text;
+  }
+
+  /** The report of the run up to this call. */
+  runTo(calls) {
+    return this.run({ calls, events: this.schedule.events.filter((event) => event.calls < calls) });
+  }
+
+  slot(number) {
+    return this.job.slots.find((slot) => Number(slot.number) === number);
+  }
+
+  /** The number of a slot with the same program as this one of another run, or undefined. */
+  like(other, number) {
+    const due = lifeOf(other.job, other.slot(number));
+    const found = this.job.slots.filter((slot) => lifeOf(this.job, slot) === due).map((slot) => Number(slot.number));
+    return found.includes(number) ? number : found[0];
+  }
+}
+
+/** A program in a run: how many orders it obeyed, what it was answered, and its state after any of them. */
+export class Shared {
+  constructor(whole, number) {
+    const section = whole.sections.find(({ slot }) => slot === number);
+    Object.assign(this, { whole, number, name: whole.name, orders: section.orders, isOver: section.state !== "LIVE" });
+    this.answers = answersOf(whole.entries, number);
+  }
+
+  async state(orders) {
+    const { whole, number } = this;
+    const text = orders < this.orders ? await whole.runTo(callOfOrder(whole.entries, number, orders)) : whole.text;
+    return { lines: linesOfSections(text).get(number), flying: inFlight(readReport(text).entries, number) };
+  }
+}
+
+/** A program by itself: it obeys as many orders as it is asked to. */
+export class Alone {
+  constructor({ whole, number, orders, isOver }) {
+    Object.assign(this, { whole, number, name: "alone", orders, isOver });
+    this.answers = loneAnswers(whole.entries, number, whole.pool);
+  }
+
+  async state(orders) {
+    const text = await this.whole.report(["alone", `${this.number}`], [this.whole.slot(this.number)], { calls: orders, events: [] });
+    return { lines: linesOfSections(text).get(this.number), flying: [] };
+  }
+}
+
+/** The first order that was answered differently in the two worlds, or undefined. */
+function firstParting(one, other) {
+  return [...one.answers].find(([order, answer]) => other.answers.has(order) && other.answers.get(order) !== answer)?.[0];
+}
+
+/** Whether a line may differ while these devices have transfers. */
+function isOfTransfer(key, flying) {
+  return flying.length > 0 && (key.startsWith("WORD ") || flying.some((device) => key === `DEVICE ${device}` || key === `POOL ${device}`));
+}
+
+/** A program in two worlds: after how many orders it is compared, its lines in both, the keys of those that differ, what is said, and whether the theorem holds. */
+export async function compare(one, other) {
+  const parted = firstParting(one, other);
+  const orders = Math.min(one.orders, other.orders, parted === undefined ? Infinity : parted - 1);
+  const states = [await one.state(orders), await other.state(orders)];
+  const flying = [...new Set(states.flatMap((state) => state.flying))].sort((a, b) => a - b);
+  const keys = [...new Set(states.flatMap(({ lines }) => [...lines.keys()]))];
+  const differing = keys.filter((key) => states[0].lines.get(key) !== states[1].lines.get(key));
+  const strange = differing.filter((key) => !isOfTransfer(key, flying));
+  const found = { orders, keys, differing, names: [one.name, other.name], lines: states.map(({ lines }) => lines), isDue: strange.length === 0 };
+  if (strange.length) return { ...found, said: `NOT the same after ${count(orders, "order")}: ${strange[0]}` };
+  const isPart = orders < Math.max(one.orders, other.orders) || !one.isOver || !other.isOver;
+  const except = differing.length ? `, except for the transfer in flight of device ${listed(flying)}` : "";
+  const answers = `; order ${parted} asked, and was answered ${one.answers.get(parted)} ${one.name} and ${other.answers.get(parted)} ${other.name}`;
+  return { ...found, said: `the same${isPart ? ` after ${count(orders, "order")}` : ""}${except}${orders + 1 === parted ? answers : ""}` };
+}

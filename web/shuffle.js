@@ -1,0 +1,56 @@
+// Another schedule of a job, by chance: transfers end and move at other calls, the clock shows its times at other calls, and programs exchange their priorities.
+// A seed gives the same schedule each time.
+
+import { readJob, writeJob } from "./job.js";
+import { callsOf, readReport } from "./report.js";
+import { NoSchedule, readSchedule, withTransfers, writeSchedule } from "./schedule.js";
+
+export const MOST_SEED = 999999;
+
+const MOST_CALLS = 20000000, LONGEST_TRANSFER = 60, MOST_MOVES = 3, MOST_WORDS = 9, MOST_SWAPS = 6;
+
+/** A number from 0 up to below `end`, which depends on nothing but the other numbers. */
+function chance(end, ...numbers) {
+  let mixed = 0x9e3779b9;
+  for (const number of numbers) {
+    mixed = Math.imul(mixed ^ number, 0x85ebca6b);
+    mixed = Math.imul(mixed ^ (mixed >>> 13), 0xc2b2ae35);
+    mixed ^= mixed >>> 16;
+  }
+  return (mixed >>> 0) % end;
+}
+
+/** The lines for a transfer: it ends some calls after it began, and some words may move before. */
+function eventsOf({ calls, device }, seed) {
+  const given = (end, ...which) => chance(end, seed, calls, Number(device), ...which);
+  const length = given(LONGEST_TRANSFER + 1, 0), moves = Math.max(0, given(2 * MOST_MOVES + 1, 1) - MOST_MOVES);
+  const places = Array.from({ length: moves }, (_, at) => given(length + 1, 2, at)).sort((one, other) => one - other);
+  return [
+    ...places.map((place, at) => ({ calls: calls + place, line: `MOVE ${device} ${1 + given(MOST_WORDS, 3, at)}` })),
+    { calls: calls + length, line: `END ${device}` },
+  ];
+}
+
+/** The exchanges of priorities, and the times of the clock in their sequence, each at one of the calls of the run. */
+function others(job, calls, seed) {
+  const slots = job.slots.map(({ number }) => number);
+  const swaps = Array.from({ length: slots.length > 1 ? 1 + chance(MOST_SWAPS, seed, 4) : 0 }, (_, at) => {
+    const first = chance(slots.length, seed, 5, at), second = (first + 1 + chance(slots.length - 1, seed, 6, at)) % slots.length;
+    return { calls: chance(calls + 1, seed, 7, at), line: `SWAP ${slots[first]} ${slots[second]}` };
+  });
+  const times = readSchedule(job.schedule).events.filter(({ line }) => line.startsWith("CLOCK "));
+  const places = times.map((_, at) => chance(calls + 1, seed, 8, at)).sort((one, other) => one - other);
+  return [...swaps, ...times.map(({ line }, at) => ({ calls: places[at], line }))].sort((one, other) => one.calls - other.calls);
+}
+
+/** The text of a job with another schedule. It has more calls than the job's own, so that a program comes as far if its transfers take longer. */
+export async function shuffled(ask, text, seed) {
+  const job = readJob(text);
+  const { status, text: report } = await ask(["run"], text);
+  if (status) throw new NoSchedule(report.trim());
+  const { entries } = readReport(report);
+  const made = entries.reduce((sum, entry) => sum + callsOf(entry), 0), transfers = entries.filter(([kind]) => kind === "START").length;
+  const calls = Math.min(MOST_CALLS, readSchedule(job.schedule).calls + LONGEST_TRANSFER * transfers);
+  const schedule = writeSchedule({ calls, events: others(job, made, seed) });
+  return withTransfers(ask, writeJob({ ...job, schedule }), (transfer) => eventsOf(transfer, seed));
+}
