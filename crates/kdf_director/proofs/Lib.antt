@@ -12,6 +12,7 @@ pub mod Owns
 pub mod Worlds
 pub mod Judged
 pub mod OneJournal
+pub mod ForService
 pub mod LegalFacts
 pub mod Schedules
 pub mod Counted

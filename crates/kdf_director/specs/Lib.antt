@@ -8,6 +8,7 @@ pub mod Told
 pub mod Next
 pub mod True
 pub mod Legal
+pub mod Served
 pub mod Course
 pub mod Follows
 pub mod Worked

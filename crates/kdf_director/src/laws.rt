@@ -1,4 +1,4 @@
-//! Laws of what is seen, each the contract of a function that does nothing; those of journals stand in `journals`. In each
+//! Laws of what is seen, each the contract of a function that does nothing; those of journals stand in `journals` and `served`. In each
 //! of them `flights` are a program's transfers by the number of their device, `mine` are devices on which it has one, and
 //! `s` is its lone state.
 ghost use Rattle.std.specs.Prelude.{◌≡◌, ℕ, ◌+◌, List, Option, Some, None, true, false, find, length, min, slice_set, take};
@@ -17,6 +17,7 @@ ghost use Rattle.kdf_director.specs.Flying.{AreFlying};
 ghost use Rattle.kdf_director.specs.Seen.{begun_row, pending, seen, with_both, with_store};
 
 pub mod journals;
+pub mod served;
 
 /// An order of a program none of whose needs is pending does to what is seen what it does to the lone state. The transfers
 /// stay in flight; one that it begins is in flight then, and shows nothing yet.

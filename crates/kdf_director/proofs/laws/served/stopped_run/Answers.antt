@@ -1,0 +1,5 @@
+use Rattle.kdf_director.proofs.ForService.{stopped_for}
+use Rattle.kdf_director.proofs.laws.served.stopped_run.Goals as goal
+
+pub returns : goal.returns
+returns g c rule is slots events left J K l truly f k = stopped_for _ slots is.one events left J K l truly f k

@@ -1,0 +1,60 @@
+//! Laws of journals with a service, each the contract of a function that does nothing. In each of them `rule` is the
+//! service's, and `F.post rule` says which answers it has to a word.
+ghost use Rattle.std.specs.Prelude.{◌≡◌, ℕ, List, [], ◌++◌, length};
+ghost use Rattle.kdf_journal.specs.declared.entry.Entry.{Entry};
+ghost use Rattle.kdf_journal.specs.Steps.{Step, added, steps};
+ghost use Rattle.kdf_schedule.specs.declared.event.Event.{Event};
+ghost use Rattle.kdf_schedule.specs.Calls.{Call, calls_made};
+ghost use Rattle.kdf_course.specs.Cut.{cut};
+ghost use Rattle.kdf_course.specs.Legal.{Noted};
+ghost use Rattle.kdf_service.specs.Rules.{IsService};
+ghost use Rattle.kdf_transfer.specs.Slots.{Slot};
+ghost use Rattle.kdf_director.specs.Follows.{Follows, IsWhole};
+ghost use Rattle.kdf_director.specs.Legal.{IsLegal};
+ghost use Rattle.kdf_director.specs.Served.{is_true_for, IsJournalFor, IsTrueFor};
+
+/// With a service, slots have at most one journal under a schedule.
+pub fn one_journal<F: Fn(u64) -> u64>()
+    ensures { (rule : F) → IsService (F.pre rule) (F.post rule) → (slots : List Slot)
+        (events : List Event) (J K : List Entry) → IsJournalFor (F.post rule) slots events J →
+        IsJournalFor (F.post rule) slots events K → J ≡ K }
+{}
+
+/// A schedule may be cut anywhere, also in the middle of an event of orders: of the journal of the slots with a service, what
+/// answers the calls before the cut is their journal under those calls.
+pub fn cut<F: Fn(u64) -> u64>()
+    ensures truly { (rule : F) (slots : List Slot) (n : ℕ) (J : List Entry) →
+        IsTrueFor (F.post rule) slots J → IsTrueFor (F.post rule) slots (cut n J) }
+    ensures whole { (rule : F) (slots : List Slot) (events : List Event) (before later : List Call)
+        (J : List Entry) → IsJournalFor (F.post rule) slots events J → calls_made events ≡ before ++ later →
+        IsWhole slots before (cut (length before) J) }
+    ensures journal { (rule : F) (slots : List Slot) (events earlier : List Event)
+        (later : List Call) (J : List Entry) → IsJournalFor (F.post rule) slots events J →
+        calls_made events ≡ calls_made earlier ++ later →
+        IsJournalFor (F.post rule) slots earlier (cut (length (calls_made earlier)) J) }
+{}
+
+/// Read singly, the journal of a schedule with a service is the beginning of that of a longer one.
+pub fn resumed<F: Fn(u64) -> u64>()
+    ensures { (rule : F) → IsService (F.pre rule) (F.post rule) → (slots : List Slot)
+        (events further : List Event) (J K : List Entry) → IsJournalFor (F.post rule) slots events J →
+        IsJournalFor (F.post rule) slots (events ++ further) K →
+        (Q : List Step) × (steps K ≡ Q ++ steps J) }
+{}
+
+/// And so is each legal journal that is true for the service and follows a schedule up to somewhere, of the schedule's whole one.
+pub fn stopped_run<F: Fn(u64) -> u64>()
+    ensures { (rule : F) → IsService (F.pre rule) (F.post rule) → (slots : List Slot)
+        (events : List Event) (left : List Call) (J K : List Entry) → IsLegal slots J →
+        IsTrueFor (F.post rule) slots J → Follows slots (calls_made events) left J →
+        IsJournalFor (F.post rule) slots events K → (Q : List Step) × (steps K ≡ Q ++ steps J) }
+{}
+
+/// A journal without entries is true for every service. One that is true for a service stays so with a step that no order makes, and
+/// with an order whose answer, if it asks, is one of the service's or the true one.
+pub fn true_step<F: Fn(u64) -> u64>()
+    ensures empty { (rule : F) (slots : List Slot) → IsTrueFor (F.post rule) slots [] }
+    ensures longer { (rule : F) (slots : List Slot) (J : List Entry) (s : Step) → IsLegal slots J →
+        IsTrueFor (F.post rule) slots J → Noted (is_true_for (F.post rule) slots J) s →
+        IsTrueFor (F.post rule) slots (added J s) }
+{}
