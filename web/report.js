@@ -56,10 +56,23 @@ export function numberOf(octal) {
   return BigInt.asIntN(48, BigInt(`0o${octal}`));
 }
 
+/** The entries of a call that finds a program held up. */
+export const HOLDS = ["LOV", "BUSY", "WAIT"];
+
 /** How many calls of the machine an entry records. */
 export function callsOf([kind, ...numbers]) {
   if (kind === "RAN" || kind === "IDLE") return numbers.at(-1);
-  return kind === "BUSY" || kind === "LOV" || kind === "WAIT" ? 1 : 0;
+  return HOLDS.includes(kind) ? 1 : 0;
+}
+
+/** Each entry with the number of calls before it. */
+export function timed(entries) {
+  let calls = 0;
+  return entries.map((entry) => {
+    const before = calls;
+    calls += callsOf(entry);
+    return [before, entry];
+  });
 }
 
 /** What a device of the pool is called, by its kind. */
@@ -71,7 +84,8 @@ export function stateOfStint({ isClaimed }, { state }) {
   return { ENDED: "held until the program ended", FAILED: "held until the program failed" }[state.split(" ")[0]] ?? "held";
 }
 
-const many = (number, what) => `${number.toLocaleString("en")} ${what}${number === 1 ? "" : "s"}`;
+/** A number of things, in words: of one, or of all. */
+export const many = (number, what, all = `${what}s`) => `${number.toLocaleString("en")} ${number === 1 ? what : all}`;
 
 /** What each entry of a journal means, in words. */
 const SAID = {

@@ -3,7 +3,7 @@
 import { make, table } from "./dom.js";
 import { Layout, readListing } from "./deck.js";
 import { readJob } from "./job.js";
-import { callsOf, numberOf, readReport, saidOf, stateOfStint } from "./report.js";
+import { many, numberOf, readReport, saidOf, stateOfStint, timed } from "./report.js";
 
 const FLAGS = ["V, the overflow flag", "TR, the test register"];
 
@@ -39,7 +39,7 @@ function storyOf({ slot, state, orders, at }, layout) {
   const next = layout?.statementOf(...at);
   const stands = `Its next order is at word ${at[0]}, syllable ${at[1]}${next ? `: ${next.written}` : ""}.`;
   const became = { LIVE: "is live", ENDED: "has ended", FAILED: `failed (${kind})` }[life] ?? state;
-  return `Program ${slot} ${became}, after ${orders.toLocaleString("en")} order${orders === 1 ? "" : "s"}. ${life === "ENDED" ? "" : stands}`;
+  return `Program ${slot} ${became}, after ${many(orders, "order")}. ${life === "ENDED" ? "" : stands}`;
 }
 
 function sectionOf(section, layout) {
@@ -69,12 +69,7 @@ function deviceOf(name, { kind, place, flag, blocks }, state) {
 }
 
 function journalOf(entries) {
-  let calls = 0;
-  const rows = entries.slice(0, MOST_ENTRIES).map((entry) => {
-    const row = [entry.join(" "), saidOf(entry), `${calls}`];
-    calls += callsOf(entry);
-    return row;
-  });
+  const rows = timed(entries.slice(0, MOST_ENTRIES)).map(([calls, entry]) => [entry.join(" "), saidOf(entry), `${calls}`]);
   const rest = entries.length > MOST_ENTRIES ? [make("p", {}, `${entries.length - MOST_ENTRIES} more entries are in the report.`)] : [];
   return make("details", { open: true }, make("summary", {}, "The journal: what happened, in order"),
     table("Entries", ["entry", "what it says", "calls before it"], rows), ...rest);

@@ -1,20 +1,11 @@
 // Whether a program comes to the same in two worlds: in two runs, or in a run and alone. Its states are the machine's own reports, with the whole store shown.
 
 import { readJob, writeJob } from "./job.js";
-import { callsOf, readReport } from "./report.js";
+import { readReport, timed } from "./report.js";
 import { readSchedule, writeSchedule } from "./schedule.js";
 
 const count = (number, what) => `${number} ${what}${number === 1 ? "" : "s"}`;
 const listed = (words) => (words.length > 1 ? `${words.slice(0, -1).join(", ")} and ${words.at(-1)}` : words[0]);
-
-/** Each entry with the number of calls before it. */
-function* timed(entries) {
-  let calls = 0;
-  for (const entry of entries) {
-    yield [calls, entry];
-    calls += callsOf(entry);
-  }
-}
 
 /** The call at which the program of a slot obeyed this order of its own; 0 for order 0. It has to have obeyed that many. */
 export function callOfOrder(entries, slot, order) {

@@ -2,6 +2,7 @@
 // a schedule is right up to some call, its journal is right up to that call, so each run shows more of what to write than the one before.
 
 import { linesOf, readJob, textOf, writeJob } from "./job.js";
+import { callsOf, readReport, timed } from "./report.js";
 
 const MOST_LINES = 500000;
 const USUAL_WINDOW = 64;
@@ -34,16 +35,10 @@ export function writeSchedule({ calls, events }) {
 
 /** The transfers that a journal records, each with its device and how many calls had been made when it had begun, and the number of calls of the whole run. */
 function readTransfers(report) {
-  const begun = [];
-  let calls = 0;
-  for (const line of report.split("\n").slice(1)) {
-    const [word, ...rest] = line.split(" ");
-    if (word === "RAN" || word === "IDLE") calls += Number(rest.at(-1));
-    else if (word === "START") begun.push({ calls, device: rest[1] });
-    else if (word === "BUSY" || word === "LOV" || word === "WAIT") calls += 1;
-    else if (word === "SLOT" || word === "ENDREPORT") break;
-  }
-  return { begun, calls };
+  const entries = timed(readReport(report).entries);
+  const begun = entries.filter(([, [kind]]) => kind === "START").map(([calls, [, , device]]) => ({ calls, device: `${device}` }));
+  const [before, last] = entries.at(-1) ?? [0, []];
+  return { begun, calls: before + callsOf(last) };
 }
 
 /** The events of a transfer. It takes as many steps as `devices` says for its device, or else `after`. A step is one call; but if `every` isn't 0, it is that many

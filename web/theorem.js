@@ -4,7 +4,7 @@ import { aligned } from "./aligned.js";
 import { make, table } from "./dom.js";
 import { drawTimeline } from "./drawing.js";
 import { linesOf } from "./job.js";
-import { callsOf, numberOf, saidOf } from "./report.js";
+import { HOLDS, callsOf, many, numberOf, saidOf } from "./report.js";
 import { Alone, Shared, Whole, callOfOrder, compare } from "./same.js";
 import { Timeline } from "./timeline.js";
 
@@ -13,9 +13,6 @@ const THIS_RUN = "in this run", RUN_BEFORE = "in the run before";
 // How many words of a program, and lines of a journal or a schedule, are shown at most.
 const MOST_WORDS = 60, MOST_LINES = 300;
 const DIFFERS = "≠ ";
-const HOLDS = ["LOV", "BUSY", "WAIT"];
-
-const many = (number, what, all = `${what}s`) => `${number.toLocaleString("en")} ${number === 1 ? what : all}`;
 
 export class Theorem {
   constructor(element, { ask, say }) {
