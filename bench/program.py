@@ -65,7 +65,7 @@ def run(program, text, words=("run",)):
         return Run(usage.ru_utime + usage.ru_stime, peak, os.waitstatus_to_exitcode(status), report.read())
 
 
-def measure(programs, text, words=("run",)):
-    """Runs each program fifteen times, in turn: for each its least time, its highest peak and its runs."""
-    runs = [[run(program, text, words) for program in programs] for _ in range(RUNS)]
+def measure(programs, text, words=("run",), times=RUNS):
+    """Runs each program fifteen times or so often, in turn: for each its least time, its highest peak and its runs."""
+    runs = [[run(program, text, words) for program in programs] for _ in range(times)]
     return [Best(min(one.seconds for one in its), max(one.peak for one in its), its) for its in zip(*runs)]

@@ -261,14 +261,17 @@ def says_how_a_job_is_handed_in(checkout):
     checkout.start("make", "0")
     for words, said in (([], "./kdf9 run < FILE"), (["-h"], "./kdf9 run < FILE"), (["--help"], "./kdf9 run < FILE"), (["run", "my.job"], "./kdf9 run < my.job")):
         yield differs(checkout.start(*words), 42, "<first>" + "".join(f"<{word}>" for word in words), said)
+    for command, text in (("save", "a job"), ("resume", "a snapshot"), ("check", "a job with its report")):
+        yield differs(checkout.start(command, "my.job"), 42, f"<first><{command}><my.job>", f"{text} is read from standard input: ./kdf9 {command} < my.job")
     yield differs(checkout.start("alone", "0", "my job"), 42, "<first><alone><0><my job>", "./kdf9 alone 0 < my\\ job")
-    for words in (["run"], ["alone", "0"], ["asm", "3"], ["make", "0"], ["sum"], ["run", "--json"]):
+    for words in (["run"], ["save"], ["resume"], ["check"], ["alone", "0"], ["asm", "3"], ["make", "0"], ["sum"], ["run", "--json"], ["check", "--json"]):
         yield differs(checkout.start(*words), 42, "<first>" + "".join(f"<{word}>" for word in words))
 
 
 def says_that_a_terminal_is_read(checkout):
     checkout.start("make", "0")
     yield differs(at_terminal(checkout, "alone", "0"), 42, "<first><alone><0>job\n", "from the terminal")
+    yield differs(at_terminal(checkout, "check"), 42, "<first><check>job\n", "reading a job with its report from the terminal")
     yield differs(at_terminal(checkout, "--help"), 42, "<first><--help>job\n", "./kdf9 run < FILE")
 
 

@@ -10,6 +10,7 @@ import browser
 from browser import Browser
 from page_pool import SUITES as POOL
 from page_runs import orders_are_those_of_the_program, runs_are_looked_at, runs_are_those_of_the_program
+from page_service import SUITES as SERVED
 from page_theorem import SUITES as THEOREM, no_run_before
 from page_worker import worker_alone
 from shown import CTRL, Shown, id_of
@@ -116,7 +117,7 @@ def parts_and_text_are_in_step(shown):
     """A change by parts is a change of the text, and the other way round; and a text without parts is shown whole."""
     for path in sorted((ROOT / "examples").glob("*.job")):
         text = path.read_text(encoding="ascii")
-        if not text:
+        if not text or path.with_suffix(".args").read_text(encoding="ascii") in ("resume\n", "check\n"):
             continue
         shown.write_job(text)
         shown.view("parts")
@@ -146,6 +147,27 @@ def parts_and_text_are_in_step(shown):
     yield "a text without parts", None if seen == [False, True] else f"{seen}"
     got = shown.run("run")
     yield "and its fault", None if got == ("JOB BadLine 2\n", 2) else f"{got}"
+
+
+def snapshots_are_resumed_and_reports_checked(shown):
+    """A snapshot and a report after a job are shown whole, and are no fault of the job. A fault of the snapshot is marked."""
+    shown.view("parts")
+    for name, hidden in (("goes-on-with-a-sum", True), ("checks-a-report", True), ("lists-two-parts", False)):
+        shown.example(name)
+        shown.js(f"{id_of('command')}.onchange()")
+        shown.js("new Promise((done) => setTimeout(done, 1500))")
+        seen = shown.js(f"[document.querySelector('.parts').hidden, {id_of('value-field')}.hidden, document.querySelector('.fault') === null]")
+        yield f"{name} as it is shown", None if seen == [hidden, hidden, True] else f"{seen}"
+    shown.example("refuses-a-changed-snapshot")
+    got = shown.run("resume")
+    marked = shown.js("document.querySelector('.gutter .wrong').textContent")
+    yield "a changed snapshot", None if got == ("SNAPSHOT SealDiffers 19\n", 8) and marked == "▸19" else f"{got} {marked}"
+    state = shown.state()
+    yield "its fault is said", None if "Status 8: the snapshot has a fault. SealDiffers, line 19 of the text. This is the first line" in state else state
+    shown.example("goes-on-with-a-sum")
+    shown.run("resume")
+    words = shown.js("document.querySelector('#sections table').innerText.split(/\\s+/).join(' ')")
+    yield "words of a resumed run have names", None if words == "Words name address octal decimal Y0 3 0000000000000014 12" else words
 
 
 def schedules_write_themselves(shown):
@@ -277,8 +299,8 @@ def nothing_is_fetched(running, address):
 
 
 SUITES = (
-    runs_are_looked_at, faults_are_shown, faults_stand_at_their_parts, parts_and_text_are_in_step, schedules_write_themselves, runs_are_stopped,
-    faults_stand_at_their_places, *POOL, *THEOREM, controls_have_names, orders_are_those_of_the_program, runs_are_those_of_the_program,
+    runs_are_looked_at, faults_are_shown, faults_stand_at_their_parts, parts_and_text_are_in_step, snapshots_are_resumed_and_reports_checked,
+    schedules_write_themselves, runs_are_stopped, faults_stand_at_their_places, *POOL, *SERVED, *THEOREM, controls_have_names, orders_are_those_of_the_program, runs_are_those_of_the_program,
 )
 
 

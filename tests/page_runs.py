@@ -15,15 +15,15 @@ from kdf9.job import read_lines, read_slots
 from kdf9.report import read_report
 from kdf9.schedule import cut_before_next, job_with, read_schedule
 
-COMMAND = re.compile(r"run|(?:alone|asm|make)\n\d+")
+COMMAND = re.compile(r"run|save|resume|check|(?:alone|asm|make)\n\d+")
 
-# A longer job comes as a file.
-LONGEST_WRITTEN = 100000
+# A longer job comes as a file, and a text of more bytes is left out.
+LONGEST_WRITTEN, LONGEST_GIVEN = 100_000, 100_000_000
 
 # Runs that are looked at call by call; of a longer one only every so many calls.
 LOOKED_AT = (
     "adds-5-and-7", "subroutine", "walks-over-a-table", "reads-tape", "computes-while-it-reads", "two-parts", "waits-for-its-printer", "asks-for-the-time",
-    "adds-to-nothing", "fails-with-a-transfer-in-flight", "two-programs-share-a-punch", "waits-until-the-other-fails",
+    "asks-the-service", "adds-to-nothing", "fails-with-a-transfer-in-flight", "two-programs-share-a-punch", "waits-until-the-other-fails",
 )
 FEW_CALLS, STEP = 80, 9
 
@@ -48,6 +48,8 @@ def runs_are_those_of_the_program(shown):
     """Each example and case, by the Run button where the job can be written into the editor, and else by the machine itself."""
     for path in sorted(it for folder in ("examples", "tests/cases") for it in (ROOT / folder).glob("*.status")):
         job, words, due = job_of(path), stored(path, "args").decode(), stored(path, "report").decode("latin-1")
+        if len(job) > LONGEST_GIVEN:
+            continue
         status = int(stored(path, "status"))
         is_typed = COMMAND.fullmatch(words.rstrip("\n")) and job.isascii() and b"\r" not in job and b"\0" not in job
         if is_typed:

@@ -17,7 +17,7 @@ from kdf9.schedule import job_with, read_schedule
 # The jobs whose programs are compared with their lone runs: plain ones, and some that ask, are held up, share a pool, fail with a transfer in flight, or are cut.
 PATHS = [f"examples/{name}" for name in (
     "adds-5-and-7", "subroutine", "reads-tape", "computes-while-it-reads", "waits-for-its-printer", "stops-after-four-orders", "asks-for-the-time",
-    "fails-with-a-transfer-in-flight", "adds-to-nothing", "adds-cards-while-a-tape-is-copied", "copies-a-tape-with-its-mark", "lets-a-starved-program-in",
+    "asks-the-service", "fails-with-a-transfer-in-flight", "adds-to-nothing", "adds-cards-while-a-tape-is-copied", "copies-a-tape-with-its-mark", "lets-a-starved-program-in",
     "two-programs-share-a-punch", "waits-until-the-other-fails",
 )] + [f"tests/cases/{name}" for name in (
     "slots-1-and-3", "sees-a-word-that-was-moved", "moves-three-and-four-of-ten-words", "is-cut-while-it-waits", "asks-while-another-fails-after-its-punches",

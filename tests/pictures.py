@@ -118,7 +118,7 @@ def idle_stretches_are_folded():
     yield "a folded stretch in a picture", None if "calls 22 to 1021: 1000 calls, folded" in titles else f"isn't in {titles}"
     due = "\nidle        |" + " " * 21 + "~~~" + " " * 9 + "| 1000 calls\n"
     yield "a folded stretch in a row", None if due in text and "a column is 1 call, ~ folded\n" in text else f"isn't in {text}"
-    for answer, status in (("JOB BadLine 3\n", 2), ("DECK 0 NoFinish 0\n", 3), ("LARGE 4194304\n", 4)):
+    for answer, status in (("JOB BadLine 3\n", 2), ("DECK 0 NoFinish 0\n", 3), ("LARGE 4194304\n", 4), ("SNAPSHOT NoEnd 27\n", 8)):
         runs = [kdf9(words, answer) for words in (["picture"], ["picture", "--text"], ["json"])]
         yield f"no picture of {answer!r}", None if all(run == (status, "", answer) for run in runs) else f"{runs}"
 

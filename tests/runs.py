@@ -40,6 +40,21 @@ SAME = [
     (["--after", "7"], ["--after", "0"], "slot 2: the same after 8 orders; order 9 asked, and was answered 1 in {} and 0 in {}\n"),
 ]
 
+# This program asks the installation's service, which exchanges the half words.
+SERVED = """KDF9 JOB 1
+SLOT 1
+STORE 32
+DECK
+PROGRAM; SET 7; SETB100; OUT; SET 9; OUT; ZERO; OUT; FINISH;
+ENDDECK
+SERVICE
+DEVICE 3 TP
+SCHEDULE
+CLOCK 5
+ORDERS 10
+ENDJOB
+"""
+
 # A program that waits for the pool: the example, the orders that are shown, and what their lines have.
 WAITS = [
     ("two-programs-share-a-punch", ("6", "13"), [
@@ -165,6 +180,26 @@ def orders_are_traced():
         yield f"steps --run of {name}", None if all(line in run.out for line in due) else f"{run} without {due}"
 
 
+def answers_of_the_service_are_shown():
+    run = kdf9(["steps", "-", "1", "4", "6", "--run"], SERVED)
+    due = [
+        r" +4 +4 +2/0  OUT +117440512 +answered 117440512 by the installation's service, to the word 0000000000000007", r" +5 +5 +2/1  SET 9 .*",
+        r" +6 +6 +2/4  OUT +5 117440512 +answered 5",
+    ]
+    lines = run.out.split("\n")[1:-1]
+    alike = len(lines) == len(due) and all(map(re.fullmatch, due, lines))
+    yield "steps --run of a program that asks the service", None if alike else f"{run} in place of {due}"
+    run, due = kdf9(["same", "-"], SERVED), "slot 1: the same after 3 orders; order 4 asked, and was answered 117440512 in - and 0 alone\n"
+    yield "same of a program that asks the service", None if (run.status, run.out) == (0, due) else f"{run} in place of {due}"
+    run = kdf9(["schedule", "-"], SERVED)
+    yield "a schedule of a slot that is served", None if (run.status, run.out) == (0, SERVED) else f"{run}"
+    with tempfile.NamedTemporaryFile("w", encoding="ascii") as other:
+        other.write(SERVED.replace("SERVICE\n", ""))
+        other.flush()
+        run = kdf9(["same", "-", other.name], SERVED)
+    yield "same with a slot that isn't served", None if refused(run) and "no slot has the same program" in run.err else f"{run}"
+
+
 def run_is_wrong(text, slot):
     """What is wrong with the first orders of a program as it ran under Director: they have to be those of the job's own report; or None."""
     run, own = kdf9(["steps", "-", slot, "1", "12", "--run"], text), kdf9(["run"], text).out
@@ -206,5 +241,6 @@ def bad_input_is_refused():
 
 
 SUITES = (
-    schedules_are_written, devices_of_the_pool_are_answers, programs_are_compared, orders_are_traced, examples_are_run, bad_input_is_refused,
+    schedules_are_written, devices_of_the_pool_are_answers, programs_are_compared, orders_are_traced, answers_of_the_service_are_shown, examples_are_run,
+    bad_input_is_refused,
 )

@@ -81,6 +81,33 @@ SLIPS = [
     ("ORDERS without a number", PLAIN.replace("ORDERS 40", "ORDERS"), ["-:8:1: BadLine", "hint: the form of this line is ORDERS n"]),
 ]
 
+# A slot that is served asks the installation's service by OUT 64, which exchanges the half words.
+SERVICE = "SERVICE\n"
+SLIPS += [
+    (
+        "OUT 64 without SERVICE", job("PROGRAM; SET 7;\n SETB100; OUT; FINISH;"),
+        ["-:6:11: OUT: OUT", "OUT 64 asks the installation's service, and slot 0 isn't served: it has no line SERVICE after its ENDDECK"],
+    ),
+    ("no word for the service", job("PROGRAM; SETB100; OUT; FINISH;", SERVICE), ["-:5:19: NOUV: OUT", "the nest has 1 word, which is too few for OUT 64"]),
+    (
+        "decimal 100 for octal 100", job("PROGRAM; SET 7; SET 100; OUT; FINISH;", SERVICE),
+        ["OUT 100 isn't one of 0, 3, 4, 5, 6, 8, 9 and 64; did you mean OUT 64? That is SET 64, or SETB100 in octal"],
+    ),
+    ("octal 64 for decimal 64", job("PROGRAM; SET 7; SETB64; OUT; FINISH;", SERVICE), ["OUT 52 isn't one of", "did you mean OUT 64?"]),
+    (
+        "the operands of OUT 64 exchanged", job("PROGRAM; SETB100; SET 7; OUT; FINISH;", SERVICE),
+        ["OUT 7 isn't one of", "did you mean OUT 64? The number goes on top, and here 64 is in N2"],
+    ),
+    (
+        "a word after the service's answer", job("PROGRAM; SET 7; SETB100; OUT; SET 3; OUT;\n =Q1; =Q2; +; FINISH;", SERVICE),
+        ["-:6:12: NOUV: +", "\n  ANSWER 0 117440512: its order 4 asked the installation's service, which answered 0000000700000000 to the word 0000000000000007\n"],
+    ),
+    (
+        "a loop after the service's answer", job("PROGRAM; SETB17; SETB100; OUT; SET 9; OUT; 1; J1; FINISH;", SERVICE),
+        ["LIVE: J1", "\n  ANSWER 0 251658240: its order 4 asked the installation's service, which answered 0000001700000000 to the word 0000000000000017\n"],
+    ),
+]
+
 # A program that takes a punch of the pool, and what comes after; and two of them.
 TAKES = "PROGRAM V0; V0 = Q0/32/32;\n SET 1; SET 5; OUT; V0; =Q1; =C1; PWQ1;\n"
 ENDS = "ZERO; OUT; FINISH;"

@@ -41,10 +41,11 @@ def document(name):
 
 
 def examples():
-    """The examples, and the cases that have a job of their own: the name of each and its job."""
+    """The examples, and the cases that have a job of their own: the name of each and its job. What resume and check read is more than a job."""
     for folder in ("examples", "tests/cases"):
         for path in sorted((ROOT / folder).glob("*.job")):
-            yield path.stem, path.read_text(encoding="latin-1")
+            if path.with_suffix(".args").read_text(encoding="ascii") not in ("resume\n", "check\n"):
+                yield path.stem, path.read_text(encoding="latin-1")
     for path in sorted((ROOT / "examples").glob("*.make")):
         yield path.stem, subprocess.run([path], capture_output=True, check=True).stdout.decode("latin-1")
 

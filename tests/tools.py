@@ -11,6 +11,7 @@ from launcher import launcher_starts
 from pictures import SUITES as PICTURES
 from pictures import picture_is_wrong
 from runs import SUITES as RUNS
+from saved import SUITES as SAVED
 from slips import SUITES as SLIPS
 from toolkit import ENVIRONMENT, HEAD, PLAIN, ROOT, TAIL, document, example_report, examples, job_of_deck, kdf9, refused
 
@@ -112,6 +113,17 @@ JOB_HINTS = [
     (HEAD + "POOL\nDEVICE 9\n" + TAIL, "the form of this line is DEVICE d TP, or DEVICE d LP"),
     (HEAD + "POOL\n+A\n" + TAIL, "the devices of the pool begin empty, so they have no lines"),
     (HEAD + "POOL\nDEVICE 9 TP\nORDERS 9\n" + TAIL, "expected DEVICE or SCHEDULE"),
+    (HEAD + "SERVICE\nSERVICE\n" + TAIL, "the slot already has a line SERVICE"),
+    (HEAD + "SHOW 0 0\nSERVICE\n" + TAIL, "SERVICE comes once in a slot, directly after ENDDECK"),
+    (HEAD + "SERVICE\nDEVICE 3 TP\nSERVICE\n" + TAIL, "SERVICE comes once in a slot, directly after ENDDECK"),
+    (HEAD.replace("DECK\nPROGRAM", "SERVICE\nDECK\nPROGRAM") + TAIL, "SERVICE comes once in a slot, directly after ENDDECK"),
+    (HEAD + "POOL\nSERVICE\n" + TAIL, "SERVICE comes once in a slot, directly after ENDDECK"),
+    ((HEAD + TAIL).replace("ORDERS 10", "SERVICE"), "SERVICE comes once in a slot, directly after ENDDECK"),
+    (HEAD + "SERVICE 1\n" + TAIL, "the form of this line is SERVICE, with nothing after it"),
+    (HEAD + "SERVISE\n" + TAIL, "did you mean SERVICE?"),
+    (HEAD + "Service\n" + TAIL, "write SERVICE\n"),
+    (HEAD + "PRINT\n" + TAIL, "expected SERVICE, DEVICE, SHOW, SLOT, POOL or SCHEDULE"),
+    (HEAD + "SERVICE\nPRINT\n" + TAIL, "expected DEVICE, SHOW, SLOT, POOL or SCHEDULE"),
 ]
 
 # How a program fails, its deck, the line and the column of the failing order in the deck, and a part of what is said of it.
@@ -233,7 +245,7 @@ def faults_are_found():
 def documents_have_no_other_faults():
     """Each fault of the documents is one of those that are looked for."""
     headings = re.findall(r"^### \d+ (\w+)$", document("USERCODE.md"), re.MULTILINE)
-    rows = re.findall(r"^\| `([A-Z][a-z]\w+)` \| ", document("JOB.md"), re.MULTILINE)
+    rows = re.findall(r"^\| `([A-Z][a-z]\w+)` \| ", document("JOB.md").partition("## What is wrong with a snapshot\n")[0], re.MULTILINE)
     yield "the nineteen faults of decks", None if headings == [fault[0] for fault in DECK_FAULTS] else f"are {headings}"
     yield "the fifteen faults of jobs", None if rows == ["Header"] + [fault[0] for fault in JOB_FAULTS] else f"are {rows}"
 
@@ -421,7 +433,7 @@ def documents_are_true():
 
 SUITES = (
     launcher_starts, faults_are_found, documents_have_no_other_faults, hints_are_given, failures_are_found, bad_input_is_refused,
-    turns_are_told, examples_are_shown, large_texts_take_seconds, documents_are_true, *PICTURES, *RUNS, *SLIPS,
+    turns_are_told, examples_are_shown, large_texts_take_seconds, documents_are_true, *PICTURES, *RUNS, *SAVED, *SLIPS,
 )
 
 

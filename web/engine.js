@@ -2,8 +2,8 @@
 
 /** What each status means, by its number. */
 export const STATUSES = [
-  "done", "the arguments aren't a command", "the job has a fault", "a deck has a fault", "the job has more than 4,194,304 bytes", "reading failed",
-  "the text is longer than the page has room for", "there was no memory",
+  "done", "the arguments aren't a command", "the job has a fault", "a deck has a fault", "the text has more bytes than the command reads", "reading failed",
+  "the text is longer than the page has room for", "there was no memory", "the snapshot has a fault",
 ];
 
 /** A question was given up before its answer came. */

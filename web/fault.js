@@ -40,16 +40,21 @@ function decksOf(lines) {
   return decks;
 }
 
-/** The fault that the machine answers for a job: its name, its line and column in the job, both counted from 1, what is written there, and the sentence that
+/** The fault that the machine answers for a job, or for one with a snapshot after it: its name, its line and column in the job, both counted from 1, what is written there, and the sentence that
  * the documents have for it. A fault of a deck also has the slot, the offset in the deck as `place`, and the deck. */
 export function faultOf(answer, text, sentences) {
   const [kind, ...words] = answer.trim().split(" ");
   if (kind === "JOB") return faultOfJob(words[0], Number(words[1]), linesOf(text), sentences);
+  if (kind === "SNAPSHOT") return faultOfSnapshot(words[0], Number(words[1]), linesOf(text), sentences);
   const slot = Number(words[0]), place = Number(words[2]), lines = linesOf(text), found = decksOf(lines).get(slot);
   const deck = text.slice(found.start, found.end);
   const { line, column } = lineAndColumn(deck, place);
   const subject = words[1] === "BadByte" ? `byte ${deck.charCodeAt(place)}` : statementAt(deck, place)?.written ?? "";
   return { name: words[1], line: found.line + line - 1, column, subject, slot, place, deck, lineOfDeck: line, said: sentences.deck[words[1]] };
+}
+
+function faultOfSnapshot(name, line, lines, sentences) {
+  return { name, line, column: 1, subject: lines[line - 1] ?? "the text ends here", said: sentences.snapshot[name] };
 }
 
 function faultOfJob(name, line, lines, sentences) {

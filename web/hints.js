@@ -16,11 +16,11 @@ const BLANK_LINES = 9;
 /** The forms of the lines of a job. */
 const FORMS = {
   SLOT: "SLOT p", STORE: "STORE n", DEVICE: "DEVICE d k, or DEVICE d MT label", SHOW: "SHOW a b", ORDERS: "ORDERS n", MOVE: "MOVE d n", END: "END d",
-  CLOCK: "CLOCK t", SWAP: "SWAP p q", POOL: "POOL, with nothing after it",
+  CLOCK: "CLOCK t", SWAP: "SWAP p q", POOL: "POOL, with nothing after it", SERVICE: "SERVICE, with nothing after it",
 };
 const POOL_DEVICE = "DEVICE d TP, or DEVICE d LP";
 const SCHEDULED = ["ORDERS", "MOVE", "END", "CLOCK", "SWAP", "ENDJOB"];
-const KEYWORDS = [...Object.keys(RANGES), "DECK", "ENDDECK", "POOL", "SCHEDULE", "ENDJOB"];
+const KEYWORDS = [...Object.keys(RANGES), "DECK", "ENDDECK", "SERVICE", "POOL", "SCHEDULE", "ENDJOB"];
 
 /** Orders of the KDF9 that this machine leaves out, besides floating point, and what comes closest to each. */
 const LEFT_OUT = [
@@ -104,12 +104,21 @@ function hintOfJob(fault, lines) {
   if (line !== spaced(line)) return "fields are separated by exactly one space, and a line doesn't begin or end with one";
   if (/ 0[0-9]/.test(line) && fault.name === "BadNumber") return "a number has no leading zeros";
   if (fault.name === "BadNumber") return hintOfNumber(line);
-  if (fault.name === "BadLine") return hintOfPool(line, lines.slice(0, fault.line - 1)) ?? hintOfLine(line, expectedAt(lines, fault.line));
+  if (fault.name === "BadLine") {
+    const before = lines.slice(0, fault.line - 1);
+    return hintOfService(line, before) ?? hintOfPool(line, before) ?? hintOfLine(line, expectedAt(lines, fault.line));
+  }
   if (fault.name === "PoolKind") {
     return `the pool has punches and printers; a device of kind ${line.split(" ")[2]} belongs to a slot, and comes before POOL`;
   }
   if (fault.name === "ShowRange") return `the store has words 0 to ${storeAbove(lines, fault.line) - 1}`;
   return null;
+}
+
+/** A hint for a line SERVICE that isn't allowed after the lines before it, or null. */
+function hintOfService(line, before) {
+  if (line !== "SERVICE" || isInDeck(before)) return null;
+  return before.at(-1) === line ? "the slot already has a line SERVICE" : "SERVICE comes once in a slot, directly after ENDDECK";
 }
 
 /** A hint for a line that has to do with the pool and isn't allowed after the lines before it, or null. */
@@ -156,7 +165,8 @@ function expectedAt(lines, line) {
   if (word in first) return first[word];
   const media = { TR: ["+"], CR: ["+"], MT: ["+", "="] };
   const hasDevice = word === "DEVICE" || /^[+=]/.test(before);
-  return [...(hasDevice ? media[kindAbove(lines, line)] ?? [] : []), "DEVICE", "SHOW", "SLOT", "POOL", "SCHEDULE"];
+  const own = hasDevice ? media[kindAbove(lines, line)] ?? [] : before === "ENDDECK" ? ["SERVICE"] : [];
+  return [...own, "DEVICE", "SHOW", "SLOT", "POOL", "SCHEDULE"];
 }
 
 function storeAbove(lines, line) {

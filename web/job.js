@@ -1,4 +1,5 @@
-// The text of a job, and the same job by parts: its programs with their stores, decks and devices and the words to be shown, its pool, and its schedule.
+// The text of a job, and the same job by parts: its programs with their stores, decks and devices, whether the installation's service answers them, and the words
+// to be shown; its pool; and its schedule.
 
 export const HEADER = "KDF9 JOB 1";
 export const KINDS = { TR: "paper tape reader", TP: "paper tape punch", CR: "card reader", LP: "line printer", MT: "magnetic tape" };
@@ -70,7 +71,7 @@ class Reader {
     const number = this.take("SLOT "), store = this.take("STORE ");
     const deck = this.take("DECK") === "" ? this.until("ENDDECK") : null;
     if (number === null || store === null || deck === null) return null;
-    const slot = { number, store, deck: textOf(deck), devices: this.devices(), shows: [] };
+    const slot = { number, store, deck: textOf(deck), isServed: this.take("SERVICE") === "", devices: this.devices(), shows: [] };
     for (let show = this.take("SHOW "); show !== null; show = this.take("SHOW ")) slot.shows.push(show);
     return slot;
   }
@@ -109,8 +110,18 @@ export function readJob(text) {
   const pool = reader.pool();
   if (reader.take("SCHEDULE") !== "") return null;
   const end = reader.lines.length - 1;
+  if (reader.lines.indexOf("ENDJOB", reader.at) !== end) return null;
   const job = { slots, pool, schedule: textOf(reader.lines.slice(reader.at, end)), lacksLastEnd: !text.endsWith("\n") };
-  return reader.lines[end] === "ENDJOB" && end >= reader.at && writeJob(job) === text ? job : null;
+  return writeJob(job) === text ? job : null;
+}
+
+/** The job at the front of a text, up to the ENDJOB of its schedule: a snapshot or a report may stand after it. */
+export function frontOf(text) {
+  const lines = linesOf(text);
+  let at = 0;
+  while (at < lines.length && lines[at] !== "SCHEDULE") at = lines[at] === "DECK" && lines.includes("ENDDECK", at) ? lines.indexOf("ENDDECK", at) : at + 1;
+  const end = lines.indexOf("ENDJOB", at);
+  return end < 0 || end === lines.length - 1 ? text : textOf(lines.slice(0, end + 1));
 }
 
 /** The lines of a job by parts, each with the part that it belongs to: the name of the part, the indices of its slot and of its device, and the
@@ -128,6 +139,7 @@ export function placedLines(job) {
     add(at, "deck", ["DECK"]);
     add(at, "deck", linesOf(slot.deck));
     add(at, "deck", ["ENDDECK"]);
+    if (slot.isServed) add(at, "service", ["SERVICE"]);
     addDevices(at, slot.devices);
     add(at, "shows", slot.shows.map((show) => `SHOW ${show}`));
   });

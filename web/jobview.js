@@ -5,7 +5,8 @@ import { Editor } from "./editor.js";
 import { painted } from "./deck.js";
 import { HEADER, KINDS, KINDS_OF_POOL, POOL, editedMedia, editedShows, linesOf, placedLines, readJob, readMedia, readShows, writeJob } from "./job.js";
 
-const NO_PARTS = "This text can't be shown by parts, because one of its lines isn't allowed where it is. Here is the whole text.";
+const NO_PARTS = "This text can't be shown by parts: it is more than a job, or one of its lines isn't allowed where it is. Here is the whole text.";
+const SERVED = "OUT 64 asks the installation's service";
 const TOO_LONG = "This job is too long to be edited here. It can be run and saved as it is.";
 
 // A browser is slow with a longer text in an editor.
@@ -94,7 +95,7 @@ export class JobView {
   }
 
   addSlot(number) {
-    this.job.slots.push({ number, store: "32", deck: NEW_DECK, devices: [], shows: [] });
+    this.job.slots.push({ number, store: "32", deck: NEW_DECK, isServed: false, devices: [], shows: [] });
     this.redraw(`deck ${this.job.slots.length - 1}`);
   }
 
@@ -114,8 +115,17 @@ export class JobView {
       labelled("Store, in words", this.input(`store ${at}`, slot.store, (value) => { slot.store = value; }, { inputmode: "numeric", size: "6" })),
       labelled("Show the words from, to", this.input(`shows ${at}`, editedShows(slot.shows), (value) => { slot.shows = readShows(value); },
         { size: "16", placeholder: "0 7, 32 40" })),
+      this.box(`service ${at}`, SERVED, slot.isServed, (isServed) => { slot.isServed = isServed; }),
       button("Remove", () => { this.job.slots.splice(at, 1); this.redraw("add"); }, { "aria-label": `Remove the program in slot ${slot.number}` }));
     return make("section", { class: "slot", "aria-labelledby": heading.id }, heading, deck.element, fields, this.drawDevices(slot, at, `slot ${slot.number}`));
+  }
+
+  /** A box that is ticked or not, before its label. */
+  box(name, label, isTicked, take) {
+    const control = make("input", { type: "checkbox", onchange: () => { take(control.checked); this.partChanged(); } });
+    control.checked = isTicked;
+    this.controls.set(name, control);
+    return make("label", {}, control, ` ${label}`);
   }
 
   input(name, value, take, attributes) {

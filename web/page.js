@@ -4,7 +4,7 @@ import { byId, make } from "./dom.js";
 import { Engine, STATUSES, Stopped, bytesOf, canRun, unpacked } from "./engine.js";
 import { faultOf } from "./fault.js";
 import { hintOf } from "./hints.js";
-import { EMPTY_JOB } from "./job.js";
+import { EMPTY_JOB, frontOf } from "./job.js";
 import { JobView } from "./jobview.js";
 import { hasJob, jobOfLink, packedJob, saveFile } from "./link.js";
 import { isReadable, layoutsOf, resultsOf, shownText } from "./results.js";
@@ -13,7 +13,11 @@ import { NoSchedule, scheduled } from "./schedule.js";
 import { MOST_SEED, shuffled } from "./shuffle.js";
 import { Theorem } from "./theorem.js";
 
-const DONE = 0, JOB_HAS_FAULT = 2, DECK_HAS_FAULT = 3;
+const DONE = 0, SNAPSHOT_HAS_FAULT = 8, FAULTS = [2, 3, SNAPSHOT_HAS_FAULT];
+
+/** The commands that have a slot or a number, and those that read a job with a snapshot or a report after it. */
+const WITH_VALUE = ["alone", "asm", "make"], READ_MORE = ["resume", "check"];
+
 const MEBIBYTE = 2 ** 20;
 const OWN = "own";
 
@@ -59,7 +63,7 @@ async function lookForFault() {
   }
   const { text } = view;
   try {
-    const answer = await ask(["asm", "0"], text);
+    const answer = await ask(["asm", "0"], jobOf(byId("command").value, text));
     if (text === view.text) await showFault(answer, text);
   } catch (error) {
     if (!(error instanceof Stopped)) sayFailed(error);
@@ -73,21 +77,24 @@ function sayFailed(error) {
   else say(`The machine stopped: ${error.message}`, true);
 }
 
+/** The job of a text that a command reads. */
+const jobOf = (command, text) => (READ_MORE.includes(command) ? frontOf(text) : text);
+
 /** Marks the fault that the answer names, and returns it; null if it names none. */
 async function showFault({ status, text: answer }, job) {
-  if (status !== JOB_HAS_FAULT && status !== DECK_HAS_FAULT) {
+  if (!FAULTS.includes(status)) {
     view.forgetFault();
     return null;
   }
   const fault = faultOf(answer, job, texts.sentences);
-  const hint = await hintOf(ask, fault, job);
+  const hint = status === SNAPSHOT_HAS_FAULT ? null : await hintOf(ask, fault, job);
   if (job === view.text) view.showFault(fault, hint);
   return fault;
 }
 
 function words() {
   const command = byId("command").value;
-  return command === "run" ? ["run"] : [command, byId("value").value];
+  return WITH_VALUE.includes(command) ? [command, byId("value").value] : [command];
 }
 
 /** Shows whether the machine is at work. */
@@ -124,7 +131,7 @@ async function runNow(asked) {
   showText("", []);
   const answer = await ask(asked, text);
   const fault = await showFault(answer, text);
-  const layouts = answer.status === DONE && asked[0] !== "make" ? await layoutsOf(ask, text) : new Map();
+  const layouts = answer.status === DONE && asked[0] !== "make" ? await layoutsOf(ask, jobOf(asked[0], text)) : new Map();
   showText(answer.text, answer.status === DONE ? resultsOf(answer.text, layouts) : []);
   lastRun = answer.status === DONE && asked[0] === "run" && isReadable(answer.text) ? { text, report: answer.text, layouts } : null;
   if (lastRun) theorem.take(lastRun);
@@ -137,7 +144,7 @@ function sayAnswer({ status, milliseconds, memory }, fault) {
   if (status === DONE) {
     say(`Done, in ${Math.max(1, Math.round(milliseconds)).toLocaleString("en")} ms and ${(memory / MEBIBYTE).toFixed(1)} MiB.`);
   } else {
-    const where = fault ? ` ${fault.name}, line ${fault.line} of the job. ${fault.said}` : "";
+    const where = fault ? ` ${fault.name}, line ${fault.line} of the ${status === SNAPSHOT_HAS_FAULT ? "text" : "job"}. ${fault.said}` : "";
     say(`Status ${status}: ${STATUSES[status]}.${where}`, true);
   }
   byId("state").dataset.status = status;
@@ -146,7 +153,7 @@ function sayAnswer({ status, milliseconds, memory }, fault) {
 /** The fault of a job with its hint, as it is shown, or null if there is none. */
 async function explain(job) {
   const { status, text } = await ask(["asm", "0"], job);
-  if (status !== JOB_HAS_FAULT && status !== DECK_HAS_FAULT) return null;
+  if (!FAULTS.includes(status)) return null;
   const fault = faultOf(text, job, texts.sentences);
   return { ...fault, hint: await hintOf(ask, fault, job) };
 }
@@ -237,7 +244,7 @@ function begin(text, args) {
 
 function chooseCommand() {
   const command = byId("command").value;
-  byId("value-field").hidden = command === "run";
+  byId("value-field").hidden = !WITH_VALUE.includes(command);
   byId("value-label").textContent = command === "make" ? "Number" : "Slot";
 }
 
@@ -296,7 +303,11 @@ function listExamples() {
 
 function attend() {
   byId("example").onchange = chooseExample;
-  byId("command").onchange = chooseCommand;
+  byId("command").onchange = () => {
+    chooseCommand();
+    clearTimeout(pause);
+    pause = setTimeout(lookForFault, PAUSE);
+  };
   byId("run").onclick = run;
   byId("stop").onclick = stop;
   byId("schedule").onclick = writeSchedule;

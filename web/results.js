@@ -5,6 +5,7 @@ import { Layout, readListing } from "./deck.js";
 import { readJob } from "./job.js";
 import { many, numberOf, readReport, saidOf, stateOfStint, timed } from "./report.js";
 
+const OUT_OF_SERVICE = 64n;
 const FLAGS = ["V, the overflow flag", "TR, the test register"];
 
 // How many characters of a text, entries of a journal and words of a program are shown at most. The saved file has all of them.
@@ -31,15 +32,22 @@ export async function layoutsOf(ask, text) {
   return layouts;
 }
 
+/** What may have led to a failure, in words, or nothing. OUT 64 fails as OUT only in a slot that isn't served. */
+function hintOfOut({ state, nest }) {
+  if (state !== "FAILED OUT" || numberOf(nest[0]) !== OUT_OF_SERVICE) return "";
+  return " Hint: OUT 64 asks the installation's service, and this slot isn't served: tick its box by the deck, or write SERVICE after ENDDECK.";
+}
+
 const wordCells = (octal) => [make("code", {}, octal), numberOf(octal).toLocaleString("en")];
 
 /** What became of a program, in a sentence. */
-function storyOf({ slot, state, orders, at }, layout) {
+function storyOf(section, layout) {
+  const { slot, state, orders, at } = section;
   const [life, kind] = state.split(" ");
   const next = layout?.statementOf(...at);
   const stands = `Its next order is at word ${at[0]}, syllable ${at[1]}${next ? `: ${next.written}` : ""}.`;
   const became = { LIVE: "is live", ENDED: "has ended", FAILED: `failed (${kind})` }[life] ?? state;
-  return `Program ${slot} ${became}, after ${many(orders, "order")}. ${life === "ENDED" ? "" : stands}`;
+  return `Program ${slot} ${became}, after ${many(orders, "order")}. ${life === "ENDED" ? "" : stands}${hintOfOut(section)}`;
 }
 
 function sectionOf(section, layout) {

@@ -85,7 +85,7 @@ export function linesOfSections(text) {
 const withStore = (slot) => ({ ...slot, shows: [`0 ${slot.store - 1}`] });
 
 /** What a program has from its job, but for the number of its slot. */
-const lifeOf = (job, { store, deck, devices }) => JSON.stringify([store, deck, devices, job.pool?.devices ?? []]);
+const lifeOf = (job, { store, deck, isServed, devices }) => JSON.stringify([store, deck, isServed, devices, job.pool?.devices ?? []]);
 
 /** The run of a job in which the report shows all stores. */
 export class Whole {

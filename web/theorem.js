@@ -9,6 +9,7 @@ import { Alone, Shared, Whole, callOfOrder, compare } from "./same.js";
 import { Timeline } from "./timeline.js";
 
 const THIS_RUN = "in this run", RUN_BEFORE = "in the run before";
+const NOT_BEFORE = "not in the run before, since its deck, its store, its devices, its line SERVICE or the pool is another";
 
 // How many words of a program, and lines of a journal or a schedule, are shown at most.
 const MOST_WORDS = 60, MOST_LINES = 300;
@@ -47,8 +48,7 @@ export class Theorem {
     for (const { slot } of whole.sections) {
       const like = other.like(whole, slot);
       const name = like === undefined || like === slot ? `Program ${slot}` : `Program ${slot}, which was program ${like} in the run before`;
-      const compared = like === undefined ? { said: "not in the run before, since its deck, its store, its devices or the pool is another", isDue: true }
-        : await compare(new Shared(whole, slot), new Shared(other, like));
+      const compared = like === undefined ? { said: NOT_BEFORE, isDue: true } : await compare(new Shared(whole, slot), new Shared(other, like));
       found.push({ slot, name, changes: like === undefined ? null : changesOf(whole, slot, other, like), ...compared, isTurned: true });
     }
     this.show(said, whole, found, ...drawRuns(whole, other));

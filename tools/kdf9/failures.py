@@ -6,6 +6,7 @@ from kdf9.changes import number_of
 from kdf9.deck import WORD, Layout, Row
 from kdf9.job import Slot
 from kdf9.report import Section
+from kdf9.service import SERVICE
 from kdf9.words import count, listed
 
 KINDS = {"TP": "a paper tape punch", "TR": "a paper tape reader", "LP": "a line printer", "CR": "a card reader", "MT": "a magnetic tape"}
@@ -18,7 +19,10 @@ STORE = re.compile(r"=?((?:V|Y[A-Z]?|E)\d+(?:P\d+)?)(?:M(\d+)Q?)?\Z")
 TRANSFER = re.compile(r"(PRE?|PWE?|CR|LPE?|MFR|MBR|MW|MLW|MRWD|MFSK|MBSK)Q(\d+)\Z")
 TEST = re.compile(r"(BUSY|PAR|MBT|MLB|INT|TLO)Q(\d+)\Z")
 OF_KINDS = {"PR": "TR", "PRE": "TR", "PW": "TP", "PWE": "TP", "CR": "CR", "LP": "LP", "LPE": "LP"}
-OUTS = "0, 3, 4, 5, 6, 8 and 9"
+
+# The numbers of OUT but that of the service, those with a second word, and what becomes of 64 if octal digits are taken for decimal ones, or the other way round.
+OUTS, OF_TWO_WORDS = [0, 3, 4, 5, 6, 8, 9], [4, 5, 6, 8]
+LIKE_SERVICE = 0o64, 100
 
 
 class Case(NamedTuple):
@@ -116,7 +120,8 @@ def reason_of_nouv(case):
         return "there is no link: was this part reached by J instead of JS?"
     if words > 14:
         return f"the nest has {count(words, 'word')}, and at most 16 fit"
-    return f"the nest has {count(words, 'word')}, which is too few for {case.text or 'this order'}"
+    number = f" {number_of(case.section.nest[0])}" if case.text == "OUT" and words else ""
+    return f"the nest has {count(words, 'word')}, which is too few for {case.text or 'this order'}{number}"
 
 
 def reason_of_reset(case):
@@ -132,8 +137,12 @@ def reason_of_out(case):
         return f"OUT 5 needs 1 (TP), 2 (TR), 3 (LP) or 4 (CR) in N2, but N2 is {second}"
     if call == 8:
         return f"OUT 8 has streams 0 to 7, but the counter of N2 is {case.section.nest[1] >> 32}"
-    exchanged = f"; did you mean OUT {second}? The number goes on top, and here {second} is in N2" if second in (4, 5, 6, 8) else ""
-    return f"OUT {call} isn't one of {OUTS}{exchanged}"
+    if call == SERVICE:
+        return f"OUT {SERVICE} asks the installation's service, and slot {case.slot.number} isn't served: it has no line SERVICE after its ENDDECK"
+    own = [SERVICE] if case.slot.served else []
+    exchanged = f"; did you mean OUT {second}? The number goes on top, and here {second} is in N2" if second in OF_TWO_WORDS + own else ""
+    octal = f"; did you mean OUT {SERVICE}? That is SET {SERVICE}, or SETB100 in octal" if own and call in LIKE_SERVICE else ""
+    return f"OUT {call} isn't one of {listed(list(map(str, OUTS + own)))}{exchanged or octal}"
 
 
 def reason_of_claim(case):

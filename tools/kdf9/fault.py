@@ -4,6 +4,7 @@ from typing import NamedTuple
 
 from kdf9 import deck as decks
 from kdf9 import job as jobs
+from kdf9 import saved
 from kdf9.program import ROOT, BadInput, ask
 
 HEADER = "KDF9 JOB 1"
@@ -24,7 +25,7 @@ RANGES = {
     "ORDERS": [(1, 20000000)], "MOVE": [(0, 15), (1, 4096)], "END": [(0, 15)], "CLOCK": [(0, 2**47 - 1)],
     "SWAP": [(0, 3), (0, 3)],
 }
-KEYWORDS = {*RANGES, "DECK", "ENDDECK", "POOL", "SCHEDULE", "ENDJOB"}
+KEYWORDS = {*RANGES, "DECK", "ENDDECK", "SERVICE", "POOL", "SCHEDULE", "ENDJOB"}
 NUMBER = re.compile(r"(?:0|[1-9][0-9]*)\Z")
 
 # The kinds of devices that begin empty, and what stands for a kind directly after the line POOL.
@@ -57,10 +58,12 @@ class Fault(NamedTuple):
 
 
 def fault_of(answer, lines):
-    """The fault that the program reports for a job of these lines."""
+    """The fault that the program reports for a job of these lines, or for one with a snapshot after it."""
     kind, *words = answer.text.split()
     if kind == "JOB":
         return fault_of_job(words[0], int(words[1]), lines)
+    if kind == "SNAPSHOT":
+        return fault_of_snapshot(words[0], int(words[1]), lines)
     slot = jobs.read_slots(lines)[int(words[0])]
     return fault_of_deck(slot, words[1], int(words[2]))
 
@@ -90,6 +93,14 @@ def fault_of_job(name, line, lines):
     else:
         column = column_of_word(text, WORD_AT_FAULT.get(name, 0))
     return Fault(name, line, column, shown(text))
+
+
+def fault_of_snapshot(name, line, lines):
+    """The fault of this name in a line of a snapshot. If the line should be another, the column is where they begin to differ."""
+    if line > len(lines):
+        return Fault(name, line, 1, "the text ends here")
+    text, due = lines[line - 1], saved.due_in(lines, line)
+    return Fault(name, line, 1 + first_difference(text, due), shown(text))
 
 
 def first_difference(text, due):
@@ -135,6 +146,11 @@ def shown(text):
 def brief(text):
     """The text, or its beginning if it is long."""
     return text if len(text) <= LONGEST_SUBJECT else text[:LONGEST_SUBJECT - 3] + "..."
+
+
+def brief_at(text, column):
+    """The text, or its part around a column if it is long."""
+    return brief(text) if column < LONGEST_SUBJECT // 2 else "..." + brief(text[column - LONGEST_SUBJECT // 4:])
 
 
 def page(name):

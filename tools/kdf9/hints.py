@@ -4,6 +4,7 @@ import re
 
 from kdf9 import deck as decks
 from kdf9 import fault as faults
+from kdf9 import saved
 from kdf9.names import distance_is_one, has_form, hint_of_name
 from kdf9.words import listed
 
@@ -12,7 +13,7 @@ CAPITALS = "lowercase letters aren't allowed here; write {}"
 # The form of each line of a job that has operands.
 FORMS = {
     "SLOT": "SLOT p", "STORE": "STORE n", "DEVICE": "DEVICE d k, or DEVICE d MT label", "SHOW": "SHOW a b", "ORDERS": "ORDERS n", "MOVE": "MOVE d n",
-    "END": "END d", "CLOCK": "CLOCK t", "SWAP": "SWAP p q", "POOL": "POOL, with nothing after it",
+    "END": "END d", "CLOCK": "CLOCK t", "SWAP": "SWAP p q", "POOL": "POOL, with nothing after it", "SERVICE": "SERVICE, with nothing after it",
 }
 POOL_DEVICE = "DEVICE d TP, or DEVICE d LP"
 SCHEDULED = ["ORDERS", "MOVE", "END", "CLOCK", "SWAP", "ENDJOB"]
@@ -90,13 +91,33 @@ def hint_of_job(fault, lines):
     if fault.name == "BadNumber":
         return hint_of_number(line)
     if fault.name == "BadLine":
-        return hint_of_pool(line, lines[:fault.line - 1]) or hint_of_line(line, expected_at(lines, fault.line))
+        before = lines[:fault.line - 1]
+        return hint_of_service(line, before) or hint_of_pool(line, before) or hint_of_line(line, expected_at(lines, fault.line))
     if fault.name == "PoolKind":
         return f"the pool has punches and printers; a device of kind {line.split(' ')[2]} belongs to a slot, and comes before POOL"
     if fault.name == "ShowRange":
         store = next(lines[at] for at in range(fault.line - 1, -1, -1) if lines[at].startswith("STORE ") and lines[at + 1] == "DECK")
         return f"the store has words 0 to {int(store[6:]) - 1}"
     return None
+
+
+def hint_of_snapshot(fault, lines):
+    """A hint for a fault of a snapshot, or None: what its front job's snapshot has in the line at fault."""
+    if fault.name == "NoJournal" and fault.line > len(lines):
+        return "this is only a job; ./kdf9 save writes its snapshot"
+    if fault.name == "NoEnd":
+        return "ENDSNAPSHOT is missing"
+    due = saved.due_in(lines, fault.line)
+    return f"the snapshot of this job has {faults.brief_at(faults.shown(due), fault.column)} here" if due else None
+
+
+def hint_of_service(line, before):
+    """A hint for a line SERVICE that isn't allowed after the lines before it, or None."""
+    if line != "SERVICE" or is_in_deck(before):
+        return None
+    if before[-1] == line:
+        return "the slot already has a line SERVICE"
+    return "SERVICE comes once in a slot, directly after ENDDECK"
 
 
 def hint_of_pool(line, before):
@@ -133,7 +154,8 @@ def expected_at(lines, line):
         return first[word]
     media = {"TR": ["+"], "CR": ["+"], "MT": ["+", "="]}
     has_device = word == "DEVICE" or before[:1] in ("+", "=")
-    return (media.get(faults.device_above(lines, line), []) if has_device else []) + ["DEVICE", "SHOW", "SLOT", "POOL", "SCHEDULE"]
+    own = media.get(faults.device_above(lines, line), []) if has_device else ["SERVICE"] if before == "ENDDECK" else []
+    return own + ["DEVICE", "SHOW", "SLOT", "POOL", "SCHEDULE"]
 
 
 def hint_of_number(line):

@@ -1,10 +1,13 @@
 """The text of a job in which the program found no fault of the job: its lines, its slots with their decks, and its pool."""
 from typing import NamedTuple
 
+# The line of a slot, directly after its deck, whose program the installation's service answers.
+SERVICE = "SERVICE"
+
 
 class Slot(NamedTuple):
     """A slot of a job: its number, the words of its store, the line of the job, from 1, where its deck begins, the text of the deck, the
-    lines of its devices with their media, and those of the pool, which all slots share.
+    lines of its devices with their media, those of the pool, which all slots share, and whether it has the line SERVICE.
     """
 
     number: int
@@ -13,6 +16,7 @@ class Slot(NamedTuple):
     deck: str
     devices: list
     pool: tuple = ()
+    served: bool = False
 
     def place(self, offset):
         """The line of the job and the column, both from 1, of a byte of the deck. ENDDECK comes after the last byte."""
@@ -21,7 +25,7 @@ class Slot(NamedTuple):
 
     def lines(self):
         """What a program has from its job, but for the number of its slot."""
-        return self.store, self.deck, self.devices, self.pool
+        return self.store, self.deck, self.devices, self.pool, self.served
 
     def kinds(self):
         """The kinds of the slot's devices by their numbers."""
@@ -56,8 +60,9 @@ def read_slots(lines):
             store=int(lines[at + 1].split()[1]),
             deck_line=at + 4,
             deck=join_lines(lines[at + 3:end]),
-            devices=[line for line in lines[end + 1:after] if not line.startswith("SHOW ")],
+            devices=[line for line in lines[end + 1:after] if line != SERVICE and not line.startswith("SHOW ")],
             pool=pool,
+            served=lines[end + 1] == SERVICE,
         )
         slots[slot.number] = slot
         at = after
@@ -87,7 +92,8 @@ def job_text(slots, schedule, shown=()):
 def text_of_slot(slot, is_shown):
     """The lines of a slot, which show its whole store or nothing."""
     head = join_lines([f"SLOT {slot.number}", f"STORE {slot.store}", "DECK"])
-    return head + slot.deck + join_lines(["ENDDECK", *slot.devices, *([f"SHOW 0 {slot.store - 1}"] if is_shown else [])])
+    service, shows = [SERVICE] if slot.served else [], [f"SHOW 0 {slot.store - 1}"] if is_shown else []
+    return head + slot.deck + join_lines(["ENDDECK", *service, *slot.devices, *shows])
 
 
 def lone_job(slot, orders):

@@ -26,10 +26,11 @@ class Hold(NamedTuple):
 
 
 class Stopped:
-    """A run that has stopped: its job, its report, and what it was like after any call."""
+    """A run that has stopped: its job, its report, what it was like after any call, and the numbers of its lines where these aren't 1, 2 and so on."""
 
-    def __init__(self, lines, run):
+    def __init__(self, lines, run, numbers=None):
         self.lines, self.report = lines, run
+        self.numbers = numbers or range(1, len(lines) + 1)
         self.slots, self._schedule = read_slots(lines), read_schedule(lines)
         self.flying, self.lent = in_flight(run.entries), lent(run.entries)
         self.pool = next(iter(self.slots.values())).pool_kinds()
@@ -154,7 +155,7 @@ def devices_that_are_none(stopped):
         seen.add(device)
         meant = [other for other in sorted(stopped.flying) if set(str(other)) & set(str(device))] or sorted(stopped.flying)
         did = f"; did you mean {word} {meant[0]}?" if meant else ""
-        yield f"line {at + 1}, {stopped.lines[at]}: {nobody} has device {device}{did}"
+        yield f"line {stopped.numbers[at]}, {stopped.lines[at]}: {nobody} has device {device}{did}"
 
 
 def story_of_loop(stopped, case):

@@ -19,7 +19,7 @@ LONGEST_ENTRY = 40
 SLOTS = ["0", "1", "2", "3"]
 
 # The first word of what the program writes instead of a report, and the status that goes with it.
-STATUSES = {"USAGE": 1, "JOB": 2, "DECK": 3, "LARGE": 4}
+STATUSES = {"USAGE": 1, "JOB": 2, "DECK": 3, "LARGE": 4, "SNAPSHOT": 8}
 
 
 class Device(NamedTuple):
@@ -58,6 +58,11 @@ class Section:
     def add(self, word, rest):
         """Takes one line, of this first word and with this rest."""
         READERS[word](self, rest)
+
+
+def length_of_journal(lines):
+    """How many lines of a report come before its first section: its first line, and one for each entry."""
+    return next((at for at, line in enumerate(lines) if line.startswith("SLOT ")), len(lines))
 
 
 def numbers(text):

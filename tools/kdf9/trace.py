@@ -72,9 +72,10 @@ class Trace:
         self.rest = []
 
 
-def said_of_order(own):
-    """What an order did besides what it changed, in words, by its entries."""
-    return [DOES[kind].format(numbers[1]) for kind, *numbers in own if kind in DOES]
+def said_of_order(own, word=None):
+    """What an order did besides what it changed, in words, by its entries. If it asked the installation's service, that was to answer this word."""
+    service = "" if word is None else f" by the installation's service, to the word {word:016o}"
+    return [DOES[kind].format(numbers[1]) + (service if kind == "ANSWER" else "") for kind, *numbers in own if kind in DOES]
 
 
 def freed_by(between, slot):

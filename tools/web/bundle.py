@@ -45,13 +45,18 @@ def script(name=MAIN):
 
 
 def sentences():
-    """What the documents say about each fault of a job and of a deck."""
-    table = read("docs/JOB.md").partition("## What is wrong with a job")[2].partition("\n## ")[0]
-    job = {name: f"{said[0].upper()}{said[1:]}. (docs/JOB.md)" for name, said in re.findall(r"^\| `(\w+)` \| (.*?) \|$", table, re.MULTILINE)}
+    """What the documents say about each fault of a job, of a snapshot and of a deck."""
     deck = {}
     for number, name, said in re.findall(r"^### (\d+) (\w+)\n\n(.*?)\n\n", read("docs/USERCODE.md"), re.MULTILINE | re.DOTALL):
         deck[name] = f"{' '.join(said.split())} (docs/USERCODE.md, fault {number})"
-    return {"job": plain(job), "deck": plain(deck)}
+    return {"job": plain(faults_of("job")), "snapshot": plain(faults_of("snapshot")), "deck": plain(deck)}
+
+
+def faults_of(what):
+    """What docs/JOB.md says about each fault of this, by its name."""
+    table = read("docs/JOB.md").partition(f"## What is wrong with a {what}")[2].partition("\n## ")[0]
+    rows = re.findall(r"^\| `([A-Z]\w+)` \| (.*?) \|$", table, re.MULTILINE)
+    return {name: f"{said[0].upper()}{said[1:]}. (docs/JOB.md)" for name, said in rows}
 
 
 def plain(said):

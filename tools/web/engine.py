@@ -22,11 +22,12 @@ KEPT = OUT / "incremental"
 
 # Where each file of web/engine goes in the crate. In web/engine they have names of their own, since `rt ci` refuses a source that belongs to no crate of the list.
 PLACES = {
-    "lib.rt.txt": "src/lib.rt", "Words.antt.txt": "specs/Words.antt", "Specs.antt.txt": "specs/Lib.antt", "Answer.antt.txt": "proofs/answer/Answers.antt",
+    "lib.rt.txt": "src/lib.rt", "Words.antt.txt": "specs/Words.antt", "Service.antt.txt": "specs/Service.antt", "Specs.antt.txt": "specs/Lib.antt",
+    "Proofs.antt.txt": "proofs/Lib.antt", "More.antt.txt": "proofs/More.antt", "Answer.antt.txt": "proofs/answer/Answers.antt",
     "Lines.antt.txt": "proofs/lines_of/Answers.antt", "OwnWords.antt.txt": "proofs/own_words/Invariants.antt",
     "WordsOf.antt.txt": "proofs/words_of/Answers.antt",
 }
-CRATE, USES = "page", ["kdf_top", "kdf_io", "kdf_director"]
+CRATE, USES = "page", ["kdf_top", "kdf_io", "kdf_director", "kdf_service", "kdf_job", "kdf_journal", "kdf_schedule", "kdf_transfer", "kdf_check", "kdf_text"]
 
 TARGET = ["--target=wasm64-unknown-unknown", "-mcpu=lime1", "--no-default-config"]
 

@@ -6,3 +6,4 @@ pub mod Steps
 pub mod Stints
 pub mod Takings
 pub mod WorkedLemmas
+pub mod Rooms

@@ -11,7 +11,7 @@ ghost use Rattle.kdf_processor.specs.Stints.{IsStint};
 ghost use Rattle.kdf_alone.specs.Program.{given_by, IsApart, IsDeviceAt};
 
 use crate::bench::Bench;
-use crate::loading::{places, store};
+use crate::loading::load_bench;
 use crate::obeying::obey_next;
 use kdf_job::SlotJob;
 use kdf_place::Image;
@@ -48,11 +48,9 @@ impl Alone {
         requires apart { IsApart (shown_slot slot.now) }
         ensures { IfOk result (λ a. a ≡ begin (slot_of (shown_slot slot.now) image.now.words.items)) }
     {
-        let words = store(alloc, slot.size, &image.words)?;
-        let places = places(alloc, slot)?;
         Ok(Alone {
             registers: Registers::new(),
-            bench: Bench::new(alloc, slot.size, words, places, false),
+            bench: load_bench(alloc, slot, image, slot.served)?,
         })
     }
 

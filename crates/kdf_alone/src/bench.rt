@@ -45,11 +45,11 @@ impl Bench {
     ghost use Rattle.std.specs.Prelude.{◌+◌, ◌-◌, slice_index, slice_index_or, slice_get, None, true, false};
     ghost use Rattle.std.specs.Option.{option_copied};
     ghost use Rattle.kdf_processor.specs.Claims.{can_take, free_for, is_free, least_pooled, may_take, taken};
-    ghost use Rattle.kdf_processor.specs.Effect.{Acquires};
-    ghost use Rattle.kdf_processor.specs.State.{is_pooled, lendings, unclaimed};
+    ghost use Rattle.kdf_processor.specs.Effect.{Act, Acquires};
+    ghost use Rattle.kdf_processor.specs.State.{is_pooled, lendings, pool_kind_at, unclaimed};
     ghost use Rattle.kdf_processor.specs.Stints.{IsStint};
     ghost use Rattle.kdf_alone.specs.declared.place.Place.TheVariants.{Absent, Pooled};
-    ghost use Rattle.kdf_alone.specs.Bench.{claims_of, stock_of, Acts};
+    ghost use Rattle.kdf_alone.specs.Bench.{claims_of, stock_of, Acts, HasRoom};
     ghost use Rattle.kdf_alone.specs.Places.{own_device_in, own_fixture_in, progress_in};
     ghost use Rattle.kdf_alone.specs.Stints.{IsUnlent};
 
@@ -162,6 +162,7 @@ impl Bench {
     pub fn prepare(&mut self, answer: u64)
         ensures stock { stock_of self.new ≡ stock_of self.old }
         ensures answer { self.new.answer ≡ answer }
+        ensures room { (act : Act) → HasRoom self.old act → HasRoom self.new act }
     {
         self.answer = answer;
     }
@@ -202,6 +203,14 @@ impl Bench {
         let device = self.first_free(wanted)?;
         self.claimed[usize::from(device)] = true;
         Some(device)
+    }
+
+    /// The kind of a device of the pool, where it has one of this number.
+    pub fn pool_kind(&self, d: u8) -> Option<Kind>
+        requires { d < 16 }
+        ensures { result ≡ pool_kind_at (claims_of self.now) d }
+    {
+        self.places[usize::from(d)].pool_kind()
     }
 
     /// Whether a device of the pool is of this kind and isn't claimed.

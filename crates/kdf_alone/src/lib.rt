@@ -11,3 +11,5 @@ mod text;
 pub mod worked;
 
 pub use alone::Alone;
+pub use bench::Bench;
+pub use loading::load_bench;

@@ -3,17 +3,40 @@ ghost use Rattle.std.specs.Prelude.{◌≡◌, ◌≤◌, All, None, length, map
 ghost use Rattle.std.specs.Option.{option_map};
 ghost use Rattle.kdf_job.specs.Shows.{shown_device, shown_slot};
 ghost use Rattle.kdf_job.specs.Slots.{fixture_on, lent_kind, numbered, progress_on};
-ghost use Rattle.kdf_processor.specs.State.{filled};
+ghost use Rattle.kdf_job.specs.Slots.{slot_with};
+ghost use Rattle.kdf_processor.specs.State.{filled, stocked};
 ghost use Rattle.kdf_transfer.specs.ByNumber.{by_number};
+ghost use Rattle.kdf_alone.specs.Bench.{stock_of};
 ghost use Rattle.kdf_alone.specs.Places.{own_fixture_in, pool_kind_in, progress_in, IsWhole};
 ghost use Rattle.kdf_alone.specs.Program.{IsApart};
 ghost use Rattle.kdf_alone.specs.Stints.{IsUnlent};
 
+use crate::Bench;
 use crate::place::Place;
 use kdf_job::{SlotJob, device_numbered, kind_lent};
+use kdf_place::Image;
 use kdf_transfer::Device;
 use kdf_word::Word;
 use std::alloc::{AllocError, Global};
+
+/// What a slot has before the first order of its program: the words of the image at the front of its store, its devices and those
+/// of the pool, none of them claimed. It is served where that is said.
+pub fn load_bench(
+    alloc: Global,
+    slot: &SlotJob,
+    image: &Image,
+    served: bool,
+) -> Result<Bench, AllocError>
+    requires fits { length image.now.words.items ≤ slot.now.size }
+    requires apart { IsApart (shown_slot slot.now) }
+    ensures { IfOk result (λ b. stock_of b
+        ≡ stocked (slot_with slot.now.p slot.now.size image.now.words.items
+        (map shown_device slot.now.devices.items) slot.now.pool.items served)) }
+{
+    let words = store(alloc, slot.size, &image.words)?;
+    let places = places(alloc, slot)?;
+    Ok(Bench::new(alloc, slot.size, words, places, served))
+}
 
 /// The words of a store of this size with an image at its front, and zeros after.
 pub fn store(alloc: Global, size: u16, image: &[Word]) -> Result<Vec<Word>, AllocError>

@@ -45,6 +45,16 @@ impl Place {
         }
     }
 
+    /// Its kind, where it is of the pool.
+    pub fn pool_kind(&self) -> Option<Kind>
+        ensures { result ≡ pool_kind_in self.now }
+    {
+        match self {
+            Place::Pooled(device) => Some(device.kind()),
+            Place::Absent | Place::Own(_) => None,
+        }
+    }
+
     /// Whether the device is of the pool, and of this kind.
     pub fn is_pooled(&self, kind: Kind) -> bool
         ensures { result ≡ is_kind kind (pool_kind_in self.now) }

@@ -17,14 +17,14 @@ use Rattle.kdf_processor.specs.Row.{done_by}
 use Rattle.kdf_processor.specs.Outcome.{Outcome}
 use Rattle.kdf_transfer.specs.Slots.{Slot}
 use Rattle.kdf_processor.specs.State.{State}
-use Rattle.kdf_director.specs.Advance.{Obeyed, note_told, states_after}
+use Rattle.kdf_director.specs.Advance.{Obeyed, note_told, states_after, IsHeard}
 use Rattle.kdf_director.specs.Agrees.{Agrees, AreLent}
 use Rattle.kdf_director.specs.Following.{asked_at}
 use Rattle.kdf_director.specs.Legal.{Meets, note_for, note_of, note_of_outcome}
 use Rattle.kdf_director.specs.Next.{next}
 use Rattle.kdf_director.specs.Notes as notes
 use Rattle.kdf_director.specs.Parts.{Reach, Seat, Shared, in_pool}
-use Rattle.kdf_director.specs.Running.{outcome_at, hold_of, own_state, part_at, seat_at, IsRunning}
+use Rattle.kdf_director.specs.Running.{outcome_at, hold_of, own_state, part_at, seat_at, IsRunning, reach_at}
 use Rattle.kdf_director.specs.Settled.{holder_left}
 use Rattle.kdf_director.specs.Seen.{begun_row, seen}
 use Rattle.kdf_director.specs.Shown.{Shown, state_at, state_in, world_of}
@@ -46,6 +46,9 @@ use Rattle.kdf_director.proofs.Obeying.{obeys-others, obeys-seen}
 use Rattle.kdf_director.proofs.OnCourse.{legal-course}
 use Rattle.kdf_director.proofs.SeenJournals.{same-need, same-note}
 use Rattle.kdf_director.proofs.Worlds.{next-world, next_on, next_slot}
+use Rattle.kdf_director.specs.Shared.{moment}
+use Rattle.kdf_director.specs.Taken.{HasAsked}
+use Rattle.kdf_director.proofs.HeardWords.{heard_of}
 
 -- ---- states by slots
 
@@ -139,9 +142,6 @@ module _ (slots : List Slot) (reaches : List Reach) (seats : List Seat) (s : Sha
   abbrev m : Shown
   m = record { slots = slots; states = states_in reaches seats s J; journal = J; room = room }
 
-  abbrev answer : Question → ℕ
-  answer = truth (lone_world slots J) J p
-
   -- its own state is what is seen of it
   state_is : is_some (slot_of slots p) ≡ true → state_at m p ≡ seen_of slots J p
   state_is there =
@@ -152,6 +152,31 @@ module _ (slots : List Slot) (reaches : List Reach) (seats : List Seat) (s : Sha
   unfolding first_need
   by_state there = ap (λ x. find (is_pending_after slots J p) (needs x (mine_after J p))) (state_is there)
 
+  -- what is heard where its next order asks the service, by its own state and by the lone one
+  module _ (answers : ℕ → ℕ → Type 0) (heard : ℕ) (asked : HasAsked answers (reach_at reaches i).served (seat_at seats i).registers heard) where
+    own_heard : (n : ℕ) → IsHeard answers (own_state reaches seats s n i) heard
+    unfolding own_state
+    own_heard n = heard_of answers (reach_at reaches i).served (seat_at seats i).registers heard asked (own_state reaches seats s n i) refl refl
+
+    pub state_heard : is_some (slot_of slots p) ≡ true → IsHeard answers (state_at m p) heard
+    state_heard there =
+        subst (λ (x : State). IsHeard answers x heard) ((a.following.each i lt).is_seen ∙ sym (state_is there)) (own_heard (asked_at seats J i))
+
+    own_registers : (n : ℕ) → (own_state reaches seats s n i).registers ≡ (seat_at seats i).registers
+    unfolding own_state
+    own_registers n = refl
+
+    own_served : (n : ℕ) → (own_state reaches seats s n i).stock.claims.served ≡ (reach_at reaches i).served
+    unfolding own_state
+    own_served n = refl
+
+    pub lone_heard : IsHeard answers (own slots J p) heard
+    lone_heard =
+        let seen = (a.following.each i lt).is_seen in
+        heard_of answers (reach_at reaches i).served (seat_at seats i).registers heard asked (own slots J p)
+        (sym (ap (λ (x : State). x.registers) seen) ∙ own_registers (asked_at seats J i))
+        (sym (ap (λ (x : State). x.stock.claims.served) seen) ∙ own_served (asked_at seats J i))
+
   -- what holds it up by its own state
   pub need_is : is_some (slot_of slots p) ≡ true → first_need (world_of m) p ≡ hold_of reaches seats s i
   need_is there =
@@ -159,7 +184,10 @@ module _ (slots : List Slot) (reaches : List Reach) (seats : List Seat) (s : Sha
       ∙ sym (hold_same slots J reaches seats s a.running a.following i lt (legal-course slots J a.are a.legal p) a.lent)
 
   -- it is next, and nothing holds it up
-  module _ (turn : next (world_of m) slots J ≡ Some p) (free : hold_of reaches seats s i ≡ None) where
+  module _ (heard : ℕ) (turn : next (world_of m) slots J ≡ Some p) (free : hold_of reaches seats s i ≡ None) where
+    abbrev answer : Question → ℕ
+    answer = truth (lone_world slots J) J p heard
+
     there : is_some (slot_of slots p) ≡ true
     there = next_slot (world_of m) slots J p turn
 
@@ -175,17 +203,17 @@ module _ (slots : List Slot) (reaches : List Reach) (seats : List Seat) (s : Sha
     abbrev noted : Note
     noted = note_of (own slots J p) answer
 
-    meets : Meets (lone_world slots J) slots J (Obeys p noted)
+    meets : Meets (lone_world slots J) slots J heard (Obeys p noted)
     meets = (turn_lone, ap (option_map world.hold_of) free_lone, refl)
 
-    noted_own : note_of (state_at m p) (truth (world_of m) J p) ≡ noted
+    noted_own : note_of (state_at m p) (truth (world_of m) J p heard) ≡ noted
     noted_own = ap (λ (x : State). note_of x answer) (state_is there) ∙ same-note slots J p answer free_lone
 
-    module _ (seats' : List Seat) (s' : Shared) (ended : Ending) (beside : Noted) (turned : HasTurned reaches (clock J) i seats s seats' s' ended beside) (run : IsRunning reaches seats' s') (few : calls J < CALL_LIMIT) (numbers : map (λ (x : Seat). x.p) seats' ≡ map (λ (x : Seat). x.p) seats) where
+    module _ (seats' : List Seat) (s' : Shared) (ended : Ending) (beside : Noted) (turned : HasTurned reaches (moment (clock J) heard) i seats s seats' s' ended beside) (run : IsRunning reaches seats' s') (few : calls J < CALL_LIMIT) (numbers : map (λ (x : Seat). x.p) seats' ≡ map (λ (x : Seat). x.p) seats) where
       abbrev o : Outcome
-      o = outcome_at reaches seats s (clock J) (asked_at seats J i) i
+      o = outcome_at reaches seats s (moment (clock J) heard) (asked_at seats J i) i
 
-      count : (seat_at seats' i).registers.ran ≡ (outcome_at reaches seats s (clock J) (asked_at seats J i) i).registers.ran
+      count : (seat_at seats' i).registers.ran ≡ (outcome_at reaches seats s (moment (clock J) heard) (asked_at seats J i) i).registers.ran
       unfolding own_state
       count = ap (λ (x : State). x.registers.ran) (turned.own (asked_at seats J i))
 
@@ -195,13 +223,13 @@ module _ (slots : List Slot) (reaches : List Reach) (seats : List Seat) (s : Sha
           ap₂ (λ e b. note_told (seat_at seats' i).registers.ran e b) (turned.step (asked_at seats J i)) (turned.note (asked_at seats J i))
           ∙ ap (λ k. note_told k o.step (notes.note_of o.act)) count
           ∙ told_act o.registers.ran o.act o.step
-          ∙ ap note_of_outcome (outcome_is slots J reaches seats s a.are a.legal a.running a.following a.lent i lt noted meets)
+          ∙ ap note_of_outcome (outcome_is slots J reaches seats s a.are a.legal a.running a.following a.lent i lt heard noted meets)
           ∙ ap (λ (x : State). note_of x answer) (a.following.each i lt).is_seen
           ∙ same-note slots J p answer free_lone
 
       -- it isn't held, and it was live
       going : IsGoing ended
-      going = subst IsGoing (sym (turned.step (asked_at seats J i) ∙ ap (λ (x : Outcome). x.step) (outcome_is slots J reaches seats s a.are a.legal a.running a.following a.lent i lt noted meets))) (done_going answer (next_effect (own_state reaches seats s (asked_at seats J i) i)) (own_state reaches seats s (asked_at seats J i) i))
+      going = subst IsGoing (sym (turned.step (asked_at seats J i) ∙ ap (λ (x : Outcome). x.step) (outcome_is slots J reaches seats s a.are a.legal a.running a.following a.lent i lt heard noted meets))) (done_going answer (next_effect (own_state reaches seats s (asked_at seats J i) i)) (own_state reaches seats s (asked_at seats J i) i))
 
       -- each device of the pool is whose the journal tells then
       lent_then : AreLent (added J (Obeys p noted)) reaches seats' s'
@@ -221,15 +249,15 @@ module _ (slots : List Slot) (reaches : List Reach) (seats : List Seat) (s : Sha
             four = a.four;
             numbers = numbers ∙ a.numbers;
             running = run;
-            following = turn_follows slots J reaches seats s a.are a.legal a.running a.following a.lent i lt noted meets seats' s' ended beside turned;
+            following = turn_follows slots J reaches seats s a.are a.legal a.running a.following a.lent i lt heard noted meets seats' s' ended beside turned;
             lent = lent_then;
-            legal = legal_added slots J (Obeys p noted) a.legal meets;
-            truly = true_added slots J (Obeys p noted) a.legal a.truly meets;
+            legal = legal_added slots J heard (Obeys p noted) a.legal meets;
+            truly = true_added slots J heard (Obeys p noted) a.legal a.truly meets;
             few_calls = omega (arith, calls-added J (Obeys p noted));
             few_moves = (let k = a.few_moves in omega (arith, moves-added J (Obeys p noted)));
           }
 
-      pub shows_obeyed : Obeyed m (record { slots = slots; states = states_in reaches seats' s' (added J (Obeys p noted)); journal = added J (Obeys p noted); room = room }) p
+      pub shows_obeyed : Obeyed heard m (record { slots = slots; states = states_in reaches seats' s' (added J (Obeys p noted)); journal = added J (Obeys p noted); room = room }) p
       shows_obeyed =
           record {
             was_next = turn;
@@ -237,7 +265,7 @@ module _ (slots : List Slot) (reaches : List Reach) (seats : List Seat) (s : Sha
             states =
                 shows slots reaches seats' s' (added J (Obeys p noted)) agrees_obeyed
                 ∙ states_row (seen_of slots J) (seen_of slots (added J (Obeys p noted))) p answer
-                (obeys-seen slots J p noted a.legal meets a.are)
+                (obeys-seen slots J p heard noted a.legal meets a.are)
                 (λ k ne. other k (λ e. ne (sym e))) slots a.are.numbers
                 ∙ ap (λ xs. states_after slots xs p answer) (sym (shows slots reaches seats s J a));
             journal = ap (λ x. added J (Obeys p x)) (sym noted_own);
@@ -245,5 +273,5 @@ module _ (slots : List Slot) (reaches : List Reach) (seats : List Seat) (s : Sha
         where
           other : (k : ℕ) → p ≢ k → seen_of slots (added J (Obeys p noted)) k ≡ seen_of slots J k
           other k ne =
-              let stay = obeys-others slots J p noted a.legal meets a.are k ne in
+              let stay = obeys-others slots J p heard noted a.legal meets a.are k ne in
               ap₂ seen stay.1 stay.0

@@ -2,7 +2,7 @@
 use Rattle.std.specs.Prelude.{Result, Ok, Err, OnErr, IfOk}
 use Rattle.std.specs.List.{list_any}
 use Rattle.std.specs.Option.{option_map}
-use Rattle.std.proofs.Common.{◌≡◌, ℕ, ◌<◌, ◌≤◌, Bool, true, false, ◌||◌, List, [], ◌∷◌, length, map, Option, Some, None, cond, refl, sym, ap, ap₂, ◌∙◌, subst, arith}
+use Rattle.std.proofs.Common.{◌≡◌, ℕ, ◌<◌, ◌≤◌, inl, Bool, true, false, ◌||◌, List, [], ◌∷◌, length, map, Option, Some, None, cond, refl, sym, ap, ap₂, ◌∙◌, subst, arith}
 use Rattle.std.proofs.lemmas.List.{length-map}
 use Rattle.kdf_journal.specs.declared.entry.Entry.{Entry}
 use Rattle.kdf_journal.specs.declared.journal.TheConstants.{CALL_LIMIT}
@@ -20,7 +20,7 @@ use Rattle.kdf_director.specs.declared.machine.Progress.TheVariants as progress
 use Rattle.kdf_director.specs.declared.place.Place.{Place}
 use Rattle.kdf_director.specs.declared.program.Program.{Program}
 use Rattle.kdf_director.specs.declared.slot.Loaded.{Loaded}
-use Rattle.kdf_director.specs.Advance.{Advance}
+use Rattle.kdf_director.specs.Advance.{AdvanceWith}
 use Rattle.kdf_director.specs.Agrees.{Agrees, IsReady}
 use Rattle.kdf_director.specs.Going.{any_on, first_going, AreNearHolds}
 use Rattle.kdf_director.specs.Next.{any_live, next}
@@ -36,6 +36,7 @@ use Rattle.kdf_director.proofs.Entering.{map_twice}
 use Rattle.kdf_director.proofs.NextPrograms.{any_same, few_ran, is_next, near_holds, none_next, of_four}
 use Rattle.kdf_director.proofs.Taking.{HasAdvanced, all_ended, holds_in, taken, waited}
 use Rattle.kdf_director.proofs.Turned.{if_ok, on_either, on_err}
+use Rattle.kdf_director.specs.Served.{IsAnswered}
 
 -- a life that is live
 live_is : (x : Life) → is_live x ≡ true → x ≡ life.Live
@@ -54,7 +55,7 @@ any_map h f (x ∷ xs) = ap (λ b. f (h x) || b) (any_map h f xs)
 abbrev pub holds_of : List Program → List (Option Need)
 holds_of programs = map (λ (x : Program). x.hold) programs
 
-module _ (slots : List Loaded) (windows : List Window) (store : Cells) (programs : List Program) (places : List Place) (J : List Entry) (spare room : ℕ) (ready : IsReady slots windows store programs places J spare room) where
+module _ (answers : ℕ → ℕ → Type 0) (slots : List Loaded) (windows : List Window) (store : Cells) (programs : List Program) (places : List Place) (J : List Entry) (spare room : ℕ) (ready : IsReady slots windows store programs places J spare room) where
   abbrev xs : List Slot
   xs = map slot_loaded slots
 
@@ -97,7 +98,7 @@ module _ (slots : List Loaded) (windows : List Window) (store : Cells) (programs
     abbrev s' : Shared
     s' = shared_in store' places'
 
-    ready_then : (answer : Progress) → HasAdvanced old xs rs ps' s' (holds_of programs') J' room answer → IsReady slots windows store' programs' places' J' spare' room
+    ready_then : (answer : Progress) → HasAdvanced answers old xs rs ps' s' (holds_of programs') J' room answer → IsReady slots windows store' programs' places' J' spare' room
     ready_then answer did =
         record {
           placed = ready.placed;
@@ -107,7 +108,7 @@ module _ (slots : List Loaded) (windows : List Window) (store : Cells) (programs
           dry = dry;
           fits = fits;
           few_events = ready.few_events;
-          few_words = omega (arith, ready.few_words, moves-took old (viewed slots windows store' programs' places' J' room) answer did.advance);
+          few_words = omega (arith, ready.few_words, moves-took did.advance.heard old (viewed slots windows store' programs' places' J' room) answer did.advance.advance);
         }
 
     -- all that is asked of it stays
@@ -139,24 +140,27 @@ module _ (slots : List Loaded) (windows : List Window) (store : Cells) (programs
       none_is : next (world_of old) xs J ≡ None
       none_is = none_next xs rs ps s J ready.agrees (holds_of programs) have (state_at old) none
 
-      did_wait : HasAdvanced old xs rs ps' s' (holds_of programs') J' room answer
+      did_wait : HasAdvanced answers old xs rs ps' s' (holds_of programs') J' room answer
       did_wait =
-          subst (λ y. HasAdvanced old xs rs y s' (holds_of programs') J' room answer) (sym seats)
-          (subst (λ y. HasAdvanced old xs rs ps y (holds_of programs') J' room answer) (sym shared)
-          (subst (λ y. HasAdvanced old xs rs ps s y J' room answer) (sym holds)
-          (subst (λ y. HasAdvanced old xs rs ps s (holds_of programs) y room answer) (sym journal)
-          (subst (HasAdvanced old xs rs ps s (holds_of programs) (cond (any_on programs) (added J Waits) J) room) (sym told)
+          subst (λ y. HasAdvanced answers old xs rs y s' (holds_of programs') J' room answer) (sym seats)
+          (subst (λ y. HasAdvanced answers old xs rs ps y (holds_of programs') J' room answer) (sym shared)
+          (subst (λ y. HasAdvanced answers old xs rs ps s y J' room answer) (sym holds)
+          (subst (λ y. HasAdvanced answers old xs rs ps s (holds_of programs) y room answer) (sym journal)
+          (subst (HasAdvanced answers old xs rs ps s (holds_of programs) (cond (any_on programs) (added J Waits) J) room) (sym told)
           (by_any (any_on programs) (any_map seat_of (λ (x : Seat). is_live x.registers.state) programs ∙ any_same xs rs ps s J ready.agrees))))))
         where
-          by_any : (b : Bool) → b ≡ any_live xs J → HasAdvanced old xs rs ps s (holds_of programs) (cond b (added J Waits) J) room (cond b progress.Idle progress.AllEnded)
-          by_any true live = waited xs rs ps s J room ready.agrees (holds_of programs) have few (sym live) none_is
-          by_any false dead = all_ended xs rs ps s J room ready.agrees (holds_of programs) have few (sym dead)
+          by_any : (b : Bool) → b ≡ any_live xs J → HasAdvanced answers old xs rs ps s (holds_of programs) (cond b (added J Waits) J) room (cond b progress.Idle progress.AllEnded)
+          by_any true live = waited answers xs rs ps s J room ready.agrees (holds_of programs) have few (sym live) none_is
+          by_any false dead = all_ended answers xs rs ps s J room ready.agrees (holds_of programs) have few (sym dead)
 
       pub ready_waited : IsReady slots windows store' programs' places' J' spare' room
       ready_waited = ready_then answer did_wait
 
-      pub advance_waited : Advance old (viewed slots windows store' programs' places' J' room) answer
+      pub advance_waited : AdvanceWith answers old (viewed slots windows store' programs' places' J' room) answer
       advance_waited = did_wait.advance
+
+      pub answered_waited : IsAnswered answers xs J J'
+      answered_waited = did_wait.answered
 
   -- a program goes on
   module _ (i : ℕ) (going : first_going rs ps (holds_of programs) s (priorities J) ≡ Some i) where
@@ -173,9 +177,9 @@ module _ (slots : List Loaded) (windows : List Window) (store : Cells) (programs
     ran = few_ran xs rs ps s J ready.agrees i is.0 is.1
 
     -- and has its turn
-    module _ {E : Type 0} (few : calls J < CALL_LIMIT) (store' : Cells) (programs' : List Program) (places' : List Place) (J' : List Entry) (spare' : ℕ) (many : length programs' ≡ length programs) (dry : AreDry places') (fits : room ≤ spare') (run : IsRunning rs (seats_in programs') (shared_in store' places')) (r : Result Progress E) (took : IfOk r (HasTaken rs i ps s (holds_of programs) J (seats_in programs') (shared_in store' places') (holds_of programs') J')) (seats : OnErr r (seats_in programs' ≡ ps)) (shared : OnErr r (shared_in store' places' ≡ s)) (holds : OnErr r (holds_of programs' ≡ holds_of programs)) (journal : OnErr r (J' ≡ J)) where
-      did : (answer : Progress) → HasTaken rs i ps s (holds_of programs) J (seats_in programs') (shared_in store' places') (holds_of programs') J' answer → HasAdvanced old xs rs (seats_in programs') (shared_in store' places') (holds_of programs') J' room answer
-      did answer t = taken xs rs ps s J room ready.agrees (holds_of programs) have few i is.0 is.2 (seats_in programs') (shared_in store' places') (holds_of programs') J' answer t run
+    module _ {E : Type 0} (few : calls J < CALL_LIMIT) (store' : Cells) (programs' : List Program) (places' : List Place) (J' : List Entry) (spare' : ℕ) (many : length programs' ≡ length programs) (dry : AreDry places') (fits : room ≤ spare') (run : IsRunning rs (seats_in programs') (shared_in store' places')) (r : Result Progress E) (took : IfOk r (HasTaken answers rs i ps s (holds_of programs) J (seats_in programs') (shared_in store' places') (holds_of programs') J')) (seats : OnErr r (seats_in programs' ≡ ps)) (shared : OnErr r (shared_in store' places' ≡ s)) (holds : OnErr r (holds_of programs' ≡ holds_of programs)) (journal : OnErr r (J' ≡ J)) where
+      did : (answer : Progress) → HasTaken answers rs i ps s (holds_of programs) J (seats_in programs') (shared_in store' places') (holds_of programs') J' answer → HasAdvanced answers old xs rs (seats_in programs') (shared_in store' places') (holds_of programs') J' room answer
+      did answer t = taken answers xs rs ps s J room ready.agrees (holds_of programs) have few i is.0 is.2 (seats_in programs') (shared_in store' places') (holds_of programs') J' answer t run
 
       abbrev Still : Type 0
       Still = ((seats_in programs' ≡ ps) × (shared_in store' places' ≡ s)) × ((holds_of programs' ≡ holds_of programs) × (J' ≡ J))
@@ -192,8 +196,18 @@ module _ (slots : List Loaded) (windows : List Window) (store : Cells) (programs
           (λ answer t. ready_then store' programs' places' J' spare' many dry fits answer (did answer t))
           (λ h. ready_still store' programs' places' J' spare' many dry fits h.0.0 h.0.1 h.1.0 h.1.1)
 
-      pub advance_turned : IfOk r (Advance old (viewed slots windows store' programs' places' J' room))
+      pub advance_turned : IfOk r (AdvanceWith answers old (viewed slots windows store' programs' places' J' room))
       advance_turned = if_ok r _ _ (λ answer t. (did answer t).advance) took
 
       pub err_turned : OnErr r (viewed slots windows store' programs' places' J' room ≡ old)
       err_turned = on_err r Still _ (λ h. shown_still store' programs' places' J' spare' many dry fits h.0.0 h.0.1 h.1.0 h.1.1) still
+
+      pub answered_turned : IsAnswered answers xs J J'
+      answered_turned = by_result r did_answer journal
+        where
+          did_answer : IfOk r (λ (answer : Progress). IsAnswered answers xs J J')
+          did_answer = if_ok r _ _ (λ answer t. (did answer t).answered) took
+
+          by_result : (x : Result Progress E) → IfOk x (λ (answer : Progress). IsAnswered answers xs J J') → OnErr x (J' ≡ J) → IsAnswered answers xs J J'
+          by_result (Ok y) ok err = ok
+          by_result (Err e) ok err = inl err

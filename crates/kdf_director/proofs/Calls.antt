@@ -38,30 +38,30 @@ went_on slots slots0 J K P i s l same taken live is k =
     (reach-added (lone_dispatched slots0) P J K (replicate i AnOrder) AnOrder s l.in_form taken (ap (λ (S : List Slot). any_live S J) (sym same) ∙ live) is k)
 
 -- one call more of those that answer these orders
-pub took_on : (slots0 : List Slot) (P : List Step) (i : ℕ) (m n : Shown) (r : Progress) → IsLegal m.slots m.journal → m.slots ≡ slots0 → Reaches (lone_dispatched slots0) P (replicate i AnOrder) (steps m.journal) → any_live m.slots m.journal ≡ true → Advance m n r
+pub took_on : (slots0 : List Slot) (P : List Step) (i : ℕ) (heard : ℕ) (m n : Shown) (r : Progress) → IsLegal m.slots m.journal → m.slots ≡ slots0 → Reaches (lone_dispatched slots0) P (replicate i AnOrder) (steps m.journal) → any_live m.slots m.journal ≡ true → Advance heard m n r
     → Reaches (lone_dispatched slots0) P (replicate (i + 1) AnOrder) (steps n.journal)
-took_on slots0 P i m n progress.AllEnded l same taken live took = absurd (true≢false (sym live ∙ took.0))
-took_on slots0 P i m n (progress.Ran p) l same taken live took = went_on m.slots slots0 m.journal n.journal P i (Obeys p (note_of (state_at m p) (truth (world_of m) m.journal p))) l same taken live refl took.journal
-took_on slots0 P i m n (progress.Held p need) l same taken live took = went_on m.slots slots0 m.journal n.journal P i (Holds p (hold_of need)) l same taken live refl took.journal
-took_on slots0 P i m n progress.Idle l same taken live took = went_on m.slots slots0 m.journal n.journal P i Waits l same taken live refl took.journal
+took_on slots0 P i heard m n progress.AllEnded l same taken live took = absurd (true≢false (sym live ∙ took.0))
+took_on slots0 P i heard m n (progress.Ran p) l same taken live took = went_on m.slots slots0 m.journal n.journal P i (Obeys p (note_of (state_at m p) (truth (world_of m) m.journal p heard))) l same taken live refl took.journal
+took_on slots0 P i heard m n (progress.Held p need) l same taken live took = went_on m.slots slots0 m.journal n.journal P i (Holds p (hold_of need)) l same taken live refl took.journal
+took_on slots0 P i heard m n progress.Idle l same taken live took = went_on m.slots slots0 m.journal n.journal P i Waits l same taken live refl took.journal
 
-pub calls-took : (m n : Shown) (r : Progress) → Advance m n r → calls n.journal ≤ calls m.journal + 1
-calls-took m n progress.AllEnded took = omega (arith, ap (λ (x : Shown). calls x.journal) took.1)
-calls-took m n (progress.Ran p) took = omega (arith, ap calls took.journal, calls-added m.journal (Obeys p (note_of (state_at m p) (truth (world_of m) m.journal p))))
-calls-took m n (progress.Held p need) took = omega (arith, ap calls took.journal, calls-added m.journal (Holds p (hold_of need)))
-calls-took m n progress.Idle took = omega (arith, ap calls took.journal, calls-added m.journal Waits)
+pub calls-took : (heard : ℕ) (m n : Shown) (r : Progress) → Advance heard m n r → calls n.journal ≤ calls m.journal + 1
+calls-took heard m n progress.AllEnded took = omega (arith, ap (λ (x : Shown). calls x.journal) took.1)
+calls-took heard m n (progress.Ran p) took = omega (arith, ap calls took.journal, calls-added m.journal (Obeys p (note_of (state_at m p) (truth (world_of m) m.journal p heard))))
+calls-took heard m n (progress.Held p need) took = omega (arith, ap calls took.journal, calls-added m.journal (Holds p (hold_of need)))
+calls-took heard m n progress.Idle took = omega (arith, ap calls took.journal, calls-added m.journal Waits)
 
-pub moves-took : (m n : Shown) (r : Progress) → Advance m n r → moves n.journal ≡ moves m.journal
-moves-took m n progress.AllEnded took = ap (λ (x : Shown). moves x.journal) took.1
-moves-took m n (progress.Ran p) took = omega (arith, ap moves took.journal, moves-added m.journal (Obeys p (note_of (state_at m p) (truth (world_of m) m.journal p))))
-moves-took m n (progress.Held p need) took = omega (arith, ap moves took.journal, moves-added m.journal (Holds p (hold_of need)))
-moves-took m n progress.Idle took = omega (arith, ap moves took.journal, moves-added m.journal Waits)
+pub moves-took : (heard : ℕ) (m n : Shown) (r : Progress) → Advance heard m n r → moves n.journal ≡ moves m.journal
+moves-took heard m n progress.AllEnded took = ap (λ (x : Shown). moves x.journal) took.1
+moves-took heard m n (progress.Ran p) took = omega (arith, ap moves took.journal, moves-added m.journal (Obeys p (note_of (state_at m p) (truth (world_of m) m.journal p heard))))
+moves-took heard m n (progress.Held p need) took = omega (arith, ap moves took.journal, moves-added m.journal (Holds p (hold_of need)))
+moves-took heard m n progress.Idle took = omega (arith, ap moves took.journal, moves-added m.journal Waits)
 
-pub clock-took : (m n : Shown) (r : Progress) → Advance m n r → clock n.journal ≡ clock m.journal
-clock-took m n progress.AllEnded took = ap (λ (x : Shown). clock x.journal) took.1
-clock-took m n (progress.Ran p) took = ap clock took.journal ∙ clock-added m.journal (Obeys p (note_of (state_at m p) (truth (world_of m) m.journal p)))
-clock-took m n (progress.Held p need) took = ap clock took.journal ∙ clock-added m.journal (Holds p (hold_of need))
-clock-took m n progress.Idle took = ap clock took.journal ∙ clock-added m.journal Waits
+pub clock-took : (heard : ℕ) (m n : Shown) (r : Progress) → Advance heard m n r → clock n.journal ≡ clock m.journal
+clock-took heard m n progress.AllEnded took = ap (λ (x : Shown). clock x.journal) took.1
+clock-took heard m n (progress.Ran p) took = ap clock took.journal ∙ clock-added m.journal (Obeys p (note_of (state_at m p) (truth (world_of m) m.journal p heard)))
+clock-took heard m n (progress.Held p need) took = ap clock took.journal ∙ clock-added m.journal (Holds p (hold_of need))
+clock-took heard m n progress.Idle took = ap clock took.journal ∙ clock-added m.journal Waits
 
 -- an event that is entered answers its call
 pub entered_on : (m n : Shown) (c : Call) (s : Step) → IsLegal m.slots m.journal → any_live m.slots m.journal ≡ true → call_of s ≡ c → Enters m n s → Reaches (lone_dispatched m.slots) (steps m.journal) (c ∷ []) (steps n.journal)

@@ -13,7 +13,8 @@ use Rattle.kdf_schedule.specs.Calls.{Call, AnOrder, AMove, AnEnd, AClock, ASwap,
 use Rattle.kdf_schedule.proofs.Schedules.{calls_made-append, calls_made-nil}
 use Rattle.kdf_course.specs.Follows.{answered, call_of}
 use Rattle.kdf_course.proofs.OneJournal.{CallsRise, calls-after, calls-rise}
-use Rattle.kdf_director.specs.Follows.{IsJournal, IsRising}
+use Rattle.kdf_director.specs.Follows.{IsRising, IsWhole}
+use Rattle.kdf_director.specs.Legal.{IsLegal}
 
 -- ---- orders
 
@@ -58,12 +59,12 @@ orders-made (e ∷ es) =
     omega (arith, parts, both, orders-event e, orders-made es)
 
 -- a journal counts no more calls than its schedule has orders
-pub few-calls : (slots : List Slot) (es : List Event) (J : List Entry) → IsJournal slots es J → calls J ≤ order_count es
-few-calls slots es J j =
+pub few-calls : (slots : List Slot) (es : List Event) (J : List Entry) → IsLegal slots J → IsWhole slots (calls_made es) J → calls J ≤ order_count es
+few-calls slots es J legal whole =
     let front = calls-answered (steps J) ∙ refl in
-    let own = ap calls j.legal.in_form in
-    let all = ap (sum_by orders_of) j.whole.follows.in_order in
-    let both = sum_by-append orders_of (answered (steps J)) j.whole.left in
+    let own = ap calls legal.in_form in
+    let all = ap (sum_by orders_of) whole.follows.in_order in
+    let both = sum_by-append orders_of (answered (steps J)) whole.left in
     omega (arith, front, own, all, both, orders-made es)
 
 -- ---- the clock
@@ -114,11 +115,11 @@ events-rise t (Clock u ∷ es) rise = let r = subst (CallsRise t) (calls-after (
 events-rise t (Swap p q ∷ es) rise = let r = subst (CallsRise t) (calls-after (Swap p q) es) rise in (r.0, r.1, events-rise t es r.2)
 
 -- the events after those of a journal don't set its clock back
-pub rising-on : (slots : List Slot) (es more : List Event) (J : List Entry) → IsJournal slots es J → IsRising 0 (es ++ more) → IsRising (clock J) more
-rising-on slots es more J j rises =
+pub rising-on : (slots : List Slot) (es more : List Event) (J : List Entry) → IsLegal slots J → IsWhole slots (calls_made es) J → IsRising 0 (es ++ more) → IsRising (clock J) more
+rising-on slots es more J legal whole rises =
     let all : CallsRise 0 (calls_made es ++ calls_made more) = subst (CallsRise 0) (calls_made-append es more) (calls-rise 0 (es ++ more) rises) in
-    let parts : CallsRise 0 ((answered (steps J) ++ j.whole.left) ++ calls_made more) = subst (λ (cs : List Call). CallsRise 0 (cs ++ calls_made more)) (sym j.whole.follows.in_order) all in
-    let front : CallsRise 0 (answered (steps J) ++ (j.whole.left ++ calls_made more)) = subst (CallsRise 0) (append_assoc (answered (steps J)) j.whole.left (calls_made more)) parts in
-    let on : CallsRise (clock (journal_of (steps J))) (j.whole.left ++ calls_made more) = rise-answered (steps J) (j.whole.left ++ calls_made more) front in
-    let own : CallsRise (clock J) (j.whole.left ++ calls_made more) = subst (λ (K : List Entry). CallsRise (clock K) (j.whole.left ++ calls_made more)) j.legal.in_form on in
-    events-rise (clock J) more (rest-rises (clock J) j.whole.left (calls_made more) own)
+    let parts : CallsRise 0 ((answered (steps J) ++ whole.left) ++ calls_made more) = subst (λ (cs : List Call). CallsRise 0 (cs ++ calls_made more)) (sym whole.follows.in_order) all in
+    let front : CallsRise 0 (answered (steps J) ++ (whole.left ++ calls_made more)) = subst (CallsRise 0) (append_assoc (answered (steps J)) whole.left (calls_made more)) parts in
+    let on : CallsRise (clock (journal_of (steps J))) (whole.left ++ calls_made more) = rise-answered (steps J) (whole.left ++ calls_made more) front in
+    let own : CallsRise (clock J) (whole.left ++ calls_made more) = subst (λ (K : List Entry). CallsRise (clock K) (whole.left ++ calls_made more)) legal.in_form on in
+    events-rise (clock J) more (rest-rises (clock J) whole.left (calls_made more) own)

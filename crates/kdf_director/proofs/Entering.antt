@@ -63,7 +63,7 @@ module _ (slots : List Slot) (reaches : List Reach) (seats : List Seat) (s : Sha
       ∙ map_twice (seen_of slots J) (λ (x : Slot). x.p) slots
 
   -- ---- an event more
-  more : (st : Step) (s' : Shared) → Meets (lone_world slots J) slots J st → calls_by st ≡ 0 → moves J + moves_by st ≤ MOVE_LIMIT → IsRunning reaches seats s' → AreFollowing slots (added J st) reaches seats s' → AreLent (added J st) reaches seats s' → Agrees slots reaches seats s' (added J st)
+  more : (st : Step) (s' : Shared) → Meets (lone_world slots J) slots J 0 st → calls_by st ≡ 0 → moves J + moves_by st ≤ MOVE_LIMIT → IsRunning reaches seats s' → AreFollowing slots (added J st) reaches seats s' → AreLent (added J st) reaches seats s' → Agrees slots reaches seats s' (added J st)
   more st s' meets none few running following lent =
       record {
         are = a.are;
@@ -72,8 +72,8 @@ module _ (slots : List Slot) (reaches : List Reach) (seats : List Seat) (s : Sha
         running = running;
         following = following;
         lent = lent;
-        legal = legal_added slots J st a.legal meets;
-        truly = true_added slots J st a.legal a.truly meets;
+        legal = legal_added slots J 0 st a.legal meets;
+        truly = true_added slots J 0 st a.legal a.truly meets;
         few_calls = (let c = a.few_calls in omega (arith, calls-added J st, none));
         few_moves = omega (arith, moves-added J st);
       }

@@ -36,7 +36,7 @@ use Rattle.kdf_director.specs.Physical as physical
 use Rattle.kdf_director.specs.Agrees.{AreLent}
 use Rattle.kdf_director.specs.Spots.{Held, Spot, blank_spot, lent_spot, no_spot, spot_at, fixture_or, leases_of, own_from}
 use Rattle.kdf_director.specs.Parts.{Part, Seat, Reach, Shared, asked_after, has_device, lent_to, own_claims, own_progress, own_stock}
-use Rattle.kdf_director.specs.Shared.{view, after_act, start_lease, start_spot}
+use Rattle.kdf_director.specs.Shared.{view, after_act, start_lease, start_spot, moment}
 use Rattle.kdf_director.specs.Running.{seat_at, part_at, own_state, hold_of, outcome_at, answers_at, IsRunning}
 use Rattle.kdf_director.specs.Turned.{HasTurned}
 use Rattle.kdf_director.specs.declared.note.Note.{Note as Noted}
@@ -94,7 +94,7 @@ asked_told n answer (Returning true d after) s = omega arith
 asked_told n answer (Returning false d after) s = omega arith
 asked_told n answer (Spooling stream first last after) s = omega arith
 
-module _ (slots : List Slot) (J : List Entry) (reaches : List Reach) (seats : List Seat) (s : Shared) (are : AreSlots slots) (legal : IsLegal slots J) (run : IsRunning reaches seats s) (old : AreFollowing slots J reaches seats s) (lent : AreLent J reaches seats s) (i : ℕ) (lt : i < length seats) (note : Note) (meets : Meets (lone_world slots J) slots J (Obeys (seat_at seats i).p note)) where
+module _ (slots : List Slot) (J : List Entry) (reaches : List Reach) (seats : List Seat) (s : Shared) (are : AreSlots slots) (legal : IsLegal slots J) (run : IsRunning reaches seats s) (old : AreFollowing slots J reaches seats s) (lent : AreLent J reaches seats s) (i : ℕ) (lt : i < length seats) (heard : ℕ) (note : Note) (meets : Meets (lone_world slots J) slots J heard (Obeys (seat_at seats i).p note)) where
   abbrev q : Part
   q = part_at reaches seats i
 
@@ -117,7 +117,7 @@ module _ (slots : List Slot) (J : List Entry) (reaches : List Reach) (seats : Li
   mine = own_state reaches seats s n i
 
   abbrev answer : Question → ℕ
-  answer = truth (lone_world slots J) J p
+  answer = truth (lone_world slots J) J p heard
 
   fol : IsFollowing slots J q mine s
   fol = old.each i lt
@@ -158,27 +158,27 @@ module _ (slots : List Slot) (J : List Entry) (reaches : List Reach) (seats : Li
   size_is = refl
 
   -- and comes to what the journal makes of it
-  pub outcome_is : outcome_at reaches seats s (clock J) n i ≡ next_of mine answer
+  pub outcome_is : outcome_at reaches seats s (moment (clock J) heard) n i ≡ next_of mine answer
   unfolding outcome_at
   outcome_is =
-      ap (λ o. held_or (seat_at seats i).registers o (next_of mine (answers_at reaches seats (clock J) s i))) none
-      ∙ done_alike (answers_at reaches seats (clock J) s i) answer q.size (next_effect mine) mine
+      ap (λ o. held_or (seat_at seats i).registers o (next_of mine (answers_at reaches seats (moment (clock J) heard) s i))) none
+      ∙ done_alike (answers_at reaches seats (moment (clock J) heard) s i) answer q.size (next_effect mine) mine
       (subst (λ k. IsInside k (next_effect mine)) size_is (next_inside mine))
-      (out_same slots J reaches seats s run old i lt course)
-      (busy_same slots J reaches seats s run old i lt course)
-      (free_same slots J reaches seats s run old i lt course lent)
+      (out_same slots J reaches seats s run old i lt course heard)
+      (busy_same slots J reaches seats s run old i lt course heard)
+      (free_same slots J reaches seats s run old i lt course lent heard)
       (λ word. refl)
       refl
 
   -- its state after the order
-  tried_is : tried (outcome_at reaches seats s (clock J) n i) mine ≡ seen_of slots J' p
+  tried_is : tried (outcome_at reaches seats s (moment (clock J) heard) n i) mine ≡ seen_of slots J' p
   tried_is =
       ap (λ o. tried o mine) outcome_is
       ∙ ap (λ (x : State). begun_row x answer) fol.is_seen
-      ∙ sym (obeys-seen slots J p note legal meets are)
+      ∙ sym (obeys-seen slots J p heard note legal meets are)
 
   -- and the answers that it took then
-  asked_is : length (answers p J') ≡ asked_after n (outcome_at reaches seats s (clock J) n i).act
+  asked_is : length (answers p J') ≡ asked_after n (outcome_at reaches seats s (moment (clock J) heard) n i).act
   asked_is =
       ap length (answers-added p J (Obeys p note))
       ∙ length-append (answers p J) (answers_by p (Obeys p note))
@@ -212,11 +212,11 @@ module _ (slots : List Slot) (J : List Entry) (reaches : List Reach) (seats : Li
 
   lawful_mine : IsLawful (own_stock q 0 s).claims (next_effect mine)
   unfolding own_state
-  lawful_mine = turn.lawful reaches seats 0 s i run lt
+  lawful_mine = turn.lawful reaches seats (moment 0 0) s i run lt
 
-  free_mine : first_pending (view q 0 s) (effect_needs (own_from p 0 s.spots) (next_effect mine)) ≡ None
+  free_mine : first_pending (view q (moment 0 0) s) (effect_needs (own_from p 0 s.spots) (next_effect mine)) ≡ None
   unfolding own_state
-  free_mine = turn.free reaches seats 0 s i run lt none
+  free_mine = turn.free reaches seats (moment 0 0) s i run lt none
 
   -- a device and a word of its own
   device_own : (d : ℕ) → d < device_count → has_device q (spot_at s.spots d) ≡ true → device_at mine d ≡ (spot_at s.spots d).progress
@@ -228,15 +228,15 @@ module _ (slots : List Slot) (J : List Entry) (reaches : List Reach) (seats : Li
   word_own a lt = own_word q n s a lt
 
   -- the transfer that begins
-  module _ (d : ℕ) (o : TransferOrder) (first last : ℕ) (after : Registers) (lawful : IsLawful (own_stock q 0 s).claims (Starting d o first last after)) (clear : first_pending (view q 0 s) (effect_needs (own_from p 0 s.spots) (Starting d o first last after)) ≡ None) where
+  module _ (d : ℕ) (o : TransferOrder) (first last : ℕ) (after : Registers) (lawful : IsLawful (own_stock q 0 s).claims (Starting d o first last after)) (clear : first_pending (view q (moment 0 0) s) (effect_needs (own_from p 0 s.spots) (Starting d o first last after)) ≡ None) where
     has : has_device q (spot_at s.spots d) ≡ true
-    has = start_has q 0 s d o first last after (own_from p 0 s.spots) part lawful clear
+    has = start_has q (moment 0 0) s d o first last after (own_from p 0 s.spots) part lawful clear
 
     small : d < device_count
-    small = start_small q 0 s d o first last after (own_from p 0 s.spots) part lawful clear
+    small = start_small q (moment 0 0) s d o first last after (own_from p 0 s.spots) part lawful clear
 
     pub idle : (spot_at s.spots d).flight ≡ None
-    idle = start_idle q 0 s d o first last after (own_from p 0 s.spots) part lawful clear
+    idle = start_idle q (moment 0 0) s d o first last after (own_from p 0 s.spots) part lawful clear
 
     pub inside : d < length s.spots
     inside = let e = run.sound.spots in let k = small in omega arith
@@ -264,7 +264,7 @@ module _ (slots : List Slot) (J : List Entry) (reaches : List Reach) (seats : Li
     -- a word of its area
     area_word : (a : ℕ) → has_area o ≡ true → first ≤ a → a ≤ last → lent_at (start_lease o (q.base + first) (q.base + last) s.cells) (q.base + a) ≡ word_at l a
     area_word a is low high =
-        let area = start_free q 0 s d o first last after (own_from p 0 s.spots) part lawful clear is in
+        let area = start_free q (moment 0 0) s d o first last after (own_from p 0 s.spots) part lawful clear is in
         let rising = area.rising in
         let inside = area.inside in
         let at = part.at_group in
@@ -346,7 +346,7 @@ module _ (slots : List Slot) (J : List Entry) (reaches : List Reach) (seats : Li
   flight_lent : (kind : Kind) (after : ℕ → Registers) (d : ℕ) → (spot_at (left (Asking (FreeOf kind) after)).spots d).flight ≡ (spot_at s.spots d).flight
   flight_lent kind after d = let t = lent_to q s kind (answer (FreeOf kind)) in same_at (λ (y : Spot). y.flight) s.spots t d (lent_spot q.p (spot_at s.spots t)) refl
 
-  flight_back : (x : ℕ) (after : Registers) → first_pending (view q 0 s) (effect_needs (own_from p 0 s.spots) (Returning true x after)) ≡ None → (d : ℕ) → (spot_at (left (Returning true x after)).spots d).flight ≡ (spot_at s.spots d).flight
+  flight_back : (x : ℕ) (after : Registers) → first_pending (view q (moment 0 0) s) (effect_needs (own_from p 0 s.spots) (Returning true x after)) ≡ None → (d : ℕ) → (spot_at (left (Returning true x after)).spots d).flight ≡ (spot_at s.spots d).flight
   flight_back x after clear d = same_at (λ (y : Spot). y.flight) s.spots x d (blank_spot (spot_at s.spots x)) (sym (idle_back (is_some (spot_at s.spots x).flight) refl))
     where
       none_of : (o : Option Held) → is_some o ≡ false → o ≡ None
@@ -357,7 +357,7 @@ module _ (slots : List Slot) (J : List Entry) (reaches : List Reach) (seats : Li
       idle_back true is = cc (sym (ap (λ b. cond b (Some (Device x)) None) is) ∙ clear)
       idle_back false is = none_of (spot_at s.spots x).flight is
 
-  linked_by : (e : Effect) → IsLawful (own_stock q 0 s).claims e → first_pending (view q 0 s) (effect_needs (own_from p 0 s.spots) e) ≡ None → (d : ℕ) → Linked q d (spot_at (left e).spots d).flight (flights_after fs l e d)
+  linked_by : (e : Effect) → IsLawful (own_stock q 0 s).claims e → first_pending (view q (moment 0 0) s) (effect_needs (own_from p 0 s.spots) e) ≡ None → (d : ℕ) → Linked q d (spot_at (left e).spots d).flight (flights_after fs l e d)
   linked_by (Starting x o first last after) lawful clear d = linked_new x o first last after lawful clear d
   linked_by (Asking (FreeOf kind) after) lawful clear d = subst (λ f. Linked q d f (fs d)) (sym (flight_lent kind after d)) (fol.linked d)
   linked_by (Returning true x after) lawful clear d = subst (λ f. Linked q d f (fs d)) (sym (flight_back x after clear d)) (fol.linked d)
@@ -365,7 +365,7 @@ module _ (slots : List Slot) (J : List Entry) (reaches : List Reach) (seats : Li
   linked_by e lawful clear d = fol.linked d
 
   -- of another program
-  other_by : (x : Part) (own : State) → IsFollowing slots J x own s → q.p ≢ x.p → (e : Effect) → IsLawful (own_stock q 0 s).claims e → first_pending (view q 0 s) (effect_needs (own_from p 0 s.spots) e) ≡ None → (d : ℕ) → Linked x d (spot_at (left e).spots d).flight (flights_of slots J x.p d)
+  other_by : (x : Part) (own : State) → IsFollowing slots J x own s → q.p ≢ x.p → (e : Effect) → IsLawful (own_stock q 0 s).claims e → first_pending (view q (moment 0 0) s) (effect_needs (own_from p 0 s.spots) e) ≡ None → (d : ℕ) → Linked x d (spot_at (left e).spots d).flight (flights_of slots J x.p d)
   other_by x own follows ne (Starting d o first last after) lawful clear e =
       linked_set x s.spots d (start_spot q.p o (q.base + first) (q.base + last) s.cells (spot_at s.spots d)) (flights_of slots J x.p) (flights_of slots J x.p) (inside d o first last after lawful clear) follows.linked (λ e ne'. refl)
       (subst (Linked x d (start_spot q.p o (q.base + first) (q.base + last) s.cells (spot_at s.spots d)).flight)
@@ -375,7 +375,7 @@ module _ (slots : List Slot) (J : List Entry) (reaches : List Reach) (seats : Li
   other_by x own follows ne (Returning false y after) lawful clear d = follows.linked d
   other_by x own follows ne e lawful clear d = follows.linked d
 
-  busy_by : (e : Effect) → IsLawful (own_stock q 0 s).claims e → first_pending (view q 0 s) (effect_needs (own_from p 0 s.spots) e) ≡ None → (k d : ℕ) → is_some (spot_at (left e).spots d).flight ≡ is_some (pending_behind p k d (pending d J) e)
+  busy_by : (e : Effect) → IsLawful (own_stock q 0 s).claims e → first_pending (view q (moment 0 0) s) (effect_needs (own_from p 0 s.spots) e) ≡ None → (k d : ℕ) → is_some (spot_at (left e).spots d).flight ≡ is_some (pending_behind p k d (pending d J) e)
   busy_by (Starting x o first last after) lawful clear k d =
       ⊎_elim
       (λ (same : d ≡ x).
@@ -396,7 +396,7 @@ module _ (slots : List Slot) (J : List Entry) (reaches : List Reach) (seats : Li
   busy_by e lawful clear k d = old.busy d
 
   -- all programs, after the turn
-  pub turn_follows : (seats' : List Seat) (s' : Shared) (ended : Ended) (noted : Noted) → HasTurned reaches (clock J) i seats s seats' s' ended noted → AreFollowing slots J' reaches seats' s'
+  pub turn_follows : (seats' : List Seat) (s' : Shared) (ended : Ended) (noted : Noted) → HasTurned reaches (moment (clock J) heard) i seats s seats' s' ended noted → AreFollowing slots J' reaches seats' s'
   turn_follows seats' s' ended noted turned =
       record {
         each = λ j lt'.
@@ -428,7 +428,7 @@ module _ (slots : List Slot) (J : List Entry) (reaches : List Reach) (seats : Li
                 ∙ tried_is;
             linked = λ d.
                 subst (λ f. Linked q d f (flights_of slots J' p d)) (sym (flight_is d))
-                (subst (λ gs. Linked q d (spot_at (left (next_effect mine)).spots d).flight (gs d)) (sym (obeys-flights slots J p note legal meets are))
+                (subst (λ gs. Linked q d (spot_at (left (next_effect mine)).spots d).flight (gs d)) (sym (obeys-flights slots J p heard note legal meets are))
                 (subst (λ e. Linked q d (spot_at (left (next_effect mine)).spots d).flight (flights_after fs l e d)) next_is
                 (linked_by (next_effect mine) lawful_mine free_mine d)));
           }
@@ -438,7 +438,7 @@ module _ (slots : List Slot) (J : List Entry) (reaches : List Reach) (seats : Li
           let apart : p ≢ (seat_at seats j).p = turn.numbers_apart reaches seats s i j run lt within (λ e. ne (sym e)) in
           let silent : answers_by (seat_at seats j).p (Obeys p note) ≡ [] = ap (λ b. cond b (answer_in_note note) []) (ne_eqb p (seat_at seats j).p apart) in
           let count : asked_at seats J' j ≡ asked_at seats J j = ap length (answers_same (seat_at seats j).p J (Obeys p note) silent) in
-          let stay = obeys-others slots J p note legal meets are (seat_at seats j).p apart in
+          let stay = obeys-others slots J p heard note legal meets are (seat_at seats j).p apart in
           record {
             is_seen =
                 ap (λ k. own_state reaches seats' s' k j) count

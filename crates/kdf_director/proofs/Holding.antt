@@ -33,10 +33,9 @@ use Rattle.kdf_director.specs.Told.{free_after, is_free_after, is_pending_after,
 use Rattle.kdf_director.specs.True.{truth}
 use Rattle.kdf_director.specs.World.{first_need}
 use Rattle.kdf_director.proofs.Completed.{transferred_claims}
-use Rattle.kdf_director.proofs.Judged.{free_need}
+use Rattle.kdf_director.proofs.Judged.{free_need, meets_truly}
 use Rattle.kdf_director.proofs.LegalFacts.{IsKept, ends_not, kept_of}
 use Rattle.kdf_director.proofs.OnCourse.{effect-free, free}
-use Rattle.kdf_director.proofs.OneJournal.{meets_truly}
 use Rattle.kdf_director.proofs.Owns.{own-nil, own-obeys, own-same}
 use Rattle.kdf_director.proofs.SlotLemmas.{IfSlot, found_slot}
 use Rattle.kdf_director.proofs.Worlds.{next_on}
@@ -187,12 +186,12 @@ held-stays slots J s q none silent on same held d pooled live =
     let before : not (over q J) ≡ true = sym (ap not (over-added q J s ∙ ap (λ b. b || over q J) on)) ∙ live in
     ap (λ (t : State). has_mark t d) o ∙ held d was before ∙ sym (same d was before) ∙ sym (ap (is_taker q) (taker-added d J s))
 
-module _ (slots : List Slot) (J : List Entry) (p : ℕ) (are : AreSlots slots) (kept : IsKept slots J p) (held : (q : ℕ) → IsHeld slots J q) (on : not (over p J) ≡ true) (none : HidesNone (is_pending_after slots J p) (effect_needs (mine_after J p) (next_effect (own slots J p)))) where
+module _ (slots : List Slot) (J : List Entry) (p : ℕ) (are : AreSlots slots) (kept : IsKept slots J p) (held : (q : ℕ) → IsHeld slots J q) (on : not (over p J) ≡ true) (none : HidesNone (is_pending_after slots J p) (effect_needs (mine_after J p) (next_effect (own slots J p)))) (heard : ℕ) where
   abbrev t : State
   t = own slots J p
 
   abbrev answer : Question → ℕ
-  answer = truth (lone_world slots J) J p
+  answer = truth (lone_world slots J) J p heard
 
   abbrev noted : Effect → Note
   noted e = note_of_outcome (done_by answer e t)
@@ -294,17 +293,17 @@ module _ (slots : List Slot) (J : List Entry) (p : ℕ) (are : AreSlots slots) (
           ∙ mine (next_effect t) fit begun none (sym (ap not (over-added p J (Obeys p (noted (next_effect t))))) ∙ live) d there
           ∙ sym (ap (is_taker p) (taker-added d J (Obeys p (noted (next_effect t)))))
 
-held-added : (slots : List Slot) (J : List Entry) (s : Step) → AreSlots slots → Meets (lone_world slots J) slots J s → ((q : ℕ) → IsKept slots J q) → ((q : ℕ) → IsHeld slots J q) → (q : ℕ) → IsHeld slots (added J s) q
-held-added slots J (Obeys p note) are m kept held q =
+held-added : (slots : List Slot) (J : List Entry) (heard : ℕ) (s : Step) → AreSlots slots → Meets (lone_world slots J) slots J heard s → ((q : ℕ) → IsKept slots J q) → ((q : ℕ) → IsHeld slots J q) → (q : ℕ) → IsHeld slots (added J s) q
+held-added slots J heard (Obeys p note) are m kept held q =
     rw m.2
     (turn_held slots J p are (kept p) held (next_on (lone_world slots J) slots J p m.0)
-    (effect-free (is_pending_after slots J p) (mine_after J p) (own slots J p) (free slots J p (free_need (first_need (lone_world slots J) p) m.1))) q)
-held-added slots J (Holds p by) are m kept held q = held-stays slots J (Holds p by) q refl refl refl (λ d pooled live. refl) (held q)
-held-added slots J Waits are m kept held q = held-stays slots J Waits q refl refl refl (λ d pooled live. refl) (held q)
-held-added slots J (Moves d n) are m kept held q = held-stays slots J (Moves d n) q refl refl refl (λ d pooled live. refl) (held q)
-held-added slots J (Ends d) are m kept held q = held-stays slots J (Ends d) q refl refl refl (λ d pooled live. refl) (held q)
-held-added slots J (Sets t) are m kept held q = held-stays slots J (Sets t) q refl refl refl (λ d pooled live. refl) (held q)
-held-added slots J (Swaps p r) are m kept held q = held-stays slots J (Swaps p r) q refl refl refl (λ d pooled live. refl) (held q)
+    (effect-free (is_pending_after slots J p) (mine_after J p) (own slots J p) (free slots J p (free_need (first_need (lone_world slots J) p) m.1))) heard q)
+held-added slots J heard (Holds p by) are m kept held q = held-stays slots J (Holds p by) q refl refl refl (λ d pooled live. refl) (held q)
+held-added slots J heard Waits are m kept held q = held-stays slots J Waits q refl refl refl (λ d pooled live. refl) (held q)
+held-added slots J heard (Moves d n) are m kept held q = held-stays slots J (Moves d n) q refl refl refl (λ d pooled live. refl) (held q)
+held-added slots J heard (Ends d) are m kept held q = held-stays slots J (Ends d) q refl refl refl (λ d pooled live. refl) (held q)
+held-added slots J heard (Sets t) are m kept held q = held-stays slots J (Sets t) q refl refl refl (λ d pooled live. refl) (held q)
+held-added slots J heard (Swaps p r) are m kept held q = held-stays slots J (Swaps p r) q refl refl refl (λ d pooled live. refl) (held q)
 
 none_marked : (d : ℕ) → get_or unclaimed d false ≡ false
 unfolding unclaimed
@@ -324,16 +323,18 @@ held-first slots q d pooled live = ap (λ (t : State). has_mark t d) (own-nil sl
 
 held_of : (slots : List Slot) → AreSlots slots → (P : List Step) → EachMeets slots P → course.EachNoted (is_true slots) P → (q : ℕ) → IsHeld slots (journal_of P) q
 held_of slots are [] m truly q = held-first slots q
-held_of slots are (s ∷ P) m truly q = held-added slots (journal_of P) s are (meets_truly slots (journal_of P) s m.1 truly.1) (kept_of slots P m.0) (held_of slots are P m.0 truly.0) q
+held_of slots are (s ∷ P) m truly q =
+    let met = meets_truly slots (journal_of P) s m.1 truly.1 in
+    held-added slots (journal_of P) met.0 s are met.1 (kept_of slots P m.0) (held_of slots are P m.0 truly.0) q
 
 -- a live program has claimed a device of the pool exactly where it took it and hasn't given it back
 pub legal_held : (slots : List Slot) (J : List Entry) → AreSlots slots → IsLegal slots J → IsTrue slots J → (q : ℕ) → IsHeld slots J q
 legal_held slots J are l truly q = rw l.in_form at (held_of slots are (steps J) l.each truly q)
 
 -- and where it takes one, it takes the one that it is truly answered
-pub legal_taken : (slots : List Slot) (J : List Entry) → AreSlots slots → IsLegal slots J → IsTrue slots J → (p : ℕ) (kind : Kind) → not (over p J) ≡ true → is_pending_after slots J p (Pool kind) ≡ false → taken (own slots J p).stock.claims kind (truth (lone_world slots J) J p (FreeOf kind)) ≡ truth (lone_world slots J) J p (FreeOf kind)
-legal_taken slots J are l truly p kind live free =
+pub legal_taken : (slots : List Slot) (J : List Entry) → AreSlots slots → IsLegal slots J → IsTrue slots J → (p heard : ℕ) (kind : Kind) → not (over p J) ≡ true → is_pending_after slots J p (Pool kind) ≡ false → taken (own slots J p).stock.claims kind (truth (lone_world slots J) J p heard (FreeOf kind)) ≡ truth (lone_world slots J) J p heard (FreeOf kind)
+legal_taken slots J are l truly p heard kind live free =
     let x = answered_can slots J p are (legal_held slots J are l truly p) live kind (free_after slots J p kind) refl free in
-    let a : ℕ = truth (lone_world slots J) J p (FreeOf kind) in
+    let a : ℕ = truth (lone_world slots J) J p heard (FreeOf kind) in
     let is : a ≡ x.0 = ap (λ (o : Option ℕ). unwrap_or o 0) x.1 in
     ap (λ b. cond b a (unwrap_or (least_pooled (own slots J p).stock.claims kind) 0)) (ap (can_take (own slots J p).stock.claims kind) is ∙ x.2)

@@ -21,6 +21,7 @@ use Rattle.kdf_transfer.specs.Slots.{Slot}
 use Rattle.kdf_processor.specs.State.{State}
 use Rattle.kdf_transfer.specs.ByNumber.{device_count}
 use Rattle.kdf_processor.specs.View.{groups_of, is_pending}
+use Rattle.kdf_director.specs.declared.moment.Moment.{Moment}
 use Rattle.kdf_director.specs.Flights.{Flight, touches}
 use Rattle.kdf_director.specs.Seen.{touched_below}
 use Rattle.kdf_director.specs.Told.{flights_of, is_free_after, is_pending_after, mine_after, own, seen_of, seen_world, free_after}
@@ -31,7 +32,7 @@ use Rattle.kdf_director.specs.Physical.{has_group}
 use Rattle.kdf_director.specs.Spots.{Held, Spot, no_spot, spot_at, is_of, lease_held, leases_of, own_from}
 use Rattle.kdf_director.specs.Parts.{Part, Seat, Reach, Shared}
 use Rattle.kdf_director.specs.Agrees.{AreLent}
-use Rattle.kdf_director.specs.Shared.{view, free_in, is_free_in}
+use Rattle.kdf_director.specs.Shared.{view, free_in, is_free_in, moment}
 use Rattle.kdf_director.specs.Sound.{IsFlightOf}
 use Rattle.kdf_director.specs.Running.{seat_at, part_at, own_state, hold_of, answers_at, IsHeld, IsRunning}
 use Rattle.kdf_director.specs.Following.{IsLink, Linked, IsFollowing, AreFollowing, asked_at}
@@ -258,11 +259,11 @@ module _ (slots : List Slot) (J : List Entry) (reaches : List Reach) (seats : Li
   size_is n = refl
 
   -- what it is answered
-  pub busy_same : (d : ℕ) → answers_at reaches seats (clock J) s i (IsBusy d) ≡ known (is_pending_after slots J q.p) (clock J) (free_after slots J q.p) (IsBusy d)
-  busy_same d = ap (λ b. cond b 1 0) (old.busy d)
+  pub busy_same : (heard d : ℕ) → answers_at reaches seats (moment (clock J) heard) s i (IsBusy d) ≡ known (is_pending_after slots J q.p) (clock J) (free_after slots J q.p) heard (IsBusy d)
+  busy_same heard d = ap (λ b. cond b 1 0) (old.busy d)
 
-  pub out_same : (first last : ℕ) → AreNear q.size (map Group (groups_of first last)) → answers_at reaches seats (clock J) s i (IsOut first last) ≡ known (is_pending_after slots J q.p) (clock J) (free_after slots J q.p) (IsOut first last)
-  out_same first last near =
+  pub out_same : (heard first last : ℕ) → AreNear q.size (map Group (groups_of first last)) → answers_at reaches seats (moment (clock J) heard) s i (IsOut first last) ≡ known (is_pending_after slots J q.p) (clock J) (free_after slots J q.p) heard (IsOut first last)
+  out_same heard first last near =
       ap (λ b. cond b 1 0)
       (any_near q.size (λ g. is_out s.cells (q.base / 32 + g)) (touched_below device_count fs) group_same (groups_of first last) near)
 
@@ -288,7 +289,7 @@ module _ (slots : List Slot) (J : List Entry) (reaches : List Reach) (seats : Li
     free_is kind = ap (λ test. find test (range_with_len 0 device_count)) (fun_ext (λ d. free_at kind d (get_or q.pool d None) refl))
 
     -- so a need is pending in the machine exactly where it is by the journal
-    pub pending_same : (t : ℕ) (n : Need) → IsNear q.size n → is_pending (view q t s) n ≡ is_pending_after slots J q.p n
+    pub pending_same : (t : Moment) (n : Need) → IsNear q.size n → is_pending (view q t s) n ≡ is_pending_after slots J q.p n
     pending_same t (Group g) near = group_same g near
     pending_same t (Device d) near = old.busy d
     pending_same t (Pool kind) near = ap (λ (o : Option ℕ). not (is_some o)) (sym (free_is kind))
@@ -297,10 +298,10 @@ module _ (slots : List Slot) (J : List Entry) (reaches : List Reach) (seats : Li
     pub hold_same : hold_of reaches seats s i ≡ first_need (seen_world slots J) q.p
     unfolding hold_of first_need
     hold_same =
-        find_near q.size (is_pending (view q 0 s)) (is_pending_after slots J q.p) (pending_same 0)
+        find_near q.size (is_pending (view q (moment 0 0) s)) (is_pending_after slots J q.p) (pending_same (moment 0 0))
         (needs (own_state reaches seats s 0 i) (own_from q.p 0 s.spots))
         (subst (λ n. AreNear n (needs (own_state reaches seats s 0 i) (own_from q.p 0 s.spots))) (size_is 0) (needs_near (own_state reaches seats s 0 i) (own_from q.p 0 s.spots)))
         ∙ ap (find (is_pending_after slots J q.p)) (needs_are 0 (own_from q.p 0 s.spots) ∙ ap (needs (seen_of slots J q.p)) mine_same)
 
-    pub free_same : (kind : Kind) → answers_at reaches seats (clock J) s i (FreeOf kind) ≡ known (is_pending_after slots J q.p) (clock J) (free_after slots J q.p) (FreeOf kind)
-    free_same kind = ap (λ (o : Option ℕ). unwrap_or o 0) (sym (free_is kind))
+    pub free_same : (heard : ℕ) (kind : Kind) → answers_at reaches seats (moment (clock J) heard) s i (FreeOf kind) ≡ known (is_pending_after slots J q.p) (clock J) (free_after slots J q.p) heard (FreeOf kind)
+    free_same heard kind = ap (λ (o : Option ℕ). unwrap_or o 0) (sym (free_is kind))

@@ -11,7 +11,7 @@ pub mod LoneRuns
 pub mod Owns
 pub mod Worlds
 pub mod Judged
-pub mod OneJournal
+pub mod HeardWords
 pub mod ForService
 pub mod LegalFacts
 pub mod Schedules

@@ -33,6 +33,7 @@ use Rattle.kdf_director.proofs.NearHolds.{legal-near, own_size, size_of}
 use Rattle.kdf_director.proofs.OnCourse.{legal-course}
 use Rattle.kdf_director.proofs.Owns.{own-ran}
 use Rattle.kdf_director.proofs.Worlds.{find_true}
+use Rattle.kdf_director.specs.Shared.{moment}
 
 -- ---- slots by number
 
@@ -175,7 +176,7 @@ module _ (slots : List Slot) (reaches : List Reach) (seats : List Seat) (s : Sha
       stopped_by i lt None near = refl
       stopped_by i lt (Some (ByGroup g)) near = group_same slots J reaches seats s a.running a.following i lt (legal-course slots J a.are a.legal (p i)) g near
       stopped_by i lt (Some (ByDevice d)) near = a.following.busy d
-      stopped_by i lt (Some (ByPool kind)) near = pending_same slots J reaches seats s a.running a.following i lt (legal-course slots J a.are a.legal (p i)) a.lent 0 (Pool kind) tt
+      stopped_by i lt (Some (ByPool kind)) near = pending_same slots J reaches seats s a.running a.following i lt (legal-course slots J a.are a.legal (p i)) a.lent (moment 0 0) (Pool kind) tt
 
       goes_same : (i : ℕ) → i < length seats → goes_at reaches seats holds s i ≡ can_go (dispatched slots w) J (p i)
       unfolding can_go

@@ -21,9 +21,9 @@ use Rattle.kdf_director.proofs.OnCourse.{effect-free, flights-beside, flights-th
 use Rattle.kdf_director.proofs.Owns.{own-obeys}
 use Rattle.kdf_director.proofs.Worlds.{next_on}
 
-module _ (slots : List Slot) (J : List Entry) (p : ℕ) (note : Note) (l : IsLegal slots J) (m : Meets (lone_world slots J) slots J (Obeys p note)) where
+module _ (slots : List Slot) (J : List Entry) (p : ℕ) (heard : ℕ) (note : Note) (l : IsLegal slots J) (m : Meets (lone_world slots J) slots J heard (Obeys p note)) where
   abbrev answer : Question → ℕ
-  answer = truth (lone_world slots J) J p
+  answer = truth (lone_world slots J) J p heard
 
   none_holds : first_need (lone_world slots J) p ≡ None
   none_holds = free_need (first_need (lone_world slots J) p) m.1

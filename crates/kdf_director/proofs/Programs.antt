@@ -11,6 +11,7 @@ use Rattle.kdf_journal.specs.Steps.{added}
 use Rattle.kdf_processor.specs.declared.step.Need.{Need}
 use Rattle.kdf_processor.specs.declared.step.Step.{Step}
 use Rattle.kdf_processor.specs.Lone.{is_live}
+use Rattle.kdf_director.specs.declared.moment.Moment.{Moment}
 use Rattle.kdf_director.specs.declared.machine.Progress.{Progress}
 use Rattle.kdf_director.specs.declared.note.Note.{Note}
 use Rattle.kdf_director.specs.declared.program.Program.{Program}
@@ -18,9 +19,10 @@ use Rattle.kdf_director.specs.declared.slot.Loaded.{Loaded}
 use Rattle.kdf_director.specs.Going.{place_of, goes, goes_at, hold_at, AreNearHolds, IsNearHold}
 use Rattle.kdf_director.specs.Parts.{Reach, Seat, Shared, reach_of, seat_of, window_at}
 use Rattle.kdf_director.specs.Running.{no_seat, seat_at, reach_at, reaches_in, seats_in, IsRunning}
-use Rattle.kdf_director.specs.Taken.{HasTaken, hold_left, progress_of, step_told}
+use Rattle.kdf_director.specs.Taken.{HasTaken, hold_left, progress_of, step_told, HasAsked}
 use Rattle.kdf_director.specs.Turned.{HasRun, HasTurned}
 use Rattle.kdf_director.proofs.Turned.{turned, turned_running}
+use Rattle.kdf_director.specs.Shared.{moment}
 
 abbrev no_reach : Reach
 no_reach = record { base = 0; size = 0; devices = []; pool = []; served = false }
@@ -34,6 +36,12 @@ module _ (windows : List Window) (slots : List Loaded) (programs : List Program)
 
   pub within : i < length (seats_in programs)
   within = omega (arith, length-map programs seat_of)
+
+  -- what was heard for it
+  pub asked_at : (answers : ℕ → ℕ → Type 0) (heard : ℕ) → HasAsked answers slot.served program.registers heard → HasAsked answers (reach_at (reaches_in windows slots) i).served (seat_at (seats_in programs) i).registers heard
+  asked_at answers heard asked =
+      subst (λ (r : Reach). HasAsked answers r.served (seat_at (seats_in programs) i).registers heard) reach_is
+      (subst (λ (x : Seat). HasAsked answers slot.served x.registers heard) seat_is asked)
 
   -- what held it
   pub hold_is : hold_at (map (λ (x : Program). x.hold) programs) i ≡ program.hold
@@ -51,7 +59,7 @@ module _ (windows : List Window) (slots : List Loaded) (programs : List Program)
       (subst (IsNearHold (reach_at (reaches_in windows slots) i).size) hold_is
       (near i (omega (arith, length-map programs (λ (x : Program). x.hold)))))
 
-  module _ (t : ℕ) (s s' : Shared) (new : Program) (step : Step) (note : Note) (run : IsRunning (reaches_in windows slots) (seats_in programs) s) (live : is_live (seat_at (seats_in programs) i).registers.state ≡ true) (ran : HasRun (reach_of windows slot) t (seat_of program) s (seat_of new) s' step note) where
+  module _ (t : Moment) (s s' : Shared) (new : Program) (step : Step) (note : Note) (run : IsRunning (reaches_in windows slots) (seats_in programs) s) (live : is_live (seat_at (seats_in programs) i).registers.state ≡ true) (ran : HasRun (reach_of windows slot) t (seat_of program) s (seat_of new) s' step note) where
     ran_at : HasRun (reach_at (reaches_in windows slots) i) t (seat_at (seats_in programs) i) s (seat_of new) s' step note
     ran_at = subst (λ r. HasRun r t (seat_at (seats_in programs) i) s (seat_of new) s' step note) reach_is (subst (λ q. HasRun (reach_of windows slot) t q s (seat_of new) s' step note) seat_is ran)
 
@@ -87,13 +95,15 @@ module _ (programs : List Program) (i : ℕ) (lt : i < length programs) (program
   running_entered reaches s run = subst (λ xs. IsRunning reaches xs s) (sym seats_entered) run
 
   -- so its turn was taken
-  pub taken_entered : (reaches : List Reach) (before : List Seat) (s left : Shared) (holds : List (Option Need)) (J K : List Entry) (ended : Step) (noted : Note) (answer : Progress) → HasTurned reaches (clock J) i before s (seats_in programs) left ended noted → map (λ (x : Program). x.hold) programs ≡ holds → new.hold ≡ hold_left ended → K ≡ added J (step_told program.p program.registers.ran ended noted) → answer ≡ progress_of program.p ended
-      → HasTaken reaches i before s holds J (seats_in (set programs i new)) left (map (λ (x : Program). x.hold) (set programs i new)) K answer
-  taken_entered reaches before s left holds J K ended noted answer turned kept hold journal told =
+  pub taken_entered : (reaches : List Reach) (before : List Seat) (s left : Shared) (holds : List (Option Need)) (J K : List Entry) (ended : Step) (noted : Note) (answer : Progress) (answers : ℕ → ℕ → Type 0) (heard : ℕ) → HasAsked answers (reach_at reaches i).served (seat_at before i).registers heard → HasTurned reaches (moment (clock J) heard) i before s (seats_in programs) left ended noted → map (λ (x : Program). x.hold) programs ≡ holds → new.hold ≡ hold_left ended → K ≡ added J (step_told program.p program.registers.ran ended noted) → answer ≡ progress_of program.p ended
+      → HasTaken answers reaches i before s holds J (seats_in (set programs i new)) left (map (λ (x : Program). x.hold) (set programs i new)) K answer
+  taken_entered reaches before s left holds J K ended noted answer answers heard asked turned kept hold journal told =
       record {
+        heard = heard;
+        asked = asked;
         ended = ended;
         noted = noted;
-        turned = subst (λ xs. HasTurned reaches (clock J) i before s xs left ended noted) (sym seats_entered) turned;
+        turned = subst (λ xs. HasTurned reaches (moment (clock J) heard) i before s xs left ended noted) (sym seats_entered) turned;
         left_held = map-set (λ (x : Program). x.hold) programs i new ∙ ap₂ (λ xs h. set xs i h) kept hold;
         entered = journal ∙ ap (λ (x : Seat). added J (step_told x.p x.registers.ran ended noted)) (sym seat_then);
         answered = told ∙ ap (λ (x : Seat). progress_of x.p ended) (sym seat_then);

@@ -6,6 +6,7 @@ use Rattle.kdf_processor.specs.declared.spooled.Spooled.{Spooled}
 use Rattle.kdf_processor.specs.declared.step.Step.{Step}
 use Rattle.kdf_processor.specs.Lone.{is_live}
 use Rattle.kdf_lockout.specs.Groups.{Cells}
+use Rattle.kdf_director.specs.declared.moment.Moment.{Moment}
 use Rattle.kdf_director.specs.declared.note.Note.{Note}
 use Rattle.kdf_director.specs.declared.stint.Stint.{Stint}
 use Rattle.kdf_director.specs.Parts.{Reach, Seat, Shared, seat}
@@ -38,6 +39,6 @@ pub settled_on : (b : Both) → is_live b.seat.registers.state ≡ true → b �
 settled_on b live = sym (ap (λ l. cond l b (retired (length b.seat.stints) b)) live)
 
 -- after its order
-pub run_by : (reach : Reach) (time : ℕ) (before : Seat) (s : Shared) (mid : Seat) (between : Shared) (after : Seat) (left : Shared) (ended : Step) (noted : Note) → HasTried reach time before s mid between ended noted → both_of after left ≡ settled (both_of mid between) → HasRun reach time before s after left ended noted
-run_by reach time before s mid between after left ended noted tried is =
+pub run_by : (reach : Reach) (m : Moment) (before : Seat) (s : Shared) (mid : Seat) (between : Shared) (after : Seat) (left : Shared) (ended : Step) (noted : Note) → HasTried reach m before s mid between ended noted → both_of after left ≡ settled (both_of mid between) → HasRun reach m before s after left ended noted
+run_by reach m before s mid between after left ended noted tried is =
     record { step = tried.step; note = tried.note; both = is ∙ ap₂ (λ a b. settled (both_of a b)) tried.program tried.shared }

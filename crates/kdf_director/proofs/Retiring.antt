@@ -8,6 +8,7 @@ use Rattle.kdf_processor.specs.declared.step.Need.TheVariants.{Device}
 use Rattle.kdf_processor.specs.Lone.{is_live}
 use Rattle.kdf_processor.specs.View.{View, first_pending}
 use Rattle.kdf_transfer.specs.Devices.{Fixture, blank_fixture}
+use Rattle.kdf_director.specs.declared.moment.Moment.{Moment}
 use Rattle.kdf_director.specs.Keeping.{IsActive, IsKept}
 use Rattle.kdf_journal.specs.declared.kind.Kind.{Kind}
 use Rattle.kdf_processor.specs.declared.registers.Registers.{Registers}
@@ -377,7 +378,7 @@ none_pending v p n (x ∷ xs) busy free k lt =
     of false other later (suc j) within = later (sym (ap (λ b. first_pending v (map Device (cond b (n ∷ own_from p (n + 1) xs) (own_from p (n + 1) xs)))) other) ∙ free) j (omega arith)
 
 -- a program whose transfers aren't pending has none
-pub alone_of : (q : Part) (t : ℕ) (s : Shared) → first_pending (view q t s) (map Device (own_from q.p 0 s.spots)) ≡ None → (d : ℕ) (h : Held) → (spot_at s.spots d).flight ≡ Some h → h.p ≢ q.p
+pub alone_of : (q : Part) (t : Moment) (s : Shared) → first_pending (view q t s) (map Device (own_from q.p 0 s.spots)) ≡ None → (d : ℕ) (h : Held) → (spot_at s.spots d).flight ≡ Some h → h.p ≢ q.p
 alone_of q t s free d h flies same =
     ⊎_elim
     (λ (lt : d < length s.spots).

@@ -14,6 +14,7 @@ use Rattle.kdf_processor.specs.Outcome.{done}
 use Rattle.kdf_processor.specs.View.{first_pending}
 use Rattle.kdf_transfer.specs.ByNumber.{device_count}
 use Rattle.kdf_transfer.specs.Devices.{Fixture, blank_fixture}
+use Rattle.kdf_director.specs.declared.moment.Moment.{Moment}
 use Rattle.kdf_director.specs.Keeping.{IsActive, IsKept}
 use Rattle.kdf_director.specs.Spots.{Held, Spot, blank_spot, lent_spot, no_spot, spot_at, fixture_or}
 use Rattle.kdf_director.specs.Parts.{Part, Shared, Seat, Reach, lent_to, own_claims}
@@ -65,7 +66,7 @@ running_by reaches seats seats' s s' run count parts cells sound fixtures flight
         }
 
 -- an effect none of whose needs is pending
-module _ (reaches : List Reach) (seats : List Seat) (t : ℕ) (s : Shared) (p : ℕ) (r : Registers) (own : List ℕ) (run : IsRunning reaches seats s) (lt : p < length seats) (live : is_live (seat_at seats p).registers.state ≡ true) where
+module _ (reaches : List Reach) (seats : List Seat) (t : Moment) (s : Shared) (p : ℕ) (r : Registers) (own : List ℕ) (run : IsRunning reaches seats s) (lt : p < length seats) (live : is_live (seat_at seats p).registers.state ≡ true) where
   abbrev q : Part
   q = part_at reaches seats p
 
@@ -169,7 +170,7 @@ module _ (reaches : List Reach) (seats : List Seat) (t : ℕ) (s : Shared) (p : 
   cells_by e lawful free = refl
 
 -- one order more of a live program
-pub running_tried : (reaches : List Reach) (seats : List Seat) (t : ℕ) (s : Shared) (p : ℕ) (run : IsRunning reaches seats s) (lt : p < length seats) → is_live (seat_at seats p).registers.state ≡ true → (o : Option Need) → hold_of reaches seats s p ≡ o → IsRunning reaches (turn.later reaches seats t s p run lt o) (turn.shared reaches seats t s p run lt o)
+pub running_tried : (reaches : List Reach) (seats : List Seat) (t : Moment) (s : Shared) (p : ℕ) (run : IsRunning reaches seats s) (lt : p < length seats) → is_live (seat_at seats p).registers.state ≡ true → (o : Option Need) → hold_of reaches seats s p ≡ o → IsRunning reaches (turn.later reaches seats t s p run lt o) (turn.shared reaches seats t s p run lt o)
 running_tried reaches seats t s p run lt live (Some need) is =
     running_by reaches seats (turn.later reaches seats t s p run lt (Some need)) s s run (length-set seats p _) (turn.same_part reaches seats t s p run lt (Some need)) refl run.sound (λ d some. some) run.flights
     (λ i within. turn.tried_kept reaches seats t s p run lt live (Some need) is i (omega (arith, length-set seats p (turn.new reaches seats t s p run lt (Some need)))))

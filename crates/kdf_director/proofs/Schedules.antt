@@ -12,17 +12,19 @@ use Rattle.kdf_schedule.proofs.Schedules.{calls_made-append, calls_made-one, cal
 use Rattle.kdf_course.specs.Follows.{Reaches}
 use Rattle.kdf_course.proofs.Reaching.{reach-append, reach-dead, reach-nil, reach-whole, whole-on}
 use Rattle.kdf_director.specs.Next.{lone_dispatched, any_live}
-use Rattle.kdf_director.specs.Legal.{IsLegal, IsTrue}
-use Rattle.kdf_director.specs.Follows.{IsRising, IsWhole, time_behind, IsJournal}
-use Rattle.kdf_director.proofs.Judged.{legal_nil, true_nil}
+use Rattle.kdf_director.specs.Legal.{IsLegal}
+use Rattle.kdf_director.specs.Follows.{IsRising, IsWhole, time_behind}
+use Rattle.kdf_director.proofs.ForService.{true_for_nil}
+use Rattle.kdf_director.proofs.Judged.{legal_nil}
+use Rattle.kdf_director.specs.Served.{IsJournalFor, IsTrueFor}
 
 -- before the first of further events
 pub no_calls : (slots : List Slot) (P : List Step) (es : List Event) → Reaches (lone_dispatched slots) P (calls_made (take 0 es)) P
 no_calls slots P es = rw calls_made-nil (reach-nil (lone_dispatched slots) P)
 
 -- a journal that goes on after its schedule's first events
-pub went-on : (slots : List Slot) (es : List Event) (i : ℕ) (J K : List Entry) → IsJournal slots (take i es) J → IsLegal slots K → IsTrue slots K → Reaches (lone_dispatched slots) (steps J) (calls_made (drop i es)) (steps K) → IsJournal slots es K
-went-on slots es i J K j l truly r = record {
+pub went-on : (answers : ℕ → ℕ → Type 0) (slots : List Slot) (es : List Event) (i : ℕ) (J K : List Entry) → IsJournalFor answers slots (take i es) J → IsLegal slots K → IsTrueFor answers slots K → Reaches (lone_dispatched slots) (steps J) (calls_made (drop i es)) (steps K) → IsJournalFor answers slots es K
+went-on answers slots es i J K j l truly r = record {
   legal = l;
   truly = truly;
   whole =
@@ -32,12 +34,12 @@ went-on slots es i J K j l truly r = record {
 }
 
 -- where no event is to follow, the empty journal is that of the slots
-pub no-events : (slots : List Slot) (es : List Event) (J : List Entry) → J ≡ [] → IsJournal slots (take 0 es) J
-no-events slots es J fresh =
-    subst (λ (K : List Entry). IsJournal slots [] K) (sym fresh)
+pub no-events : (answers : ℕ → ℕ → Type 0) (slots : List Slot) (es : List Event) (J : List Entry) → J ≡ [] → IsJournalFor answers slots (take 0 es) J
+no-events answers slots es J fresh =
+    subst (λ (K : List Entry). IsJournalFor answers slots [] K) (sym fresh)
     (record {
       legal = legal_nil slots;
-      truly = true_nil slots;
+      truly = true_for_nil answers slots;
       whole = reach-whole (lone_dispatched slots) (calls_made []) [] (rw steps-nil refl) (rw (calls_made-nil, steps-nil) (reach-nil (lone_dispatched slots) []));
     })
 

@@ -55,33 +55,33 @@ same-note slots J p answer none =
     ∙ note_alike (flights_of slots J p) answer (next_effect (own slots J p)) (own slots J p)
 
 -- so a step that meets the rules by what is seen meets them by the lone states
-pub judged : (slots : List Slot) (J : List Entry) (s : Step) → Meets (seen_world slots J) slots J s → Meets (lone_world slots J) slots J s
-judged slots J (Obeys p note) m =
+pub judged : (slots : List Slot) (J : List Entry) (heard : ℕ) (s : Step) → Meets (seen_world slots J) slots J heard s → Meets (lone_world slots J) slots J heard s
+judged slots J heard (Obeys p note) m =
     let none : first_need (lone_world slots J) p ≡ None = sym (same-need slots J p) ∙ free_need (first_need (seen_world slots J) p) m.1 in
-    (next-world (own slots J) (seen_of slots J) slots J ∙ m.0, ap (option_map hold_of) none, m.2 ∙ same-note slots J p (truth (lone_world slots J) J p) none)
-judged slots J (Holds p by) m = (next-world (own slots J) (seen_of slots J) slots J ∙ m.0, ap (option_map hold_of) (sym (same-need slots J p)) ∙ m.1)
-judged slots J Waits m = (m.0, next-world (own slots J) (seen_of slots J) slots J ∙ m.1)
-judged slots J (Moves d n) m = tt
-judged slots J (Ends d) m = tt
-judged slots J (Sets t) m = m
-judged slots J (Swaps p q) m = m
+    (next-world (own slots J) (seen_of slots J) slots J ∙ m.0, ap (option_map hold_of) none, m.2 ∙ same-note slots J p (truth (lone_world slots J) J p heard) none)
+judged slots J heard (Holds p by) m = (next-world (own slots J) (seen_of slots J) slots J ∙ m.0, ap (option_map hold_of) (sym (same-need slots J p)) ∙ m.1)
+judged slots J heard Waits m = (m.0, next-world (own slots J) (seen_of slots J) slots J ∙ m.1)
+judged slots J heard (Moves d n) m = tt
+judged slots J heard (Ends d) m = tt
+judged slots J heard (Sets t) m = m
+judged slots J heard (Swaps p q) m = m
 
 -- and each call makes the same step
-same-turn : (slots : List Slot) (J : List Entry) (p : ℕ) (o : Option Need) → first_need (lone_world slots J) p ≡ o → turn (true_note (seen_world slots J) J) p (option_map hold_of o) ≡ turn (lone_note slots J) p (option_map hold_of o)
-same-turn slots J p None none = ap (λ (n : Note). Obeys p n) (same-note slots J p (truth (lone_world slots J) J p) none)
-same-turn slots J p (Some need) held = refl
+same-turn : (slots : List Slot) (J : List Entry) (heard p : ℕ) (o : Option Need) → first_need (lone_world slots J) p ≡ o → turn (true_note (seen_world slots J) J heard) p (option_map hold_of o) ≡ turn (lone_note slots heard J) p (option_map hold_of o)
+same-turn slots J heard p None none = ap (λ (n : Note). Obeys p n) (same-note slots J p (truth (lone_world slots J) J p heard) none)
+same-turn slots J heard p (Some need) held = refl
 
-same-turn_of : (slots : List Slot) (J : List Entry) (o : Option ℕ) → turn_of (dispatched slots (seen_world slots J)) (true_note (seen_world slots J) J) o ≡ turn_of (lone_dispatched slots J) (lone_note slots J) o
-same-turn_of slots J None = refl
-same-turn_of slots J (Some p) = ap (λ (o : Option Need). turn (true_note (seen_world slots J) J) p (option_map hold_of o)) (same-need slots J p) ∙ same-turn slots J p (first_need (lone_world slots J) p) refl
+same-turn_of : (slots : List Slot) (J : List Entry) (heard : ℕ) (o : Option ℕ) → turn_of (dispatched slots (seen_world slots J)) (true_note (seen_world slots J) J heard) o ≡ turn_of (lone_dispatched slots J) (lone_note slots heard J) o
+same-turn_of slots J heard None = refl
+same-turn_of slots J heard (Some p) = ap (λ (o : Option Need). turn (true_note (seen_world slots J) J heard) p (option_map hold_of o)) (same-need slots J p) ∙ same-turn slots J heard p (first_need (lone_world slots J) p) refl
 
-pub same-step : (slots : List Slot) (J : List Entry) (c : Call) → step_at (seen_world slots J) slots J c ≡ lone_step_at slots J c
-same-step slots J AnOrder =
-    ap (turn_of (dispatched slots (seen_world slots J)) (true_note (seen_world slots J) J)) (next-world (seen_of slots J) (own slots J) slots J) ∙ same-turn_of slots J (next (lone_world slots J) slots J)
-same-step slots J (AMove d n) = refl
-same-step slots J (AnEnd d) = refl
-same-step slots J (AClock t) = refl
-same-step slots J (ASwap p q) = refl
+pub same-step : (slots : List Slot) (J : List Entry) (heard : ℕ) (c : Call) → step_at (seen_world slots J) slots J heard c ≡ lone_step_at slots J heard c
+same-step slots J heard AnOrder =
+    ap (turn_of (dispatched slots (seen_world slots J)) (true_note (seen_world slots J) J heard)) (next-world (seen_of slots J) (own slots J) slots J) ∙ same-turn_of slots J heard (next (lone_world slots J) slots J)
+same-step slots J heard (AMove d n) = refl
+same-step slots J heard (AnEnd d) = refl
+same-step slots J heard (AClock t) = refl
+same-step slots J heard (ASwap p q) = refl
 
 -- ---- what is seen after a step
 module _ (slots : List Slot) (J : List Entry) (p : ℕ) (asked : (own slots J p).stock.asked ≡ length (answers p J)) (course : IsOnCourse slots J p) where

@@ -8,6 +8,7 @@ use Rattle.kdf_processor.specs.Lone.{is_live}
 use Rattle.kdf_processor.specs.Needs.{effect_needs}
 use Rattle.kdf_processor.specs.Outcome.{done}
 use Rattle.kdf_processor.specs.View.{first_pending}
+use Rattle.kdf_director.specs.declared.moment.Moment.{Moment}
 use Rattle.kdf_director.specs.Notes.{note_of}
 use Rattle.kdf_director.specs.Parts.{Part, Shared, lent_to, own_claims}
 use Rattle.kdf_director.specs.Settled.{holder_left, holder_over}
@@ -19,7 +20,7 @@ use Rattle.kdf_director.proofs.Lawful.{IsLawful}
 use Rattle.kdf_director.proofs.Pooling.{at_spot}
 use Rattle.kdf_director.proofs.Trying.{IsPart, give_its, start_holder, start_small, take_free, take_is}
 
-module _ (q : Part) (t : ℕ) (s : Shared) (r : Registers) (own : List ℕ) (sound : IsSound s) (part : IsPart q s) (live : is_live r.state ≡ true) where
+module _ (q : Part) (t : Moment) (s : Shared) (r : Registers) (own : List ℕ) (sound : IsSound s) (part : IsPart q s) (live : is_live r.state ≡ true) where
   inside : (d : ℕ) → d < device_count → d < length s.spots
   inside d small = let e = sound.spots in omega arith
 

@@ -1,6 +1,6 @@
 -- What the turn of a program that is next makes of the machine.
 use Rattle.std.specs.Option.{option_map}
-use Rattle.std.proofs.Common.{◌≡◌, ◌≢◌, ℕ, ◌<◌, true, false, List, length, get_or, map, set, Option, Some, None, is_some, cond, refl, sym, ap, ap₂, ◌∙◌, subst, ⊎_elim, arith}
+use Rattle.std.proofs.Common.{◌≡◌, ◌≢◌, ℕ, ◌<◌, inl, inr, true, false, List, length, get_or, map, set, Option, Some, None, is_some, cond, refl, sym, ap, ap₂, ◌∙◌, subst, ⊎_elim, arith}
 use Rattle.std.proofs.Math.Path.{fun_ext}
 use Rattle.std.proofs.lemmas.Bool.{cases_eq, eq-eqb, ne_eqb}
 use Rattle.std.proofs.lemmas.List.{ext_get_or, get_or-map, get_or-set_same, get_or-set_other, length-map, length-set}
@@ -23,7 +23,7 @@ use Rattle.kdf_director.specs.Seen.{tried}
 use Rattle.kdf_director.specs.declared.machine.Progress.{Progress}
 use Rattle.kdf_director.specs.declared.machine.Progress.TheVariants as progress
 use Rattle.kdf_director.specs.declared.note.Note.{Note as Noted}
-use Rattle.kdf_director.specs.Advance.{Advance, note_told}
+use Rattle.kdf_director.specs.Advance.{note_told, AdvanceWith}
 use Rattle.kdf_director.specs.Agrees.{Agrees}
 use Rattle.kdf_director.specs.Following.{AreFollowing, IsFollowing, Linked, asked_at}
 use Rattle.kdf_director.specs.Legal.{Meets, note_of}
@@ -31,7 +31,7 @@ use Rattle.kdf_director.specs.Next.{any_live, next}
 use Rattle.kdf_director.specs.Parts.{Part, Reach, Seat, Shared, asked_after, in_pool}
 use Rattle.kdf_director.specs.Settled.{holder_left}
 use Rattle.kdf_director.specs.Running.{no_seat, answers_at, hold_of, outcome_at, own_state, part_at, seat_at, IsRunning}
-use Rattle.kdf_director.specs.Shared.{after_act}
+use Rattle.kdf_director.specs.Shared.{after_act, moment}
 use Rattle.kdf_director.specs.Shown.{Shown, state_at, world_of}
 use Rattle.kdf_director.specs.Viewed.{states_in}
 use Rattle.kdf_director.specs.Slots.{slot_of}
@@ -41,7 +41,7 @@ use Rattle.kdf_director.specs.Told.{flights_of, lone_world, own, seen_of}
 use Rattle.kdf_director.specs.True.{truth}
 use Rattle.kdf_director.specs.World.{first_need, need_of}
 use Rattle.kdf_director.specs.World as world
-use Rattle.kdf_director.proofs.Advancing.{agrees_obeyed, need_is, shows_obeyed, told}
+use Rattle.kdf_director.proofs.Advancing.{agrees_obeyed, need_is, shows_obeyed, told, lone_heard, state_heard}
 use Rattle.kdf_director.proofs.Entering.{shows}
 use Rattle.kdf_director.proofs.Judging.{hold_same}
 use Rattle.kdf_director.proofs.Lasting.{held_follows, held_seen, waited_follows, waited_seen}
@@ -51,6 +51,8 @@ use Rattle.kdf_director.proofs.OnCourse.{legal-course}
 use Rattle.kdf_director.proofs.SeenJournals.{same-need}
 use Rattle.kdf_director.proofs.Turning.{numbers_apart}
 use Rattle.kdf_director.proofs.Worlds.{next-world, next_slot}
+use Rattle.kdf_director.specs.Served.{IsAnswered}
+use Rattle.kdf_director.proofs.ForService.{heard_note}
 
 -- ---- an order that was obeyed isn't held
 
@@ -85,12 +87,13 @@ shown slots reaches seats s J room =
     record { slots = slots; states = states_in reaches seats s J; journal = J; room = room }
 
 -- it is one still, and the call did what it answers
-pub record HasAdvanced (old : Shown) (slots : List Slot) (reaches : List Reach) (seats : List Seat) (s : Shared) (holds : List (Option Need)) (J : List Entry) (room : ℕ) (answer : Progress) : Type 0 where
+pub record HasAdvanced (answers : ℕ → ℕ → Type 0) (old : Shown) (slots : List Slot) (reaches : List Reach) (seats : List Seat) (s : Shared) (holds : List (Option Need)) (J : List Entry) (room : ℕ) (answer : Progress) : Type 0 where
   pub agrees : Agrees slots reaches seats s J
   pub holds_are : holds ≡ holds_in seats J
-  pub advance : Advance old (shown slots reaches seats s J room) answer
+  pub advance : AdvanceWith answers old (shown slots reaches seats s J room) answer
+  pub answered : IsAnswered answers old.slots old.journal J
 
-module _ (slots : List Slot) (reaches : List Reach) (seats : List Seat) (s : Shared) (J : List Entry) (room : ℕ) (a : Agrees slots reaches seats s J) (holds : List (Option Need)) (have : holds ≡ holds_in seats J) (few : calls J < CALL_LIMIT) where
+module _ (service : ℕ → ℕ → Type 0) (slots : List Slot) (reaches : List Reach) (seats : List Seat) (s : Shared) (J : List Entry) (room : ℕ) (a : Agrees slots reaches seats s J) (holds : List (Option Need)) (have : holds ≡ holds_in seats J) (few : calls J < CALL_LIMIT) where
   abbrev m : Shown
   m = shown slots reaches seats s J room
 
@@ -108,7 +111,7 @@ module _ (slots : List Slot) (reaches : List Reach) (seats : List Seat) (s : Sha
 
   -- ---- no program goes on
   module _ (live : any_live slots J ≡ true) (none : next (world_of m) slots J ≡ None) where
-    meets_wait : Meets (lone_world slots J) slots J Waits
+    meets_wait : Meets (lone_world slots J) slots J 0 Waits
     meets_wait = (live, next-world (own slots J) (state_at m) slots J ∙ none)
 
     agrees_wait : Agrees slots reaches seats s (added J Waits)
@@ -120,35 +123,40 @@ module _ (slots : List Slot) (reaches : List Reach) (seats : List Seat) (s : Sha
           running = a.running;
           following = waited_follows slots J reaches seats s a.are a.legal a.running a.following;
           lent = λ j d within pooled. a.lent j d within pooled ∙ sym (holder-quiet d J Waits refl (λ q. refl));
-          legal = legal_added slots J Waits a.legal meets_wait;
-          truly = true_added slots J Waits a.legal a.truly meets_wait;
+          legal = legal_added slots J 0 Waits a.legal meets_wait;
+          truly = true_added slots J 0 Waits a.legal a.truly meets_wait;
           few_calls = omega (arith, calls-added J Waits);
           few_moves = (let k = a.few_moves in omega (arith, moves-added J Waits));
         }
 
-    pub waited : HasAdvanced m slots reaches seats s holds (added J Waits) room progress.Idle
+    pub waited : HasAdvanced service m slots reaches seats s holds (added J Waits) room progress.Idle
     waited =
         record {
           agrees = agrees_wait;
           holds_are = holds_stay Waits (λ p. refl);
           advance = record {
-            live = live;
-            none_next = none;
-            states = states_stay Waits seats s agrees_wait (waited_seen slots J reaches seats s a.are a.legal a.running a.following);
-            journal = refl;
+            heard = 0;
+            is_heard = tt;
+            advance = record {
+              live = live;
+              none_next = none;
+              states = states_stay Waits seats s agrees_wait (waited_seen slots J reaches seats s a.are a.legal a.running a.following);
+              journal = refl;
+            };
           };
+          answered = inr (Waits, refl, tt);
         }
 
   -- none is live
-  pub all_ended : any_live slots J ≡ false → HasAdvanced m slots reaches seats s holds J room progress.AllEnded
-  all_ended dead = record { agrees = a; holds_are = have; advance = (dead, refl) }
+  pub all_ended : any_live slots J ≡ false → HasAdvanced service m slots reaches seats s holds J room progress.AllEnded
+  all_ended dead = record { agrees = a; holds_are = have; advance = record { heard = 0; is_heard = tt; advance = (dead, refl) }; answered = inl refl }
 
   -- ---- the turn of a program
   module _ (i : ℕ) (lt : i < length seats) where
     abbrev p : ℕ
     p = (seat_at seats i).p
 
-    module _ (turn : next (world_of m) slots J ≡ Some p) (seats' : List Seat) (s' : Shared) (holds' : List (Option Need)) (K : List Entry) (answer : Progress) (t : HasTaken reaches i seats s holds J seats' s' holds' K answer) (run : IsRunning reaches seats' s') where
+    module _ (turn : next (world_of m) slots J ≡ Some p) (seats' : List Seat) (s' : Shared) (holds' : List (Option Need)) (K : List Entry) (answer : Progress) (t : HasTaken service reaches i seats s holds J seats' s' holds' K answer) (run : IsRunning reaches seats' s') where
       same_numbers : map (λ (x : Seat). x.p) seats' ≡ map (λ (x : Seat). x.p) seats
       same_numbers =
           ext_get_or 0 _ _
@@ -190,36 +198,44 @@ module _ (slots : List Slot) (reaches : List Reach) (seats : List Seat) (s : Sha
           told_by L x = option_map need_of (last_hold x.p L)
 
       -- in this world its journal is J with a step more
-      by_step : (st : Step) (h : Option Need) (x : Progress) → step_told (seat_at seats' i).p (seat_at seats' i).registers.ran t.ended t.noted ≡ st → hold_left t.ended ≡ h → progress_of (seat_at seats' i).p t.ended ≡ x → HasAdvanced m slots reaches seats' s' (set holds i h) (added J st) room x → HasAdvanced m slots reaches seats' s' holds' K room answer
+      by_step : (st : Step) (h : Option Need) (x : Progress) → step_told (seat_at seats' i).p (seat_at seats' i).registers.ran t.ended t.noted ≡ st → hold_left t.ended ≡ h → progress_of (seat_at seats' i).p t.ended ≡ x → HasAdvanced service m slots reaches seats' s' (set holds i h) (added J st) room x → HasAdvanced service m slots reaches seats' s' holds' K room answer
       by_step st h x e f g advanced =
-          subst (λ L. HasAdvanced m slots reaches seats' s' holds' L room answer) (sym (t.entered ∙ ap (added J) e))
-          (subst (λ hs. HasAdvanced m slots reaches seats' s' hs (added J st) room answer) (sym (t.left_held ∙ ap (set holds i) f))
-          (subst (HasAdvanced m slots reaches seats' s' (set holds i h) (added J st) room) (sym (t.answered ∙ g)) advanced))
+          subst (λ L. HasAdvanced service m slots reaches seats' s' holds' L room answer) (sym (t.entered ∙ ap (added J) e))
+          (subst (λ hs. HasAdvanced service m slots reaches seats' s' hs (added J st) room answer) (sym (t.left_held ∙ ap (set holds i) f))
+          (subst (HasAdvanced service m slots reaches seats' s' (set holds i h) (added J st) room) (sym (t.answered ∙ g)) advanced))
+
+      there : is_some (slot_of slots p) ≡ true
+      there = next_slot (world_of m) slots J p turn
 
       -- it obeyed
       abbrev noted : Note
-      noted = note_of (own slots J p) (truth (lone_world slots J) J p)
+      noted = note_of (own slots J p) (truth (lone_world slots J) J p t.heard)
 
-      outcome_free : hold_of reaches seats s i ≡ None → outcome_at reaches seats s (clock J) 0 i ≡ next_of (own_state reaches seats s 0 i) (answers_at reaches seats (clock J) s i)
+      outcome_free : hold_of reaches seats s i ≡ None → outcome_at reaches seats s (moment (clock J) t.heard) 0 i ≡ next_of (own_state reaches seats s 0 i) (answers_at reaches seats (moment (clock J) t.heard) s i)
       unfolding outcome_at
-      outcome_free free = ap (λ o. held_or (seat_at seats i).registers o (next_of (own_state reaches seats s 0 i) (answers_at reaches seats (clock J) s i))) free
+      outcome_free free = ap (λ o. held_or (seat_at seats i).registers o (next_of (own_state reaches seats s 0 i) (answers_at reaches seats (moment (clock J) t.heard) s i))) free
 
       not_held : hold_of reaches seats s i ≡ None → IsNotHeld t.ended
       not_held free =
           subst IsNotHeld (sym (t.turned.step 0 ∙ ap (λ (o : Outcome). o.step) (outcome_free free)))
-          (done_free (answers_at reaches seats (clock J) s i) (next_effect (own_state reaches seats s 0 i)) (own_state reaches seats s 0 i))
+          (done_free (answers_at reaches seats (moment (clock J) t.heard) s i) (next_effect (own_state reaches seats s 0 i)) (own_state reaches seats s 0 i))
 
-      free_turn : hold_of reaches seats s i ≡ None → HasAdvanced m slots reaches seats' s' holds' K room answer
+      free_turn : hold_of reaches seats s i ≡ None → HasAdvanced service m slots reaches seats' s' holds' K room answer
       free_turn free =
           by_step (Obeys p noted) None (progress.Ran p)
           (step_free (seat_at seats' i).p (seat_at seats' i).registers.ran t.ended t.noted (not_held free)
-          ∙ ap₂ (λ q n. Obeys q n) (t.turned.numbers i) (told slots reaches seats s J room a i lt turn free seats' s' t.ended t.noted t.turned run few same_numbers))
+          ∙ ap₂ (λ q n. Obeys q n) (t.turned.numbers i) (told slots reaches seats s J room a i lt t.heard turn free seats' s' t.ended t.noted t.turned run few same_numbers))
           (hold_free t.ended (not_held free))
           (progress_free (seat_at seats' i).p t.ended (not_held free) ∙ ap (λ q. progress.Ran q) (t.turned.numbers i))
           (record {
-            agrees = agrees_obeyed slots reaches seats s J room a i lt turn free seats' s' t.ended t.noted t.turned run few same_numbers;
+            agrees = agrees_obeyed slots reaches seats s J room a i lt t.heard turn free seats' s' t.ended t.noted t.turned run few same_numbers;
             holds_are = holds_more (Obeys p noted) None (ap (λ b. option_map need_of (cond b None (last_hold p J))) (eq-eqb p p refl)) (λ k ne. ap (λ b. cond b None (last_hold k J)) (ne_eqb p k ne));
-            advance = shows_obeyed slots reaches seats s J room a i lt turn free seats' s' t.ended t.noted t.turned run few same_numbers;
+            advance = record {
+              heard = t.heard;
+              is_heard = state_heard slots reaches seats s J room a i lt service t.heard t.asked there;
+              advance = shows_obeyed slots reaches seats s J room a i lt t.heard turn free seats' s' t.ended t.noted t.turned run few same_numbers;
+            };
+            answered = inr (Obeys p noted, refl, heard_note service slots J p t.heard (lone_heard slots reaches seats s J room a i lt service t.heard t.asked));
           })
 
       -- it was held
@@ -230,9 +246,9 @@ module _ (slots : List Slot) (reaches : List Reach) (seats : List Seat) (s : Sha
         abbrev st : Step
         st = Holds p (world.hold_of need)
 
-        outcome_held : (n : ℕ) → outcome_at reaches seats s (clock J) n i ≡ record { step = ending.Held need; registers = (seat_at seats i).registers; act = Nothing }
+        outcome_held : (n : ℕ) → outcome_at reaches seats s (moment (clock J) t.heard) n i ≡ record { step = ending.Held need; registers = (seat_at seats i).registers; act = Nothing }
         unfolding outcome_at
-        outcome_held n = ap (λ o. held_or (seat_at seats i).registers o (next_of (own_state reaches seats s n i) (answers_at reaches seats (clock J) s i))) held
+        outcome_held n = ap (λ o. held_or (seat_at seats i).registers o (next_of (own_state reaches seats s n i) (answers_at reaches seats (moment (clock J) t.heard) s i))) held
 
         ended_is : t.ended ≡ ending.Held need
         ended_is = t.turned.step 0 ∙ ap (λ (o : Outcome). o.step) (outcome_held 0)
@@ -257,10 +273,7 @@ module _ (slots : List Slot) (reaches : List Reach) (seats : List Seat) (s : Sha
             (λ (ne : j ≢ i). t.turned.others n j inside ne)
             (cases_eq j i)
 
-        there : is_some (slot_of slots p) ≡ true
-        there = next_slot (world_of m) slots J p turn
-
-        meets_hold : Meets (lone_world slots J) slots J st
+        meets_hold : Meets (lone_world slots J) slots J 0 st
         meets_hold = (
           next-world (own slots J) (state_at m) slots J ∙ turn,
           ap (option_map world.hold_of) (sym (same-need slots J p)
@@ -302,13 +315,13 @@ module _ (slots : List Slot) (reaches : List Reach) (seats : List Seat) (s : Sha
                   ∙ ap (λ e. holder_left p e t.noted d (spot_at s.spots d).holder) ended_is
                   ∙ a.lent i d lt its
                   ∙ sym (holder-quiet d J st refl (λ q. refl));
-              legal = legal_added slots J st a.legal meets_hold;
-              truly = true_added slots J st a.legal a.truly meets_hold;
+              legal = legal_added slots J 0 st a.legal meets_hold;
+              truly = true_added slots J 0 st a.legal a.truly meets_hold;
               few_calls = omega (arith, calls-added J st);
               few_moves = (let k = a.few_moves in omega (arith, moves-added J st));
             }
 
-        held_turn : HasAdvanced m slots reaches seats' s' holds' K room answer
+        held_turn : HasAdvanced service m slots reaches seats' s' holds' K room answer
         held_turn =
             by_step st (Some need) (progress.Held p need)
             (ap (λ e. step_told (seat_at seats' i).p (seat_at seats' i).registers.ran e t.noted) ended_is ∙ ap (λ k. Holds k (world.hold_of need)) (t.turned.numbers i))
@@ -320,16 +333,21 @@ module _ (slots : List Slot) (reaches : List Reach) (seats : List Seat) (s : Sha
                   (ap (λ b. option_map need_of (cond b (Some (world.hold_of need)) (last_hold p J))) (eq-eqb p p refl) ∙ ap Some (need_again need))
                   (λ k ne. ap (λ b. cond b (Some (world.hold_of need)) (last_hold k J)) (ne_eqb p k ne));
               advance = record {
-                was_next = turn;
-                held = need_is slots reaches seats s J room a i lt there ∙ held;
-                states = states_stay st seats' s' agrees_held (held_seen slots J reaches seats s a.are a.legal a.running a.following p (world.hold_of need));
-                journal = refl;
+                heard = 0;
+                is_heard = tt;
+                advance = record {
+                  was_next = turn;
+                  held = need_is slots reaches seats s J room a i lt there ∙ held;
+                  states = states_stay st seats' s' agrees_held (held_seen slots J reaches seats s a.are a.legal a.running a.following p (world.hold_of need));
+                  journal = refl;
+                };
               };
+              answered = inr (st, refl, tt);
             })
 
-      pub taken : HasAdvanced m slots reaches seats' s' holds' K room answer
+      pub taken : HasAdvanced service m slots reaches seats' s' holds' K room answer
       taken = by_hold (hold_of reaches seats s i) refl
         where
-          by_hold : (o : Option Need) → hold_of reaches seats s i ≡ o → HasAdvanced m slots reaches seats' s' holds' K room answer
+          by_hold : (o : Option Need) → hold_of reaches seats s i ≡ o → HasAdvanced service m slots reaches seats' s' holds' K room answer
           by_hold None free = free_turn free
           by_hold (Some need) held = held_turn need held

@@ -9,6 +9,7 @@ use Rattle.kdf_transfer.specs.Devices.{Fixture, is_kind}
 use Rattle.kdf_transfer.specs.declared.order.TransferOrder.{TransferOrder}
 use Rattle.kdf_transfer.specs.AtOnce.{kind_of, has_area}
 use Rattle.kdf_transfer.proofs.Numbers.{number_past}
+use Rattle.kdf_director.specs.declared.moment.Moment.{Moment}
 use Rattle.kdf_director.specs.Seen.{begun}
 use Rattle.kdf_transfer.specs.ByNumber.{device_count}
 use Rattle.kdf_processor.specs.declared.step.Need.TheVariants.{Group, Device, Pool}
@@ -54,7 +55,7 @@ idle_of None h = refl
 idle_of (Some x) h = cc
 
 -- a group that isn't pending is here
-here_of : (q : Part) (t : ℕ) (s : Shared) (a : ℕ) → q.base % 32 ≡ 0 → first_pending (view q t s) (Group (a / 32) ∷ []) ≡ None → is_out s.cells ((q.base + a) / 32) ≡ false
+here_of : (q : Part) (t : Moment) (s : Shared) (a : ℕ) → q.base % 32 ≡ 0 → first_pending (view q t s) (Group (a / 32) ∷ []) ≡ None → is_out s.cells ((q.base + a) / 32) ≡ false
 here_of q t s a at none =
     let e : (q.base + a) / 32 ≡ q.base / 32 + a / 32 = omega arith in
     ap (is_out s.cells) e
@@ -64,7 +65,7 @@ here_of q t s a at none =
     (cases_Bool (is_out s.cells (q.base / 32 + a / 32)))
 
 -- what is known where a transfer may begin
-module _ (q : Part) (t : ℕ) (s : Shared) (d : ℕ) (o : TransferOrder) (first last : ℕ) (after : Registers) (own : List ℕ) (part : IsPart q s) (lawful : IsLawful (own_claims q s) (Starting d o first last after)) (free : first_pending (view q t s) (effect_needs own (Starting d o first last after)) ≡ None) where
+module _ (q : Part) (t : Moment) (s : Shared) (d : ℕ) (o : TransferOrder) (first last : ℕ) (after : Registers) (own : List ℕ) (part : IsPart q s) (lawful : IsLawful (own_claims q s) (Starting d o first last after)) (free : first_pending (view q t s) (effect_needs own (Starting d o first last after)) ≡ None) where
   pub start_holder : (spot_at s.spots d).holder ≡ Some q.p
   start_holder = claim_holder q s d (kind_of o) part.kept part.active lawful.0
 
@@ -115,7 +116,7 @@ not_some : {X : Type 0} (o : Option X) → not (is_some o) ≡ true → o ≡ No
 not_some None is = refl
 not_some (Some x) is = cc
 
-module _ (q : Part) (t : ℕ) (s : Shared) (kind : Kind) (part : IsPart q s) where
+module _ (q : Part) (t : Moment) (s : Shared) (kind : Kind) (part : IsPart q s) where
   free_at : (a : ℕ) → is_free_in q.pool s.spots kind a ≡ true → IsFree q s a
   free_at a is =
       let parts = and_parts _ _ is in
@@ -167,14 +168,14 @@ module _ (q : Part) (t : ℕ) (s : Shared) (kind : Kind) (part : IsPart q s) whe
   take_is free = answers (take_some free)
 
 -- a device that isn't pending has no transfer
-pub idle_at : (q : Part) (t : ℕ) (s : Shared) (d : ℕ) → first_pending (view q t s) (Device d ∷ []) ≡ None → (spot_at s.spots d).flight ≡ None
+pub idle_at : (q : Part) (t : Moment) (s : Shared) (d : ℕ) → first_pending (view q t s) (Device d ∷ []) ≡ None → (spot_at s.spots d).flight ≡ None
 idle_at q t s d free = idle_of (spot_at s.spots d).flight (of (is_some (spot_at s.spots d).flight) free)
   where
     of : (b : Bool) → cond b (Some (Device d)) None ≡ None → b ≡ false
     of true none = cc
     of false none = refl
 
-pub give_its : (q : Part) (t : ℕ) (s : Shared) (d : ℕ) (after : Registers) → IsPart q s → IsLawful (own_claims q s) (Returning true d after) → first_pending (view q t s) (Device d ∷ []) ≡ None → IsIts q s d
+pub give_its : (q : Part) (t : Moment) (s : Shared) (d : ℕ) (after : Registers) → IsPart q s → IsLawful (own_claims q s) (Returning true d after) → first_pending (view q t s) (Device d ∷ []) ≡ None → IsIts q s d
 give_its q t s d after part lawful free =
     record { pooled = sym lawful.0; holder = claimed_holder q s d part.kept part.active lawful.1; idle = idle_at q t s d free }
 
@@ -191,7 +192,7 @@ abbrev spooled_after : Part → Shared → (stream first last : ℕ) → List Sp
 spooled_after q s stream first last = q.spooled ++ record { stream = stream; text = own_text q s first last } ∷ []
 
 -- an effect none of whose needs is pending
-module _ (q : Part) (t : ℕ) (s : Shared) (r : Registers) (own : List ℕ) (sound : IsSound s) (part : IsPart q s) where
+module _ (q : Part) (t : Moment) (s : Shared) (r : Registers) (own : List ℕ) (sound : IsSound s) (part : IsPart q s) where
   -- what the program has beside its registers
   pub acts_own : (n : ℕ) (e : Effect) → IsLawful (own_claims q s) e → first_pending (view q t s) (effect_needs own e) ≡ None → own_stock (part_after q s (done (view q t s) r e).act) (asked_after n (done (view q t s) r e).act) (after_act q s (done (view q t s) r e).act) ≡ begun (done (view q t s) r e).act (own_stock q n s)
   acts_own n (Keeping a w after) lawful free = writes_own q n s a (w ((view q t s).word a)) sound part.in_store lawful (here_of q t s a part.at_group free)

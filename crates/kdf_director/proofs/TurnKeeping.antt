@@ -28,10 +28,10 @@ active_any q s spooled cells active =
 
 -- of its part, what keeping looks at; with its marks, what is looked at of a live program
 abbrev pub unmarked : Turn → Part
-unmarked t = part_with t.p t.window t.devices.now t.pool.now t.served [] [] t.stints.now.items
+unmarked t = part_with t.p t.window t.slot.now [] [] t.stints.now.items
 
 abbrev pub marked : Turn → Part
-marked t = part_with t.p t.window t.devices.now t.pool.now t.served t.claimed.now [] t.stints.now.items
+marked t = part_with t.p t.window t.slot.now t.claimed.now [] t.stints.now.items
 
 abbrev pub places_of : Turn → Shared
 places_of t = shared_in [] t.places.now.items
@@ -73,12 +73,12 @@ module _ (t : Turn) (d : ℕ) (o : TransferOrder) (first last : ℕ) (places : L
   abbrev begun : Spot
   begun = start_spot t.p o first last t.store.now (spot_at (map spot_of t.places.now.items) d)
 
-  pub start_kept : is_some (spot_at (map spot_of t.places.now.items) d).fixture ≡ true → IsKeptBy t.p t.window t.devices.now t.pool.now t.served t.stints.now.items places
+  pub start_kept : is_some (spot_at (map spot_of t.places.now.items) d).fixture ≡ true → IsKeptBy t.p t.window t.slot.now t.stints.now.items places
   start_kept some =
       kept_over (unmarked t) t.stints.now.items (map keeping_of t.stints.now.items) places (set (map spot_of t.places.now.items) d begun) refl shows
       (kept-same (unmarked t) (places_of t) d begun [] inside t.kept (sym holder) (some_fixture (spot_at (map spot_of t.places.now.items) d).fixture some) (λ _. refl))
 
-  pub start_active : IsActiveBy t.p t.window t.devices.now t.pool.now t.served t.claimed.now t.stints.now.items places
+  pub start_active : IsActiveBy t.p t.window t.slot.now t.claimed.now t.stints.now.items places
   start_active =
       active_over (marked t) t.stints.now.items (map keeping_of t.stints.now.items) places (set (map spot_of t.places.now.items) d begun) refl shows
       (active-same (marked t) (places_of t) d begun [] inside t.active (sym holder))
@@ -95,13 +95,13 @@ module _ (t : Turn) (d : ℕ) (stints : List Stint) (places : List Place) (insid
   abbrev lent_spots : List Spot
   lent_spots = set (map spot_of t.places.now.items) d (lent_spot t.p (spot_at (map spot_of t.places.now.items) d))
 
-  pub take_kept : IsKeptBy t.p t.window t.devices.now t.pool.now t.served stints places
+  pub take_kept : IsKeptBy t.p t.window t.slot.now stints places
   take_kept =
       kept_over (unmarked t) stints taken places lent_spots are shows
       (kept-marked (record (marked t) { claimed = set t.claimed.now d true; stints = taken }) (record { cells = []; spots = lent_spots }) []
       (lent_kept (marked t) (places_of t) d inside (kept_marked t) free_there t.active))
 
-  pub take_active : IsActiveBy t.p t.window t.devices.now t.pool.now t.served (set t.claimed.now d true) stints places
+  pub take_active : IsActiveBy t.p t.window t.slot.now (set t.claimed.now d true) stints places
   take_active =
       active_over (record (marked t) { claimed = set t.claimed.now d true }) stints taken places lent_spots are shows
       (lent_active (marked t) (places_of t) d inside (kept_marked t) free_there t.active)
@@ -127,13 +127,13 @@ module _ (t : Turn) (d : ℕ) (stints : List Stint) (places : List Place) (insid
   abbrev blank_spots : List Spot
   blank_spots = set (map spot_of t.places.now.items) d (blank_spot (spot_at (map spot_of t.places.now.items) d))
 
-  pub give_kept : IsKeptBy t.p t.window t.devices.now t.pool.now t.served stints places
+  pub give_kept : IsKeptBy t.p t.window t.slot.now stints places
   give_kept =
       kept_over (unmarked t) stints given places blank_spots are shows
       (kept-marked (record (marked t) { claimed = set t.claimed.now d false; stints = given }) (record { cells = []; spots = blank_spots }) []
       (given_kept (marked t) (places_of t) d inside (kept_marked t) its_there (set t.claimed.now d false) (back_from (spot_at (map spot_of t.places.now.items) d)) (back_kind (marked t) (places_of t) d inside (kept_marked t) its_there) refl))
 
-  pub give_active : IsActiveBy t.p t.window t.devices.now t.pool.now t.served (set t.claimed.now d false) stints places
+  pub give_active : IsActiveBy t.p t.window t.slot.now (set t.claimed.now d false) stints places
   give_active =
       active_over (record (marked t) { claimed = set t.claimed.now d false }) stints given places blank_spots are shows
       (given_active (marked t) (places_of t) d inside (kept_marked t) its_there (set t.claimed.now d false) (back_from (spot_at (map spot_of t.places.now.items) d)) (back_kind (marked t) (places_of t) d inside (kept_marked t) its_there) refl refl t.active)

@@ -10,6 +10,7 @@ use Rattle.kdf_processor.specs.Lone.{is_live}
 use Rattle.kdf_processor.specs.View.{first_pending}
 use Rattle.kdf_processor.specs.State.{word_at}
 use Rattle.kdf_processor.specs.Outcome.{Outcome}
+use Rattle.kdf_director.specs.declared.moment.Moment.{Moment}
 use Rattle.kdf_director.specs.Seen.{tried}
 use Rattle.kdf_director.specs.declared.note.Note.{Note}
 use Rattle.kdf_director.specs.Notes.{note_of}
@@ -26,7 +27,7 @@ use Rattle.kdf_director.proofs.Settling.{live_by, over_by}
 use Rattle.kdf_director.proofs.Turning as turn
 use Rattle.kdf_director.proofs.Running.{running_tried}
 
-module _ (reaches : List Reach) (seats : List Seat) (t : ℕ) (s : Shared) (p : ℕ) (run : IsRunning reaches seats s) (lt : p < length seats) (live : is_live (seat_at seats p).registers.state ≡ true) where
+module _ (reaches : List Reach) (seats : List Seat) (t : Moment) (s : Shared) (p : ℕ) (run : IsRunning reaches seats s) (lt : p < length seats) (live : is_live (seat_at seats p).registers.state ≡ true) where
   abbrev q : Part
   q = part_at reaches seats p
 

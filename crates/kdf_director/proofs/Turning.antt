@@ -10,6 +10,7 @@ use Rattle.kdf_processor.specs.Lone.{is_live}
 use Rattle.kdf_processor.specs.Needs.{fetch_needs, effect_needs, next_effect}
 use Rattle.kdf_processor.specs.Outcome.{Outcome, done, held_or, outcome}
 use Rattle.kdf_processor.specs.View.{first_pending}
+use Rattle.kdf_director.specs.declared.moment.Moment.{Moment}
 use Rattle.kdf_director.specs.Seen.{begun, tried}
 use Rattle.kdf_director.specs.Parts.{Part, Seat, Reach, Shared, part_in, part_after, asked_after, own_stock}
 use Rattle.kdf_director.specs.Shared.{view, after_act}
@@ -69,7 +70,7 @@ is_other reaches seats s p x run lt lt' ne =
       kept = run.kept x lt';
     }
 
-module _ (reaches : List Reach) (seats : List Seat) (t : ℕ) (s : Shared) (p : ℕ) (run : IsRunning reaches seats s) (lt : p < length seats) where
+module _ (reaches : List Reach) (seats : List Seat) (t : Moment) (s : Shared) (p : ℕ) (run : IsRunning reaches seats s) (lt : p < length seats) where
   abbrev pub q : Part
   q = part_at reaches seats p
 

@@ -2,6 +2,7 @@
 use Rattle.std.proofs.Common.{◌≡◌, ℕ, Bool, List, refl, ap, ap₂, ◌∙◌, map}
 use Rattle.kdf_processor.specs.declared.registers.Registers.{Registers}
 use Rattle.kdf_processor.specs.declared.step.Step.{Step}
+use Rattle.kdf_director.specs.declared.moment.Moment.{Moment}
 use Rattle.kdf_director.specs.declared.note.Note.{Note}
 use Rattle.kdf_director.specs.declared.note.Note.TheVariants.{Quiet}
 use Rattle.kdf_processor.specs.Effect.{Act}
@@ -20,18 +21,18 @@ use Rattle.kdf_director.specs.declared.stint.Stint.{Stint}
 use Rattle.kdf_director.specs.Turn.{part_of, shared, shown, SameTurn, Acts, Stays, HasObeyed}
 
 -- what is shown, by what it is shown of
-pub shown_of : (t : Turn) (q : Part) (time : ℕ) (s : Shared) → part_of t ≡ q → t.time ≡ time → shared t ≡ s → shown t ≡ view q time s
-shown_of t q time s e f g =
-    ap (λ x. view x t.time (shared t)) e ∙ ap (λ x. view q x (shared t)) f ∙ ap (view q time) g
+pub shown_of : (t : Turn) (q : Part) (m : Moment) (s : Shared) → part_of t ≡ q → t.moment ≡ m → shared t ≡ s → shown t ≡ view q m s
+shown_of t q m s e f g =
+    ap (λ x. view x t.moment (shared t)) e ∙ ap (λ x. view q x (shared t)) f ∙ ap (view q m) g
 
 -- what is shown stays
 pub shown_stays : (old new : Turn) → Stays old new → shown new ≡ shown old
-shown_stays old new stays = shown_of new (part_of old) old.time (shared old) stays.part stays.same.time stays.shared
+shown_stays old new stays = shown_of new (part_of old) old.moment (shared old) stays.part stays.same.moment stays.shared
 
 pub same_same : (t u w : Turn) → SameTurn t u → SameTurn u w → SameTurn t w
 same_same t u w first second =
     record {
-      time = second.time ∙ first.time;
+      moment = second.moment ∙ first.moment;
       claimed = second.claimed ∙ first.claimed;
       spooled = second.spooled ∙ first.spooled;
       stints = second.stints ∙ first.stints;
@@ -70,13 +71,13 @@ pub shared_back : (t : Turn) (c : Cells) (ps : List Place) (x : Shared) → c �
 shared_back t c ps x d e h = ap₂ (λ a b. share a (map spot_of b)) d e ∙ h
 
 -- what was lent for an order that was obeyed
-pub ran_back : (t u : Turn) (p : ℕ) (r left : Registers) (claimed claimed' : List Bool) (spooled spooled' : List Spooled) (stints stints' : List Stint) (reach : Reach) (time : ℕ) (s : Shared) (cells : Cells) (places : List Place) (ended : Step) (noted : Note) → part_of t ≡ part_in (seat p r claimed spooled (map keeping_of stints)) reach → t.time ≡ time → shared t ≡ s → t.note ≡ Quiet → HasObeyed t r u left ended noted → claimed' ≡ u.claimed.now → spooled' ≡ u.spooled.now.items → stints' ≡ u.stints.now.items → cells ≡ u.store.now → places ≡ u.places.now.items → HasTried reach time (seat p r claimed spooled (map keeping_of stints)) s (seat p left claimed' spooled' (map keeping_of stints')) (shared_in cells places) ended noted
-ran_back t u p r left claimed claimed' spooled spooled' stints stints' reach time s cells places ended noted part_is time_is shared_is quiet obeyed claimed_is spooled_is stints_are cells_are places_are =
+pub ran_back : (t u : Turn) (p : ℕ) (r left : Registers) (claimed claimed' : List Bool) (spooled spooled' : List Spooled) (stints stints' : List Stint) (reach : Reach) (m : Moment) (s : Shared) (cells : Cells) (places : List Place) (ended : Step) (noted : Note) → part_of t ≡ part_in (seat p r claimed spooled (map keeping_of stints)) reach → t.moment ≡ m → shared t ≡ s → t.note ≡ Quiet → HasObeyed t r u left ended noted → claimed' ≡ u.claimed.now → spooled' ≡ u.spooled.now.items → stints' ≡ u.stints.now.items → cells ≡ u.store.now → places ≡ u.places.now.items → HasTried reach m (seat p r claimed spooled (map keeping_of stints)) s (seat p left claimed' spooled' (map keeping_of stints')) (shared_in cells places) ended noted
+ran_back t u p r left claimed claimed' spooled spooled' stints stints' reach m s cells places ended noted part_is moment_is shared_is quiet obeyed claimed_is spooled_is stints_are cells_are places_are =
     let before = seat p r claimed spooled (map keeping_of stints) in
     let q = part_in before reach in
     let o : Outcome = outcome (shown t) r in
-    let o' : Outcome = outcome_over before reach time s in
-    let same : o ≡ o' = ap (λ v. outcome v r) (shown_of t q time s part_is time_is shared_is) in
+    let o' : Outcome = outcome_over before reach m s in
+    let same : o ≡ o' = ap (λ v. outcome v r) (shown_of t q m s part_is moment_is shared_is) in
     record {
       step = obeyed.step ∙ ap (λ (x : Outcome). x.step) same;
       note = obeyed.note ∙ ap (note_after o.act) quiet ∙ ap (λ (x : Outcome). note_after x.act Quiet) same;

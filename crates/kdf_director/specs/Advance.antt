@@ -1,8 +1,10 @@
 -- What one call of a machine does.
-use Rattle.std.specs.Prelude.{◌≡◌, ℕ, ◌==◌, List, ◌∷◌, Some, None, true, false, if◌then◌else◌}
+use Rattle.std.specs.Prelude.{◌≡◌, ◌<◌, ◌^◌, ℕ, ◌==◌, List, ◌∷◌, Some, None, IfSome, true, false, if◌then◌else◌}
 use Rattle.kdf_journal.specs.Counts.{pending}
 use Rattle.kdf_journal.specs.Steps.{Note, Quiet, Began, Answered, Took, Gave, Failed, Finished, Step, Obeys, Holds, Waits, added}
+use Rattle.kdf_processor.specs.Ahead.{word_asked}
 use Rattle.kdf_processor.specs.Effect.{Question}
+use Rattle.kdf_processor.specs.Needs.{next_effect}
 use Rattle.kdf_transfer.specs.Slots.{Slot}
 use Rattle.kdf_processor.specs.State.{State}
 use Rattle.kdf_processor.specs.declared.step.Need.{Need}
@@ -28,14 +30,14 @@ states_after (slot ∷ slots) (state ∷ states) p answer =
     else state ∷ states_after slots states p answer
 states_after _ states p answer = states
 
--- program p, which is next and which nothing holds up, obeyed its next order, truly answered, and the journal tells how that
--- came out
-pub record Obeyed (old new : Shown) (p : ℕ) : Type 0 where
+-- program p, which is next and which nothing holds up, obeyed its next order, truly answered where this was heard of the service, and
+-- the journal tells how that came out
+pub record Obeyed (heard : ℕ) (old new : Shown) (p : ℕ) : Type 0 where
   pub was_next : next (world_of old) old.slots old.journal ≡ Some p
   pub free : first_need (world_of old) p ≡ None
-  pub states : new.states ≡ states_after old.slots old.states p (truth (world_of old) old.journal p)
+  pub states : new.states ≡ states_after old.slots old.states p (truth (world_of old) old.journal p heard)
   pub journal : new.journal
-      ≡ added old.journal (Obeys p (note_of (state_at old p) (truth (world_of old) old.journal p)))
+      ≡ added old.journal (Obeys p (note_of (state_at old p) (truth (world_of old) old.journal p heard)))
 
 -- program p, which is next, is held by the first of its needs that is pending, and nothing else changes
 pub record HeldUp (old new : Shown) (p : ℕ) (need : Need) : Type 0 where
@@ -51,12 +53,27 @@ pub record Waited (old new : Shown) : Type 0 where
   pub states : new.states ≡ old.states
   pub journal : new.journal ≡ added old.journal Waits
 
--- the machine after a call that answers so
-abbrev pub Advance : Shown → Shown → Progress → Type 0
-Advance old new (progress.Ran p) = Obeyed old new p
-Advance old new (progress.Held p need) = HeldUp old new p need
-Advance old new progress.Idle = Waited old new
-Advance old new progress.AllEnded = (any_live old.slots old.journal ≡ false) × (new ≡ old)
+-- the machine after a call that answers so, where this was heard of the service
+abbrev pub Advance : (heard : ℕ) → Shown → Shown → Progress → Type 0
+Advance heard old new (progress.Ran p) = Obeyed heard old new p
+Advance heard old new (progress.Held p need) = HeldUp old new p need
+Advance heard old new progress.Idle = Waited old new
+Advance heard old new progress.AllEnded = (any_live old.slots old.journal ≡ false) × (new ≡ old)
+
+-- if the order of program p asks the service of a word, this is one of its answers to the word
+abbrev pub IsHeard : (answers : ℕ → ℕ → Type 0) → State → (heard : ℕ) → Type 0
+IsHeard answers s heard = IfSome (word_asked (next_effect s)) (λ word. (word < 2 ^ 48) × answers word heard)
+
+-- so it is of the order that a call obeyed
+abbrev pub HasHeard : (answers : ℕ → ℕ → Type 0) → Shown → (heard : ℕ) → Progress → Type 0
+HasHeard answers old heard (progress.Ran p) = IsHeard answers (state_at old p) heard
+HasHeard answers old heard other = Unit {0}
+
+-- the machine after a call with a service, of which `answers n a` says that a is one of its answers to n
+pub record AdvanceWith (answers : ℕ → ℕ → Type 0) (old new : Shown) (progress : Progress) : Type 0 where
+  pub heard : ℕ
+  pub is_heard : HasHeard answers old heard progress
+  pub advance : Advance heard old new progress
 
 -- a machine in which an event was entered
 abbrev pub Enters : Shown → Shown → Step → Type 0

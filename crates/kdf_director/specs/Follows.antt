@@ -1,12 +1,11 @@
--- What it is for a journal to be that of the slots under a schedule: legal, true and whole.
+-- What it is for a journal to follow the calls of a schedule.
 use Rattle.std.specs.Prelude.{ℕ, List}
 use Rattle.kdf_transfer.specs.Slots.{Slot}
 use Rattle.kdf_journal.specs.declared.entry.Entry.{Entry}
 use Rattle.kdf_schedule.specs.declared.event.Event.{Event}
 use Rattle.kdf_schedule.specs.declared.event.Event.TheVariants.{Orders, Move, End, Clock, Swap}
-use Rattle.kdf_schedule.specs.Calls.{Call, calls_made}
+use Rattle.kdf_schedule.specs.Calls.{Call}
 use Rattle.kdf_course.specs.Follows as course
-use Rattle.kdf_director.specs.Legal.{IsLegal, IsTrue}
 use Rattle.kdf_director.specs.Next.{lone_dispatched}
 
 -- the journal answers the calls one for one, from the first, and stops only at their end, or where no program is live
@@ -16,12 +15,6 @@ IsWhole slots calls J = course.IsWhole (lone_dispatched slots) calls J
 -- the journal answers the calls one for one, from the first, up to these that are left
 abbrev pub Follows : List Slot → (calls left : List Call) → List Entry → Type 0
 Follows slots calls left J = course.Follows (lone_dispatched slots) calls left J
-
--- the journal is that of the slots under the schedule
-pub record IsJournal (slots : List Slot) (events : List Event) (J : List Entry) : Type 0 where
-  pub legal : IsLegal slots J
-  pub truly : IsTrue slots J
-  pub whole : IsWhole slots (calls_made events) J
 
 -- where the time is t, no event sets it back, and each exchange is one of two slots
 abbrev pub IsRising : ℕ → List Event → Type 0

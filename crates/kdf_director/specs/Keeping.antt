@@ -8,7 +8,7 @@ use Rattle.kdf_processor.specs.State.{device_limit}
 use Rattle.kdf_director.specs.declared.place.Place.{Place}
 use Rattle.kdf_director.specs.declared.stint.Stint.{Stint as KeptStint}
 use Rattle.kdf_relocate.specs.declared.window.Window.{Window}
-use Rattle.kdf_transfer.specs.declared.device.Device.{Device}
+use Rattle.kdf_director.specs.declared.slot.Loaded.{Loaded}
 use Rattle.kdf_director.specs.Parts.{Part, Shared, in_pool, owns, part_with, pool_kind, shared_in}
 use Rattle.kdf_director.specs.Spots.{is_holder, spot_at}
 use Rattle.kdf_director.specs.Stints.{IsOfKind, Keeping, is_left, is_open, lends}
@@ -35,11 +35,11 @@ pub record IsActive (q : Part) (s : Shared) : Type 0 where
   pub none_left : All (λ (x : Keeping). is_left x.loan ≡ false) q.stints
 
 -- a program with these fields keeps what it has: neither its marks nor what it spooled, nor the words, matter to that
-abbrev pub IsKeptBy : ℕ → Window → List (ℕ × Device) → List (ℕ × Kind) → Bool → List KeptStint → List Place → Type 0
-IsKeptBy p window devices pool served stints places =
-    IsKept (part_with p window devices pool served [] [] stints) (shared_in [] places)
+abbrev pub IsKeptBy : ℕ → Window → Loaded → List KeptStint → List Place → Type 0
+IsKeptBy p window slot stints places =
+    IsKept (part_with p window slot [] [] stints) (shared_in [] places)
 
 -- and is live, with these marks
-abbrev pub IsActiveBy : ℕ → Window → List (ℕ × Device) → List (ℕ × Kind) → Bool → List Bool → List KeptStint → List Place → Type 0
-IsActiveBy p window devices pool served claimed stints places =
-    IsActive (part_with p window devices pool served claimed [] stints) (shared_in [] places)
+abbrev pub IsActiveBy : ℕ → Window → Loaded → List Bool → List KeptStint → List Place → Type 0
+IsActiveBy p window slot claimed stints places =
+    IsActive (part_with p window slot claimed [] stints) (shared_in [] places)

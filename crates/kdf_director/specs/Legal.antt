@@ -70,26 +70,26 @@ answers_by slots fits J p (Answered v) = IsAnswer (next_effect (own slots J p)) 
 answers_by slots fits J p (Took d) = IsAnswer (next_effect (own slots J p)) (fits J p) d
 answers_by slots fits J p note = Unit {0}
 
--- the true answer
+-- v is what is truly answered, where v is what was heard of the service: the true answer, and any answer to what the service is asked
 abbrev pub is_truth : List Slot → List Entry → ℕ → Question → ℕ → Type 0
-is_truth slots J p question v = v ≡ truth (lone_world slots J) J p question
+is_truth slots J p question v = v ≡ truth (lone_world slots J) J p v question
 
 abbrev pub is_true : List Slot → List Entry → ℕ → Note → Type 0
 is_true slots = answers_by slots (is_truth slots)
 
--- each answer that the journal has is the true one
+-- each answer that the journal has is the true one; what the service answered is whatever it is
 abbrev pub IsTrue : List Slot → List Entry → Type 0
 IsTrue slots J = course.EachNoted (is_true slots) (steps J)
 
 -- ---- legal and true
 
--- the note with which the next order of program p comes out where it is truly answered
-abbrev pub true_note : World → List Entry → ℕ → Note
-true_note w J p = note_of (w.state p) (truth w J p)
+-- the note with which the next order of program p comes out where it is truly answered, and this was heard of the service
+abbrev pub true_note : World → List Entry → (heard : ℕ) → ℕ → Note
+true_note w J heard p = note_of (w.state p) (truth w J p heard)
 
-abbrev pub lone_note : List Slot → List Entry → ℕ → Note
-lone_note slots J p = true_note (lone_world slots J) J p
+abbrev pub lone_note : List Slot → (heard : ℕ) → List Entry → ℕ → Note
+lone_note slots heard J p = true_note (lone_world slots J) J heard p
 
--- the step is as the rules have it in this world, and its note tells the truth
-abbrev pub Meets : World → List Slot → List Entry → Step → Type 0
-Meets w slots J s = course.Meets (dispatched slots w) (λ p note. note ≡ true_note w J p) J s
+-- the step is as the rules have it in this world, and its note tells the truth, where this was heard of the service
+abbrev pub Meets : World → List Slot → List Entry → (heard : ℕ) → Step → Type 0
+Meets w slots J heard s = course.Meets (dispatched slots w) (λ p note. note ≡ true_note w J heard p) J s

@@ -1,5 +1,5 @@
 -- What is loaded: the slots of a job with the words of their images, the store, the programs and the places of the devices.
-use Rattle.std.specs.Prelude.{ℕ, ◌≤◌, Bool, false, List, [], ◌∷◌, length, map}
+use Rattle.std.specs.Prelude.{ℕ, ◌≤◌, Bool, List, [], ◌∷◌, length, map}
 use Rattle.kdf_journal.specs.declared.kind.Kind.{Kind}
 use Rattle.kdf_transfer.specs.Slots.{Slot}
 use Rattle.kdf_job.specs.Job.{JobDevice, SlotJob}
@@ -22,7 +22,7 @@ slot_of l = slot_with l.p l.size l.words l.devices l.pool l.served
 -- what is loaded of a job: each slot with the words of its image
 abbrev pub load_of : SlotJob → List ℕ → SlotLoad
 load_of s words =
-    record { p = s.p; size = s.size; words = words; devices = s.devices; pool = s.pool; served = false }
+    record { p = s.p; size = s.size; words = words; devices = s.devices; pool = s.pool; served = s.served }
 
 abbrev pub loads : List SlotJob → List (List ℕ) → List SlotLoad
 loads [] images = []

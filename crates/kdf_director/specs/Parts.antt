@@ -64,18 +64,18 @@ numbers devices = map (λ (x : ℕ × Device). x.0) devices
 abbrev pub window_at : List Window → ℕ → Window
 window_at windows p = slice_index_or windows p (record { base = 0; size = 0 })
 
-abbrev pub reach : Window → List (ℕ × Device) → List (ℕ × Kind) → Bool → Reach
-reach window devices pool served =
+abbrev pub reach : Window → Loaded → Reach
+reach window slot =
     record {
       base = window.base;
       size = window.size;
-      devices = numbers devices;
-      pool = by_number (lent_kind pool);
-      served = served;
+      devices = numbers slot.devices.items;
+      pool = by_number (lent_kind slot.pool.items);
+      served = slot.served;
     }
 
 abbrev pub reach_of : List Window → Loaded → Reach
-reach_of windows slot = reach (window_at windows slot.p) slot.devices.items slot.pool.items slot.served
+reach_of windows slot = reach (window_at windows slot.p) slot
 
 -- a program's part of the machine
 pub record Part : Type 0 where
@@ -103,16 +103,16 @@ part_in seat reach =
       stints = seat.stints;
     }
 
--- that of a program with these fields over a window
-abbrev pub part_with : ℕ → Window → List (ℕ × Device) → List (ℕ × Kind) → Bool → List Bool → List Spooled → List KeptStint → Part
-part_with p window devices pool served claimed spooled stints =
+-- that of a program with these fields, over a window and in a slot
+abbrev pub part_with : ℕ → Window → Loaded → List Bool → List Spooled → List KeptStint → Part
+part_with p window slot claimed spooled stints =
     record {
       p = p;
       base = window.base;
       size = window.size;
-      devices = numbers devices;
-      pool = by_number (lent_kind pool);
-      served = served;
+      devices = numbers slot.devices.items;
+      pool = by_number (lent_kind slot.pool.items);
+      served = slot.served;
       claimed = claimed;
       spooled = spooled;
       stints = map keeping_of stints;

@@ -11,11 +11,12 @@ use Rattle.kdf_processor.specs.Outcome.{Outcome, held_or}
 use Rattle.kdf_processor.specs.Row.{next_of}
 use Rattle.kdf_processor.specs.State.{State, new_registers}
 use Rattle.kdf_processor.specs.View.{first_pending}
+use Rattle.kdf_director.specs.declared.moment.Moment.{Moment}
 use Rattle.kdf_director.specs.declared.program.Program.{Program}
 use Rattle.kdf_director.specs.declared.slot.Loaded.{Loaded}
 use Rattle.kdf_director.specs.Keeping.{IsActive, IsKept}
 use Rattle.kdf_director.specs.Parts.{Part, Shared, Seat, Reach, seat_of, reach_of, part_in, own_stock, owns}
-use Rattle.kdf_director.specs.Shared.{answer_in, view, flight_moves}
+use Rattle.kdf_director.specs.Shared.{answer_in, moment, view, flight_moves}
 use Rattle.kdf_director.specs.Sound.{IsSound, IsFlightOf}
 use Rattle.kdf_director.specs.Spots.{Held, Spot, spot_at, own_from}
 
@@ -49,18 +50,18 @@ own_state reaches seats s asked i =
 -- the first need of its next order that is pending
 unfoldable pub hold_of : List Reach → List Seat → Shared → ℕ → Option Need
 hold_of reaches seats s i =
-    first_pending (view (part_at reaches seats i) 0 s)
+    first_pending (view (part_at reaches seats i) (moment 0 0) s)
     (needs (own_state reaches seats s 0 i) (own_from (seat_at seats i).p 0 s.spots))
 
--- what it is answered at a time
-abbrev pub answers_at : List Reach → List Seat → ℕ → Shared → ℕ → Question → ℕ
-answers_at reaches seats time s i = answer_in (part_at reaches seats i) time s
+-- what it is answered at a moment
+abbrev pub answers_at : List Reach → List Seat → Moment → Shared → ℕ → Question → ℕ
+answers_at reaches seats m s i = answer_in (part_at reaches seats i) m s
 
--- what the try of its next order comes to at a time, by its own state
-unfoldable pub outcome_at : List Reach → List Seat → Shared → ℕ → ℕ → ℕ → Outcome
-outcome_at reaches seats s time asked i =
+-- what the try of its next order comes to at a moment, by its own state
+unfoldable pub outcome_at : List Reach → List Seat → Shared → Moment → ℕ → ℕ → Outcome
+outcome_at reaches seats s m asked i =
     held_or (seat_at seats i).registers (hold_of reaches seats s i)
-    (next_of (own_state reaches seats s asked i) (answers_at reaches seats time s i))
+    (next_of (own_state reaches seats s asked i) (answers_at reaches seats m s i))
 
 -- a transfer is of one of the programs
 pub record IsHeld (reaches : List Reach) (seats : List Seat) (d : ℕ) (x : Spot) (h : Held) : Type 0 where

@@ -1,16 +1,16 @@
 -- What it is for a journal to be true for a service, of which `answers n a` says that a is one of its answers to n.
-use Rattle.std.specs.Prelude.{ℕ, ◌<◌, ◌^◌, List}
+use Rattle.std.specs.Prelude.{◌≡◌, ◌⊎◌, ℕ, ◌<◌, ◌^◌, List}
 use Rattle.kdf_processor.specs.Effect.{Question, OfService}
 use Rattle.kdf_transfer.specs.Slots.{Slot}
 use Rattle.kdf_journal.specs.declared.entry.Entry.{Entry}
-use Rattle.kdf_journal.specs.Steps.{Note, steps}
+use Rattle.kdf_journal.specs.Steps.{Note, Step, added, steps}
 use Rattle.kdf_schedule.specs.declared.event.Event.{Event}
 use Rattle.kdf_schedule.specs.Calls.{calls_made}
 use Rattle.kdf_course.specs.Legal as course
 use Rattle.kdf_director.specs.Follows.{IsWhole}
 use Rattle.kdf_director.specs.Legal.{answers_by, is_truth, IsLegal}
 
--- an answer to a word is one of the service's, and any other answer is the true one
+-- what the service is asked is answered as it answers, and any other answer is the true one
 abbrev pub is_served : (answers : ℕ → ℕ → Type 0) → List Slot → List Entry → ℕ → Question → ℕ → Type 0
 is_served answers slots J p (OfService word) v = (word < 2 ^ 48) × answers word v
 is_served answers slots J p question v = is_truth slots J p question v
@@ -27,3 +27,11 @@ pub record IsJournalFor (answers : ℕ → ℕ → Type 0) (slots : List Slot) (
   pub legal : IsLegal slots J
   pub truly : IsTrueFor answers slots J
   pub whole : IsWhole slots (calls_made events) J
+
+-- a service that answers nothing: a journal is true for it where no order asked the service
+abbrev pub unasked : ℕ → ℕ → Type 0
+unasked word answer = ⊥
+
+-- the journal K is J, or J with a step more, whose answer, if it has one, is one of the service's or the true one
+abbrev pub IsAnswered : (answers : ℕ → ℕ → Type 0) → List Slot → (J K : List Entry) → Type 0
+IsAnswered answers slots J K = (K ≡ J) ⊎ ((s : Step) × (K ≡ added J s) × course.Noted (is_true_for answers slots J) s)

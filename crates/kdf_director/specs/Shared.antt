@@ -11,6 +11,7 @@ use Rattle.kdf_transfer.specs.AtOnce.{is_input, has_area, addressed}
 use Rattle.kdf_transfer.specs.InFlight.{Motion, moved_by, words_of, total_of, ended_progress}
 use Rattle.kdf_processor.specs.Effect.{Question, IsBusy, IsOut, Time, FreeOf, OfService, Act, Nothing, Writes, Starts, Asks, Acquires, Releases, Spools}
 use Rattle.kdf_processor.specs.View.{View, by_itself, groups_of}
+use Rattle.kdf_director.specs.declared.moment.Moment.{Moment}
 use Rattle.kdf_director.specs.True.{one_if}
 use Rattle.kdf_director.specs.Spots.{Held, Spot, blank_spot, lent_spot, spot_at, own_from, fixture_or}
 use Rattle.kdf_director.specs.Parts.{Shared, Part, lent_to, own_stock}
@@ -31,22 +32,26 @@ is_free_in pool spots kind d = is_kind kind (slice_index_or pool d None) && not 
 unfoldable pub free_in : List (Option Kind) → List Spot → Kind → Option ℕ
 free_in pool spots kind = find (is_free_in pool spots kind) (range_with_len 0 device_count)
 
--- what the machine answers at a time
-abbrev pub answer_in : Part → ℕ → Shared → Question → ℕ
-answer_in q time s (IsBusy d) = one_if (is_busy_in s d)
-answer_in q time s (IsOut first last) = one_if (is_some (find (is_out_of q s) (groups_of first last)))
-answer_in q time s Time = time
-answer_in q time s (FreeOf kind) = unwrap_or (free_in q.pool s.spots kind) 0
-answer_in q time s (OfService word) = 0
+-- the moment of an order: the time that was set last, and what was heard of the service
+abbrev pub moment : (time heard : ℕ) → Moment
+moment time heard = record { time = time; heard = heard }
+
+-- what the machine answers at a moment
+abbrev pub answer_in : Part → Moment → Shared → Question → ℕ
+answer_in q m s (IsBusy d) = one_if (is_busy_in s d)
+answer_in q m s (IsOut first last) = one_if (is_some (find (is_out_of q s) (groups_of first last)))
+answer_in q m s Time = m.time
+answer_in q m s (FreeOf kind) = unwrap_or (free_in q.pool s.spots kind) 0
+answer_in q m s (OfService word) = m.heard
 
 -- every device of a kind in the pool has a holder
 abbrev pub is_pool_taken : List (Option Kind) → Shared → Kind → Bool
 is_pool_taken pool s kind = not (is_some (free_in pool s.spots kind))
 
--- what is shown of a program at a time
-abbrev pub view : Part → ℕ → Shared → View
-view q time s =
-    record (by_itself (answer_in q time s) (own_stock q 0 s)) {
+-- what is shown of a program at a moment
+abbrev pub view : Part → Moment → Shared → View
+view q m s =
+    record (by_itself (answer_in q m s) (own_stock q 0 s)) {
       is_out = is_out_of q s;
       is_busy = is_busy_in s;
       is_taken = is_pool_taken q.pool s;

@@ -45,3 +45,7 @@ pub record AreSlots (slots : List Slot) : Type 0 where
   pub numbers : AllPairs (λ (a b : Slot). a.p ≢ b.p) slots
   pub devices : AllPairs HaveOwnDevices slots
   pub pool : AllPairs (λ (a b : Slot). a.pool ≡ b.pool) slots
+
+-- none of them is served
+abbrev pub NoneServed : List Slot → Type 0
+NoneServed slots = All (λ (s : Slot). s.served ≡ false) slots

@@ -19,18 +19,18 @@ use Rattle.kdf_director.specs.Spots.{IsReady}
 
 abbrev pub part_of : Turn → Part
 part_of t =
-    part_with t.p t.window t.devices.now t.pool.now t.served t.claimed.now t.spooled.now.items t.stints.now.items
+    part_with t.p t.window t.slot.now t.claimed.now t.spooled.now.items t.stints.now.items
 
 -- what a turn shares
 abbrev pub shared : Turn → Shared
 shared t = shared_in t.store.now t.places.now.items
 
 abbrev pub shown : Turn → View
-shown t = view (part_of t) t.time (shared t)
+shown t = view (part_of t) t.moment (shared t)
 
--- it is a turn over the same machine, at the same time
+-- it is a turn over the same machine, at the same moment
 pub record SameTurn (old new : Turn) : Type 0 where
-  pub time : new.time ≡ old.time
+  pub moment : new.moment ≡ old.moment
   pub claimed : new.claimed.ghost_name ≡ old.claimed.ghost_name
   pub spooled : new.spooled.ghost_name ≡ old.spooled.ghost_name
   pub stints : new.stints.ghost_name ≡ old.stints.ghost_name

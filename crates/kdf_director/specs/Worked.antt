@@ -17,7 +17,7 @@ use Rattle.kdf_director.specs.Told.{seen_of}
 
 -- the journal of slots under a schedule
 abbrev pub journal_under : List Slot → List Event → List Entry
-journal_under slots events = journal_of (course slots [] (calls_made events))
+journal_under slots events = journal_of (course slots 0 [] (calls_made events))
 
 -- a slot with these devices
 abbrev pub slot_with : (p size : ℕ) → List ℕ → List (Option Fixture) → Slot

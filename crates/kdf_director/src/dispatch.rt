@@ -13,12 +13,10 @@ ghost use Rattle.kdf_director.specs.Parts.{window_at};
 
 use crate::stint::retire;
 use crate::turn::Turn;
-use crate::{Loaded, Note, Place, Program, Stint};
-use kdf_journal::Kind;
+use crate::{Loaded, Moment, Note, Place, Program, Stint};
 use kdf_lockout::Store;
 use kdf_processor::{Life, Registers, Spooled, Step, obey_with_room};
 use kdf_relocate::Window;
-use kdf_transfer::Device;
 use std::alloc::{AllocError, Global};
 
 /// Obeys the next order of a live program. It has one caller and is inlined there, so what it answers goes through no memory.
@@ -36,15 +34,13 @@ fn obey_next(registers: &mut Registers, turn: &mut Turn<'_>) -> Result<(Step, No
     Ok((step, turn.note()))
 }
 
-/// Tries the next order of slot `p` at a time, over its window and with its devices. At Err all is unchanged.
+/// Tries the next order of program `p` in its slot at a moment, over its window. At Err all is unchanged.
 fn try_next(
     alloc: Global,
     p: u8,
     window: Window,
-    time: u64,
-    devices: &[(u8, Device)],
-    pool: &[(u8, Kind)],
-    served: bool,
+    moment: Moment,
+    slot: &Loaded,
     registers: &mut Registers,
     claimed: &mut [bool; 16],
     spooled: &mut Vec<Spooled>,
@@ -59,10 +55,10 @@ fn try_next(
     requires sixteen { length places.old.items ≡ 16 }
     requires dry { AreDry places.old.items }
     requires kept { IsKept (part_in (seat p registers.old claimed.old spooled.old.items (map keeping_of stints.old.items))
-        (reach window devices.now pool.now served)) (shared_in store.old places.old.items) }
+        (reach window slot.now)) (shared_in store.old places.old.items) }
     requires active { IsActive (part_in (seat p registers.old claimed.old spooled.old.items (map keeping_of stints.old.items))
-        (reach window devices.now pool.now served)) (shared_in store.old places.old.items) }
-    ensures tried { IfOk result (λ x. HasTried (reach window devices.now pool.now served) time
+        (reach window slot.now)) (shared_in store.old places.old.items) }
+    ensures tried { IfOk result (λ x. HasTried (reach window slot.now) moment
         (seat p registers.old claimed.old spooled.old.items (map keeping_of stints.old.items))
         (shared_in store.old places.old.items)
         (seat p registers.new claimed.new spooled.new.items (map keeping_of stints.new.items))
@@ -74,8 +70,7 @@ fn try_next(
 {
     let mut block = Vec::new(alloc);
     let mut turn = Turn::new(
-        alloc, p, window, time, devices, pool, served, claimed, spooled, stints, store, places,
-        &mut block,
+        alloc, p, window, moment, slot, claimed, spooled, stints, store, places, &mut block,
     );
     obey_next(registers, &mut turn)
 }
@@ -107,12 +102,12 @@ fn settle(alloc: Global, program: &mut Program, places: &mut Vec<Place>)
     }
 }
 
-/// Tries the next order of a program at a time over what is shared, all its memory being taken first, and where that ended it, takes back what it
+/// Tries the next order of a program at a moment over what is shared, all its memory being taken first, and where that ended it, takes back what it
 /// had from the pool. At Err all is unchanged.
 pub(crate) fn run(
     alloc: Global,
     windows: &[Window; 4],
-    time: u64,
+    moment: Moment,
     slot: &Loaded,
     program: &mut Program,
     store: &mut Store,
@@ -129,7 +124,7 @@ pub(crate) fn run(
         (shared_in store.old places.old.items) }
     requires active { IsActive (part_in (seat_of program.old) (reach_of windows.now slot.now))
         (shared_in store.old places.old.items) }
-    ensures ran { IfOk result (λ x. HasRun (reach_of windows.now slot.now) time
+    ensures ran { IfOk result (λ x. HasRun (reach_of windows.now slot.now) moment
         (seat_of program.old) (shared_in store.old places.old.items)
         (seat_of program.new) (shared_in store.new places.new.items) x.0 x.1) }
     ensures err { OnErr result ((seat_of program.new ≡ seat_of program.old)
@@ -142,10 +137,8 @@ pub(crate) fn run(
         alloc,
         program.p,
         window,
-        time,
-        &slot.devices,
-        &slot.pool,
-        slot.served,
+        moment,
+        slot,
         &mut program.registers,
         &mut program.claimed,
         &mut program.spooled,
@@ -167,7 +160,7 @@ pub(crate) fn window_of(windows: &[Window; 4], p: u8) -> Window
     }
 }
 
-/// Tries the next order of program `i` at a time. At Err all is unchanged.
+/// Tries the next order of program `i` at a moment. At Err all is unchanged.
 pub(crate) fn turn(
     alloc: Global,
     windows: &[Window; 4],
@@ -175,7 +168,7 @@ pub(crate) fn turn(
     programs: &mut Vec<Program>,
     store: &mut Store,
     places: &mut Vec<Place>,
-    time: u64,
+    moment: Moment,
     i: usize,
 ) -> Result<(Step, Note), AllocError>
     requires there { i < length programs.old.items }
@@ -185,7 +178,7 @@ pub(crate) fn turn(
     requires running { IsRunning (reaches_in windows.now slots.now) (seats_in programs.old.items)
         (shared_in store.old places.old.items) }
     requires dry { AreDry places.old.items }
-    ensures turned { IfOk result (λ x. HasTurned (reaches_in windows.now slots.now) time i
+    ensures turned { IfOk result (λ x. HasTurned (reaches_in windows.now slots.now) moment i
         (seats_in programs.old.items) (shared_in store.old places.old.items)
         (seats_in programs.new.items) (shared_in store.new places.new.items) x.0 x.1) }
     ensures running { IsRunning (reaches_in windows.now slots.now) (seats_in programs.new.items)
@@ -198,5 +191,13 @@ pub(crate) fn turn(
         ≡ map (λ (x : Program). x.hold) programs.old.items }
 {
     let slot = &slots[i];
-    run(alloc, windows, time, slot, &mut programs[i], store, places)
+    run(
+        alloc,
+        windows,
+        moment,
+        slot,
+        &mut programs[i],
+        store,
+        places,
+    )
 }

@@ -96,7 +96,7 @@ fn load_slot(alloc: Global, slot: &SlotJob, image: &Image) -> Result<Loaded, All
         words,
         devices,
         pool,
-        served: false,
+        served: slot.served,
     })
 }
 

@@ -10,13 +10,16 @@ ghost use Rattle.kdf_place.specs.declared.image.Image.{Image};
 ghost use Rattle.kdf_processor.specs.Claims.{is_claimed};
 ghost use Rattle.kdf_processor.specs.State.{State, begin, fixture_at, is_pooled, lendings, own_fixture_at, word_at};
 ghost use Rattle.kdf_processor.specs.Stints.{IsStint};
-ghost use Rattle.kdf_director.specs.Advance.{Advance, Enters, OthersStay};
+ghost use Rattle.kdf_service.specs.Rules.{IsService};
+ghost use Rattle.kdf_director.specs.Advance.{AdvanceWith, Enters, OthersStay};
 ghost use Rattle.kdf_director.specs.Legal.{IsLegal, IsTrue};
 ghost use Rattle.kdf_director.specs.Lends.{IsLent, IsStored, window_in};
 ghost use Rattle.kdf_director.specs.Loading.{HaveImages, slots_of};
 ghost use Rattle.kdf_director.specs.Fields.{IsLoaded, loaded};
 ghost use Rattle.kdf_director.specs.Next.{any_live};
+ghost use Rattle.kdf_director.specs.Served.{unasked, IsAnswered, IsTrueFor};
 ghost use Rattle.kdf_director.specs.Shown.{IsDeviceAt, ShowsSeen, state_of};
+ghost use Rattle.kdf_director.specs.Slots.{NoneServed};
 ghost use Rattle.kdf_director.specs.Viewed.{slot_loaded};
 
 use crate::advance::advance;
@@ -36,6 +39,7 @@ use kdf_lockout::Store;
 use kdf_place::Image;
 use kdf_processor::{Need, Registers, Spooled};
 use kdf_relocate::Window;
+use kdf_service::Service;
 use kdf_transfer::{Device, Transfer};
 use kdf_word::Word;
 use std::alloc::{AllocError, Global};
@@ -109,9 +113,32 @@ impl Machine {
     /// One call: the program of the highest priority that is live and has no standing hold obeys its next order, or is held by
     /// the first of its needs that is pending; where each live program has one, that is entered, and where none is live, nothing
     /// is. All memory is taken first; at Err the machine is unchanged.
+    /// No program may be served: an order of one that is takes `order_with`.
     pub fn order(&mut self) -> Result<Progress, AllocError>
-        requires { calls self.old.journal < CALL_LIMIT }
-        ensures took { IfOk result (Advance self.old self.new) }
+        requires few { calls self.old.journal < CALL_LIMIT }
+        requires unserved { NoneServed self.old.slots }
+        ensures took { IfOk result (AdvanceWith unasked self.old self.new) }
+        ensures answered { IsAnswered unasked self.old.slots self.old.journal self.new.journal }
+        ensures slots { self.new.slots ≡ self.old.slots }
+        ensures room { self.new.room ≡ self.old.room }
+        ensures err { OnErr result (self.new ≡ self.old) }
+    {
+        let _journal = self.journal();
+        self.order_with(&Service::new(|word| word))
+    }
+
+    /// One call, as `order` makes it, also for programs that are served: the order that is next may ask the service, and its answer is drawn before
+    /// the order, from the word on which the order would ask. It records no other answer. A journal that was true for the service stays so.
+    pub fn order_with<F: Fn(u64) -> u64>(
+        &mut self,
+        service: &Service<F>,
+    ) -> Result<Progress, AllocError>
+        requires service { IsService (F.pre service.now) (F.post service.now) }
+        requires few { calls self.old.journal < CALL_LIMIT }
+        ensures took { IfOk result (AdvanceWith (F.post service.now) self.old self.new) }
+        ensures answered { IsAnswered (F.post service.now) self.old.slots self.old.journal self.new.journal }
+        ensures truthful { IsTrueFor (F.post service.now) self.old.slots self.old.journal
+            → IsTrueFor (F.post service.now) self.new.slots self.new.journal }
         ensures slots { self.new.slots ≡ self.old.slots }
         ensures room { self.new.room ≡ self.old.room }
         ensures err { OnErr result (self.new ≡ self.old) }
@@ -125,6 +152,7 @@ impl Machine {
             &mut self.devices,
             &mut self.journal,
             self.room,
+            service,
         )
     }
 

@@ -6,57 +6,80 @@ ghost use Rattle.kdf_journal.specs.Steps.{steps};
 ghost use Rattle.kdf_schedule.specs.Calls.{AnOrder, calls_made, calls_of, orders_in, order_count};
 ghost use Rattle.kdf_schedule.specs.Events.{IsInRange};
 ghost use Rattle.kdf_course.specs.Follows.{Reaches};
-ghost use Rattle.kdf_director.specs.Follows.{IsJournal, IsRising, entries_in, time_behind};
-ghost use Rattle.kdf_director.specs.Legal.{IsLegal, IsTrue};
+ghost use Rattle.kdf_director.specs.Follows.{IsRising, entries_in, time_behind};
+ghost use Rattle.kdf_director.specs.Legal.{IsLegal};
 ghost use Rattle.kdf_director.specs.Next.{any_live, lone_dispatched};
 ghost use Rattle.kdf_director.specs.Progressed.{found_live};
+ghost use Rattle.kdf_director.specs.Served.{IsJournalFor, IsTrueFor};
 ghost use Rattle.kdf_director.specs.Shown.{ShowsSeen};
+ghost use Rattle.kdf_service.specs.Rules.{IsService};
 
 use crate::{Machine, Progress};
 use kdf_journal::CALL_LIMIT;
 use kdf_schedule::Event;
+use kdf_service::Service;
 use std::alloc::AllocError;
 
-/// Makes the calls of the schedule, and stops as soon as no program is live.
+/// Makes the calls of the schedule, with the service that the programs may ask, and stops as soon as no program is live.
 ///
 /// The schedule has at most 20,000,000 orders, and the machine room for its other events; each of its moves is of 1 to 4,096
 /// words, it names devices below 16 and slots below 4 alone, and doesn't set the clock back. Where there is no memory, it stops
 /// early.
-pub fn follow(machine: &mut Machine, events: &[Event]) -> Result<(), AllocError>
+pub fn follow<F: Fn(u64) -> u64>(
+    machine: &mut Machine,
+    events: &[Event],
+    service: &Service<F>,
+) -> Result<(), AllocError>
+    requires service { IsService (F.pre service.now) (F.post service.now) }
     requires fresh { machine.old.journal ≡ [] }
     requires few { order_count events.now ≤ CALL_LIMIT }
     requires room { sum_by entries_in events.now ≤ machine.old.room }
     requires rises { IsRising 0 events.now }
     requires in_range { All IsInRange events.now }
     ensures slots { machine.new.slots ≡ machine.old.slots }
-    ensures journal { OnOk result (IsJournal machine.new.slots events.now machine.new.journal) }
+    ensures journal { OnOk result (IsJournalFor (F.post service.now)
+        machine.new.slots events.now machine.new.journal) }
     ensures seen { OnOk result (ShowsSeen machine.new) }
     ensures room { OnOk result (machine.old.room ≤ machine.new.room + sum_by entries_in events.now) }
 {
-    follow_on(machine, events, 0)
+    follow_on(machine, events, 0, service)
 }
 
-/// Goes on with a schedule whose first events the machine has followed, as `follow` would have. The machine has room for the
+/// Goes on with a schedule whose first events the machine has followed with this service, as `follow` would have. The machine has room for the
 /// other events after them.
-pub fn follow_on(machine: &mut Machine, events: &[Event], first: usize) -> Result<(), AllocError>
+pub fn follow_on<F: Fn(u64) -> u64>(
+    machine: &mut Machine,
+    events: &[Event],
+    first: usize,
+    service: &Service<F>,
+) -> Result<(), AllocError>
+    requires service { IsService (F.pre service.now) (F.post service.now) }
     requires within { first ≤ length events.now }
-    requires followed { IsJournal machine.old.slots (take first events.now) machine.old.journal }
+    requires followed { IsJournalFor (F.post service.now) machine.old.slots (take first events.now)
+        machine.old.journal }
     requires few { order_count events.now ≤ CALL_LIMIT }
     requires room { sum_by entries_in (drop first events.now) ≤ machine.old.room }
     requires rises { IsRising 0 events.now }
     requires in_range { All IsInRange events.now }
     ensures slots { machine.new.slots ≡ machine.old.slots }
-    ensures journal { OnOk result (IsJournal machine.new.slots events.now machine.new.journal) }
+    ensures journal { OnOk result (IsJournalFor (F.post service.now)
+        machine.new.slots events.now machine.new.journal) }
     ensures seen { OnOk result (ShowsSeen machine.new) }
     ensures room { OnOk result (machine.old.room
         ≤ machine.new.room + sum_by entries_in (drop first events.now)) }
 {
-    follow_each(machine, &events[first..])?;
+    follow_each(machine, &events[first..], service)?;
     Ok(())
 }
 
 /// Makes the calls of further events, and stops as soon as no program is live.
-fn follow_each(machine: &mut Machine, events: &[Event]) -> Result<(), AllocError>
+fn follow_each<F: Fn(u64) -> u64>(
+    machine: &mut Machine,
+    events: &[Event],
+    service: &Service<F>,
+) -> Result<(), AllocError>
+    requires service { IsService (F.pre service.now) (F.post service.now) }
+    requires truly { IsTrueFor (F.post service.now) machine.old.slots machine.old.journal }
     requires few { calls machine.old.journal + order_count events.now ≤ CALL_LIMIT }
     requires room { sum_by entries_in events.now ≤ machine.old.room }
     requires rises { IsRising (clock machine.old.journal) events.now }
@@ -65,7 +88,7 @@ fn follow_each(machine: &mut Machine, events: &[Event]) -> Result<(), AllocError
     ensures steps { OnOk result (Reaches (lone_dispatched machine.old.slots)
         (steps machine.old.journal) (calls_made events.now) (steps machine.new.journal)) }
     ensures legal { OnOk result (IsLegal machine.new.slots machine.new.journal) }
-    ensures truly { OnOk result (IsTrue machine.new.slots machine.new.journal) }
+    ensures truly { OnOk result (IsTrueFor (F.post service.now) machine.new.slots machine.new.journal) }
     ensures seen { OnOk result (ShowsSeen machine.new) }
     ensures room { OnOk result (machine.old.room ≤ machine.new.room + sum_by entries_in events.now) }
 {
@@ -73,29 +96,36 @@ fn follow_each(machine: &mut Machine, events: &[Event]) -> Result<(), AllocError
         if !machine.is_any_live() {
             return Ok(());
         }
-        make_calls(machine, *event)?;
+        make_calls(machine, *event, service)?;
     }
     let _journal = machine.journal();
     Ok(())
 }
 
 /// The calls of one event, or fewer where no program is live any more.
-fn make_calls(machine: &mut Machine, event: Event) -> Result<(), AllocError>
+fn make_calls<F: Fn(u64) -> u64>(
+    machine: &mut Machine,
+    event: Event,
+    service: &Service<F>,
+) -> Result<(), AllocError>
+    requires service { IsService (F.pre service.now) (F.post service.now) }
     requires live { any_live machine.old.slots machine.old.journal ≡ true }
     requires legal { IsLegal machine.old.slots machine.old.journal }
+    requires truly { IsTrueFor (F.post service.now) machine.old.slots machine.old.journal }
     requires few { calls machine.old.journal + orders_in event ≤ CALL_LIMIT }
     requires room { entries_in event ≤ machine.old.room }
     requires rises { IsRising (clock machine.old.journal) (event ∷ []) }
     requires in_range { IsInRange event }
     ensures steps { OnOk result (Reaches (lone_dispatched machine.old.slots)
         (steps machine.old.journal) (calls_of event) (steps machine.new.journal)) }
+    ensures truly { OnOk result (IsTrueFor (F.post service.now) machine.new.slots machine.new.journal) }
     ensures calls { OnOk result (calls machine.new.journal ≤ calls machine.old.journal + orders_in event) }
     ensures room { OnOk result (machine.new.room + entries_in event ≡ machine.old.room) }
     ensures time { OnOk result (clock machine.new.journal ≡ time_behind (clock machine.old.journal) event) }
     ensures slots { machine.new.slots ≡ machine.old.slots }
 {
     match event {
-        Event::Orders(n) => obey_orders(machine, n)?,
+        Event::Orders(n) => obey_orders(machine, n, service)?,
         Event::Move(d, n) => machine.move_words(d, n),
         Event::End(d) => machine.end(d),
         Event::Clock(t) => machine.clock(t),
@@ -120,10 +150,17 @@ fn found_live(progress: Progress) -> bool
 /// So many orders, or fewer where no program is live any more. Its loop stays apart from its caller, whose values would be moved
 /// out of its way at each order.
 #[inline(never)]
-fn obey_orders(machine: &mut Machine, n: u32) -> Result<(), AllocError>
-    requires { calls machine.old.journal + n ≤ CALL_LIMIT }
+fn obey_orders<F: Fn(u64) -> u64>(
+    machine: &mut Machine,
+    n: u32,
+    service: &Service<F>,
+) -> Result<(), AllocError>
+    requires service { IsService (F.pre service.now) (F.post service.now) }
+    requires few { calls machine.old.journal + n ≤ CALL_LIMIT }
+    requires truly { IsTrueFor (F.post service.now) machine.old.slots machine.old.journal }
     ensures steps { OnOk result (Reaches (lone_dispatched machine.old.slots)
         (steps machine.old.journal) (replicate n AnOrder) (steps machine.new.journal)) }
+    ensures truly { OnOk result (IsTrueFor (F.post service.now) machine.new.slots machine.new.journal) }
     ensures calls { OnOk result (calls machine.new.journal ≤ calls machine.old.journal + n) }
     ensures room { machine.new.room ≡ machine.old.room }
     ensures time { OnOk result (clock machine.new.journal ≡ clock machine.old.journal) }
@@ -131,7 +168,7 @@ fn obey_orders(machine: &mut Machine, n: u32) -> Result<(), AllocError>
 {
     for _i in 0..n {
         let _journal = machine.journal();
-        let progress = machine.order()?;
+        let progress = machine.order_with(service)?;
         if !found_live(progress) {
             return Ok(());
         }

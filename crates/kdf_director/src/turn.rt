@@ -10,28 +10,26 @@ use crate::places::{first_of, lend_at, make_ready_at, take_back_at, test_in};
 use crate::starting::start_at;
 use crate::stint::hand_in;
 use crate::text::text_of;
-use crate::{Loan, Note, Place, Stint};
+use crate::{Loaded, Loan, Moment, Note, Place, Stint};
 use kdf_job::kind_lent;
 use kdf_journal::Kind;
 use kdf_lockout::Store;
 use kdf_processor::{Port, Reserve, Spooled, Test, Wanted, least};
 use kdf_relocate::Window;
-use kdf_transfer::{Area, Device, TransferOrder, characters_in};
+use kdf_transfer::{Area, TransferOrder, characters_in};
 use kdf_word::Word;
 use std::alloc::{AllocError, Global};
 use std::mem;
 
-/// The view of one program for one order at a time. Its fields are lent by the machine: nothing is kept here but the note.
+/// The view of one program for one order at a moment. Its fields are lent by the machine: nothing is kept here but the note.
 #[derive(Drop)]
 pub struct Turn<'a> {
     alloc: Global,
-    p: u8,
     window: Window,
-    time: u64,
-    devices: &'a [(u8, Device)],
-    pool: &'a [(u8, Kind)],
-    /// The installation's service answers the program.
-    served: bool,
+    moment: Moment,
+    /// Its slot, which has its devices and those of the pool, and says whether the installation's service answers it. An order reads of it only
+    /// what it needs.
+    slot: &'a Loaded,
     claimed: &'a mut [bool; 16],
     spooled: &'a mut Vec<Spooled>,
     stints: &'a mut Vec<Stint>,
@@ -39,14 +37,15 @@ pub struct Turn<'a> {
     places: &'a mut Vec<Place>,
     /// Memory for the characters that an order moves.
     block: &'a mut Vec<u8>,
+    p: u8,
     /// What is to be noted of the order.
     note: Note,
     ghost at_group: { window.base % 32 ≡ 0 },
     ghost in_store: { window.base + window.size ≤ 32 * length store.now },
     ghost sixteen: { length places.now.items ≡ 16 },
     ghost dry: { AreDry places.now.items },
-    ghost kept: { IsKeptBy p window devices.now pool.now served stints.now.items places.now.items },
-    ghost active: { IsActiveBy p window devices.now pool.now served claimed.now stints.now.items places.now.items },
+    ghost kept: { IsKeptBy p window slot.now stints.now.items places.now.items },
+    ghost active: { IsActiveBy p window slot.now claimed.now stints.now.items places.now.items },
 }
 
 impl<'a> Turn<'a> {
@@ -60,15 +59,13 @@ impl<'a> Turn<'a> {
     ghost use Rattle.kdf_director.specs.declared.note.Note.TheVariants.{Quiet};
     ghost use Rattle.kdf_director.specs.Notes.{IsPlain};
 
-    /// The view of slot `p` over this window, with these devices.
+    /// The view of program `p` over this window, in this slot.
     pub fn new(
         alloc: Global,
         p: u8,
         window: Window,
-        time: u64,
-        devices: &'a [(u8, Device)],
-        pool: &'a [(u8, Kind)],
-        served: bool,
+        moment: Moment,
+        slot: &'a Loaded,
         claimed: &'a mut [bool; 16],
         spooled: &'a mut Vec<Spooled>,
         stints: &'a mut Vec<Stint>,
@@ -80,13 +77,13 @@ impl<'a> Turn<'a> {
         requires in_store { window.base + window.size ≤ 32 * length store.old }
         requires sixteen { length places.old.items ≡ 16 }
         requires dry { AreDry places.old.items }
-        requires kept { IsKept (part_with p window devices.now pool.now served claimed.old spooled.old.items stints.old.items)
+        requires kept { IsKept (part_with p window slot.now claimed.old spooled.old.items stints.old.items)
             (shared_in store.old places.old.items) }
-        requires active { IsActive (part_with p window devices.now pool.now served claimed.old spooled.old.items stints.old.items)
+        requires active { IsActive (part_with p window slot.now claimed.old spooled.old.items stints.old.items)
             (shared_in store.old places.old.items) }
         ensures part { part_of result
-            ≡ part_with p window devices.now pool.now served claimed.old spooled.old.items stints.old.items }
-        ensures time { result.time ≡ time }
+            ≡ part_with p window slot.now claimed.old spooled.old.items stints.old.items }
+        ensures moment { result.moment ≡ moment }
         ensures store { result.store.now ≡ store.old }
         ensures places { result.places.now ≡ places.old }
         ensures block { result.block.now ≡ block.old }
@@ -102,10 +99,8 @@ impl<'a> Turn<'a> {
             alloc,
             p,
             window,
-            time,
-            devices,
-            pool,
-            served,
+            moment,
+            slot,
             claimed,
             spooled,
             stints,
@@ -158,7 +153,7 @@ impl<'a> Turn<'a> {
         requires { d < 16 }
         ensures { result ≡ is_free wanted.now (own_claims (part_of self.now) (shared self.now)) d }
     {
-        is_free(self.devices, self.claimed, self.places, d, wanted)
+        is_free(&self.slot.devices, self.claimed, self.places, d, wanted)
     }
 
     /// The least device of the slot that is wanted and isn't claimed.
@@ -187,7 +182,7 @@ impl<'a> Turn<'a> {
         requires { d < 16 }
         ensures { result ≡ can_take (own_claims (part_of self.now) (shared self.now)) kind d }
     {
-        may_be_taken(self.pool, self.claimed, d, kind)
+        may_be_taken(&self.slot.pool, self.claimed, d, kind)
     }
 
     /// The least device of this kind in the pool that is nobody's; there is one.
@@ -197,7 +192,7 @@ impl<'a> Turn<'a> {
         ensures least { free_in (part_of self.now).pool (shared self.now).spots kind ≡ Some result }
         ensures number { result < 16 }
     {
-        match first_free(self.pool, self.places, kind) {
+        match first_free(&self.slot.pool, self.places, kind) {
             Some(d) => d,
             None => unreachable!(),
         }
@@ -269,7 +264,13 @@ impl Port for Turn<'_> {
     }
 
     fn held(&self, device: u16) -> Option<Kind> {
-        kind_claimed(self.devices, self.pool, self.claimed, self.places, device)
+        kind_claimed(
+            &self.slot.devices,
+            &self.slot.pool,
+            self.claimed,
+            self.places,
+            device,
+        )
     }
 
     fn busy(&self, device: u8) -> bool {
@@ -318,18 +319,19 @@ impl Port for Turn<'_> {
     }
 
     fn ask_time(&mut self) -> u64 {
-        let time = self.time;
+        let time = self.moment.time;
         self.tell(time);
         time
     }
 
     fn served(&self) -> bool {
-        self.served
+        self.slot.served
     }
 
     fn ask_service(&mut self, _word: Word) -> Word {
-        self.tell(0);
-        Word::default()
+        let heard = self.moment.heard;
+        self.tell(heard.bits());
+        heard
     }
 
     fn claim_label(&mut self, label: Word) -> Option<u8> {
@@ -345,7 +347,7 @@ impl Port for Turn<'_> {
     }
 
     fn pool_free(&self, kind: Kind) -> bool {
-        first_free(self.pool, self.places, kind).is_some()
+        first_free(&self.slot.pool, self.places, kind).is_some()
     }
 
     fn take_pool(&mut self, kind: Kind) -> u8 {
@@ -362,7 +364,7 @@ impl Port for Turn<'_> {
     }
 
     fn give_back(&mut self, device: u8) {
-        if kind_lent(self.pool, device).is_some() {
+        if kind_lent(&self.slot.pool, device).is_some() {
             self.return_pooled(device);
         } else {
             self.claimed[usize::from(device)] = false;
@@ -377,7 +379,7 @@ impl Port for Turn<'_> {
     }
 
     ghost stays = { λ _. record {
-      same = record { time = refl; claimed = refl; spooled = refl; stints = refl; store = refl; places = refl; block = refl };
+      same = record { moment = refl; claimed = refl; spooled = refl; stints = refl; store = refl; places = refl; block = refl };
       part = refl;
       shared = refl;
       note = refl;
@@ -392,7 +394,7 @@ impl Reserve for Turn<'_> {
     ghost keeps = { Stays };
 
     ghost itself = { λ _. record {
-      same = record { time = refl; claimed = refl; spooled = refl; stints = refl; store = refl; places = refl; block = refl };
+      same = record { moment = refl; claimed = refl; spooled = refl; stints = refl; store = refl; places = refl; block = refl };
       part = refl;
       shared = refl;
       note = refl;

@@ -16,3 +16,9 @@ pub mod MadeLengths
 pub mod StoreLines
 pub mod PoolReadings
 pub mod SlotReadings
+pub mod LineCuts
+pub mod Fronts
+pub mod ScheduleLines
+pub mod FrontLaws
+pub mod JoinedJobs
+pub mod LastLines

@@ -1,9 +1,10 @@
 -- A schedule with an event more.
-use Rattle.std.proofs.Common.{◌≡◌, ℕ, ◌+◌, ◌<◌, ◌≤◌, List, [], ◌∷◌, ◌++◌, length, None, arith}
+use Rattle.std.proofs.Common.{◌≡◌, ℕ, ◌+◌, ◌<◌, ◌≤◌, List, [], ◌∷◌, ◌++◌, length, drop, get_or, None, sym, ap, ◌∙◌, arith, append_assoc, append-nil}
+use Rattle.std.proofs.Math.Seq.{drop-length}
 use Rattle.std.specs.List.{fold}
 use Rattle.std.proofs.lemmas.List.Sums.{fold-append}
 use Rattle.std.proofs.lemmas.List.Elements.{All-push}
-use Rattle.std.proofs.lemmas.List.{length_push}
+use Rattle.std.proofs.lemmas.List.{drop_more, length_push}
 use Rattle.std.proofs.lemmas.Bool.Decides.{nat_tests}
 use Rattle.kdf_schedule.specs.declared.event.Event.{Event}
 use Rattle.kdf_schedule.specs.declared.event.Event.TheVariants.{Orders, Move, End, Clock, Swap}
@@ -70,3 +71,22 @@ schedule_push es e was range h = record {
   few_orders = let n = few_orders es e h was.few_orders in rw (order_count_push es e) (omega arith);
   rising = rising_push 0 es e was.rising (goes_on es e h);
 }
+
+order_count_append : (xs ys : List Event) → order_count (xs ++ ys) ≡ order_count xs + order_count ys
+order_count_append [] ys = omega arith
+order_count_append (x ∷ xs) ys = let more = order_count_append xs ys in omega arith
+
+-- the events of a schedule, one by one
+pub orders_left : (all es : List Event) (i : ℕ) (d : Event) → es ++ drop i all ≡ all → i < length all → order_count all ≤ 20000000 → order_count es + orders_in (get_or all i d) ≤ 20000000
+orders_left all es i d is lt few =
+    let e = ap order_count is in
+    let n = order_count_append es (drop i all) in
+    let m = ap order_count (drop_more all i d lt) in
+    omega arith
+
+pub one_more : (all es : List Event) (i : ℕ) (d : Event) → es ++ drop i all ≡ all → i < length all → (es ++ get_or all i d ∷ []) ++ drop (i + 1) all ≡ all
+one_more all es i d is lt =
+    append_assoc es (get_or all i d ∷ []) (drop (i + 1) all) ∙ ap (λ (xs : List Event). es ++ xs) (sym (drop_more all i d lt)) ∙ is
+
+pub all_events : (all es : List Event) → es ++ drop (length all) all ≡ all → es ≡ all
+all_events all es is = sym (append-nil es) ∙ ap (λ (xs : List Event). es ++ xs) (sym (drop-length all)) ∙ is

@@ -11,7 +11,7 @@ use Rattle.kdf_schedule.specs.declared.event.EventFault.TheVariants as event_fau
 use Rattle.kdf_schedule.specs.Events.{event}
 use Rattle.kdf_job.specs.declared.fault.JobFault.{JobFault}
 use Rattle.kdf_job.specs.declared.place.Place.{Place}
-use Rattle.kdf_job.specs.declared.place.Place.TheVariants.{First, BehindHeader, BehindSlot, BehindStore, InDeck, BehindDeck, BehindDevice, BehindShow, BehindPool, InSchedule, BehindEnd}
+use Rattle.kdf_job.specs.declared.place.Place.TheVariants.{First, BehindHeader, BehindSlot, BehindStore, InDeck, BehindDeck, BehindService, BehindDevice, BehindShow, BehindPool, InSchedule, BehindEnd}
 use Rattle.kdf_job.specs.Draft.{SlotDraft, Draft, blank, fault_of, new_slot, number_at, slot_of, slot_with, slots_told, slots_with, tells, with_line, with_pool}
 use Rattle.kdf_job.specs.Forms.{Form, ASlot, AStore, ADeckLine, APool, APoolDevice, ASchedule, AnEndJob, told, first_told, behind, number_line, of_event, told_at}
 use Rattle.kdf_job.specs.Job.{SlotJob}
@@ -216,6 +216,7 @@ waits p BehindHeader is away = absurd is
 waits p BehindStore is away = absurd is
 waits p InDeck is away = absurd is
 waits p BehindDeck is away = absurd is
+waits p BehindService is away = absurd is
 waits p BehindDevice is away = absurd is
 waits p BehindShow is away = absurd is
 waits p BehindPool is away = absurd is

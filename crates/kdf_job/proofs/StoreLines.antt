@@ -1,4 +1,4 @@
--- A line tells the size of a store after `SLOT p` alone, and a device of the pool in the pool alone.
+-- A line tells the size of a store after `SLOT p` alone, a device of the pool in the pool alone, and the job's end in the schedule alone.
 use Rattle.std.proofs.Common.{◌≡◌, ℕ, Bool, true, false, cond, List, [], ◌∷◌, Option, Some, None, Result, Ok, Err, subst}
 use Rattle.std.specs.Prelude.{◌==◌, codes}
 use Rattle.kdf_text.specs.Lines.{is_text, words}
@@ -12,8 +12,8 @@ use Rattle.kdf_schedule.specs.Events.{event}
 use Rattle.kdf_job.specs.declared.fault.JobFault.{JobFault}
 use Rattle.kdf_job.specs.declared.fault.JobFault.TheVariants.{Header}
 use Rattle.kdf_job.specs.declared.place.Place.{Place}
-use Rattle.kdf_job.specs.declared.place.Place.TheVariants.{First, BehindHeader, BehindSlot, BehindStore, InDeck, BehindDeck, BehindDevice, BehindShow, BehindPool, InSchedule, BehindEnd}
-use Rattle.kdf_job.specs.Forms.{Form, AHeader, ASlot, AStore, ADeck, ADeckLine, AnEndDeck, ADevice, AMedium, AShow, APool, APoolDevice, ASchedule, AnEndJob, Told, told, first_told, addresses, alone, described, device_named, device_or_end, device_words, device_line, event_line, kind_named, medium_line, no_medium, number_line, numbered, of_event, or_bad, pooled, show_line, slot_ends, slot_line, told_at}
+use Rattle.kdf_job.specs.declared.place.Place.TheVariants.{First, BehindHeader, BehindSlot, BehindStore, InDeck, BehindDeck, BehindService, BehindDevice, BehindShow, BehindPool, InSchedule, BehindEnd}
+use Rattle.kdf_job.specs.Forms.{Form, AHeader, ASlot, AStore, ADeck, ADeckLine, AnEndDeck, AService, ADevice, AMedium, AShow, APool, APoolDevice, ASchedule, AnEvent, AnEndJob, Told, told, first_told, addresses, alone, described, device_named, device_or_end, device_words, device_line, kind_named, medium_line, no_medium, number_line, numbered, of_event, or_bad, pooled, service_or_device, show_line, slot_ends, slot_line, told_at}
 
 abbrev pub IsBehindSlot : Place → Type 0
 IsBehindSlot (BehindSlot p) = Unit {0}
@@ -23,10 +23,15 @@ abbrev pub IsInPool : Place → Type 0
 IsInPool BehindPool = Unit {0}
 IsInPool _ = ⊥
 
+abbrev pub IsScheduled : Place → Type 0
+IsScheduled InSchedule = Unit {0}
+IsScheduled _ = ⊥
+
 -- a form that stands in other places
 abbrev IsElsewhere : Form → Type 0
 IsElsewhere (AStore n) = ⊥
 IsElsewhere (APoolDevice n kind label) = ⊥
+IsElsewhere AnEndJob = ⊥
 IsElsewhere _ = Unit {0}
 
 abbrev TellsNone : Result Form JobFault → Type 0
@@ -90,35 +95,32 @@ device_none : (ws : List (List ℕ)) → MayTellNone (device_words ws)
 device_none [] = tt {0}
 device_none (name ∷ rest) = choice (is_text (codes "DEVICE") name) (described rest) None (described_none rest) (tt {0})
 
-event_none : (r : Result Event EventFault) → MayTellNone (of_event r)
-event_none (Ok what) = tt {0}
-event_none (Err event_fault.Form) = tt {0}
-event_none (Err event_fault.Number) = tt {0}
-
 schedule_none : (line : List ℕ) → MayTellNone (alone (codes "SCHEDULE") ASchedule line)
 schedule_none line = choice (is_text (codes "SCHEDULE") line) (Some (Ok ASchedule)) None (tt {0}) (tt {0})
 
 pool_none : (line : List ℕ) → MayTellNone (alone (codes "POOL") APool line)
 pool_none line = choice (is_text (codes "POOL") line) (Some (Ok APool)) None (tt {0}) (tt {0})
 
+service_none : (line : List ℕ) → MayTellNone (alone (codes "SERVICE") AService line)
+service_none line = choice (is_text (codes "SERVICE") line) (Some (Ok AService)) None (tt {0}) (tt {0})
+
 ends_none : (line : List ℕ) → AllTellNone (slot_ends line)
 ends_none line = (show_none line, (slot_none line, (pool_none line, (schedule_none line, tt {0}))))
 
-tells_none : (place : Place) (line : List ℕ) → (IsBehindSlot place → ⊥) → (IsInPool place → ⊥) → TellsNone (told_at place line)
-tells_none First line away out = either (is_text (codes "KDF9 JOB 1") line) (Ok AHeader) (Err Header) (tt {0}) (tt {0})
-tells_none BehindHeader line away out = first_none (slot_line line ∷ []) (slot_none line, tt {0})
-tells_none (BehindSlot p) line away out = absurd (away (tt {0}))
-tells_none BehindStore line away out =
+tells_none : (place : Place) (line : List ℕ) → (IsBehindSlot place → ⊥) → (IsInPool place → ⊥) → (IsScheduled place → ⊥) → TellsNone (told_at place line)
+tells_none First line away out before = either (is_text (codes "KDF9 JOB 1") line) (Ok AHeader) (Err Header) (tt {0}) (tt {0})
+tells_none BehindHeader line away out before = first_none (slot_line line ∷ []) (slot_none line, tt {0})
+tells_none (BehindSlot p) line away out before = absurd (away (tt {0}))
+tells_none BehindStore line away out before =
     first_none (alone (codes "DECK") ADeck line ∷ []) (choice (is_text (codes "DECK") line) (Some (Ok ADeck)) None (tt {0}) (tt {0}), tt {0})
-tells_none InDeck line away out = either (is_text (codes "ENDDECK") line) (Ok AnEndDeck) (Ok (ADeckLine line)) (tt {0}) (tt {0})
-tells_none BehindDeck line away out = first_none (device_or_end line) (device_none (words line), ends_none line)
-tells_none BehindDevice line away out = first_none (medium_line line ∷ device_or_end line) (medium_none line, (device_none (words line), ends_none line))
-tells_none BehindShow line away out = first_none (slot_ends line) (ends_none line)
-tells_none BehindPool line away out = absurd (out (tt {0}))
-tells_none InSchedule line away out =
-    first_none (event_line line ∷ alone (codes "ENDJOB") AnEndJob line ∷ [])
-    (event_none (event line), (choice (is_text (codes "ENDJOB") line) (Some (Ok AnEndJob)) None (tt {0}) (tt {0}), tt {0}))
-tells_none BehindEnd line away out = tt {0}
+tells_none InDeck line away out before = either (is_text (codes "ENDDECK") line) (Ok AnEndDeck) (Ok (ADeckLine line)) (tt {0}) (tt {0})
+tells_none BehindDeck line away out before = first_none (service_or_device line) (service_none line, (device_none (words line), ends_none line))
+tells_none BehindService line away out before = first_none (device_or_end line) (device_none (words line), ends_none line)
+tells_none BehindDevice line away out before = first_none (medium_line line ∷ device_or_end line) (medium_none line, (device_none (words line), ends_none line))
+tells_none BehindShow line away out before = first_none (slot_ends line) (ends_none line)
+tells_none BehindPool line away out before = absurd (out (tt {0}))
+tells_none InSchedule line away out before = absurd (before (tt {0}))
+tells_none BehindEnd line away out before = tt {0}
 
 -- after `SLOT p`, and in the pool
 abbrev IsStoreTold : Result Form JobFault → Type 0
@@ -152,28 +154,60 @@ in_pool_told None (Some (Ok form)) b = end_told b
 pub pool_tells : (line : List ℕ) → IsPoolTold (told_at BehindPool line)
 pool_tells line = in_pool_told (medium_line line) (device_line line) (is_text (codes "SCHEDULE") line)
 
+abbrev IsEventTold : Result Form JobFault → Type 0
+IsEventTold (Ok (AnEvent what)) = Unit {0}
+IsEventTold (Ok AnEndJob) = Unit {0}
+IsEventTold (Ok _) = ⊥
+IsEventTold (Err fault) = Unit {0}
+
+event_told : (r : Result Event EventFault) (b : Bool) → IsEventTold (first_told (of_event r ∷ cond b (Some (Ok AnEndJob)) None ∷ []))
+event_told (Ok what) b = tt {0}
+event_told (Err event_fault.Number) b = tt {0}
+event_told (Err event_fault.Form) true = tt {0}
+event_told (Err event_fault.Form) false = tt {0}
+
+-- a line of the schedule tells an event, or ends it
+schedule_tells : (line : List ℕ) → IsEventTold (told_at InSchedule line)
+schedule_tells line = event_told (event line) (is_text (codes "ENDJOB") line)
+
 pub stores_only : (place : Place) (line : List ℕ) (n : ℕ) → told_at place line ≡ Ok (AStore n) → IsBehindSlot place
 stores_only (BehindSlot p) line n e = tt {0}
 stores_only BehindPool line n e = subst IsPoolTold e (pool_tells line)
-stores_only First line n e = subst TellsNone e (tells_none First line (λ no. no) (λ no. no))
-stores_only BehindHeader line n e = subst TellsNone e (tells_none BehindHeader line (λ no. no) (λ no. no))
-stores_only BehindStore line n e = subst TellsNone e (tells_none BehindStore line (λ no. no) (λ no. no))
-stores_only InDeck line n e = subst TellsNone e (tells_none InDeck line (λ no. no) (λ no. no))
-stores_only BehindDeck line n e = subst TellsNone e (tells_none BehindDeck line (λ no. no) (λ no. no))
-stores_only BehindDevice line n e = subst TellsNone e (tells_none BehindDevice line (λ no. no) (λ no. no))
-stores_only BehindShow line n e = subst TellsNone e (tells_none BehindShow line (λ no. no) (λ no. no))
-stores_only InSchedule line n e = subst TellsNone e (tells_none InSchedule line (λ no. no) (λ no. no))
-stores_only BehindEnd line n e = subst TellsNone e (tells_none BehindEnd line (λ no. no) (λ no. no))
+stores_only First line n e = subst TellsNone e (tells_none First line (λ no. no) (λ no. no) (λ no. no))
+stores_only BehindHeader line n e = subst TellsNone e (tells_none BehindHeader line (λ no. no) (λ no. no) (λ no. no))
+stores_only BehindStore line n e = subst TellsNone e (tells_none BehindStore line (λ no. no) (λ no. no) (λ no. no))
+stores_only InDeck line n e = subst TellsNone e (tells_none InDeck line (λ no. no) (λ no. no) (λ no. no))
+stores_only BehindDeck line n e = subst TellsNone e (tells_none BehindDeck line (λ no. no) (λ no. no) (λ no. no))
+stores_only BehindService line n e = subst TellsNone e (tells_none BehindService line (λ no. no) (λ no. no) (λ no. no))
+stores_only BehindDevice line n e = subst TellsNone e (tells_none BehindDevice line (λ no. no) (λ no. no) (λ no. no))
+stores_only BehindShow line n e = subst TellsNone e (tells_none BehindShow line (λ no. no) (λ no. no) (λ no. no))
+stores_only InSchedule line n e = subst IsEventTold e (schedule_tells line)
+stores_only BehindEnd line n e = subst TellsNone e (tells_none BehindEnd line (λ no. no) (λ no. no) (λ no. no))
 
 pub pools_only : (place : Place) (line : List ℕ) (n : ℕ) (kind : Kind) (label : List ℕ) → told_at place line ≡ Ok (APoolDevice n kind label) → IsInPool place
 pools_only BehindPool line n kind label e = tt {0}
 pools_only (BehindSlot p) line n kind label e = subst IsStoreTold e (store_told (number_line (codes "STORE") 32 8192 (words line)))
-pools_only First line n kind label e = subst TellsNone e (tells_none First line (λ no. no) (λ no. no))
-pools_only BehindHeader line n kind label e = subst TellsNone e (tells_none BehindHeader line (λ no. no) (λ no. no))
-pools_only BehindStore line n kind label e = subst TellsNone e (tells_none BehindStore line (λ no. no) (λ no. no))
-pools_only InDeck line n kind label e = subst TellsNone e (tells_none InDeck line (λ no. no) (λ no. no))
-pools_only BehindDeck line n kind label e = subst TellsNone e (tells_none BehindDeck line (λ no. no) (λ no. no))
-pools_only BehindDevice line n kind label e = subst TellsNone e (tells_none BehindDevice line (λ no. no) (λ no. no))
-pools_only BehindShow line n kind label e = subst TellsNone e (tells_none BehindShow line (λ no. no) (λ no. no))
-pools_only InSchedule line n kind label e = subst TellsNone e (tells_none InSchedule line (λ no. no) (λ no. no))
-pools_only BehindEnd line n kind label e = subst TellsNone e (tells_none BehindEnd line (λ no. no) (λ no. no))
+pools_only First line n kind label e = subst TellsNone e (tells_none First line (λ no. no) (λ no. no) (λ no. no))
+pools_only BehindHeader line n kind label e = subst TellsNone e (tells_none BehindHeader line (λ no. no) (λ no. no) (λ no. no))
+pools_only BehindStore line n kind label e = subst TellsNone e (tells_none BehindStore line (λ no. no) (λ no. no) (λ no. no))
+pools_only InDeck line n kind label e = subst TellsNone e (tells_none InDeck line (λ no. no) (λ no. no) (λ no. no))
+pools_only BehindDeck line n kind label e = subst TellsNone e (tells_none BehindDeck line (λ no. no) (λ no. no) (λ no. no))
+pools_only BehindService line n kind label e = subst TellsNone e (tells_none BehindService line (λ no. no) (λ no. no) (λ no. no))
+pools_only BehindDevice line n kind label e = subst TellsNone e (tells_none BehindDevice line (λ no. no) (λ no. no) (λ no. no))
+pools_only BehindShow line n kind label e = subst TellsNone e (tells_none BehindShow line (λ no. no) (λ no. no) (λ no. no))
+pools_only InSchedule line n kind label e = subst IsEventTold e (schedule_tells line)
+pools_only BehindEnd line n kind label e = subst TellsNone e (tells_none BehindEnd line (λ no. no) (λ no. no) (λ no. no))
+
+pub ends_only : (place : Place) (line : List ℕ) → told_at place line ≡ Ok AnEndJob → IsScheduled place
+ends_only InSchedule line e = tt {0}
+ends_only (BehindSlot p) line e = subst IsStoreTold e (store_told (number_line (codes "STORE") 32 8192 (words line)))
+ends_only BehindPool line e = subst IsPoolTold e (pool_tells line)
+ends_only First line e = subst TellsNone e (tells_none First line (λ no. no) (λ no. no) (λ no. no))
+ends_only BehindHeader line e = subst TellsNone e (tells_none BehindHeader line (λ no. no) (λ no. no) (λ no. no))
+ends_only BehindStore line e = subst TellsNone e (tells_none BehindStore line (λ no. no) (λ no. no) (λ no. no))
+ends_only InDeck line e = subst TellsNone e (tells_none InDeck line (λ no. no) (λ no. no) (λ no. no))
+ends_only BehindDeck line e = subst TellsNone e (tells_none BehindDeck line (λ no. no) (λ no. no) (λ no. no))
+ends_only BehindService line e = subst TellsNone e (tells_none BehindService line (λ no. no) (λ no. no) (λ no. no))
+ends_only BehindDevice line e = subst TellsNone e (tells_none BehindDevice line (λ no. no) (λ no. no) (λ no. no))
+ends_only BehindShow line e = subst TellsNone e (tells_none BehindShow line (λ no. no) (λ no. no) (λ no. no))
+ends_only BehindEnd line e = subst TellsNone e (tells_none BehindEnd line (λ no. no) (λ no. no) (λ no. no))

@@ -20,7 +20,7 @@ use Rattle.kdf_job.specs.declared.place.Place.{Place}
 use Rattle.kdf_job.specs.declared.place.Place.TheVariants.{BehindSlot, InDeck}
 use Rattle.kdf_job.specs.Adding.{IsChecked}
 use Rattle.kdf_job.specs.Draft.{SlotDraft, Draft, all_devices, device_fault, fault_of, medium_fault, new_slot, number_at, numbers_told, show_fault, slots_told, store_fault, tells, with_line, with_line_of_medium, words_in}
-use Rattle.kdf_job.specs.Forms.{Form, ADeckLine, ADevice, AMedium, AShow, AStore, told_at}
+use Rattle.kdf_job.specs.Forms.{Form, ADeckLine, ADevice, AMedium, AService, AShow, AStore, told_at}
 use Rattle.kdf_job.specs.Job.{JobDevice, SlotJob}
 use Rattle.kdf_job.specs.Kept.{IsKept, IsPlaced, IsUntold}
 use Rattle.kdf_job.specs.Lengths.{device_length, kept_length, medium_length, slot_length, spared, weight}
@@ -109,6 +109,31 @@ deck_takes line old new sound place fits shown words numbers =
     taken (ADeckLine line) (length line + 1) old new refl shown
     (rw (words, numbers) (deck_kept old.words old.numbers.items (shown_draft old) s.0 line sound none s.1 (omega arith)))
     (omega arith)
+
+-- ---- `SERVICE`
+service_kept : (words : ℕ) (numbers : List ℕ) (d : Draft) (s : SlotDraft) → IsKept words numbers d → d.pool ≡ [] → d.slot ≡ Some s → IsKept words numbers (with_line AService d)
+service_kept words numbers d s was none is =
+    let now = current_slot words numbers d s was is in
+    slot_told words numbers d (with_line AService d) s (tells AService s) was none none refl is (ap (option_map (tells AService)) is) refl refl refl refl
+    (record {
+      number = now.number;
+      least = now.least;
+      most = now.most;
+      groups = now.groups;
+      deck = now.deck;
+      devices = now.devices;
+      shows = now.shows;
+      lent = now.lent;
+    })
+    (rw is refl)
+
+pub service_takes : (old new : ReadDraft) → IsSound old → (shown_draft old).pool ≡ [] → is_some (shown_draft old).slot ≡ true → shown_draft new ≡ with_line AService (shown_draft old)
+    → new.words ≡ old.words → new.numbers.items ≡ old.numbers.items → Taken (Ok AService) 1 old new
+service_takes old new sound none there shown words numbers =
+    let s = some_slot (shown_draft old).slot there in
+    taken AService 1 old new refl shown
+    (rw (words, numbers) (service_kept old.words old.numbers.items (shown_draft old) s.0 sound none s.1))
+    (let e = ap kept_length s.1 in let f = ap kept_length (ap (option_map (tells AService)) s.1) in omega arith)
 
 -- ---- `DEVICE d k`
 device_kept : (words : ℕ) (numbers : List ℕ) (d : Draft) (s : SlotDraft) (n : ℕ) (kind : Kind) (label : List ℕ) → IsKept words numbers d → d.pool ≡ [] → d.slot ≡ Some s → n ≤ 15

@@ -12,7 +12,7 @@ use Rattle.kdf_job.specs.declared.place.Place.{Place}
 use Rattle.kdf_job.specs.declared.place.Place.TheVariants.{First, BehindSlot}
 use Rattle.kdf_job.specs.declared.fault.JobFault.{JobFault}
 use Rattle.kdf_job.specs.declared.fault.JobFault.TheVariants.{SlotOrder, SizeNotGroups, StoreFull, DeviceTwice, BadLabel, LabelTwice, BadMedium, ShowRange, ClockFalls, TooManyOrders, TooManyEvents, PoolKind}
-use Rattle.kdf_job.specs.Forms.{Form, ASlot, AStore, ADeckLine, ADevice, AMedium, AShow, APoolDevice, AnEvent, behind}
+use Rattle.kdf_job.specs.Forms.{Form, ASlot, AStore, AService, ADeckLine, ADevice, AMedium, AShow, APoolDevice, AnEvent, behind}
 use Rattle.kdf_job.specs.Job.{JobDevice, SlotJob, Job}
 use Rattle.kdf_job.specs.Limits.{group, most_words_together, most_orders, most_events}
 use Rattle.kdf_job.specs.Media.{is_label, word_of_text, new_device, with_medium}
@@ -27,6 +27,7 @@ pub record SlotDraft : Type 0 where
   pub device : Option JobDevice
   pub labels : List ℕ
   pub shows : List (ℕ × ℕ)
+  pub served : Bool
 
 -- what the lines so far tell, and where the next line stands
 pub record Draft : Type 0 where
@@ -42,7 +43,16 @@ blank = record { place = First; slots = []; slot = None; pool = []; events = [] 
 -- a slot of which the number and the size are known
 abbrev pub new_slot : ℕ → ℕ → SlotDraft
 new_slot p n =
-    record { p = p; size = n; deck = []; devices = []; device = None; labels = []; shows = [] }
+    record {
+      p = p;
+      size = n;
+      deck = [];
+      devices = [];
+      device = None;
+      labels = [];
+      shows = [];
+      served = false;
+    }
 
 abbrev pub all_devices : SlotDraft → List JobDevice
 all_devices s = s.devices ++ option_to_list s.device
@@ -56,6 +66,7 @@ slot_of s =
       devices = all_devices s;
       shows = s.shows;
       pool = [];
+      served = s.served;
     }
 
 -- all slots so far
@@ -80,6 +91,7 @@ with_line_of_medium marked text (Some x) = with_medium marked text x
 
 -- of the slot in which the line stands
 abbrev pub tells : Form → SlotDraft → SlotDraft
+tells AService s = record s { served = true }
 tells (ADeckLine text) s = record s { deck = s.deck ++ text ++ LINE_END ∷ [] }
 tells (ADevice d kind label) s =
     record s {

@@ -10,7 +10,7 @@ use Rattle.kdf_schedule.specs.declared.event.EventFault.{EventFault}
 use Rattle.kdf_schedule.specs.declared.event.EventFault.TheVariants as event_fault
 use Rattle.kdf_schedule.specs.Events.{event}
 use Rattle.kdf_job.specs.declared.place.Place.{Place}
-use Rattle.kdf_job.specs.declared.place.Place.TheVariants.{First, BehindHeader, BehindSlot, BehindStore, InDeck, BehindDeck, BehindDevice, BehindShow, BehindPool, InSchedule, BehindEnd}
+use Rattle.kdf_job.specs.declared.place.Place.TheVariants.{First, BehindHeader, BehindSlot, BehindStore, InDeck, BehindDeck, BehindService, BehindDevice, BehindShow, BehindPool, InSchedule, BehindEnd}
 use Rattle.kdf_job.specs.declared.fault.JobFault.{JobFault}
 use Rattle.kdf_job.specs.declared.fault.JobFault.TheVariants.{Header, BadLine, BadNumber, BadMedium}
 
@@ -22,6 +22,7 @@ pub data Form : Type 0 where
   ADeck : Form
   ADeckLine : (text : List ℕ) → Form
   AnEndDeck : Form
+  AService : Form
   ADevice : (d : ℕ) (kind : Kind) (label : List ℕ) → Form
   AMedium : (marked : Bool) (text : List ℕ) → Form
   AShow : (a b : ℕ) → Form
@@ -39,6 +40,7 @@ behind (AStore n) = BehindStore
 behind ADeck = InDeck
 behind (ADeckLine text) = InDeck
 behind AnEndDeck = BehindDeck
+behind AService = BehindService
 behind (ADevice d kind label) = BehindDevice
 behind (AMedium marked text) = BehindDevice
 behind (AShow a b) = BehindShow
@@ -173,6 +175,11 @@ slot_ends line = show_line line ∷ slot_line line ∷ job_ends line
 abbrev pub device_or_end : List ℕ → List Told
 device_or_end line = device_line line ∷ slot_ends line
 
+-- the forms that may stand directly after a deck
+abbrev pub service_or_device : List ℕ → List Told
+service_or_device line = alone (codes "SERVICE") AService line ∷ device_or_end line
+
+-- the forms of the pool, and that of its end
 abbrev pub pool_device_or_end : List ℕ → List Told
 pool_device_or_end line =
     pooled (device_line line) ∷ alone (codes "SCHEDULE") ASchedule line ∷ []
@@ -184,7 +191,8 @@ told_at BehindHeader line = first_told (slot_line line ∷ [])
 told_at (BehindSlot p) line = first_told (store_line line ∷ [])
 told_at BehindStore line = first_told (alone (codes "DECK") ADeck line ∷ [])
 told_at InDeck line = if is_text (codes "ENDDECK") line then Ok AnEndDeck else Ok (ADeckLine line)
-told_at BehindDeck line = first_told (device_or_end line)
+told_at BehindDeck line = first_told (service_or_device line)
+told_at BehindService line = first_told (device_or_end line)
 told_at BehindDevice line = first_told (medium_line line ∷ device_or_end line)
 told_at BehindShow line = first_told (slot_ends line)
 told_at BehindPool line = first_told (no_medium (medium_line line) ∷ pool_device_or_end line)

@@ -1,5 +1,5 @@
 -- A job: its slots, each with its deck and its devices, the schedule, and the pool.
-use Rattle.std.specs.Prelude.{ℕ, List}
+use Rattle.std.specs.Prelude.{ℕ, Bool, List}
 use Rattle.kdf_journal.specs.declared.kind.Kind.{Kind}
 use Rattle.kdf_schedule.specs.declared.event.Event.{Event}
 use Rattle.kdf_transfer.specs.Devices.{Fixture, Progress}
@@ -11,7 +11,8 @@ pub record JobDevice : Type 0 where
   pub progress : Progress
 
 -- a slot: its number, the size of its store, the text of its deck, its devices, the first and the last address of
--- each run of words that the report shows, and the numbers and kinds of the devices that are lent out
+-- each run of words that the report shows, the numbers and kinds of the devices that are lent out, and whether the
+-- installation's service answers its program
 pub record SlotJob : Type 0 where
   pub p : ℕ
   pub size : ℕ
@@ -19,6 +20,7 @@ pub record SlotJob : Type 0 where
   pub devices : List JobDevice
   pub shows : List (ℕ × ℕ)
   pub pool : List (ℕ × Kind)
+  pub served : Bool
 
 -- the slots, the schedule, and the devices that are lent out
 pub record Job : Type 0 where

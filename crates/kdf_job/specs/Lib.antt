@@ -10,6 +10,8 @@ pub mod Forms
 pub mod Draft
 pub mod Reading
 pub mod SlotLines
+pub mod Front
+pub mod More
 pub mod Shows
 pub mod WellFormed
 pub mod Kept

@@ -53,6 +53,7 @@ shown_slot_draft s =
       device = option_map shown_device_draft s.device;
       labels = s.labels.items;
       shows = s.shows.items;
+      served = s.served;
     }
 
 abbrev pub shown_slot : ReadSlot → SlotJob
@@ -64,6 +65,7 @@ shown_slot s =
       devices = map shown_device s.devices.items;
       shows = s.shows.items;
       pool = s.pool.items;
+      served = s.served;
     }
 
 abbrev pub shown_job : ReadJob → Job

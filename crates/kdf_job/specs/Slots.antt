@@ -1,5 +1,5 @@
 -- The slot as which a job's slot is loaded with the words of its image.
-use Rattle.std.specs.Prelude.{ℕ, ◌==◌, Bool, List, false, find, Option, Some, None}
+use Rattle.std.specs.Prelude.{ℕ, ◌==◌, Bool, List, find, Option, Some, None}
 use Rattle.std.specs.Option.{option_map}
 use Rattle.kdf_journal.specs.declared.kind.Kind.{Kind}
 use Rattle.kdf_transfer.specs.ByNumber.{by_number}
@@ -37,6 +37,6 @@ slot_with p size words devices pool served =
       served = served;
     }
 
--- a slot of a job with these words; no job has a slot that is served
+-- a slot of a job with these words
 abbrev pub slot_of : SlotJob → List ℕ → Slot
-slot_of s words = slot_with s.p s.size words s.devices s.pool false
+slot_of s words = slot_with s.p s.size words s.devices s.pool s.served

@@ -1,12 +1,19 @@
 -- What is said of a line that is taken.
-use Rattle.std.specs.Prelude.{◌≡◌, ℕ, ◌+◌, ◌≤◌, Result, Ok, Err}
+use Rattle.std.specs.Prelude.{◌≡◌, ℕ, ◌+◌, ◌≤◌, List, Result, Ok, Err}
+use Rattle.kdf_schedule.specs.declared.event.Event.{Event}
 use Rattle.kdf_job.specs.declared.draft.Draft.{Draft as ReadDraft}
+use Rattle.kdf_job.specs.declared.fault.JobError.{JobError}
+use Rattle.kdf_job.specs.declared.fault.JobError.TheVariants as job_error
 use Rattle.kdf_job.specs.declared.fault.JobFault.{JobFault}
 use Rattle.kdf_job.specs.declared.line_error.LineError.{LineError}
 use Rattle.kdf_job.specs.declared.line_error.LineError.TheVariants.{Fault, Memory}
+use Rattle.kdf_job.specs.declared.place.Place.{Place}
+use Rattle.kdf_job.specs.declared.place.Place.TheVariants.{InSchedule}
+use Rattle.kdf_job.specs.Draft.{Draft}
 use Rattle.kdf_job.specs.Forms.{Form}
 use Rattle.kdf_job.specs.Kept.{IsKept}
 use Rattle.kdf_job.specs.Lengths.{weight}
+use Rattle.kdf_job.specs.More.{scheduled}
 use Rattle.kdf_job.specs.Reading.{with_told}
 use Rattle.kdf_job.specs.Shows.{shown_draft}
 
@@ -19,8 +26,22 @@ pub record Taken (told : Result Form JobFault) (room : ℕ) (old new : ReadDraft
   pub sound : IsSound new
   pub grown : weight (shown_draft new) ≤ weight (shown_draft old) + room
 
+-- a line that tells this isn't taken
+abbrev pub IsRefused : Draft → Result Form JobFault → LineError → Type 0
+IsRefused d told (Fault fault) = with_told d told ≡ Err fault
+IsRefused d told Memory = Unit {0}
+
 -- a line that tells this is taken, or has the fault
 abbrev pub Takes : Result Form JobFault → ℕ → ReadDraft → ReadDraft → Result (Unit {0}) LineError → Type 0
 Takes told room old new (Ok x) = Taken told room old new
-Takes told room old new (Err (Fault fault)) = with_told (shown_draft old) told ≡ Err fault
-Takes told room old new (Err Memory) = Unit {0}
+Takes told room old new (Err error) = IsRefused (shown_draft old) told error
+
+-- a line of a schedule that tells this is taken, and says where the next line stands; or it has the fault
+abbrev pub TakesEvent : Result Form JobFault → List Event → List Event → Result Place LineError → Type 0
+TakesEvent told old new (Ok place) = with_told (scheduled InSchedule old) told ≡ Ok (scheduled place new)
+TakesEvent told old new (Err error) = IsRefused (scheduled InSchedule old) told error
+
+-- why there is no job, where this is why the line of this number isn't taken
+abbrev pub at_number : ℕ → LineError → JobError
+at_number number (Fault fault) = job_error.Fault fault number
+at_number number Memory = job_error.Memory

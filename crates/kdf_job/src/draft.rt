@@ -1,16 +1,15 @@
 //! What the lines so far tell of a job.
 ghost use Rattle.std.specs.Prelude.{◌≡◌, ◌==◌, ◌+◌, ◌≤◌, ◌<◌, ◌^◌, ◌++◌, [], ◌∷◌, None, IfOk, OnOk, length, map};
 ghost use Rattle.std.specs.List.{list_any};
-ghost use Rattle.kdf_schedule.specs.Events.{IsInRange};
 ghost use Rattle.kdf_job.specs.Adding.{IsChecked};
-ghost use Rattle.kdf_job.specs.Draft.{blank, device_fault, device_so_far, event_fault, job_of, label_fault, labels_so_far, lent_fault, medium_fault, numbers_told, pool_fault, show_fault, size_so_far, slot_fault, slots_told, store_fault, tape_fault, tells, with_line, with_pool};
-ghost use Rattle.kdf_job.specs.Forms.{ADeckLine, ADevice, AMedium, APoolDevice, AShow, AStore, AnEvent};
+ghost use Rattle.kdf_job.specs.Draft.{blank, device_fault, device_so_far, job_of, label_fault, labels_so_far, lent_fault, medium_fault, numbers_told, pool_fault, show_fault, size_so_far, slot_fault, slots_told, store_fault, tape_fault, tells, with_line, with_pool};
+ghost use Rattle.kdf_job.specs.Forms.{ADeckLine, ADevice, AMedium, APoolDevice, AService, AShow, AStore, told_at};
 ghost use Rattle.kdf_job.specs.Lengths.{kept_length};
 ghost use Rattle.kdf_job.specs.Media.{word_of_text};
 ghost use Rattle.kdf_job.specs.Shows.{shown_draft, shown_job, shown_slot};
-ghost use Rattle.kdf_job.specs.Taking.{IsSound};
-ghost use Rattle.kdf_job.specs.WellFormed.{IsJob, IsSchedule};
-ghost use Rattle.kdf_job.specs.declared.place.Place.TheVariants.{BehindEnd, BehindSlot};
+ghost use Rattle.kdf_job.specs.Taking.{IsSound, Takes};
+ghost use Rattle.kdf_job.specs.WellFormed.{IsJob};
+ghost use Rattle.kdf_job.specs.declared.place.Place.TheVariants.{BehindEnd, BehindSlot, InSchedule};
 
 use crate::forms::{DeviceLine, MediumLine};
 use crate::media::is_label;
@@ -18,7 +17,6 @@ use crate::schedule::Schedule;
 use crate::slot_draft::SlotDraft;
 use crate::{Job, JobFault, LineError, Place, SlotJob};
 use kdf_journal::Kind;
-use kdf_schedule::Event;
 use kdf_word::Word;
 use std::alloc::{AllocError, Global};
 
@@ -131,6 +129,18 @@ impl Draft {
         match &mut self.slot {
             Some(slot) => slot.add_deck_line(line),
             None => Ok(()),
+        }
+    }
+
+    /// Has the slot served.
+    pub fn add_service(&mut self)
+        ensures shown { shown_draft self.new ≡ with_line AService (shown_draft self.old) }
+        ensures words { self.new.words ≡ self.old.words }
+        ensures numbers { self.new.numbers.items ≡ self.old.numbers.items }
+    {
+        self.place = Place::BehindService;
+        if let Some(slot) = &mut self.slot {
+            slot.add_service();
         }
     }
 
@@ -275,16 +285,20 @@ impl Draft {
         }
     }
 
-    /// Adds an event.
-    pub fn add_event(&mut self, event: Event) -> Result<(), LineError>
-        requires in_range { IsInRange event }
-        requires sound { IsSchedule self.old.schedule.events.items }
-        ensures shown { IsChecked (event_fault event (shown_draft self.old).events)
-            ((shown_draft self.old).events ++ event ∷ []) (shown_draft self.new).events result }
-        ensures schedule { OnOk result (IsSchedule self.new.schedule.events.items) }
-        ensures same { self.new ≡ record self.old { schedule = self.new.schedule } }
+    /// Takes a line of the schedule.
+    pub fn take_schedule_line(&mut self, line: &[u8]) -> Result<(), LineError>
+        requires sound { IsSound self.old }
+        requires place { self.old.place ≡ InSchedule }
+        ensures { Takes (told_at InSchedule line.now)
+            (length line.now + 1) self.old self.new result }
     {
-        self.schedule.add(event)
+        match self.schedule.take_line(line) {
+            Ok(place) => {
+                self.place = place;
+                Ok(())
+            }
+            Err(error) => Err(error),
+        }
     }
 
     /// The job, when all its lines are read.

@@ -1,6 +1,6 @@
 //! Lines with what they tell, media, faults and a job, each computed from the definitions, as the contract of a
 //! function that does nothing.
-#![tactic(auto, unfolding(kdf_text::specs::Lines::lines, kdf_text::specs::Lines::words, kdf_text::specs::Numbers::value, kdf_text::specs::Text::text, kdf_schedule::specs::Events::event, kdf_code::specs::Code::code_of, kdf_word::specs::Characters::first_word, kdf_word::specs::Characters::words_of, crate::specs::Media::codes_in, crate::specs::Made::after_steps, crate::specs::Made::letters_from, crate::specs::Reading::read_line, crate::specs::Reading::job_fault, crate::specs::Reading::job, crate::specs::SlotLines::slot_lines, crate::specs::SlotLines::pool_lines))]
+#![tactic(auto, unfolding(kdf_text::specs::Lines::lines, kdf_text::specs::Lines::words, kdf_text::specs::Numbers::value, kdf_text::specs::Text::text, kdf_schedule::specs::Events::event, kdf_code::specs::Code::code_of, kdf_word::specs::Characters::first_word, kdf_word::specs::Characters::words_of, crate::specs::Media::codes_in, crate::specs::Made::after_steps, crate::specs::Made::letters_from, crate::specs::Reading::read_line, crate::specs::Reading::job_fault, crate::specs::Reading::job, crate::specs::Front::front_lines, crate::specs::Front::front_length, crate::specs::More::more_fault, crate::specs::More::more_events, crate::specs::SlotLines::slot_lines, crate::specs::SlotLines::pool_lines))]
 
 ghost use Rattle.std.specs.Prelude.{◌≡◌, ◌*◌, ◌^◌, [], ◌∷◌, ◌++◌, true, false, Some, None, Ok, Err, codes, replicate};
 ghost use Rattle.kdf_text.specs.Text.{text};
@@ -9,9 +9,11 @@ ghost use Rattle.kdf_schedule.specs.declared.event.Event.TheVariants as event;
 ghost use Rattle.kdf_job.specs.declared.fault.JobFault.TheVariants as fault;
 ghost use Rattle.kdf_job.specs.declared.place.Place.TheVariants as place;
 ghost use Rattle.kdf_job.specs.Draft.{event_fault, lent_fault, new_slot, show_fault, slot_fault, slot_of, store_fault};
-ghost use Rattle.kdf_job.specs.Forms.{ADeckLine, ADevice, AMedium, APool, APoolDevice, ASchedule, AShow, ASlot, AStore, AnEndDeck, AnEndJob, AnEvent, told_at};
+ghost use Rattle.kdf_job.specs.Forms.{ADeckLine, ADevice, AMedium, APool, APoolDevice, ASchedule, AService, AShow, ASlot, AStore, AnEndDeck, AnEndJob, AnEvent, told_at};
+ghost use Rattle.kdf_job.specs.Front.{front_fault, front_length};
 ghost use Rattle.kdf_job.specs.Made.{letter, reader_line, step};
 ghost use Rattle.kdf_job.specs.Media.{card_of, filled, fits, is_label, word_of_text};
+ghost use Rattle.kdf_job.specs.More.{more_events, more_fault};
 ghost use Rattle.kdf_job.specs.Reading.{job, job_fault};
 ghost use Rattle.kdf_job.specs.SlotLines.{pool_lines, slot_lines};
 
@@ -34,6 +36,20 @@ pub fn lines_tell()
         ≡ Ok (ADevice 3 kind.Mt []) }
     ensures no_label { told_at place.BehindDeck (codes "DEVICE 3 MT") ≡ Err fault.BadLine }
     ensures device_16 { told_at place.BehindDeck (codes "DEVICE 16 MT a") ≡ Err fault.BadNumber }
+    ensures service { told_at place.BehindDeck (codes "SERVICE") ≡ Ok AService }
+    ensures service_of_a_number { told_at place.BehindDeck (codes "SERVICE 0")
+        ≡ Err fault.BadLine }
+    ensures service_again { told_at place.BehindService (codes "SERVICE") ≡ Err fault.BadLine }
+    ensures service_after_a_device { told_at place.BehindDevice (codes "SERVICE")
+        ≡ Err fault.BadLine }
+    ensures service_after_a_show { told_at place.BehindShow (codes "SERVICE")
+        ≡ Err fault.BadLine }
+    ensures device_after_a_service { told_at place.BehindService (codes "DEVICE 3 TR")
+        ≡ Ok (ADevice 3 kind.Tr []) }
+    ensures show_after_a_service { told_at place.BehindService (codes "SHOW 0 1")
+        ≡ Ok (AShow 0 1) }
+    ensures medium_after_a_service { told_at place.BehindService (codes "+A")
+        ≡ Err fault.BadLine }
     ensures no_device { told_at place.BehindDeck (codes "+A") ≡ Err fault.BadLine }
     ensures medium { told_at place.BehindDevice (codes "+A b") ≡ Ok (AMedium false (codes "A b")) }
     ensures marked { told_at place.BehindDevice (codes "=") ≡ Ok (AMedium true []) }
@@ -134,6 +150,7 @@ pub fn jobs()
             devices = [];
             shows = (0, 31) ∷ [];
             pool = [];
+            served = false;
           } ∷ [];
           events = event.Clock 1 ∷ [];
           pool = [];
@@ -157,6 +174,7 @@ pub fn pools()
             devices = [];
             shows = [];
             pool = (9, kind.Tp) ∷ (2, kind.Lp) ∷ [];
+            served = false;
           } ∷ record {
             p = 3;
             size = 64;
@@ -164,6 +182,7 @@ pub fn pools()
             devices = [];
             shows = [];
             pool = (9, kind.Tp) ∷ (2, kind.Lp) ∷ [];
+            served = false;
           } ∷ [];
           events = [];
           pool = (9, kind.Tp) ∷ (2, kind.Lp) ∷ [];
@@ -185,6 +204,75 @@ pub fn pools()
         ∷ codes "POOL" ∷ codes "DEVICE 9 TP" ∷ codes "SCHEDULE" ∷ codes "ENDJOB" ∷ []))
         ≡ codes "SLOT 0" ∷ codes "STORE 32" ∷ codes "DECK" ∷ codes "POOL" ∷ codes "ENDDECK"
         ∷ codes "SHOW 0 1" ∷ [] }
+{}
+
+/// A job whose second slot is served.
+pub fn services()
+    ensures told { job (text (codes "KDF9 JOB 1" ∷ codes "SLOT 0" ∷ codes "STORE 32"
+        ∷ codes "DECK" ∷ codes "SERVICE" ∷ codes "ENDDECK" ∷ codes "SLOT 3" ∷ codes "STORE 64"
+        ∷ codes "DECK" ∷ codes "ENDDECK" ∷ codes "SERVICE" ∷ codes "SHOW 0 1"
+        ∷ codes "SCHEDULE" ∷ codes "ENDJOB" ∷ []))
+        ≡ record {
+          slots = record {
+            p = 0;
+            size = 32;
+            deck = codes "SERVICE" ++ 10 ∷ [];
+            devices = [];
+            shows = [];
+            pool = [];
+            served = false;
+          } ∷ record {
+            p = 3;
+            size = 64;
+            deck = [];
+            devices = [];
+            shows = (0, 1) ∷ [];
+            pool = [];
+            served = true;
+          } ∷ [];
+          events = [];
+          pool = [];
+        } }
+    ensures without { job_fault (text (codes "KDF9 JOB 1" ∷ codes "SLOT 0" ∷ codes "STORE 32"
+        ∷ codes "DECK" ∷ codes "ENDDECK" ∷ codes "SERVICE" ∷ codes "SCHEDULE" ∷ codes "ENDJOB"
+        ∷ [])) ≡ None }
+    ensures after_a_device { job_fault (text (codes "KDF9 JOB 1" ∷ codes "SLOT 0"
+        ∷ codes "STORE 32" ∷ codes "DECK" ∷ codes "ENDDECK" ∷ codes "DEVICE 9 LP"
+        ∷ codes "SERVICE" ∷ codes "SCHEDULE" ∷ codes "ENDJOB" ∷ []))
+        ≡ Some (fault.BadLine, 7) }
+{}
+
+/// The fronts of texts. A line `ENDJOB` of a deck ends no job.
+pub fn fronts()
+    ensures followed { front_length (text (codes "KDF9 JOB 1" ∷ codes "SLOT 2" ∷ codes "STORE 32"
+        ∷ codes "DECK" ∷ codes "ENDJOB" ∷ codes "ENDDECK" ∷ codes "SCHEDULE" ∷ codes "ENDJOB"
+        ∷ codes "JOURNAL" ∷ [])) ≡ 63 }
+    ensures faultless { front_fault (text (codes "KDF9 JOB 1" ∷ codes "SLOT 2" ∷ codes "STORE 32"
+        ∷ codes "DECK" ∷ codes "ENDJOB" ∷ codes "ENDDECK" ∷ codes "SCHEDULE" ∷ codes "ENDJOB"
+        ∷ codes "JOURNAL" ∷ [])) ≡ None }
+    ensures last_line_without_end { front_length (text (codes "KDF9 JOB 1" ∷ codes "SLOT 2"
+        ∷ codes "STORE 32" ∷ codes "DECK" ∷ codes "ENDDECK" ∷ codes "SCHEDULE" ∷ [])
+        ++ codes "ENDJOB") ≡ 55 }
+    ensures no_end { front_fault (text (codes "KDF9 JOB 1" ∷ codes "SLOT 2" ∷ codes "STORE 32"
+        ∷ codes "DECK" ∷ codes "ENDJOB" ∷ codes "ENDDECK" ∷ [])) ≡ Some (fault.BadLine, 7) }
+    ensures nothing { front_fault [] ≡ Some (fault.Header, 1) }
+{}
+
+/// Further lines of a schedule, of which the first has the number 12.
+pub fn further_lines()
+    ensures told { more_events (text (codes "ORDERS 3" ∷ codes "END 4" ∷ codes "ENDJOB" ∷ []))
+        ≡ event.Orders 3 ∷ event.End 4 ∷ [] }
+    ensures same_time { more_fault 12 (event.Clock 5 ∷ [])
+        (text (codes "CLOCK 5" ∷ codes "ENDJOB" ∷ [])) ≡ None }
+    ensures earlier { more_fault 12 (event.Clock 5 ∷ [])
+        (text (codes "CLOCK 4" ∷ codes "ENDJOB" ∷ [])) ≡ Some (fault.ClockFalls, 12) }
+    ensures more_orders { more_fault 12 (event.Orders 19999999 ∷ [])
+        (text (codes "ORDERS 1" ∷ codes "ORDERS 1" ∷ codes "ENDJOB" ∷ []))
+        ≡ Some (fault.TooManyOrders, 13) }
+    ensures line_behind { more_fault 12 [] (text (codes "ENDJOB" ∷ codes "ENDJOB" ∷ []))
+        ≡ Some (fault.BadLine, 13) }
+    ensures no_end { more_fault 12 [] (text (codes "END 4" ∷ [])) ≡ Some (fault.BadLine, 13) }
+    ensures nothing { more_fault 12 [] [] ≡ Some (fault.BadLine, 12) }
 {}
 
 /// Numbers and the letters that come of them.

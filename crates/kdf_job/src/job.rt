@@ -41,6 +41,8 @@ pub struct SlotJob {
     pub shows: Vec<(u16, u16)>,
     /// The pool of the job, the same in each slot. No slot has a device of its numbers.
     pub pool: Vec<(u8, Kind)>,
+    /// The installation's service answers its program.
+    pub served: bool,
 }
 
 impl SlotJob {

@@ -1,8 +1,9 @@
 //! Why a line isn't taken.
 ghost use Rattle.std.specs.Prelude.{◌≡◌};
 ghost use Rattle.kdf_job.specs.declared.line_error.LineError.TheVariants.{Memory};
+ghost use Rattle.kdf_job.specs.Taking.{at_number};
 
-use crate::JobFault;
+use crate::{JobError, JobFault};
 use std::alloc::{AllocError, AllocFailed};
 
 /// Why a line isn't taken.
@@ -12,6 +13,18 @@ pub enum LineError {
     Fault(JobFault),
     /// There was no memory for what it tells.
     Memory,
+}
+
+impl LineError {
+    /// Why there is no job, where this is why the line of this number isn't taken.
+    pub fn at(self, number: u32) -> JobError
+        ensures { result ≡ at_number number self }
+    {
+        match self {
+            LineError::Fault(fault) => JobError::Fault(fault, number),
+            LineError::Memory => JobError::Memory,
+        }
+    }
 }
 
 impl From<AllocError> for LineError {

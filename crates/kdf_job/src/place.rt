@@ -1,4 +1,6 @@
 //! Where a line of a job stands.
+ghost use Rattle.std.specs.Prelude.{◌≡◌};
+ghost use Rattle.kdf_job.specs.Front.{is_behind_end};
 
 /// Where a line stands, which the line before it tells.
 #[derive(Clone, Copy, PartialEq, Eq)]
@@ -15,6 +17,8 @@ pub enum Place {
     InDeck,
     /// Behind the end of a deck.
     BehindDeck,
+    /// Behind the line that has the slot served.
+    BehindService,
     /// Behind a device, or a line of its medium.
     BehindDevice,
     /// Behind a line that tells what is shown.
@@ -25,4 +29,16 @@ pub enum Place {
     InSchedule,
     /// Behind the end of the job.
     BehindEnd,
+}
+
+impl Place {
+    /// The line before told that the job ends.
+    pub fn is_behind_end(self) -> bool
+        ensures { result ≡ is_behind_end self }
+    {
+        match self {
+            Place::BehindEnd => true,
+            _ => false,
+        }
+    }
 }

@@ -1,17 +1,18 @@
 //! Reading a job: once over its lines, in their order.
 ghost use Rattle.std.specs.Prelude.{◌≡◌, ◌+◌, ◌<◌, ◌≤◌, None, IfErr, IfOk, OnOk, length};
 ghost use Rattle.kdf_text.specs.Ahead.{ahead};
+ghost use Rattle.kdf_text.specs.Lines.{line};
 ghost use Rattle.kdf_job.specs.Draft.{job_of};
 ghost use Rattle.kdf_job.specs.Lengths.{weight};
-ghost use Rattle.kdf_job.specs.Reading.{Says, at_line, end_fault, fault_from, job, job_fault};
-ghost use Rattle.kdf_job.specs.Passes.{Passes};
+ghost use Rattle.kdf_job.specs.Reading.{Says, at_line, end_fault, job, job_fault};
+ghost use Rattle.kdf_job.specs.Passes.{Passes, next_fault};
 ghost use Rattle.kdf_job.specs.Shows.{shown_draft, shown_job};
 ghost use Rattle.kdf_job.specs.Taking.{IsSound};
 ghost use Rattle.kdf_job.specs.WellFormed.{IsJob};
 ghost use Rattle.kdf_job.specs.declared.job.TheConstants.{TEXT_LIMIT};
 
 use crate::draft::Draft;
-use crate::{Job, JobError, JobFault, LineError, Place};
+use crate::{Job, JobError, JobFault, Place};
 use kdf_text::Lines;
 use std::alloc::Global;
 
@@ -20,7 +21,6 @@ use std::alloc::Global;
 /// # Errors
 ///
 /// `Fault` with the first faulty line, exactly where the job has one; `Memory` where there is none.
-
 pub fn read_job(alloc: Global, bytes: &[u8]) -> Result<Job, JobError>
     requires { length bytes.now ≤ TEXT_LIMIT }
     ensures ok { OnOk result (job_fault bytes.now ≡ None) }
@@ -36,27 +36,29 @@ pub fn read_job(alloc: Global, bytes: &[u8]) -> Result<Job, JobError>
     finish(alloc, draft, lines.number)
 }
 
-/// Reads the next line.
-#[tactic(auto, using(crate::proofs::Passing::stops, crate::proofs::Passing::short_ahead))]
-fn read_line(alloc: Global, lines: &mut Lines, draft: &mut Draft) -> Result<(), JobError>
+/// Reads the next line. The answer is how many bytes it has, with the one that ends it, which the last line may lack.
+#[tactic(auto, using(crate::proofs::Passing::short_ahead))]
+pub fn read_line(alloc: Global, lines: &mut Lines, draft: &mut Draft) -> Result<usize, JobError>
     requires sound { IsSound draft.old }
     requires some { 0 < length lines.old.rest.now }
     requires fits { weight (shown_draft draft.old) + length lines.old.rest.now ≤ TEXT_LIMIT }
     ensures pass { OnOk result (Passes lines.old draft.old lines.new draft.new) }
-    ensures stop { IfErr result (λ e.
-        Says e (fault_from lines.old.number (shown_draft draft.old) (ahead lines.old))) }
+    ensures stop { IfErr result (λ e. Says e (next_fault lines.old (shown_draft draft.old))) }
     ensures shorter { length lines.new.rest.now < length lines.old.rest.now }
+    ensures bytes { IfOk result (λ n. n ≡ length (line (ahead lines.old) 1) + 1) }
+    ensures most { IfOk result (λ n. n ≤ length lines.old.rest.now + 1) }
+    ensures within { IfOk result (λ n. 0 < length lines.new.rest.now
+        → n + length lines.new.rest.now ≤ length lines.old.rest.now) }
 {
     let line = lines.take_line();
     match draft.take_line(alloc, line.text) {
-        Ok(()) => Ok(()),
-        Err(LineError::Fault(fault)) => Err(JobError::Fault(fault, line.number)),
-        Err(LineError::Memory) => Err(JobError::Memory),
+        Ok(()) => Ok(line.text.len() + 1),
+        Err(error) => Err(error.at(line.number)),
     }
 }
 
 /// The job at the end of the text, which counts as a line of this number.
-fn finish(alloc: Global, draft: Draft, number: u32) -> Result<Job, JobError>
+pub fn finish(alloc: Global, draft: Draft, number: u32) -> Result<Job, JobError>
     requires { IsSound draft }
     ensures ok { OnOk result (at_line number (end_fault draft.place) ≡ None) }
     ensures fault { IfErr result (λ e. Says e (at_line number (end_fault draft.place))) }

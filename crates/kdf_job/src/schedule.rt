@@ -1,5 +1,5 @@
 //! The schedule, as far as it is read.
-ghost use Rattle.std.specs.Prelude.{◌≡◌, ◌+◌, ◌≤◌, ◌∷◌, ◌++◌, [], OnOk, length};
+ghost use Rattle.std.specs.Prelude.{◌≡◌, ◌+◌, ◌≤◌, ◌∷◌, ◌++◌, [], IfOk, OnOk, length};
 ghost use Rattle.kdf_schedule.specs.Calls.{order_count, orders_in};
 ghost use Rattle.kdf_schedule.specs.Events.{IsInRange};
 ghost use Rattle.kdf_job.specs.Adding.{IsChecked};
@@ -8,7 +8,7 @@ ghost use Rattle.kdf_job.specs.WellFormed.{IsSchedule};
 
 use crate::{JobFault, LineError};
 use kdf_schedule::{Event, MOST_ORDERS};
-use std::alloc::Global;
+use std::alloc::{AllocError, Global};
 
 /// The most events.
 const MOST_EVENTS: usize = 500_000;
@@ -38,8 +38,20 @@ impl Schedule {
         }
     }
 
+    /// A schedule with these events.
+    pub fn of(alloc: Global, events: &[Event]) -> Result<Schedule, AllocError>
+        requires { IsSchedule events.now }
+        ensures { IfOk result (λ s. s.events.items ≡ events.now) }
+    {
+        let mut schedule = Schedule::new(alloc);
+        for event in events.iter() {
+            schedule.push(*event)?;
+        }
+        Ok(schedule)
+    }
+
     /// Adds an event, if it may stand after the others.
-    #[tactic(auto, using(crate::proofs::Schedules::order_count_push, crate::proofs::Schedules::clock_push, crate::proofs::Schedules::schedule_push, crate::proofs::Schedules::few_orders))]
+    #[tactic(auto, using(crate::proofs::Schedules::schedule_push, crate::proofs::Schedules::few_orders))]
     pub fn add(&mut self, event: Event) -> Result<(), LineError>
         requires in_range { IsInRange event }
         requires sound { IsSchedule self.old.events.items }
@@ -50,6 +62,16 @@ impl Schedule {
         if let Some(fault) = self.fault(event) {
             return Err(LineError::Fault(fault));
         }
+        self.push(event)?;
+        Ok(())
+    }
+
+    /// Puts an event after the others.
+    #[tactic(auto, using(crate::proofs::Schedules::order_count_push, crate::proofs::Schedules::clock_push))]
+    fn push(&mut self, event: Event) -> Result<(), AllocError>
+        requires { order_count self.old.events.items + orders_in event ≤ 20000000 }
+        ensures { OnOk result (self.new.events.items ≡ self.old.events.items ++ event ∷ []) }
+    {
         self.events.push(event)?;
         self.orders += orders_in(event);
         self.clock = clock_behind(self.clock, event);

@@ -4,7 +4,7 @@ ghost use Rattle.std.specs.Option.{option_map, option_to_list};
 ghost use Rattle.std.specs.List.{list_any};
 ghost use Rattle.kdf_job.specs.Adding.{IsChecked};
 ghost use Rattle.kdf_job.specs.Draft.{all_devices, labels_with, new_slot, slot_of, tells, with_line_of_medium};
-ghost use Rattle.kdf_job.specs.Forms.{ADeckLine, AMedium, AShow};
+ghost use Rattle.kdf_job.specs.Forms.{ADeckLine, AMedium, AService, AShow};
 ghost use Rattle.kdf_job.specs.Lengths.{slot_length};
 ghost use Rattle.kdf_job.specs.Media.{new_device};
 ghost use Rattle.kdf_job.specs.Shows.{shown_device, shown_device_draft, shown_slot, shown_slot_draft};
@@ -33,6 +33,8 @@ pub struct SlotDraft {
     /// The labels of its tapes.
     labels: Vec<Word>,
     shows: Vec<(u16, u16)>,
+    /// The installation's service answers its program.
+    served: bool,
 }
 
 impl SlotDraft {
@@ -48,6 +50,7 @@ impl SlotDraft {
             device: None,
             labels: Vec::new(alloc),
             shows: Vec::new(alloc),
+            served: false,
         }
     }
 
@@ -59,6 +62,13 @@ impl SlotDraft {
         self.deck.extend_from_slice(text)?;
         self.deck.push(LINE_END)?;
         Ok(())
+    }
+
+    /// Has the slot served.
+    pub fn add_service(&mut self)
+        ensures { shown_slot_draft self.new ≡ tells AService (shown_slot_draft self.old) }
+    {
+        self.served = true;
     }
 
     /// Adds addresses that are shown.
@@ -149,6 +159,7 @@ impl SlotDraft {
             devices: self.devices,
             shows: self.shows,
             pool: Vec::new(alloc),
+            served: self.served,
         })
     }
 }

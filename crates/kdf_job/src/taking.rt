@@ -1,12 +1,11 @@
 //! Lines, each taken where it stands.
 ghost use Rattle.std.specs.Prelude.{◌≡◌, ◌+◌, ◌≤◌, ◌∷◌, [], true, codes, is_some, length, Ok};
-ghost use Rattle.kdf_schedule.specs.Events.{IsInRange};
-ghost use Rattle.kdf_job.specs.Forms.{ADeckLine, ADevice, AMedium, APoolDevice, AShow, ASlot, AStore, AnEvent, alone, device_or_end, first_told, job_ends, medium_line, pool_device_or_end, slot_ends, slot_line, told_at, ASchedule, AnEndJob};
+ghost use Rattle.kdf_job.specs.Forms.{ADeckLine, ADevice, AMedium, APoolDevice, AService, AShow, ASlot, AStore, alone, device_or_end, first_told, job_ends, medium_line, pool_device_or_end, service_or_device, slot_ends, slot_line, told_at, ASchedule};
 ghost use Rattle.kdf_job.specs.Lengths.{weight};
 ghost use Rattle.kdf_job.specs.Shows.{shown_draft};
-ghost use Rattle.kdf_job.specs.Taking.{IsSound, Takes};
+ghost use Rattle.kdf_job.specs.Taking.{IsSound, Taken, Takes};
 ghost use Rattle.kdf_job.specs.declared.job.TheConstants.{TEXT_LIMIT};
-ghost use Rattle.kdf_job.specs.declared.place.Place.TheVariants.{First, BehindHeader, BehindSlot, BehindStore, InDeck, BehindDeck, BehindDevice, BehindShow, BehindPool, InSchedule, BehindEnd};
+ghost use Rattle.kdf_job.specs.declared.place.Place.TheVariants.{First, BehindHeader, BehindSlot, BehindStore, InDeck, BehindDeck, BehindService, BehindDevice, BehindShow, BehindPool, InSchedule, BehindEnd};
 
 use crate::draft::Draft;
 use crate::forms::{
@@ -14,7 +13,6 @@ use crate::forms::{
 };
 use crate::media::word_of_text;
 use crate::{JobFault, LineError, Place};
-use kdf_schedule::{Event, EventFault, read_event};
 use std::alloc::Global;
 
 impl Draft {
@@ -31,11 +29,12 @@ impl Draft {
             Place::BehindSlot(p) => self.take_size(alloc, p, line),
             Place::BehindStore => self.take_deck(line),
             Place::InDeck => self.take_deck_line(line),
-            Place::BehindDeck => self.take_device_or_end(alloc, line),
+            Place::BehindDeck => self.take_service_or_device(alloc, line),
+            Place::BehindService => self.take_device_or_end(alloc, line),
             Place::BehindDevice => self.take_medium_or_device(alloc, line),
             Place::BehindShow => self.take_show_or_end(line),
             Place::BehindPool => self.take_in_pool(line),
-            Place::InSchedule => self.take_event_or_end(line),
+            Place::InSchedule => self.take_schedule_line(line),
             Place::BehindEnd => Err(LineError::Fault(JobFault::BadLine)),
         }
     }
@@ -139,6 +138,32 @@ impl Draft {
         }
         self.add_deck_line(line)?;
         Ok(())
+    }
+
+    /// Takes the line that has the slot served, a device, or what may stand after devices.
+    fn take_service_or_device(&mut self, alloc: Global, line: &[u8]) -> Result<(), LineError>
+        requires sound { IsSound self.old }
+        requires there { is_some (shown_draft self.old).slot ≡ true }
+        requires none { (shown_draft self.old).pool ≡ [] }
+        ensures { Takes (first_told (service_or_device line.now))
+            (length line.now + 1) self.old self.new result }
+    {
+        if line == b"SERVICE".as_slice() {
+            self.take_service();
+            Ok(())
+        } else {
+            self.take_device_or_end(alloc, line)
+        }
+    }
+
+    /// Takes the line that has the slot served.
+    fn take_service(&mut self)
+        requires sound { IsSound self.old }
+        requires there { is_some (shown_draft self.old).slot ≡ true }
+        requires none { (shown_draft self.old).pool ≡ [] }
+        ensures { Taken (Ok AService) 1 self.old self.new }
+    {
+        self.add_service();
     }
 
     /// Takes a medium line, a device, or what may stand after devices.
@@ -311,45 +336,6 @@ impl Draft {
     {
         if line == b"SCHEDULE".as_slice() {
             self.place = Place::InSchedule;
-            Ok(())
-        } else {
-            Err(LineError::Fault(JobFault::BadLine))
-        }
-    }
-
-    /// Takes an event, or the end of the job.
-    fn take_event_or_end(&mut self, line: &[u8]) -> Result<(), LineError>
-        requires sound { IsSound self.old }
-        requires place { self.old.place ≡ InSchedule }
-        ensures { Takes (told_at InSchedule line.now)
-            (length line.now + 1) self.old self.new result }
-    {
-        match read_event(line) {
-            Ok(event) => self.take_event(event),
-            Err(EventFault::Number) => Err(LineError::Fault(JobFault::BadNumber)),
-            Err(EventFault::Form) => self.take_end(line),
-        }
-    }
-
-    /// Takes an event.
-    fn take_event(&mut self, event: Event) -> Result<(), LineError>
-        requires sound { IsSound self.old }
-        requires place { self.old.place ≡ InSchedule }
-        requires in_range { IsInRange event }
-        ensures { Takes (Ok (AnEvent event)) 1 self.old self.new result }
-    {
-        self.add_event(event)
-    }
-
-    /// Takes the end of the job.
-    fn take_end(&mut self, line: &[u8]) -> Result<(), LineError>
-        requires sound { IsSound self.old }
-        requires place { self.old.place ≡ InSchedule }
-        ensures { Takes (first_told (alone (codes "ENDJOB") AnEndJob line.now ∷ []))
-            (length line.now + 1) self.old self.new result }
-    {
-        if line == b"ENDJOB".as_slice() {
-            self.place = Place::BehindEnd;
             Ok(())
         } else {
             Err(LineError::Fault(JobFault::BadLine))

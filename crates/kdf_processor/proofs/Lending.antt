@@ -4,12 +4,10 @@ use Rattle.std.proofs.Common.{◌≡◌, ◌≢◌, ℕ, zero, suc, ◌<◌, ◌
 use Rattle.std.proofs.lemmas.Bool.{and_parts, cases_Bool, cases_eq, cases_lt, eq-eqb, false_from_ne_true, false≢true}
 use Rattle.std.proofs.lemmas.List.{get_or_append_left, get_or_push, get_or-map, get_or-set_other, get_or-set_same, length-map, length-replicate, length-set, length_push}
 use Rattle.std.proofs.lemmas.List.Elements.{All-push}
-use Rattle.kdf_journal.specs.declared.failure.Failure.TheVariants.{Liv, Nouv, Claim}
+use Rattle.kdf_journal.specs.declared.failure.Failure.TheVariants.{Liv, Claim}
 use Rattle.kdf_journal.specs.declared.kind.Kind.{Kind}
 use Rattle.kdf_journal.specs.declared.kind.Kind.TheVariants.{Mt}
 use Rattle.kdf_syllable.specs.declared.order.Order.{Order}
-use Rattle.kdf_syllable.specs.declared.order.Order.TheVariants as order
-use Rattle.kdf_qstore.specs.Triples.{triple_at}
 use Rattle.kdf_transfer.specs.AtOnce.{kind_of, has_area}
 use Rattle.kdf_transfer.specs.Devices.{Fixture, Progress, is_kind, new_progress}
 use Rattle.kdf_transfer.specs.declared.order.TransferOrder.{TransferOrder}
@@ -22,7 +20,7 @@ use Rattle.kdf_processor.specs.Row.{answered, handed, perform, released, row, tr
 use Rattle.kdf_transfer.specs.Slots.{Slot}
 use Rattle.kdf_processor.specs.State.{Claims, State, Stint, Stock, begin, stocked, unclaimed, device_in, device_limit, fixture_at, is_pooled, pool_kind_at, word_at}
 use Rattle.kdf_processor.specs.Stints.{HasPool, IsLent}
-use Rattle.kdf_processor.specs.Table.{change_of, device_effect, direct_effect, effect, guarded, indirect_effect, is_area, on_top, out_effect, plain_row, query_effect}
+use Rattle.kdf_processor.specs.Table.{effect, guarded, is_area}
 use Rattle.kdf_processor.proofs.Fit.{IsFit, next_fit}
 use Rattle.kdf_transfer.proofs.OfKind.{exact}
 use Rattle.kdf_processor.proofs.Frees.{none_of_kind}

@@ -240,3 +240,29 @@ ran_live start answers (suc n) live =
     (λ (over : is_live s.registers.state ≡ false).
     absurd (false≢true (sym over ∙ ap (λ (t : State). is_live t.registers.state) (sym (over_step answers s over)) ∙ live)))
     (cases_Bool (is_live s.registers.state))
+
+answered_served : (question : Question) (a : ℕ) (k : Stock) → (answered question a k).claims.served ≡ k.claims.served
+answered_served (FreeOf kind) a k = refl
+answered_served question a k = refl
+
+released_served : (pooled : Bool) (d : ℕ) (k : Stock) → (released pooled d k).claims.served ≡ k.claims.served
+released_served true d k = refl
+released_served false d k = refl
+
+served_perform : (answer : Question → ℕ) (e : Effect) (s : State) → (perform answer e s).stock.claims.served ≡ s.stock.claims.served
+served_perform answer (Starting d o first last after) s = ap (λ (c : Claims). c.served) (transferred_claims d o first last (fixture_at s.stock.claims d) s.stock)
+served_perform answer (Asking question after) s = answered_served question (answer question) s.stock
+served_perform answer (Returning pooled d after) s = released_served pooled d s.stock
+served_perform answer e s = refl
+
+step_served : (answers : List ℕ) (s : State) → (lone_step answers s).stock.claims.served ≡ s.stock.claims.served
+step_served answers s =
+    ⊎_elim
+    (λ (live : is_live s.registers.state ≡ true). rw live (served_perform (next_answer answers s) (next_effect s) s))
+    (λ (over : is_live s.registers.state ≡ false). rw over refl)
+    (cases_Bool (is_live s.registers.state))
+
+-- and whether it is served
+pub served_lone : (start : State) (answers : List ℕ) (n : ℕ) → (lone start answers n).stock.claims.served ≡ start.stock.claims.served
+served_lone start answers zero = refl
+served_lone start answers (suc n) = step_served answers (lone start answers n) ∙ served_lone start answers n

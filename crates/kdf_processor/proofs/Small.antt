@@ -31,10 +31,11 @@ use Rattle.kdf_processor.specs.Plan.{try_decoded}
 use Rattle.kdf_processor.specs.Table.{with_nest, room, on_top, plain_row, change_of, part_of, counts_on, moves, has_bit, indirect_address, indirect_half, indirect_effect, direct_effect, sets_tr, answered_in_tr, query_effect, guarded, effect}
 use Rattle.kdf_processor.specs.View.{View, is_pending, first_pending}
 
--- an effect that neither begins a transfer, nor takes a device from the pool, nor spools
+-- an effect that neither begins a transfer, nor takes a device from the pool, nor asks the service, nor spools
 abbrev pub IsMild : Effect → Type 0
 IsMild (Starting d o first last after) = ⊥
 IsMild (Asking (FreeOf kind) after) = ⊥
+IsMild (Asking (OfService word) after) = ⊥
 IsMild (Spooling stream first last after) = ⊥
 IsMild _ = Unit {0}
 
@@ -48,6 +49,7 @@ done_small v r (Keeping a w after) h = tt
 done_small v r (Testing d what after) h = tt
 done_small v r (Starting d o first last after) h = absurd h
 done_small v r (Asking (FreeOf kind) after) h = absurd h
+done_small v r (Asking (OfService word) after) h = absurd h
 done_small v r (Asking q after) h = tt
 done_small v r (Claiming d after) h = tt
 done_small v r (Returning pooled d after) h = tt
@@ -65,7 +67,7 @@ either_mild true x y hx hy = hx
 either_mild false x y hx hy = hy
 
 -- the checks make no effect anything but a failure
-guarded_mild : (c : Claims) (e : Effect) → IsMild e → IsMild (guarded c e)
+pub guarded_mild : (c : Claims) (e : Effect) → IsMild e → IsMild (guarded c e)
 unfolding guarded
 guarded_mild c (Failing kind) h = tt
 guarded_mild c (Ending after) h = tt
@@ -80,12 +82,12 @@ guarded_mild c (Asking (IsBusy d) after) h = either_mild _ (Asking (IsBusy d) af
 guarded_mild c (Asking (IsOut first last) after) h = either_mild _ (Asking (IsOut first last) after) (Failing Liv) tt tt
 guarded_mild c (Asking Time after) h = tt
 guarded_mild c (Asking (FreeOf kind) after) h = absurd h
-guarded_mild c (Asking (OfService word) after) h = tt
+guarded_mild c (Asking (OfService word) after) h = absurd h
 guarded_mild c (Claiming d after) h = tt
 guarded_mild c (Returning pooled d after) h = either_mild _ (Returning pooled d after) (Failing Claim) tt tt
 guarded_mild c (Spooling stream first last after) h = absurd h
 
-change_mild : (x : Change) → IsMild (of_change x)
+pub change_mild : (x : Change) → IsMild (of_change x)
 change_mild (Refused kind) = tt
 change_mild (Going after) = tt
 
@@ -136,7 +138,7 @@ plain_mild : (c : Claims) (r : Registers) (code : ℕ) → code ≢ 0x21 → IsM
 plain_mild c r code other =
     rw (ne_eqb code 0x21 other) (change_mild (plain_row r code))
 
-minor_mild : (c : Claims) (r : Registers) (o : Order) → IsMinor o → IsMild (effect c r o)
+pub minor_mild : (c : Claims) (r : Registers) (o : Order) → IsMinor o → IsMild (effect c r o)
 minor_mild c r (Plain code) h = plain_mild c r code h
 minor_mild c r (Indirect code k q) h = guarded_mild c (indirect_effect r code k q) (indirect_mild r code k q)
 minor_mild c r (Single code q) h = change_mild (change_of r (Single code q))

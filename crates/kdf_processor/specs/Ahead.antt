@@ -1,11 +1,11 @@
 -- What is known of an act before the order is obeyed.
-use Rattle.std.specs.Prelude.{◌≡◌, ◌==◌, ◌||◌, ℕ, Bool, false}
+use Rattle.std.specs.Prelude.{◌≡◌, ◌==◌, ◌||◌, ℕ, Bool, false, List, ◌∷◌, Option, Some, None, if◌then◌else◌}
 use Rattle.std.specs.Int.{is_in_range}
 use Rattle.kdf_processor.specs.declared.look.Ahead.{Ahead}
 use Rattle.kdf_processor.specs.declared.look.Ahead.TheVariants as ahead
 use Rattle.kdf_processor.specs.declared.fetch.Fetched.{Fetched}
 use Rattle.kdf_processor.specs.declared.fetch.Fetched.TheVariants.{Spelt, Bad, Held}
-use Rattle.kdf_processor.specs.Effect.{Act, Starts, Asks, FreeOf, Spools}
+use Rattle.kdf_processor.specs.Effect.{Act, Starts, Asks, FreeOf, OfService, Spools, Effect, Asking}
 
 -- an act that neither begins a transfer, nor takes a device from the pool, nor spools
 abbrev pub IsSmall : Act → Type 0
@@ -36,3 +36,13 @@ abbrev pub may_want : Fetched → Bool
 may_want (Spelt a b d) = may_begin a
 may_want Bad = false
 may_want (Held g) = false
+
+-- the word of which an order of this effect asks the service, if it asks it
+abbrev pub word_asked : Effect → Option ℕ
+word_asked (Asking (OfService word) after) = Some word
+word_asked e = None
+
+-- the word of which the next order may ask the service, as the nest tells: the one below the number 64
+abbrev pub word_ahead : List ℕ → Option ℕ
+word_ahead (number ∷ word ∷ below) = if number == 64 then Some word else None
+word_ahead nest = None

@@ -3,7 +3,7 @@ ghost use Rattle.std.specs.Prelude.{◌≡◌, ◌∷◌, []};
 ghost use Rattle.std.specs.Result.{result_ok};
 ghost use Rattle.kdf_decode.specs.Decoding.{first_decoded};
 ghost use Rattle.kdf_syllable.specs.Spelling.{IsOrder};
-ghost use Rattle.kdf_processor.specs.Ahead.{IsAhead, may_begin};
+ghost use Rattle.kdf_processor.specs.Ahead.{IsAhead, may_begin, word_ahead};
 ghost use Rattle.kdf_processor.specs.Outcome.{outcome};
 ghost use Rattle.kdf_processor.specs.Plan.{done_plan, try_order, try_decoded, try_plan, IsSound, IsSettled};
 ghost use Rattle.kdf_processor.specs.View.{View};
@@ -16,6 +16,7 @@ use crate::{Port, Registers};
 use kdf_decode::decode;
 use kdf_syllable::Order;
 use kdf_transfer::TransferOrder;
+use kdf_word::Word;
 
 /// The act of a next order, as far as memory is taken for it.
 #[derive(Clone, Copy, PartialEq, Eq)]
@@ -98,6 +99,21 @@ pub fn may_want_memory(first: u8, second: u8, third: u8) -> bool
     ensures { result ≡ may_begin first }
 {
     matches!((first, second, third), (0x21 | 0x70..=0x7d, _, _))
+}
+
+/// The word of which the next order may ask the service, as its registers tell: the one below the number 64. An order that asks it asks of this
+/// word.
+#[inline(always)]
+pub fn word_ahead(registers: &Registers) -> Option<Word>
+    ensures { result ≡ word_ahead registers.now.nest }
+{
+    if registers.nest.depth() < 2 {
+        return None;
+    }
+    match registers.nest.peek(0).bits() {
+        64 => Some(registers.nest.peek(1)),
+        _ => None,
+    }
 }
 
 /// The act of the next order, as far as memory is taken for it.

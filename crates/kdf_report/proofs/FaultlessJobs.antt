@@ -18,9 +18,9 @@ use Rattle.kdf_journal.specs.declared.kind.Kind.TheVariants.{Tr, Tp, Cr, Lp, Mt}
 use Rattle.kdf_job.specs.declared.fault.JobFault.{JobFault}
 use Rattle.kdf_job.specs.declared.fault.JobFault.TheVariants.{BadMedium}
 use Rattle.kdf_job.specs.declared.place.Place.{Place}
-use Rattle.kdf_job.specs.declared.place.Place.TheVariants.{First, BehindHeader, BehindSlot, BehindStore, InDeck, BehindDeck, BehindDevice, BehindShow, BehindPool, InSchedule, BehindEnd}
+use Rattle.kdf_job.specs.declared.place.Place.TheVariants.{First, BehindHeader, BehindSlot, BehindStore, InDeck, BehindDeck, BehindService, BehindDevice, BehindShow, BehindPool, InSchedule, BehindEnd}
 use Rattle.kdf_job.specs.Draft.{SlotDraft, Draft, all_devices, blank, device_fault, fault_of, lent_fault, medium_fault, new_slot, number_at, numbers_in, numbers_of, numbers_told, pool_fault, slot_fault, slot_of, slots_told, store_fault, tells, with_line, with_line_of_medium, with_pool, words_in}
-use Rattle.kdf_job.specs.Forms.{Form, AHeader, ASlot, AStore, ADeck, ADeckLine, AnEndDeck, ADevice, AMedium, AShow, APool, APoolDevice, ASchedule, AnEvent, AnEndJob, told_at}
+use Rattle.kdf_job.specs.Forms.{Form, AHeader, ASlot, AStore, ADeck, ADeckLine, AnEndDeck, AService, ADevice, AMedium, AShow, APool, APoolDevice, ASchedule, AnEvent, AnEndJob, told_at}
 use Rattle.kdf_job.specs.Job.{JobDevice, SlotJob}
 use Rattle.kdf_job.specs.Kept.{AreTold, IsBegun}
 use Rattle.kdf_job.specs.Media.{added, codes_in, fits, new_device, with_codes, with_medium, word_of_text}
@@ -197,6 +197,27 @@ stored d p n place was least most free =
       placed = tt;
     }
 
+-- `SERVICE`
+service_then : (d : Draft) (s : SlotDraft) → IsRead d → d.slot ≡ Some s → AreTold (map bare d.slots ++ bare (slot_of (tells AService s)) ∷ [])
+service_then d s was is =
+    let front = map bare d.slots in
+    let old = bare (slot_of s) in
+    let new = bare (slot_of (tells AService s)) in
+    let are = kept d s was is in
+    let this = all_last IsSlot front old are.each in
+    slots_changed front old new are refl refl
+    (record {
+      number = this.number;
+      least = this.least;
+      most = this.most;
+      groups = this.groups;
+      deck = this.deck;
+      devices = this.devices;
+      shows = this.shows;
+      lent = this.lent;
+    })
+    (subst (IsDistinct nat_eq) (sym (numbers_same front old new refl)) are.apart)
+
 -- `DEVICE d k`
 device_free : (n : ℕ) (kind : Kind) (label : List ℕ) (d : Draft) → device_fault n kind label d ≡ None → list_any (nat_eq n) (numbers_told d) ≡ false
 device_free n kind label d h = grind arith
@@ -335,6 +356,8 @@ with_form (AStore n) d was range at free = let there = at refl in stored d there
 with_form ADeck d was range at free = unchanged ADeck d (with_line ADeck d) was refl refl refl (λ s. refl) tt
 with_form (ADeckLine line) d was range at free = unchanged (ADeckLine line) d (with_line (ADeckLine line) d) was refl refl refl (λ s. refl) tt
 with_form AnEndDeck d was range at free = unchanged AnEndDeck d (with_line AnEndDeck d) was refl refl refl (λ s. refl) tt
+with_form AService d was range at free =
+    changed AService d (with_line AService d) was refl refl refl (λ s is. service_then d s was is) (owned_still AService d was (λ s is. refl)) tt
 with_form (ADevice n kind label) d was range at free =
     changed (ADevice n kind label) d (with_line (ADevice n kind label) d) was refl refl refl (λ s is. device_then n kind label d s was is range free)
     (device_owned n kind label d d.slot refl was free) tt
@@ -355,6 +378,7 @@ range_at (BehindSlot p) form h = h
 range_at BehindStore form h = h.0
 range_at InDeck form h = h.0
 range_at BehindDeck form h = h.0
+range_at BehindService form h = h.0
 range_at BehindDevice form h = h.0
 range_at BehindShow form h = h.0
 range_at BehindPool form h = h.0
@@ -368,6 +392,7 @@ store_at (BehindSlot p) form h is = (p, refl)
 store_at BehindStore form h is = absurd cc
 store_at InDeck form h is = absurd cc
 store_at BehindDeck form h is = absurd cc
+store_at BehindService form h is = absurd cc
 store_at BehindDevice form h is = absurd cc
 store_at BehindShow form h is = absurd cc
 store_at BehindPool form h is = absurd cc

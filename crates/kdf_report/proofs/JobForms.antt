@@ -12,8 +12,8 @@ use Rattle.kdf_schedule.specs.declared.event.EventFault.TheVariants as event_fau
 use Rattle.kdf_schedule.specs.Events.{event}
 use Rattle.kdf_job.specs.declared.fault.JobFault.{JobFault}
 use Rattle.kdf_job.specs.declared.place.Place.{Place}
-use Rattle.kdf_job.specs.declared.place.Place.TheVariants.{First, BehindHeader, BehindSlot, BehindStore, InDeck, BehindDeck, BehindDevice, BehindShow, BehindPool, InSchedule, BehindEnd}
-use Rattle.kdf_job.specs.Forms.{Form, AHeader, ASlot, AStore, ADeck, ADeckLine, AnEndDeck, ADevice, AMedium, AShow, APool, APoolDevice, ASchedule, AnEndJob, Told, told, or_bad, alone, addresses, described, device_line, device_named, device_or_end, device_words, event_line, first_told, job_ends, kind_named, medium_line, no_medium, number_line, numbered, of_event, one_number, pool_device_or_end, pooled, show_line, slot_ends, slot_line, store_line, told_at}
+use Rattle.kdf_job.specs.declared.place.Place.TheVariants.{First, BehindHeader, BehindSlot, BehindStore, InDeck, BehindDeck, BehindService, BehindDevice, BehindShow, BehindPool, InSchedule, BehindEnd}
+use Rattle.kdf_job.specs.Forms.{Form, AHeader, ASlot, AStore, ADeck, ADeckLine, AnEndDeck, AService, ADevice, AMedium, AShow, APool, APoolDevice, ASchedule, AnEndJob, Told, told, or_bad, alone, addresses, described, device_line, device_named, device_or_end, device_words, event_line, first_told, job_ends, kind_named, medium_line, no_medium, number_line, numbered, of_event, one_number, pool_device_or_end, pooled, service_or_device, show_line, slot_ends, slot_line, store_line, told_at}
 
 -- the numbers are in their ranges
 abbrev pub IsInRange : Form → Type 0
@@ -152,6 +152,9 @@ ends_fit line = (show_fits line, (slot_fits line, job_ends_fit line))
 device_or_end_fit : (line : List ℕ) → FitAll IsElse (device_or_end line)
 device_or_end_fit line = (device_fits line, ends_fit line)
 
+service_or_device_fit : (line : List ℕ) → FitAll IsElse (service_or_device line)
+service_or_device_fit line = (alone_fits IsElse (codes "SERVICE") AService line (tt, refl), device_or_end_fit line)
+
 -- after a pool
 pooled_fits : (one : Told) → Fits IsElse one → Fits IsElse (pooled one)
 pooled_fits None fits = tt
@@ -180,7 +183,8 @@ told_form BehindHeader line form e = first_fits IsElse (slot_line line ∷ []) f
 told_form (BehindSlot p) line form e = first_fits IsInRange (store_line line ∷ []) form (store_fits line, tt) e
 told_form BehindStore line form e = first_fits IsElse (alone (codes "DECK") ADeck line ∷ []) form (alone_fits IsElse (codes "DECK") ADeck line (tt, refl), tt) e
 told_form InDeck line form e = if_end (is_text (codes "ENDDECK") line) line form e
-told_form BehindDeck line form e = first_fits IsElse (device_or_end line) form (device_or_end_fit line) e
+told_form BehindDeck line form e = first_fits IsElse (service_or_device line) form (service_or_device_fit line) e
+told_form BehindService line form e = first_fits IsElse (device_or_end line) form (device_or_end_fit line) e
 told_form BehindDevice line form e = first_fits IsElse (medium_line line ∷ device_or_end line) form (medium_fits line, device_or_end_fit line) e
 told_form BehindShow line form e = first_fits IsElse (slot_ends line) form (ends_fit line) e
 told_form BehindPool line form e = first_fits IsElse (no_medium (medium_line line) ∷ pool_device_or_end line) form (pool_fits line) e

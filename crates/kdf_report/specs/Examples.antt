@@ -41,6 +41,7 @@ a_slot =
       devices = a_device 2 ∷ a_device 0 ∷ a_device 1 ∷ [];
       shows = (2, 3) ∷ (0, 0) ∷ [];
       pool = [];
+      served = false;
     }
 
 -- its program: a tape is claimed, a card reader is not, and a punch is; another punch it took and gave back, and a printer it

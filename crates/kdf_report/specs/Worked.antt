@@ -1,5 +1,5 @@
 -- Jobs of one slot that are worked out, from the text of the job to what is seen of the program.
-use Rattle.std.specs.Prelude.{ℕ, ◌+◌, ◌-◌, ◌==◌, ◌&&◌, Bool, List, [], ◌∷◌, ◌++◌, map, codes, if◌then◌else◌}
+use Rattle.std.specs.Prelude.{ℕ, ◌+◌, ◌-◌, ◌==◌, ◌&&◌, Bool, false, List, [], ◌∷◌, ◌++◌, map, codes, if◌then◌else◌}
 use Rattle.std.specs.List.{flat_map, range_with_len}
 use Rattle.kdf_text.specs.Text.{text}
 use Rattle.kdf_journal.specs.declared.kind.Kind.TheVariants.{Tr, Cr, Mt}
@@ -96,7 +96,15 @@ alone n lines = map (λ (s : SlotJob). seen_after n s (image_words s.size s.deck
 -- a slot with devices, of which these words are shown
 abbrev pub a_slot : ℕ → List ℕ → List JobDevice → List (ℕ × ℕ) → SlotJob
 a_slot size deck devices shows =
-    record { p = 0; size = size; deck = deck; devices = devices; shows = shows; pool = [] }
+    record {
+      p = 0;
+      size = size;
+      deck = deck;
+      devices = devices;
+      shows = shows;
+      pool = [];
+      served = false;
+    }
 
 abbrev pub reader : ℕ → List ℕ → JobDevice
 reader d codes =

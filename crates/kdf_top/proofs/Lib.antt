@@ -1,3 +1,5 @@
+pub mod FirstPlaces
+pub mod Called
 pub mod Answering
 pub mod LoadedDecks
 pub mod Reported
@@ -8,3 +10,7 @@ pub mod Found
 pub mod Loads
 pub mod Values
 pub mod MadeTexts
+pub mod Sealing
+pub mod Lines
+pub mod Resumptions
+pub mod Verdicts

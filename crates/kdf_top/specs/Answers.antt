@@ -1,50 +1,81 @@
--- What `run` answers to its words and to the bytes of its source, and what it writes.
+-- What `run_with` answers to its words and to the bytes of its source, and what it writes. `answers n a` says that a is one of
+-- the answers of the installation's service to n.
 use Rattle.std.specs.Prelude.{◌≡◌, ℕ, ◌&&◌, List, [], ◌∷◌, Bool, true, false, Option, Some, None, if◌then◌else◌}
 use Rattle.kdf_io.specs.Outside.{Added, AddedFront}
 use Rattle.kdf_text.specs.Text.{text}
 use Rattle.kdf_usercode.specs.Faults.{Found}
-use Rattle.kdf_job.specs.declared.fault.JobFault.{JobFault}
+use Rattle.kdf_job.specs.Front.{front_fault}
 use Rattle.kdf_job.specs.Reading.{job, job_fault}
 use Rattle.kdf_director.specs.Shown.{Shown}
-use Rattle.kdf_top.specs.Commands.{command, input_of, is_read, is_too_long, keeps_machine, text_in}
+use Rattle.kdf_top.specs.Commands.{command, input_of, is_read, is_too_long, keeps_machine, limit_by, text_in}
 use Rattle.kdf_top.specs.Deck.{deck_fault}
-use Rattle.kdf_top.specs.Due.{IsText, Keeps, journal_in, text_of}
-use Rattle.kdf_top.specs.Text.{usage_line, large_line, job_fault_line, deck_fault_line}
+use Rattle.kdf_top.specs.Due.{IsText, IsTextFrom, Keeps, job_of, journal_in}
+use Rattle.kdf_top.specs.Snapshots.{IsComparedFor, IsSnapshot, status_of_line, status_of_snapshot}
+use Rattle.kdf_top.specs.Text.{usage_line, large_line, job_fault_line, deck_fault_line, snapshot_fault_line}
 use Rattle.kdf_top.specs.declared.command.Command.{Command}
+use Rattle.kdf_top.specs.declared.command.Command.TheVariants.{Resume, Check}
 use Rattle.kdf_top.specs.declared.status.Status.{Status}
 use Rattle.kdf_top.specs.declared.status.Status.TheVariants as status
 
 -- ---- the answer that is called for
 
--- a fault of the job comes before one of a deck
+-- a fault of a line comes before one of a deck
 abbrev pub status_of_decks : Option (ℕ × Found) → Status
 status_of_decks None = status.Done
 status_of_decks (Some found) = status.Deck found.0 found.1.fault found.1.place
 
-abbrev pub status_of_faults : Option (JobFault × ℕ) → Option (ℕ × Found) → Status
-status_of_faults None decks = status_of_decks decks
-status_of_faults (Some found) decks = status.Job found.0 found.1
+abbrev pub or_decks : Status → Option (ℕ × Found) → Status
+or_decks status.Done decks = status_of_decks decks
+or_decks called decks = called
 
+-- the first fault of the lines of a command's text, as it is answered; Done where there is none
+abbrev pub status_of_lines : Command → List ℕ → Status
+status_of_lines Resume bytes = status_of_snapshot bytes
+status_of_lines Check bytes = status_of_line (front_fault bytes)
+status_of_lines _ bytes = status_of_line (job_fault bytes)
+
+-- and then that of a deck
+abbrev pub status_of : Command → List ℕ → Status
+status_of c bytes = or_decks (status_of_lines c bytes) (deck_fault (job_of c bytes).slots)
+
+-- of a text that is a job
 abbrev pub status_of_job : List ℕ → Status
-status_of_job bytes = status_of_faults (job_fault bytes) (deck_fault (job bytes).slots)
+status_of_job bytes = or_decks (status_of_line (job_fault bytes)) (deck_fault (job bytes).slots)
 
--- the text of the job that a command works on, where these bytes are read
+-- the text that a command works on, where these bytes are read
 abbrev pub job_text : Command → List ℕ → List ℕ
 job_text c bytes = text_in (input_of c) bytes
 
--- the text of the job that words work on, where these bytes are read: where they are no command, just these bytes
+-- the text that words work on, where these bytes are read: where they are no command, just these bytes
 abbrev pub text_by : Option Command → List ℕ → List ℕ
 text_by None bytes = bytes
 text_by (Some c) bytes = job_text c bytes
 
+-- what the bytes by themselves call for
 abbrev pub called_by : Option Command → List ℕ → Status
 called_by None bytes = status.Usage
 called_by (Some c) bytes =
-    if is_too_long (input_of c) bytes then status.Large else status_of_job (job_text c bytes)
+    if is_too_long (input_of c) bytes then status.Large else status_of c (job_text c bytes)
 
--- the answer that the words and the bytes call for
 abbrev pub called_for : List (List ℕ) → List ℕ → Status
 called_for words bytes = called_by (command words) bytes
+
+-- this is called for over a text that calls by itself for `found`: where a snapshot calls for nothing else, it goes by the journal
+-- of the job at its front
+abbrev pub IsCalledWhere : (answers : ℕ → ℕ → Type 0) → Command → List ℕ → (found called : Status) → Type 0
+IsCalledWhere answers Resume bytes status.Done called = IsComparedFor answers bytes called
+IsCalledWhere answers c bytes found called = called ≡ found
+
+abbrev pub IsCalled : (answers : ℕ → ℕ → Type 0) → Command → List ℕ → Status → Type 0
+IsCalled answers c bytes called = IsCalledWhere answers c bytes (status_of c bytes) called
+
+-- this answer is called for by a command, or by words that are none, where these bytes are read
+abbrev pub IsCalledBy : (answers : ℕ → ℕ → Type 0) → Option Command → List ℕ → Status → Type 0
+IsCalledBy answers None bytes called = called ≡ status.Usage
+IsCalledBy answers (Some c) bytes called = IsCalledWhere answers c (job_text c bytes) (called_by (Some c) bytes) called
+
+abbrev pub IsCalledFor : (answers : ℕ → ℕ → Type 0) → List (List ℕ) → List ℕ → Status → Type 0
+IsCalledFor answers words bytes called = IsCalledBy answers (command words) bytes called
 
 -- words that are no command read nothing, and a command that makes its job neither
 abbrev pub reads_by : Option Command → Bool
@@ -54,39 +85,48 @@ reads_by (Some c) = is_read (input_of c)
 abbrev pub reads : List (List ℕ) → Bool
 reads words = reads_by (command words)
 
--- the answer is the one that is called for; or reading failed, or writing, or there was no memory
-abbrev pub Answers : (wanted given : Status) (read_failed write_failed : Type 0) → Type 0
+-- the answer is one that is called for; or reading failed, or writing, or there was no memory
+abbrev pub Answers : (wanted : Status → Type 0) → (given : Status) → (read_failed write_failed : Type 0) → Type 0
 Answers wanted status.ReadFault read_failed write_failed = read_failed
 Answers wanted status.WriteFault read_failed write_failed = write_failed
 Answers wanted status.Memory read_failed write_failed = Unit {0}
-Answers wanted given read_failed write_failed = given ≡ wanted
+Answers wanted given read_failed write_failed = wanted given
 
 -- ---- the text that is due
 
--- the lines that say why there is no text of a command
-abbrev pub refusal_lines : Status → List (List ℕ)
-refusal_lines status.Usage = usage_line ∷ []
-refusal_lines (status.Job fault line) = job_fault_line fault line ∷ []
-refusal_lines (status.Deck slot fault place) = deck_fault_line slot fault place ∷ []
-refusal_lines status.Large = large_line ∷ []
-refusal_lines _ = []
+-- the lines that say why there is no text of a command, which may read so many bytes
+abbrev pub refusal_lines : ℕ → Status → List (List ℕ)
+refusal_lines limit status.Usage = usage_line ∷ []
+refusal_lines limit (status.Job fault line) = job_fault_line fault line ∷ []
+refusal_lines limit (status.Deck slot fault place) = deck_fault_line slot fault place ∷ []
+refusal_lines limit status.Large = large_line limit ∷ []
+refusal_lines limit (status.Snapshot fault line) = snapshot_fault_line fault line ∷ []
+refusal_lines limit _ = []
 
--- the text of a command over a job
-abbrev pub IsTextOf : Option Command → List ℕ → List ℕ → Type 0
-IsTextOf None job_bytes due = ⊥
-IsTextOf (Some c) job_bytes due = IsText c job_bytes due
+-- the reason that is told where this answer is given in place of the text of a command, or of words that are none
+abbrev pub refusal : Option Command → Status → List ℕ
+refusal c called = text (refusal_lines (limit_by c) called)
 
--- the text that is due over a job where this answer is called for: that of the command, or the reason why there is none
-abbrev pub IsDue : Status → Option Command → List ℕ → List ℕ → Type 0
-IsDue status.Done c job_bytes due = IsTextOf c job_bytes due
-IsDue called c job_bytes due = due ≡ text (refusal_lines called)
+-- the text of a command over this one
+abbrev pub IsTextOf : (answers : ℕ → ℕ → Type 0) → Option Command → List ℕ → List ℕ → Type 0
+IsTextOf answers None bytes due = ⊥
+IsTextOf answers (Some c) bytes due = IsText answers c bytes due
+
+-- the text that is due where this answer is called for: that of the command, or the reason why there is none
+abbrev pub IsDueAt : (answers : ℕ → ℕ → Type 0) → Status → Option Command → List ℕ → List ℕ → Type 0
+IsDueAt answers status.Done c bytes due = IsTextOf answers c bytes due
+IsDueAt answers called c bytes due = due ≡ refusal c called
+
+-- the text that is due where such an answer is called for
+abbrev pub IsDue : (answers : ℕ → ℕ → Type 0) → (wanted : Status → Type 0) → Option Command → List ℕ → List ℕ → Type 0
+IsDue answers wanted c bytes due = (called : Status) × wanted called × IsDueAt answers called c bytes due
 
 -- the text that is due by a command, or by words that are none, where these bytes are read
-abbrev pub IsDueBy : Option Command → List ℕ → List ℕ → Type 0
-IsDueBy c bytes due = IsDue (called_by c bytes) c (text_by c bytes) due
+abbrev pub IsDueBy : (answers : ℕ → ℕ → Type 0) → Option Command → List ℕ → List ℕ → Type 0
+IsDueBy answers c bytes due = IsDue answers (IsCalledBy answers c bytes) c (text_by c bytes) due
 
-abbrev pub IsDueFor : List (List ℕ) → List ℕ → List ℕ → Type 0
-IsDueFor words bytes due = IsDueBy (command words) bytes due
+abbrev pub IsDueFor : (answers : ℕ → ℕ → Type 0) → List (List ℕ) → List ℕ → List ℕ → Type 0
+IsDueFor answers words bytes due = IsDueBy answers (command words) bytes due
 
 -- ---- what is done
 
@@ -102,32 +142,47 @@ keeps_by (Some c) = keeps_machine c
 abbrev pub is_kept : List (List ℕ) → Status → Bool
 is_kept words given = is_done given && keeps_by (command words)
 
--- neither the job of these bytes nor a deck of it has a fault, the command kept the machine of the job, or none, and its text
--- was written
-pub record IsWritten (c : Command) (job_bytes : List ℕ) (kept : Option Shown) (before after : Option (List ℕ)) : Type 0 where
-  pub faultless : job_fault job_bytes ≡ None
-  pub assembles : deck_fault (job job_bytes).slots ≡ None
-  pub keeps : Keeps c job_bytes kept
-  pub text : Added before (text_of c job_bytes (journal_in kept)) after
+-- no line of a command's text is faulty
+abbrev pub IsFaultless : Command → List ℕ → Type 0
+IsFaultless Resume bytes = IsSnapshot bytes
+IsFaultless Check bytes = front_fault bytes ≡ None
+IsFaultless _ bytes = job_fault bytes ≡ None
 
--- there is a command, which was done over a job
-abbrev pub IsDoneOver : Option Command → List ℕ → Option Shown → (before after : Option (List ℕ)) → Type 0
-IsDoneOver None job_bytes kept before after = ⊥
-IsDoneOver (Some c) job_bytes kept before after = IsWritten c job_bytes kept before after
+-- what a snapshot says is what comes of its front job; another text says nothing of that
+abbrev pub IsTrusted : (answers : ℕ → ℕ → Type 0) → Command → List ℕ → Type 0
+IsTrusted answers Resume bytes = IsComparedFor answers bytes status.Done
+IsTrusted answers _ bytes = Unit {0}
 
--- there is a command, which was done over the job that it works on where these bytes are read
-abbrev pub IsDoneBy : Option Command → List ℕ → Option Shown → (before after : Option (List ℕ)) → Type 0
-IsDoneBy c bytes kept before after = IsDoneOver c (text_by c bytes) kept before after
+-- nothing is wrong with the text of a command, and this is what it made of it: a text, and the machine that it keeps, or none
+pub record IsMade (answers : ℕ → ℕ → Type 0) (c : Command) (bytes made : List ℕ) (kept : Option Shown) : Type 0 where
+  pub faultless : IsFaultless c bytes
+  pub assembles : deck_fault (job_of c bytes).slots ≡ None
+  pub trusted : IsTrusted answers c bytes
+  pub keeps : Keeps answers c bytes kept
+  pub text_is : IsTextFrom answers c bytes (journal_in kept) made
+
+-- and that was written
+abbrev pub IsWritten : (answers : ℕ → ℕ → Type 0) → Command → List ℕ → Option Shown → (before after : Option (List ℕ)) → Type 0
+IsWritten answers c bytes kept before after = (made : List ℕ) × IsMade answers c bytes made kept × Added before made after
+
+-- there is a command, which was done over this text
+abbrev pub IsDoneOver : (answers : ℕ → ℕ → Type 0) → Option Command → List ℕ → Option Shown → (before after : Option (List ℕ)) → Type 0
+IsDoneOver answers None bytes kept before after = ⊥
+IsDoneOver answers (Some c) bytes kept before after = IsWritten answers c bytes kept before after
+
+-- there is a command, which was done over the text that it works on where these bytes are read
+abbrev pub IsDoneBy : (answers : ℕ → ℕ → Type 0) → Option Command → List ℕ → Option Shown → (before after : Option (List ℕ)) → Type 0
+IsDoneBy answers c bytes kept before after = IsDoneOver answers c (text_by c bytes) kept before after
 
 -- what was written where a command isn't done: the reason, if it is one that is told, and else nothing
-abbrev pub Wrote : Status → (before after : Option (List ℕ)) → Type 0
-Wrote status.Done before after = Unit {0}
-Wrote status.WriteFault before after = Unit {0}
-Wrote given before after = Added before (text (refusal_lines given)) after
+abbrev pub Wrote : Option Command → Status → (before after : Option (List ℕ)) → Type 0
+Wrote c status.Done before after = Unit {0}
+Wrote c status.WriteFault before after = Unit {0}
+Wrote c given before after = Added before (refusal c given) after
 
 -- a front of the due text was written, but not all of it
-abbrev pub WroteFront : Status → Option Command → List ℕ → (before after : Option (List ℕ)) → Type 0
-WroteFront called c job_bytes before after = (due : List ℕ) × IsDue called c job_bytes due × AddedFront before due after
+abbrev pub WroteFront : (answers : ℕ → ℕ → Type 0) → (wanted : Status → Type 0) → Option Command → List ℕ → (before after : Option (List ℕ)) → Type 0
+WroteFront answers wanted c bytes before after = (due : List ℕ) × IsDue answers wanted c bytes due × AddedFront before due after
 
-abbrev pub WroteFrontBy : Option Command → List ℕ → (before after : Option (List ℕ)) → Type 0
-WroteFrontBy c bytes before after = WroteFront (called_by c bytes) c (text_by c bytes) before after
+abbrev pub WroteFrontBy : (answers : ℕ → ℕ → Type 0) → Option Command → List ℕ → (before after : Option (List ℕ)) → Type 0
+WroteFrontBy answers c bytes before after = WroteFront answers (IsCalledBy answers c bytes) c (text_by c bytes) before after

@@ -13,3 +13,4 @@ code_of status.Large = 4
 code_of status.ReadFault = 5
 code_of status.WriteFault = 6
 code_of status.Memory = 7
+code_of (status.Snapshot fault line) = 8

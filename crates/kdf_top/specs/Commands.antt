@@ -6,7 +6,7 @@ use Rattle.kdf_job.specs.Made.{made_text}
 use Rattle.kdf_top.specs.declared.command.Input.{Input}
 use Rattle.kdf_top.specs.declared.command.Input.TheVariants.{Read, Made}
 use Rattle.kdf_top.specs.declared.command.Command.{Command}
-use Rattle.kdf_top.specs.declared.command.Command.TheVariants.{Run, Alone, Asm, Make}
+use Rattle.kdf_top.specs.declared.command.Command.TheVariants.{Run, Save, Resume, Check, Alone, Asm, Make}
 
 -- a slot's number as a word: 0, 1, 2 or 3
 abbrev pub slot_of_word : List ℕ → Option ℕ
@@ -18,7 +18,12 @@ made_of_word word = number_in 0 65535 word
 
 -- the commands of a name alone
 abbrev pub command_of_name : List ℕ → Option Command
-command_of_name name = if is_text (codes "run") name then Some Run else None
+command_of_name name =
+    if is_text (codes "run") name then Some Run
+    else (if is_text (codes "save") name then Some Save
+    else (if is_text (codes "resume") name then Some Resume
+    else (if is_text (codes "check") name then Some Check
+    else None)))
 
 -- the commands of a name and a value
 abbrev pub command_of_value : List ℕ → List ℕ → Option Command
@@ -28,7 +33,7 @@ command_of_value name value =
     else (if is_text (codes "make") name then option_map Make (made_of_word value)
     else None))
 
--- what the words ask for: `run`, `alone K`, `asm K` or `make N`; no other list of words is a command
+-- what the words ask for: `run`, `alone K`, `asm K`, `make N`, `save`, `resume` or `check`; no other list of words is a command
 unfoldable pub command : List (List ℕ) → Option Command
 command (name ∷ []) = command_of_name name
 command (name ∷ value ∷ []) = command_of_value name value
@@ -42,12 +47,26 @@ is_command words = is_some (command words)
 abbrev pub job_limit : ℕ
 job_limit = 4194304
 
--- where a command's job comes from: it is read, or made from a number
+-- and a text that goes on after a job, at most so many
+abbrev pub text_limit : ℕ
+text_limit = 268435456
+
+-- how many bytes the text of a command may have
+abbrev pub limit_of : Command → ℕ
+limit_of Resume = text_limit
+limit_of Check = text_limit
+limit_of _ = job_limit
+
+abbrev pub limit_by : Option Command → ℕ
+limit_by None = job_limit
+limit_by (Some c) = limit_of c
+
+-- where a command's text comes from: it is read, or made from a number
 abbrev pub input_of : Command → Input
 input_of (Make n) = Made n
-input_of _ = Read job_limit
+input_of c = Read (limit_of c)
 
--- a job is read
+-- a text is read
 abbrev pub is_read : Input → Bool
 is_read (Read limit) = true
 is_read (Made n) = false
@@ -57,7 +76,7 @@ abbrev pub is_too_long : Input → List ℕ → Bool
 is_too_long (Read limit) bytes = nat_lt limit (length bytes)
 is_too_long (Made n) bytes = false
 
--- the text of the job: the one that is made, or else the bytes that are read
+-- the text of a command: the job that is made, or else the bytes that are read
 abbrev pub text_in : Input → List ℕ → List ℕ
 text_in (Read limit) bytes = bytes
 text_in (Made n) bytes = made_text n
@@ -65,6 +84,8 @@ text_in (Made n) bytes = made_text n
 -- a command that runs a job under Director, and keeps the machine
 abbrev pub keeps_machine : Command → Bool
 keeps_machine Run = true
+keeps_machine Save = true
+keeps_machine Resume = true
 keeps_machine (Make n) = true
 keeps_machine _ = false
 

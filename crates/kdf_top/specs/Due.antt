@@ -1,5 +1,6 @@
--- The text that each command makes of a job, and what it is made from.
-use Rattle.std.specs.Prelude.{◌≡◌, ℕ, List, [], length, Option, Some, None, Result, Ok, Err, true, false}
+-- The text that each command makes of a job, and what it is made from. `answers n a` says that a is one of the answers of the
+-- installation's service to n.
+use Rattle.std.specs.Prelude.{◌≡◌, ℕ, List, [], ◌∷◌, ◌++◌, codes, decimal, length, Bool, Option, Some, None, Result, Ok, Err, true, false}
 use Rattle.kdf_journal.specs.declared.entry.Entry.{Entry}
 use Rattle.kdf_schedule.specs.Calls.{order_count}
 use Rattle.kdf_schedule.specs.declared.event.Event.{Event}
@@ -7,20 +8,26 @@ use Rattle.kdf_usercode.specs.Faults.{Found}
 use Rattle.kdf_place.specs.Assembled.{assembled, image_words}
 use Rattle.kdf_place.specs.Listing.{absent_listing, listing_text}
 use Rattle.kdf_place.specs.Placement.{Picture}
+use Rattle.kdf_job.specs.Front.{front_job}
 use Rattle.kdf_job.specs.Job.{Job, SlotJob}
 use Rattle.kdf_job.specs.Reading.{job}
 use Rattle.kdf_job.specs.Slots.{slot_of}
 use Rattle.kdf_processor.specs.Lone.{is_live, lone}
 use Rattle.kdf_processor.specs.State.{State, begin}
-use Rattle.kdf_director.specs.Follows.{IsJournal}
+use Rattle.kdf_director.specs.Served.{IsJournalFor}
 use Rattle.kdf_director.specs.Shown.{Shown, ShowsSeen}
 use Rattle.kdf_director.specs.Told.{flights_of, own, seen_of}
+use Rattle.kdf_text.specs.Text.{end_line, text}
+use Rattle.kdf_check.specs.Report.{IsCheck}
+use Rattle.kdf_check.specs.declared.verdict.Verdict.{Verdict}
+use Rattle.kdf_check.specs.declared.verdict.Verdict.TheVariants.{Yes, No}
 use Rattle.kdf_report.specs.Text.{absent_text, alone_text, report_text}
 use Rattle.kdf_report.specs.Summary.{summary_text}
 use Rattle.kdf_top.specs.Commands.{keeps_machine}
 use Rattle.kdf_top.specs.Loaded.{slot_numbered, slots_of}
+use Rattle.kdf_top.specs.Snapshots.{after_job, resumed_job, snapshot_of}
 use Rattle.kdf_top.specs.declared.command.Command.{Command}
-use Rattle.kdf_top.specs.declared.command.Command.TheVariants.{Run, Alone, Asm, Make}
+use Rattle.kdf_top.specs.declared.command.Command.TheVariants.{Run, Save, Resume, Check, Alone, Asm, Make}
 
 -- ---- a program by itself
 
@@ -53,55 +60,78 @@ listing_of p j = listing_by p (slot_numbered j.slots p)
 -- ---- a job under Director
 
 -- the report of a job whose journal is J: the state of each program is what is seen of its lone run
-abbrev pub report_of : List ℕ → List Entry → List ℕ
-report_of bytes J = report_text (job bytes) J (seen_of (slots_of (job bytes)) J)
+abbrev pub report_of : Job → List Entry → List ℕ
+report_of j J = report_text j J (seen_of (slots_of j) J)
 
 -- the summary of the job that was made from n, and whose journal is J
 abbrev pub summary_of : ℕ → List ℕ → List Entry → List ℕ
 summary_of n bytes J = summary_text n (length bytes) (job bytes) J (seen_of (slots_of (job bytes)) J)
 
+-- ---- the verdict on a report that stands after its job
+
+abbrev pub check_line : List ℕ
+check_line = codes "KDF9 CHECK"
+
+abbrev pub verdict_line : Verdict → List ℕ
+verdict_line Yes = codes "YES"
+verdict_line (No k) = codes "NO " ++ decimal k
+
+abbrev pub verdict_lines : Verdict → List (List ℕ)
+verdict_lines v = check_line ∷ verdict_line v ∷ end_line ∷ []
+
+-- the text tells the verdict on what stands after the job at the front
+abbrev pub IsVerdictOf : (answers : ℕ → ℕ → Type 0) → List ℕ → List ℕ → Type 0
+IsVerdictOf answers bytes due =
+    (v : Verdict) × IsCheck answers (slots_of (front_job bytes)) (front_job bytes).events (after_job bytes) v × (due ≡ text (verdict_lines v))
+
 -- ---- all of them
 
--- the text that a command makes of a job of these bytes, whose journal is J
-abbrev pub text_of : Command → List ℕ → List Entry → List ℕ
-text_of Run bytes J = report_of bytes J
-text_of (Alone p) bytes J = alone_of p (job bytes)
-text_of (Asm p) bytes J = listing_of p (job bytes)
-text_of (Make n) bytes J = summary_of n bytes J
+-- the job that a command works on, where this is its text
+abbrev pub job_of : Command → List ℕ → Job
+job_of Resume bytes = resumed_job bytes
+job_of Check bytes = front_job bytes
+job_of _ bytes = job bytes
 
--- the journal that a command's text is made from: for a command that runs the job under Director it is the job's, legal,
--- true and whole, and for another it is empty
-abbrev pub IsJournalOf : Command → List ℕ → List Entry → Type 0
-IsJournalOf Run bytes J = IsJournal (slots_of (job bytes)) (job bytes).events J
-IsJournalOf (Make n) bytes J = IsJournal (slots_of (job bytes)) (job bytes).events J
-IsJournalOf _ bytes J = J ≡ []
+-- the text that a command makes of this one, where J is the journal of its job
+abbrev pub IsTextFrom : (answers : ℕ → ℕ → Type 0) → Command → List ℕ → List Entry → List ℕ → Type 0
+IsTextFrom answers Run bytes J due = due ≡ report_of (job bytes) J
+IsTextFrom answers Save bytes J due = due ≡ snapshot_of bytes J
+IsTextFrom answers Resume bytes J due = due ≡ report_of (resumed_job bytes) J
+IsTextFrom answers Check bytes J due = IsVerdictOf answers bytes due
+IsTextFrom answers (Alone p) bytes J due = due ≡ alone_of p (job bytes)
+IsTextFrom answers (Asm p) bytes J due = due ≡ listing_of p (job bytes)
+IsTextFrom answers (Make n) bytes J due = due ≡ summary_of n bytes J
 
--- the text that is due of a command over a job without a fault
-abbrev pub IsText : Command → List ℕ → List ℕ → Type 0
-IsText c bytes due = (J : List Entry) × IsJournalOf c bytes J × (due ≡ text_of c bytes J)
+-- the journal that a command's text is made from: where it runs its job under Director it is the job's, legal and whole, and true
+-- for the service; and where it doesn't, it is empty
+abbrev pub IsJournalWhere : (answers : ℕ → ℕ → Type 0) → Bool → Job → List Entry → Type 0
+IsJournalWhere answers true j J = IsJournalFor answers (slots_of j) j.events J
+IsJournalWhere answers false j J = J ≡ []
+
+abbrev pub IsJournalOf : (answers : ℕ → ℕ → Type 0) → Command → List ℕ → List Entry → Type 0
+IsJournalOf answers c bytes J = IsJournalWhere answers (keeps_machine c) (job_of c bytes) J
+
+-- the text that is due of a command over one without a fault
+abbrev pub IsText : (answers : ℕ → ℕ → Type 0) → Command → List ℕ → List ℕ → Type 0
+IsText answers c bytes due = (J : List Entry) × IsJournalOf answers c bytes J × IsTextFrom answers c bytes J due
 
 -- ---- the machine that is kept
 
--- the machine is that of the job of these bytes: its journal is legal, true and whole, what it shows is what is seen of the lone
--- runs, and a program that isn't live has no transfer in flight
-pub record IsMachineOf (bytes : List ℕ) (m : Shown) : Type 0 where
-  pub slots : m.slots ≡ slots_of (job bytes)
-  pub journal : IsJournal m.slots (job bytes).events m.journal
+-- the machine is that of a job: its journal is legal and whole, and true for the service, what it shows is what is seen of the
+-- lone runs, and a program that isn't live has no transfer in flight
+pub record IsMachineOf (answers : ℕ → ℕ → Type 0) (j : Job) (m : Shown) : Type 0 where
+  pub slots : m.slots ≡ slots_of j
+  pub journal : IsJournalFor answers m.slots j.events m.journal
   pub seen : ShowsSeen m
   pub over : (p : ℕ) → is_live (own m.slots m.journal p).registers.state ≡ false
       → (d : ℕ) → flights_of m.slots m.journal p d ≡ None
 
--- a command that runs the job under Director keeps its machine, and another keeps none
-abbrev pub Keeps : Command → List ℕ → Option Shown → Type 0
-Keeps c bytes None = keeps_machine c ≡ false
-Keeps c bytes (Some m) = (keeps_machine c ≡ true) × IsMachineOf bytes m
+-- a command that runs its job under Director keeps its machine, and another keeps none
+abbrev pub Keeps : (answers : ℕ → ℕ → Type 0) → Command → List ℕ → Option Shown → Type 0
+Keeps answers c bytes None = keeps_machine c ≡ false
+Keeps answers c bytes (Some m) = (keeps_machine c ≡ true) × IsMachineOf answers (job_of c bytes) m
 
 -- the journal of the machine that is kept, or the empty one
 abbrev pub journal_in : Option Shown → List Entry
 journal_in None = []
 journal_in (Some m) = m.journal
-
--- what a command made of a job of these bytes: the text, and the machine that it keeps
-pub record IsMade (c : Command) (bytes text : List ℕ) (kept : Option Shown) : Type 0 where
-  pub keeps : Keeps c bytes kept
-  pub text_is : text ≡ text_of c bytes (journal_in kept)

@@ -1,6 +1,9 @@
 pub mod Deck
 pub mod Loaded
 pub mod Text
+pub mod Snapshots
+pub mod Reasons
+pub mod Resumed
 pub mod Commands
 pub mod Answers
 pub mod Codes

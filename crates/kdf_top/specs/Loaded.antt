@@ -1,17 +1,17 @@
 -- The slots of a job with the images of their decks, and how they are loaded.
-use Rattle.std.specs.Prelude.{◌≡◌, ℕ, ◌≤◌, List, length, map, Some, Result, Ok}
+use Rattle.std.specs.Prelude.{◌≡◌, ℕ, ◌≤◌, List, length, map, Some, None, Result, Ok}
 use Rattle.kdf_usercode.specs.Faults.{Found}
 use Rattle.kdf_place.specs.Assembled.{assembled}
 use Rattle.kdf_place.specs.Placement.{Picture, shown_image}
 use Rattle.kdf_place.specs.declared.image.Image.{Image}
 use Rattle.kdf_job.specs.declared.job.Job.{Job as ReadJob}
 use Rattle.kdf_job.specs.declared.job.SlotJob.{SlotJob as ReadSlot}
-use Rattle.kdf_job.specs.Job.{SlotJob}
-use Rattle.kdf_job.specs.Reading.{job}
+use Rattle.kdf_job.specs.Job.{Job, SlotJob}
 use Rattle.kdf_job.specs.Shows.{shown_job, shown_slot}
-use Rattle.kdf_job.specs.WellFormed.{IsSlot}
+use Rattle.kdf_job.specs.WellFormed.{IsJob, IsSlot}
 use Rattle.kdf_alone.specs.Program.{IsApart}
 use Rattle.kdf_director.specs.Loading.{HaveImages}
+use Rattle.kdf_top.specs.Deck.{deck_fault}
 pub use Rattle.kdf_report.specs.Loaded.{images_of, slot_numbered, slots_of}
 
 -- what the decks of these slots come to
@@ -31,7 +31,9 @@ pub record IsFound (slots : List SlotJob) (p : ℕ) (slot : ReadSlot) (image : I
   pub picture : assembled slot.size slot.deck.items ≡ Ok (shown_image image)
   pub fits : length image.words.items ≤ slot.size
 
--- a job that was read from a text of so many bytes
-pub record IsJobOf (j : ReadJob) (len : ℕ) (job_bytes : List ℕ) : Type 0 where
-  pub told : shown_job j ≡ job job_bytes
-  pub bytes : len ≡ length job_bytes
+-- a job that was read, with the images of its decks
+pub record IsLoaded (j : Job) (read : ReadJob) (made : List Image) : Type 0 where
+  pub told : shown_job read ≡ j
+  pub well_formed : IsJob (shown_job read)
+  pub images : HasImages (shown_job read).slots made
+  pub assembles : deck_fault j.slots ≡ None

@@ -4,7 +4,8 @@ use Rattle.kdf_job.specs.declared.fault.JobFault.{JobFault}
 use Rattle.kdf_job.specs.Faults.{name_of}
 use Rattle.kdf_usercode.specs.declared.fault.DeckFault.{DeckFault}
 use Rattle.kdf_usercode.specs.Faults.{name_of as deck_fault_name}
-use Rattle.kdf_top.specs.Commands.{job_limit}
+use Rattle.kdf_snapshot.specs.declared.fault.SnapshotFault.{SnapshotFault}
+use Rattle.kdf_snapshot.specs.Faults.{name_of as snapshot_fault_name}
 
 -- the line that tells a fault of the job
 abbrev pub job_fault_line : JobFault → ℕ → List ℕ
@@ -15,10 +16,14 @@ abbrev pub deck_fault_line : ℕ → DeckFault → ℕ → List ℕ
 deck_fault_line slot fault place =
     codes "DECK " ++ decimal slot ++ codes " " ++ deck_fault_name fault ++ codes " " ++ decimal place
 
+-- the line that tells a fault of a snapshot
+abbrev pub snapshot_fault_line : SnapshotFault → ℕ → List ℕ
+snapshot_fault_line fault line = codes "SNAPSHOT " ++ snapshot_fault_name fault ++ codes " " ++ decimal line
+
 -- the line that tells how the program is used
 abbrev pub usage_line : List ℕ
-usage_line = codes "USAGE kdf9 run, alone K, asm K, make N"
+usage_line = codes "USAGE kdf9 run, alone K, asm K, make N, save, resume, check"
 
--- the line that tells that a job has too many bytes
-abbrev pub large_line : List ℕ
-large_line = codes "LARGE " ++ decimal job_limit
+-- the line that tells that there are more bytes than so many
+abbrev pub large_line : ℕ → List ℕ
+large_line limit = codes "LARGE " ++ decimal limit

@@ -1,15 +1,22 @@
 //! A program by itself.
-ghost use Rattle.std.specs.Prelude.{◌≡◌, ◌≤◌, length, map, IfOk, Ok};
+ghost use Rattle.std.specs.Prelude.{◌≡◌, ◌≤◌, None, length, map, IfErr, IfOk, Ok, OnOk};
 ghost use Rattle.kdf_schedule.specs.Calls.{order_count, orders_in};
 ghost use Rattle.kdf_place.specs.Assembled.{image_words};
 ghost use Rattle.kdf_job.specs.Limits.{most_orders};
+ghost use Rattle.kdf_job.specs.Reading.{job as job_of, job_fault};
 ghost use Rattle.kdf_job.specs.Shows.{shown_job, shown_slot};
 ghost use Rattle.kdf_job.specs.WellFormed.{IsJob, IsSlot};
+ghost use Rattle.kdf_job.specs.declared.job.TheConstants.{TEXT_LIMIT};
 ghost use Rattle.kdf_alone.specs.Program.{IsApart};
 ghost use Rattle.kdf_report.specs.Text.{alone_text};
+ghost use Rattle.kdf_top.specs.Answered.{IsReason};
+ghost use Rattle.kdf_top.specs.Answers.{status_of_job};
+ghost use Rattle.kdf_top.specs.Deck.{deck_fault};
 ghost use Rattle.kdf_top.specs.Due.{alone_of, alone_state};
 ghost use Rattle.kdf_top.specs.Loaded.{HasImages};
 
+use crate::loading::load;
+use crate::reason::MakeError;
 use crate::slot::find_slot;
 use kdf_alone::Alone;
 use kdf_job::{Job, SlotJob};
@@ -18,9 +25,21 @@ use kdf_report::{alone_absent, alone_text};
 use kdf_schedule::Event;
 use std::alloc::{AllocError, Global};
 
+/// Reads a job, runs the program of slot `p` by itself, and makes its text.
+pub fn alone(alloc: Global, job_bytes: &[u8], p: u8) -> Result<Vec<u8>, MakeError>
+    requires { length job_bytes.now ≤ TEXT_LIMIT }
+    ensures faultless { OnOk result (job_fault job_bytes.now ≡ None) }
+    ensures assembles { OnOk result (deck_fault (job_of job_bytes.now).slots ≡ None) }
+    ensures text { IfOk result (λ text. text.items ≡ alone_of p (job_of job_bytes.now)) }
+    ensures reason { IfErr result (IsReason (λ s. s ≡ status_of_job job_bytes.now)) }
+{
+    let (job, images) = load(alloc, job_bytes)?;
+    Ok(run_alone(alloc, &job, &images, p)?)
+}
+
 /// Runs the program of slot `p` by itself, with every ask answered 0, for as many orders as the schedule has, and makes its text; or
 /// the text of a slot that the job doesn't have.
-pub fn run_alone(alloc: Global, job: &Job, images: &[Image], p: u8) -> Result<Vec<u8>, AllocError>
+fn run_alone(alloc: Global, job: &Job, images: &[Image], p: u8) -> Result<Vec<u8>, AllocError>
     requires job { IsJob (shown_job job.now) }
     requires images { HasImages (shown_job job.now).slots images.now }
     ensures { IfOk result (λ text. text.items ≡ alone_of p (shown_job job.now)) }

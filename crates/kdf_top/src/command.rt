@@ -1,11 +1,12 @@
 //! The commands of the program.
 ghost use Rattle.std.specs.Prelude.{◌≡◌, ◌∷◌, true, false, IfOk, IfSome, is_some, map, string_bytes};
-ghost use Rattle.kdf_top.specs.Commands.{HasSlot, command, input_of, made_of_word, slot_of_word};
+ghost use Rattle.kdf_top.specs.Commands.{HasSlot, command, input_of, limit_by, limit_of, made_of_word, slot_of_word};
 ghost use Rattle.kdf_top.specs.Values.{any_hyphen};
 
 mod values;
 pub mod worked;
 
+use kdf_job::TEXT_LIMIT;
 use kdf_text::number_in;
 use std::alloc::{AllocError, Global};
 use values::{Values, any_hyphen};
@@ -15,6 +16,12 @@ use values::{Values, any_hyphen};
 pub enum Command {
     /// `run`: reads a job, runs it under Director and writes its report.
     Run,
+    /// `save`: reads a job, runs it under Director and writes a snapshot.
+    Save,
+    /// `resume`: reads a snapshot and further lines of its job's schedule, runs the whole under Director and writes its report.
+    Resume,
+    /// `check`: reads a job and a report, and writes the verdict on the report.
+    Check,
     /// `alone K`: reads a job, runs the program of slot K alone and writes what it comes to.
     Alone(u8),
     /// `asm K`: reads a job, assembles the deck of slot K and writes its listing.
@@ -23,7 +30,7 @@ pub enum Command {
     Make(u16),
 }
 
-/// Where the job of a command comes from.
+/// Where the text of a command comes from.
 #[derive(Clone, Copy, PartialEq, Eq)]
 pub enum Input {
     /// It is read, and has at most so many bytes.
@@ -42,14 +49,34 @@ const LAST_SLOT: u64 = 3;
 const LAST_MADE: u64 = 65_535;
 
 impl Command {
-    /// Where the command's job comes from.
+    /// How many bytes the command's text may have.
+    pub fn limit(self) -> usize
+        ensures { result ≡ limit_of self }
+    {
+        match self {
+            Command::Resume | Command::Check => TEXT_LIMIT,
+            _ => JOB_LIMIT,
+        }
+    }
+
+    /// Where the command's text comes from.
     pub fn input(self) -> Input
         ensures { result ≡ input_of self }
     {
         match self {
-            Command::Run | Command::Alone(_) | Command::Asm(_) => Input::Read(JOB_LIMIT),
             Command::Make(n) => Input::Made(n),
+            _ => Input::Read(self.limit()),
         }
+    }
+}
+
+/// How many bytes may be read for a command, or for words that are none.
+pub fn limit_by(command: Option<Command>) -> usize
+    ensures { result ≡ limit_by command }
+{
+    match command {
+        Some(command) => command.limit(),
+        None => JOB_LIMIT,
     }
 }
 
@@ -83,6 +110,9 @@ fn command_of_name(values: Values<'_>) -> Result<Option<Command>, AllocError>
 {
     match values.name {
         "run" => Ok(values.none()?.then_some(Command::Run)),
+        "save" => Ok(values.none()?.then_some(Command::Save)),
+        "resume" => Ok(values.none()?.then_some(Command::Resume)),
+        "check" => Ok(values.none()?.then_some(Command::Check)),
         "alone" => Ok(values.one()?.and_then(slot).map(Command::Alone)),
         "asm" => Ok(values.one()?.and_then(slot).map(Command::Asm)),
         "make" => Ok(values.one()?.and_then(made).map(Command::Make)),

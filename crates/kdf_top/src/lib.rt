@@ -1,14 +1,20 @@
-//! The top call: reads or makes a job, assembles its decks, and writes what a command makes of it.
+//! The top call: reads or makes the text of a command, and writes what the command makes of it.
 #![tactic(auto)]
 
 mod alone;
+mod checking;
 mod command;
 mod decks;
+mod differing;
 mod listing;
+mod loading;
 mod making;
 mod outcome;
+mod reason;
 mod refusal;
+mod resuming;
 mod running;
+mod saving;
 mod slot;
 mod status;
 mod top_call;
@@ -18,4 +24,4 @@ pub use command::{Command, Input, command_of, worked as worked_commands};
 pub use decks::{DecksError, assemble_decks};
 pub use outcome::Outcome;
 pub use status::Status;
-pub use top_call::run;
+pub use top_call::run_with;

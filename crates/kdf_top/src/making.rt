@@ -1,101 +1,136 @@
-//! What each command makes of a job: its text and, where it runs the job under Director, the machine.
-ghost use Rattle.std.specs.Prelude.{◌≡◌, ℕ, List, Ok, Some, None, IfOk};
-ghost use Rattle.kdf_job.specs.Shows.{shown_job};
-ghost use Rattle.kdf_job.specs.WellFormed.{IsJob};
-ghost use Rattle.kdf_top.specs.Due.{IsMade};
-ghost use Rattle.kdf_top.specs.Loaded.{HasImages, IsJobOf};
+//! What each command makes of its text: a text and, where it runs a job under Director, the machine.
+ghost use Rattle.std.specs.Prelude.{◌≡◌, ◌≤◌, Ok, Err, Some, None, IfErr, IfOk, length};
+ghost use Rattle.kdf_job.specs.declared.job.TheConstants.{TEXT_LIMIT};
+ghost use Rattle.kdf_service.specs.Rules.{IsService};
+ghost use Rattle.kdf_top.specs.Answered.{IsReason};
+ghost use Rattle.kdf_top.specs.Answers.{IsCalled, IsMade};
+ghost use Rattle.kdf_top.specs.declared.command.Command.TheVariants as command;
+ghost use Rattle.kdf_top.specs.declared.reason.MakeError.TheVariants.{Memory};
 
-use crate::alone::run_alone;
+use crate::alone::alone;
+use crate::checking::check;
 use crate::command::Command;
-use crate::listing::list_slot;
+use crate::listing::list;
+use crate::loading::load;
+use crate::reason::MakeError;
+use crate::resuming::resume;
 use crate::running::run_job;
+use crate::saving::snapshot;
 use kdf_director::Machine;
-use kdf_job::Job;
-use kdf_place::Image;
 use kdf_report::{report, summary};
+use kdf_service::Service;
 use std::alloc::{AllocError, Global};
 
-/// What a command made of a job: its text, and the machine that it keeps.
+/// What a command made of its text: the text that it writes, and the machine that it keeps.
 pub struct Made {
     pub text: Vec<u8>,
     pub machine: Option<Machine>,
 }
 
-/// What a command makes of a job, whose text has so many bytes, with the images of its decks.
-pub fn make(
+/// What a command makes of its text. Where it runs a job under Director, the service answers the programs.
+pub fn make<F: Fn(u64) -> u64>(
     alloc: Global,
     command: Command,
-    job: &Job,
-    length: u32,
-    images: &[Image],
-) -> Result<Made, AllocError>
-    requires job { IsJob (shown_job job.now) }
-    requires images { HasImages (shown_job job.now).slots images.now }
-    ensures { IfOk result (λ made. (job_bytes : List ℕ) → IsJobOf job.now length job_bytes →
-        IsMade command job_bytes made.text.items made.machine) }
+    text: &[u8],
+    service: &Service<F>,
+) -> Result<Made, MakeError>
+    requires service { IsService (F.pre service.now) (F.post service.now) }
+    requires within { length text.now ≤ TEXT_LIMIT }
+    ensures made { IfOk result (λ made. IsMade (F.post service.now) command text.now made.text.items made.machine) }
+    ensures reason { IfErr result (IsReason (IsCalled (F.post service.now) command text.now)) }
 {
     match command {
-        Command::Run => reported(alloc, job, images),
-        Command::Alone(p) => without_machine(run_alone(alloc, job, images, p)),
-        Command::Asm(p) => without_machine(list_slot(alloc, job, images, p)),
-        Command::Make(n) => summed(alloc, n, job, length, images),
+        Command::Run => run(alloc, text, service),
+        Command::Save => save(alloc, text, service),
+        Command::Resume => resume(alloc, text, service),
+        Command::Check => without_machine(check(alloc, text, service)),
+        Command::Alone(p) => without_machine(alone(alloc, text, p)),
+        Command::Asm(p) => without_machine(list(alloc, text, p)),
+        Command::Make(n) => sum(alloc, n, text, service),
     }
 }
 
 /// Runs a job, and makes its report.
-fn reported(alloc: Global, job: &Job, images: &[Image]) -> Result<Made, AllocError>
-    requires job { IsJob (shown_job job.now) }
-    requires images { HasImages (shown_job job.now).slots images.now }
-    ensures { IfOk result (λ made. (length : ℕ) → (job_bytes : List ℕ) → IsJobOf job.now length job_bytes →
-        IsMade Command.Run job_bytes made.text.items made.machine) }
+fn run<F: Fn(u64) -> u64>(
+    alloc: Global,
+    job_bytes: &[u8],
+    service: &Service<F>,
+) -> Result<Made, MakeError>
+    requires service { IsService (F.pre service.now) (F.post service.now) }
+    requires within { length job_bytes.now ≤ TEXT_LIMIT }
+    ensures made { IfOk result (λ made. IsMade (F.post service.now) command.Run job_bytes.now made.text.items made.machine) }
+    ensures reason { IfErr result (IsReason (IsCalled (F.post service.now) command.Run job_bytes.now)) }
 {
-    let machine = run_job(alloc, job, images)?;
-    let text = report(alloc, job, &machine);
+    let (job, images) = load(alloc, job_bytes)?;
+    let machine = run_job(alloc, &job, &images, service)?;
+    let text = report(alloc, &job, &machine);
     with_machine(text, machine)
 }
 
-/// Runs the job that was made from a number, and makes its summary.
-fn summed(
+/// Runs a job, and makes its snapshot.
+fn save<F: Fn(u64) -> u64>(
+    alloc: Global,
+    job_bytes: &[u8],
+    service: &Service<F>,
+) -> Result<Made, MakeError>
+    requires service { IsService (F.pre service.now) (F.post service.now) }
+    requires within { length job_bytes.now ≤ TEXT_LIMIT }
+    ensures made { IfOk result (λ made. IsMade (F.post service.now) command.Save job_bytes.now made.text.items made.machine) }
+    ensures reason { IfErr result (IsReason (IsCalled (F.post service.now) command.Save job_bytes.now)) }
+{
+    let (job, images) = load(alloc, job_bytes)?;
+    let machine = run_job(alloc, &job, &images, service)?;
+    let text = snapshot(alloc, job_bytes, &job, &machine);
+    with_machine(text, machine)
+}
+
+/// Runs the job that is made from a number, and makes its summary.
+fn sum<F: Fn(u64) -> u64>(
     alloc: Global,
     n: u16,
-    job: &Job,
-    length: u32,
-    images: &[Image],
-) -> Result<Made, AllocError>
-    requires job { IsJob (shown_job job.now) }
-    requires images { HasImages (shown_job job.now).slots images.now }
-    ensures { IfOk result (λ made. (job_bytes : List ℕ) → IsJobOf job.now length job_bytes →
-        IsMade (Command.Make n) job_bytes made.text.items made.machine) }
+    job_bytes: &[u8],
+    service: &Service<F>,
+) -> Result<Made, MakeError>
+    requires service { IsService (F.pre service.now) (F.post service.now) }
+    requires within { length job_bytes.now ≤ TEXT_LIMIT }
+    ensures made { IfOk result (λ made. IsMade (F.post service.now) (command.Make n) job_bytes.now made.text.items made.machine) }
+    ensures reason { IfErr result (IsReason (IsCalled (F.post service.now) (command.Make n) job_bytes.now)) }
 {
-    let machine = run_job(alloc, job, images)?;
-    let text = summary(alloc, n, length, job, &machine);
+    let (job, images) = load(alloc, job_bytes)?;
+    let machine = run_job(alloc, &job, &images, service)?;
+    let text = summary(alloc, n, job_bytes.len() as u32, &job, &machine);
     with_machine(text, machine)
 }
 
 /// A text without a machine.
-fn without_machine(text: Result<Vec<u8>, AllocError>) -> Result<Made, AllocError>
+fn without_machine(text: Result<Vec<u8>, MakeError>) -> Result<Made, MakeError>
     ensures text { IfOk result (λ made. text ≡ Ok made.text) }
     ensures machine { IfOk result (λ made. made.machine ≡ None) }
+    ensures reason { IfErr result (λ e. text ≡ Err e) }
 {
-    Ok(Made {
-        text: text?,
-        machine: None,
-    })
+    match text {
+        Ok(text) => Ok(Made {
+            text,
+            machine: None,
+        }),
+        Err(error) => Err(error),
+    }
 }
 
 /// A text with its machine, which is given up where there was no memory for the text.
-fn with_machine(text: Result<Vec<u8>, AllocError>, machine: Machine) -> Result<Made, AllocError>
+pub fn with_machine(text: Result<Vec<u8>, AllocError>, machine: Machine) -> Result<Made, MakeError>
     ensures text { IfOk result (λ made. text ≡ Ok made.text) }
     ensures machine { IfOk result (λ made. made.machine ≡ Some machine) }
+    ensures memory { IfErr result (λ e. e ≡ Memory) }
 {
     match text {
         Ok(text) => Ok(Made {
             text,
             machine: Some(machine),
         }),
-        Err(error) => {
+        Err(_) => {
             machine.close();
-            Err(error)
+            Err(MakeError::Memory)
         }
     }
 }

@@ -1,9 +1,9 @@
-//! What a call of `run` answers.
+//! What a call of `run_with` answers.
 
 use crate::Status;
 use kdf_director::Machine;
 
-/// How a call of `run` ended, and the machine that ran the job, where it is done.
+/// How a call of `run_with` ended, and the machine that ran the job, where it is done.
 pub struct Outcome {
     /// How it ended.
     pub status: Status,

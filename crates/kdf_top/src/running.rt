@@ -2,25 +2,33 @@
 ghost use Rattle.std.specs.Prelude.{◌≡◌, IfOk};
 ghost use Rattle.kdf_job.specs.Shows.{shown_job};
 ghost use Rattle.kdf_job.specs.WellFormed.{IsJob};
-ghost use Rattle.kdf_director.specs.Follows.{IsJournal};
+ghost use Rattle.kdf_director.specs.Served.{IsJournalFor};
 ghost use Rattle.kdf_director.specs.Shown.{ShowsSeen};
+ghost use Rattle.kdf_service.specs.Rules.{IsService};
 ghost use Rattle.kdf_top.specs.Loaded.{HasImages, slots_of};
 
 use kdf_director::{Machine, follow};
 use kdf_job::Job;
 use kdf_place::Image;
+use kdf_service::Service;
 use std::alloc::{AllocError, Global};
 
-/// Loads a job and makes the calls of its schedule.
-pub fn run_job(alloc: Global, job: &Job, images: &[Image]) -> Result<Machine, AllocError>
+/// Loads a job and makes the calls of its schedule; the service answers its programs.
+pub fn run_job<F: Fn(u64) -> u64>(
+    alloc: Global,
+    job: &Job,
+    images: &[Image],
+    service: &Service<F>,
+) -> Result<Machine, AllocError>
+    requires service { IsService (F.pre service.now) (F.post service.now) }
     requires job { IsJob (shown_job job.now) }
     requires images { HasImages (shown_job job.now).slots images.now }
     ensures slots { IfOk result (λ m. m.slots ≡ slots_of (shown_job job.now)) }
-    ensures journal { IfOk result (λ m. IsJournal m.slots (shown_job job.now).events m.journal) }
+    ensures journal { IfOk result (λ m. IsJournalFor (F.post service.now) m.slots (shown_job job.now).events m.journal) }
     ensures seen { IfOk result ShowsSeen }
 {
     let mut machine = Machine::load(alloc, job, images)?;
-    match follow(&mut machine, &job.events) {
+    match follow(&mut machine, &job.events, service) {
         Ok(()) => Ok(machine),
         Err(error) => {
             machine.close();

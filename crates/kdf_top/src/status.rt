@@ -1,10 +1,11 @@
-//! How a call of `run` ended.
+//! How a call of `run_with` ended.
 ghost use Rattle.std.specs.Prelude.{◌≡◌};
 
 use kdf_job::JobFault;
+use kdf_snapshot::SnapshotFault;
 use kdf_usercode::DeckFault;
 
-/// What `run` answers.
+/// What `run_with` answers.
 #[derive(Clone, Copy, PartialEq, Eq)]
 pub enum Status {
     /// The whole text of the command was written.
@@ -22,7 +23,7 @@ pub enum Status {
         fault: DeckFault,
         place: u32,
     },
-    /// The job is longer than the limit.
+    /// There are more bytes than the command may read.
     Large,
     /// Reading failed.
     ReadFault,
@@ -30,12 +31,17 @@ pub enum Status {
     WriteFault,
     /// There was no memory.
     Memory,
+    /// The first fault of a snapshot, and its line, counted from 1.
+    Snapshot {
+        fault: SnapshotFault,
+        line: u32,
+    },
 }
 
 impl Status {
     ghost use Rattle.kdf_top.specs.Codes.{code_of};
 
-    /// The number with which the program ends: 0 to 7, in the order of the variants.
+    /// The number with which the program ends: 0 to 8, in the order of the variants.
     pub fn code(&self) -> u8
         ensures { result ≡ code_of self.now }
     {
@@ -48,6 +54,7 @@ impl Status {
             Status::ReadFault => 5,
             Status::WriteFault => 6,
             Status::Memory => 7,
+            Status::Snapshot { .. } => 8,
         }
     }
 }

@@ -1,52 +1,55 @@
-//! The call that answers the words of a command: it reads or makes a job, assembles its decks, and writes the command's text, or why
-//! there is none.
-ghost use Rattle.std.specs.Prelude.{◌≡◌, ◌≢◌, ℕ, ◌≤◌, ◌⊎◌, List, [], Option, None, Some, length, true, false, IfOk, IfSome, is_some, map, string_bytes};
+//! The call that answers the words of a command: it reads or makes the text of the command, and writes what the command makes of it, or
+//! why there is nothing.
+ghost use Rattle.std.specs.Prelude.{◌≡◌, ◌≢◌, ℕ, ◌≤◌, ◌⊎◌, List, [], None, Some, length, true, false, IfSome, is_some, map, string_bytes};
 ghost use Rattle.kdf_io.specs.Outside.{HasRisen, Advances};
 ghost use Rattle.kdf_job.specs.Made.{made_text};
-ghost use Rattle.kdf_job.specs.Reading.{job as job_of, job_fault};
-ghost use Rattle.kdf_job.specs.Shows.{shown_job};
-ghost use Rattle.kdf_job.specs.WellFormed.{IsJob};
 ghost use Rattle.kdf_job.specs.declared.job.TheConstants.{TEXT_LIMIT};
-ghost use Rattle.kdf_top.specs.Answered.{inlet, outlet, IsGiven, IsRefusal, IsRun, ReadsAll, Takes};
-ghost use Rattle.kdf_top.specs.Answers.{Answers, IsDoneBy, IsDueFor, Wrote, WroteFrontBy, called_for, is_done, is_kept, job_text, reads, reads_by, status_of_decks, status_of_job};
+ghost use Rattle.kdf_service.specs.Rules.{IsService};
+ghost use Rattle.kdf_top.specs.Answered.{inlet, outlet, IsGiven, IsRefusal, IsRefused, IsRun, ReadsAll, Takes};
+ghost use Rattle.kdf_top.specs.Answers.{Answers, IsCalled, IsCalledFor, IsDoneBy, IsDueFor, IsFaultless, IsTrusted, Wrote, WroteFrontBy, is_kept, job_text, reads, reads_by};
 ghost use Rattle.kdf_top.specs.Commands.{command, input_of, is_command, is_too_long};
 ghost use Rattle.kdf_top.specs.Deck.{deck_fault};
-ghost use Rattle.kdf_top.specs.Due.{IsMade};
-ghost use Rattle.kdf_top.specs.Loaded.{IsJobOf};
+ghost use Rattle.kdf_top.specs.Due.{job_of};
 ghost use Rattle.kdf_top.specs.declared.command.Command.{Command as Asked};
 ghost use Rattle.kdf_top.specs.declared.command.Input.TheVariants as input;
 
-use crate::command::{Command, Input, command_of};
-use crate::decks::{DecksError, assemble_decks};
+use crate::command::{Command, Input, command_of, limit_by};
 use crate::making::{Made, make};
+use crate::reason::MakeError;
 use crate::refusal::refusal_text;
 use crate::{Outcome, Status};
 use kdf_director::Machine;
 use kdf_io::{ReadEnd, Sink, Source, read_all, write_all};
-use kdf_job::{Job, JobError, generated, read_job};
-use std::alloc::{AllocError, Global};
+use kdf_job::generated;
+use kdf_service::Service;
+use std::alloc::Global;
 
-/// Answers the words of a command: reads its job from the source or makes it, assembles its decks, and writes the command's text to
-/// the sink, or why there is none.
+/// Answers the words of a command: reads its text, a job or a snapshot, from the source or makes it, and writes what the command makes
+/// of it to the sink, or why there is nothing.
 ///
-/// The words are those after the program's name. The text is made whole before its first byte is written.
-pub fn run<S: Source, K: Sink>(
+/// The words are those after the program's name. What is written is made whole before its first byte is written. The service answers the
+/// programs of a job that runs under Director.
+pub fn run_with<S: Source, K: Sink, F: Fn(u64) -> u64>(
     alloc: Global,
     words: &[String],
     source: &mut S,
     sink: &mut K,
+    service: &Service<F>,
 ) -> Outcome
+    requires service { IsService (F.pre service.now) (F.post service.now) }
+
     // The answer is the one that the words and the bytes call for, unless reading or writing failed, or memory.
     ensures answer { let read_failed = HasRisen (S.faults source.old) (S.faults source.new) in
         let write_failed = HasRisen (K.faults sink.old) (K.faults sink.new) in
         IfSome (S.left source.old)
-        (λ bytes. Answers (called_for (map string_bytes words.now) bytes) result.status read_failed write_failed) }
+        (λ bytes. Answers (IsCalledFor (F.post service.now) (map string_bytes words.now) bytes) result.status read_failed write_failed) }
 
-    // Where nothing fails, a command over a job without a fault, no deck of which has one, is done, and other words are told how to
-    // use the program; or there was no memory.
+    // Where nothing fails, a command over a text without a fault, no deck of whose job has one, is done, and other words are told how
+    // to use the program; or there was no memory. A snapshot has to be that of its job, too.
     ensures complete { (c : Asked) → command (map string_bytes words.now) ≡ Some c
         → IfSome (S.left source.old) (λ bytes. is_too_long (input_of c) bytes ≡ false
-        → job_fault (job_text c bytes) ≡ None → deck_fault (job_of (job_text c bytes)).slots ≡ None
+        → IsFaultless c (job_text c bytes) → deck_fault (job_of c (job_text c bytes)).slots ≡ None
+        → IsTrusted (F.post service.now) c (job_text c bytes)
         → ¬ (HasRisen (S.faults source.old) (S.faults source.new))
         → ¬ (HasRisen (K.faults sink.old) (K.faults sink.new))
         → (result.status ≡ Status.Done) ⊎ (result.status ≡ Status.Memory)) }
@@ -57,7 +60,7 @@ pub fn run<S: Source, K: Sink>(
     // Causes that hold also where the source tells nothing. Words that are no command read nothing, nor does a command that makes its
     // job, and their answer goes by the words alone.
     ensures unread { reads (map string_bytes words.now) ≡ false
-        → Answers (called_for (map string_bytes words.now) []) result.status ⊥
+        → Answers (IsCalledFor (F.post service.now) (map string_bytes words.now) []) result.status ⊥
         (HasRisen (K.faults sink.old) (K.faults sink.new)) }
     ensures untouched { reads (map string_bytes words.now) ≡ false → source.new ≡ source.old }
     ensures command { is_command (map string_bytes words.now) ≡ true
@@ -70,49 +73,51 @@ pub fn run<S: Source, K: Sink>(
     // Whatever is answered, at most one byte more is taken than the command may read.
     ensures taken { Takes (command (map string_bytes words.now)) (S.left source.old) (S.left source.new) }
 
-    // At Done a command that reads has read all. One that runs its job under Director keeps the machine: its journal is legal, true and
-    // whole, what it shows is what is seen of the lone runs, and none of those that are over has a transfer in flight. The sink took
-    // the command's text.
+    // At Done a command that reads has read all. One that runs its job under Director keeps the machine: its journal is legal and
+    // whole, and true for the service, what it shows is what is seen of the lone runs, and none of those that are over has a transfer
+    // in flight. The sink took the command's text.
     ensures machine { is_some result.machine ≡ is_kept (map string_bytes words.now) result.status }
     ensures ended { result.status ≡ Status.Done
         → ReadsAll (command (map string_bytes words.now)) (S.left source.new) }
     ensures done { result.status ≡ Status.Done → IfSome (S.left source.old)
-        (λ bytes. IsDoneBy (command (map string_bytes words.now)) bytes result.machine
+        (λ bytes. IsDoneBy (F.post service.now) (command (map string_bytes words.now)) bytes result.machine
         (K.written sink.old) (K.written sink.new)) }
     ensures done_untold { result.status ≡ Status.Done → (bytes : List ℕ)
         × Advances (S.left source.old) bytes (S.left source.new)
-        × IsDoneBy (command (map string_bytes words.now)) bytes result.machine
+        × IsDoneBy (F.post service.now) (command (map string_bytes words.now)) bytes result.machine
         (K.written sink.old) (K.written sink.new) }
 
     // What is written at the other answers.
-    ensures wrote { Wrote result.status (K.written sink.old) (K.written sink.new) }
+    ensures wrote { Wrote (command (map string_bytes words.now)) result.status (K.written sink.old) (K.written sink.new) }
     ensures front { result.status ≡ Status.WriteFault → IfSome (S.left source.old)
-        (λ bytes. WroteFrontBy (command (map string_bytes words.now)) bytes
+        (λ bytes. WroteFrontBy (F.post service.now) (command (map string_bytes words.now)) bytes
         (K.written sink.old) (K.written sink.new)) }
 
     // A steady source, and a sink with room for the text that is due, don't fail.
     ensures steady_reads { S.steady source.old → result.status ≢ Status.ReadFault }
     ensures steady_count { S.steady source.old → S.faults source.new ≡ S.faults source.old }
     ensures room_writes { IfSome (S.left source.old) (λ bytes. (due : List ℕ)
-        → IsDueFor (map string_bytes words.now) bytes due
+        → IsDueFor (F.post service.now) (map string_bytes words.now) bytes due
         → length due ≤ K.room sink.old → result.status ≢ Status.WriteFault) }
     ensures room_count { IfSome (S.left source.old) (λ bytes. (due : List ℕ)
-        → IsDueFor (map string_bytes words.now) bytes due
+        → IsDueFor (F.post service.now) (map string_bytes words.now) bytes due
         → length due ≤ K.room sink.old → K.faults sink.new ≡ K.faults sink.old) }
     ensures source_counts { S.faults source.old ≤ S.faults source.new }
     ensures sink_counts { K.faults sink.old ≤ K.faults sink.new }
 {
-    answer_words(alloc, words, source, sink)
+    answer_words(alloc, words, source, sink, service)
 }
 
 /// Answers the words of a command, or other words.
-fn answer_words<S: Source, K: Sink>(
+fn answer_words<S: Source, K: Sink, F: Fn(u64) -> u64>(
     alloc: Global,
     words: &[String],
     source: &mut S,
     sink: &mut K,
+    service: &Service<F>,
 ) -> Outcome
-    ensures run { IsRun (command (map string_bytes words.now)) result.status result.machine
+    requires service { IsService (F.pre service.now) (F.post service.now) }
+    ensures run { IsRun (F.post service.now) (command (map string_bytes words.now)) result.status result.machine
         (inlet (S.left source.old) (S.faults source.old)) (inlet (S.left source.new) (S.faults source.new))
         (outlet (K.written sink.old) (K.faults sink.old) (K.room sink.old))
         (outlet (K.written sink.new) (K.faults sink.new) (K.room sink.new)) }
@@ -121,20 +126,22 @@ fn answer_words<S: Source, K: Sink>(
     ensures steady_count { S.steady source.old → S.faults source.new ≡ S.faults source.old }
 {
     match command_of(alloc, words) {
-        Ok(Some(command)) => answer_command(alloc, command, source, sink),
-        Ok(None) => refuse(alloc, Status::Usage, sink),
+        Ok(Some(command)) => answer_command(alloc, command, source, sink, service),
+        Ok(None) => refuse(alloc, None, Status::Usage, sink),
         Err(_) => without_machine(Status::Memory),
     }
 }
 
-/// Answers a command over the job that it reads or makes.
-fn answer_command<S: Source, K: Sink>(
+/// Answers a command over the text that it reads or makes.
+fn answer_command<S: Source, K: Sink, F: Fn(u64) -> u64>(
     alloc: Global,
     command: Command,
     source: &mut S,
     sink: &mut K,
+    service: &Service<F>,
 ) -> Outcome
-    ensures run { IsRun (Some command) result.status result.machine
+    requires service { IsService (F.pre service.now) (F.post service.now) }
+    ensures run { IsRun (F.post service.now) (Some command) result.status result.machine
         (inlet (S.left source.old) (S.faults source.old)) (inlet (S.left source.new) (S.faults source.new))
         (outlet (K.written sink.old) (K.faults sink.old) (K.room sink.old))
         (outlet (K.written sink.new) (K.faults sink.new) (K.room sink.new)) }
@@ -143,22 +150,24 @@ fn answer_command<S: Source, K: Sink>(
     ensures steady_count { S.steady source.old → S.faults source.new ≡ S.faults source.old }
 {
     match command.input() {
-        Input::Read(limit) => answer_read(alloc, command, limit, source, sink),
-        Input::Made(n) => answer_made(alloc, command, n, sink),
+        Input::Read(limit) => answer_read(alloc, command, limit, source, sink, service),
+        Input::Made(n) => answer_made(alloc, command, n, sink, service),
     }
 }
 
-/// Answers a command over the job that it reads, of at most so many bytes.
-fn answer_read<S: Source, K: Sink>(
+/// Answers a command over the text that it reads, of at most so many bytes.
+fn answer_read<S: Source, K: Sink, F: Fn(u64) -> u64>(
     alloc: Global,
     command: Command,
     limit: usize,
     source: &mut S,
     sink: &mut K,
+    service: &Service<F>,
 ) -> Outcome
+    requires service { IsService (F.pre service.now) (F.post service.now) }
     requires input { input_of command ≡ input.Read limit }
     requires within { limit ≤ TEXT_LIMIT }
-    ensures run { IsRun (Some command) result.status result.machine
+    ensures run { IsRun (F.post service.now) (Some command) result.status result.machine
         (inlet (S.left source.old) (S.faults source.old)) (inlet (S.left source.new) (S.faults source.new))
         (outlet (K.written sink.old) (K.faults sink.old) (K.room sink.old))
         (outlet (K.written sink.new) (K.faults sink.new) (K.room sink.new)) }
@@ -166,21 +175,28 @@ fn answer_read<S: Source, K: Sink>(
     ensures steady_count { S.steady source.old → S.faults source.new ≡ S.faults source.old }
 {
     match read_all(alloc, source, limit) {
-        Ok(job_bytes) => answer_text(alloc, command, &job_bytes, sink),
-        Err(ReadEnd::Large) => refuse(alloc, Status::Large, sink),
+        Ok(text) => answer_text(alloc, command, &text, sink, service),
+        Err(ReadEnd::Large) => refuse(alloc, Some(command), Status::Large, sink),
         Err(ReadEnd::Fault) => without_machine(Status::ReadFault),
         Err(ReadEnd::Memory) => without_machine(Status::Memory),
     }
 }
 
 /// Answers a command over the job that it makes from a number.
-fn answer_made<K: Sink>(alloc: Global, command: Command, n: u16, sink: &mut K) -> Outcome
-    ensures { IsGiven (status_of_job (made_text n)) (Some command) (made_text n) result.status result.machine
+fn answer_made<K: Sink, F: Fn(u64) -> u64>(
+    alloc: Global,
+    command: Command,
+    n: u16,
+    sink: &mut K,
+    service: &Service<F>,
+) -> Outcome
+    requires service { IsService (F.pre service.now) (F.post service.now) }
+    ensures { IsGiven (F.post service.now) (IsCalled (F.post service.now) command (made_text n)) (Some command) (made_text n) result.status result.machine
         (outlet (K.written sink.old) (K.faults sink.old) (K.room sink.old))
         (outlet (K.written sink.new) (K.faults sink.new) (K.room sink.new)) }
 {
     match generated(alloc, n) {
-        Ok(job_bytes) => answer_text(alloc, command, &job_bytes, sink),
+        Ok(job_bytes) => answer_text(alloc, command, &job_bytes, sink, service),
         Err(_) => without_machine(Status::Memory),
     }
 }
@@ -195,15 +211,15 @@ fn without_machine(status: Status) -> Outcome
     }
 }
 
-/// Answers why there is no text of a command.
-fn refuse<K: Sink>(alloc: Global, status: Status, sink: &mut K) -> Outcome
+/// Answers why there is no text of a command, or of words that are none.
+fn refuse<K: Sink>(alloc: Global, command: Option<Command>, status: Status, sink: &mut K) -> Outcome
     requires { IsRefusal status }
     ensures machine { result.machine ≡ None }
-    ensures given { (c : Option Asked) (job_bytes : List ℕ) → IsGiven status c job_bytes result.status result.machine
+    ensures refused { IsRefused command status result.status
         (outlet (K.written sink.old) (K.faults sink.old) (K.room sink.old))
         (outlet (K.written sink.new) (K.faults sink.new) (K.room sink.new)) }
 {
-    let Ok(text) = refusal_text(alloc, status) else {
+    let Ok(text) = refusal_text(alloc, limit_by(command), status) else {
         return without_machine(Status::Memory);
     };
     match write_all(sink, &text) {
@@ -212,60 +228,30 @@ fn refuse<K: Sink>(alloc: Global, status: Status, sink: &mut K) -> Outcome
     }
 }
 
-/// Answers a command over the job of these bytes.
-fn answer_text<K: Sink>(alloc: Global, command: Command, job_bytes: &[u8], sink: &mut K) -> Outcome
-    requires { length job_bytes.now ≤ TEXT_LIMIT }
-    ensures { IsGiven (status_of_job job_bytes.now) (Some command) job_bytes.now result.status result.machine
-        (outlet (K.written sink.old) (K.faults sink.old) (K.room sink.old))
-        (outlet (K.written sink.new) (K.faults sink.new) (K.room sink.new)) }
-{
-    match read_job(alloc, job_bytes) {
-        Ok(job) => answer_job(alloc, command, &job, job_bytes.len() as u32, sink),
-        Err(JobError::Fault(fault, line)) => refuse(alloc, Status::Job { fault, line }, sink),
-        Err(JobError::Memory) => without_machine(Status::Memory),
-    }
-}
-
-/// Assembles the decks of a job, and answers a command over it.
-fn answer_job<K: Sink>(
+/// Answers a command over its text.
+fn answer_text<K: Sink, F: Fn(u64) -> u64>(
     alloc: Global,
     command: Command,
-    job: &Job,
-    length: u32,
+    text: &[u8],
     sink: &mut K,
+    service: &Service<F>,
 ) -> Outcome
-    requires { IsJob (shown_job job.now) }
-    ensures { (job_bytes : List ℕ) → job_fault job_bytes ≡ None → IsJobOf job.now length job_bytes
-        → IsGiven (status_of_decks (deck_fault (job_of job_bytes).slots)) (Some command) job_bytes result.status result.machine
+    requires within { length text.now ≤ TEXT_LIMIT }
+    requires service { IsService (F.pre service.now) (F.post service.now) }
+    ensures { IsGiven (F.post service.now) (IsCalled (F.post service.now) command text.now) (Some command) text.now result.status result.machine
         (outlet (K.written sink.old) (K.faults sink.old) (K.room sink.old))
         (outlet (K.written sink.new) (K.faults sink.new) (K.room sink.new)) }
 {
-    match assemble_decks(alloc, &job.slots) {
-        Ok(images) => write_made(make(alloc, command, job, length, &images), sink),
-        Err(DecksError::Fault(slot, fault, place)) => {
-            refuse(alloc, Status::Deck { slot, fault, place }, sink)
-        }
-        Err(DecksError::Memory) => without_machine(Status::Memory),
-    }
-}
-
-/// Writes what a command made of a job.
-fn write_made<K: Sink>(made: Result<Made, AllocError>, sink: &mut K) -> Outcome
-    ensures { (c : Asked) (job_bytes : List ℕ) → job_fault job_bytes ≡ None → deck_fault (job_of job_bytes).slots ≡ None
-        → IfOk made (λ x. IsMade c job_bytes x.text.items x.machine)
-        → IsGiven Status.Done (Some c) job_bytes result.status result.machine
-        (outlet (K.written sink.old) (K.faults sink.old) (K.room sink.old))
-        (outlet (K.written sink.new) (K.faults sink.new) (K.room sink.new)) }
-{
-    let Ok(Made { text: due, machine }) = made else {
-        return without_machine(Status::Memory);
-    };
-    match write_all(sink, &due) {
-        Ok(()) => Outcome {
-            status: Status::Done,
-            machine,
+    match make(alloc, command, text, service) {
+        Ok(Made { text: due, machine }) => match write_all(sink, &due) {
+            Ok(()) => Outcome {
+                status: Status::Done,
+                machine,
+            },
+            Err(_) => give_up(machine),
         },
-        Err(_) => give_up(machine),
+        Err(MakeError::Refused(status)) => refuse(alloc, Some(command), status, sink),
+        Err(MakeError::Memory) => without_machine(Status::Memory),
     }
 }
 

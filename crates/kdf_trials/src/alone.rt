@@ -15,7 +15,7 @@ use std::test::Fail;
 /// device 1.
 type Seen = (u32, u16, bool, (usize, [u64; 3]), usize, u32);
 
-/// The deck of a program, the line of its device, what it is answered, how many orders it may obey,
+/// The deck of a program, a line that follows it, what it is answered, how many orders it may obey,
 /// and what is seen then.
 type Case = (&'static str, &'static str, &'static [u64], u32, Seen);
 
@@ -24,6 +24,9 @@ const TIMES: &str = "PROGRAM; SET 9; OUT; SET 9; OUT; SET 9; OUT; ZERO; OUT; FIN
 
 /// Asks whether an area is locked out, for the time, and for the area again.
 const AREAS: &str = "PROGRAM V0; V0=Q0/0/5; V0; =Q1; TLOQ1; SET 9; OUT; TLOQ1; ZERO; OUT; FINISH;";
+
+/// Asks an installation's service about 7.
+const SERVED: &str = "PROGRAM; SET 7; SETB100; OUT; ZERO; OUT; FINISH;";
 
 /// Want memory in each round of a loop.
 const PUNCHES: &str = "PROGRAM V1; V0=Q0/32/33; V1=PAB|CD; SET 1; SET 5; OUT; V0; =Q1; =C1; \
@@ -64,6 +67,22 @@ const CASES: &[Case] = &[
         100,
         (9, 27, false, (1, [50, 0, 0]), 0, 0),
     ),
+    // The answer of a service, which has 48 bits; it is asked only where the slot is served.
+    (
+        SERVED,
+        "SERVICE\n",
+        &[1 << 48 | 5],
+        100,
+        (6, 15, false, (1, [5, 0, 0]), 0, 0),
+    ),
+    (
+        SERVED,
+        "SERVICE\n",
+        &[],
+        100,
+        (6, 15, false, (1, [0, 0, 0]), 0, 0),
+    ),
+    (SERVED, "", &[5], 100, (4, 12, false, (2, [64, 7, 0]), 0, 0)),
     (
         PUNCHES,
         "DEVICE 1 TP\n",
@@ -90,9 +109,9 @@ const CASES: &[Case] = &[
 
 /// A program as it is loaded from the slot of a job, whose deck has no fault.
 fn load(rt: &impl Abort, alloc: Global, case: &Case) -> Result<Alone, AllocError> {
-    let (deck, device) = (case.0, case.1);
+    let (deck, line) = (case.0, case.1);
     let text = format!(in alloc;
-        "KDF9 JOB 1\nSLOT 0\nSTORE 64\nDECK\n{deck}\nENDDECK\n{device}SCHEDULE\nENDJOB\n"
+        "KDF9 JOB 1\nSLOT 0\nSTORE 64\nDECK\n{deck}\nENDDECK\n{line}SCHEDULE\nENDJOB\n"
     )?;
     assert!(rt; text.len() < 1000);
     let Ok(job) = read_job(alloc, text.as_bytes()) else {

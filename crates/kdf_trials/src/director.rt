@@ -11,6 +11,7 @@ use kdf_journal::CALL_LIMIT;
 use kdf_place::{Image, assemble};
 use kdf_processor::Need;
 use kdf_report::journal_text;
+use kdf_service::Service;
 use kdf_usercode::read_deck;
 use std::alloc::{AllocError, Global};
 use std::process::Abort;
@@ -91,9 +92,10 @@ pub fn image_of(rt: &impl Abort, alloc: Global, slot: &SlotJob) -> Result<Image,
 
 /// One call for each of these answers.
 fn expect(rt: &impl Abort, machine: &mut Machine, due: &[Progress]) -> Result<(), AllocError> {
+    let service = Service::new(|word: u64| word);
     for progress in due {
         assert!(rt; machine.journal().calls() < CALL_LIMIT);
-        assert!(rt; machine.order()? == *progress);
+        assert!(rt; machine.order_with(&service)? == *progress);
     }
     Ok(())
 }

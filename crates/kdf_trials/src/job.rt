@@ -8,11 +8,11 @@ use kdf_text::Lines;
 use kdf_transfer::Device;
 use std::test::Fail;
 
-/// A job with all kinds of devices and events, and a pool.
+/// A job with all kinds of devices and events, a slot that is served, and a pool.
 const JOB: &str = "KDF9 JOB 1\nSLOT 1\nSTORE 64\nDECK\nA;\n\n ENDDECK\nENDDECK\n\
     DEVICE 0 TR\n+\n+AB\n+C 1\nDEVICE 5 CR\n+\n+AB\nDEVICE 6 TP\nDEVICE 15 LP\n\
     DEVICE 7 MT TAPE7\n+A\n=12345678\nSHOW 0 63\nSHOW 5 5\n\
-    SLOT 3\nSTORE 8192\nDECK\nENDDECK\nDEVICE 8 MT TAPE7\nDEVICE 9 MT A\nDEVICE 1 TR\n\
+    SLOT 3\nSTORE 8192\nDECK\nENDDECK\nSERVICE\nDEVICE 8 MT TAPE7\nDEVICE 9 MT A\nDEVICE 1 TR\n\
     POOL\nDEVICE 2 TP\nDEVICE 10 LP\n\
     SCHEDULE\nCLOCK 7\nORDERS 20\nMOVE 3 9\nEND 14\nSWAP 3 0\nENDJOB";
 
@@ -69,6 +69,7 @@ fn a_job_is_read(rt: HostRuntime) -> Result<(), Fail> {
             assert!(rt; slot.device(*d).map(|device| device.kind()) == Some(row.2));
         }
         assert!(rt; slot.pool.as_slice() == LENT, "of slot {}", slot.p);
+        assert!(rt; slot.served == (slot.p == 3), "of slot {}", slot.p);
         if slot.p == 1 {
             assert!(rt; slot.size == 64 && slot.deck.as_slice() == b"A;\n\n ENDDECK\n".as_slice());
             assert!(rt; slot.shows.as_slice() == [(0, 63), (5, 5)].as_slice());

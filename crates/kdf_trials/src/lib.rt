@@ -5,6 +5,8 @@
 #[cfg(test)]
 mod alone;
 #[cfg(test)]
+mod check;
+#[cfg(test)]
 mod code;
 #[cfg(test)]
 mod decode;
@@ -38,6 +40,8 @@ mod relocate;
 mod schedule;
 #[cfg(test)]
 mod service;
+#[cfg(test)]
+mod snapshot;
 #[cfg(test)]
 mod syllable;
 #[cfg(test)]

@@ -20,6 +20,7 @@ use kdf_place::Image;
 use kdf_processor::Life;
 use kdf_report::{alone_text, sections};
 use kdf_schedule::Event;
+use kdf_service::Service;
 use std::alloc::{AllocError, Global};
 use std::fmt::Write;
 use std::process::Abort;
@@ -63,7 +64,11 @@ fn job_text(alloc: Global, shared: &Shared, k: u32) -> Result<String, AllocError
 }
 
 /// The image of each slot's deck; none of them has a fault.
-fn images_of(rt: &impl Abort, alloc: Global, slots: &[SlotJob]) -> Result<Vec<Image>, AllocError>
+pub fn images_of(
+    rt: &impl Abort,
+    alloc: Global,
+    slots: &[SlotJob],
+) -> Result<Vec<Image>, AllocError>
     ensures { IfOk result (λ images. HaveImages (map shown_slot slots.now)
         (map (λ (x : Made). x.words.items) images.items)) }
 {
@@ -88,9 +93,10 @@ pub fn slot_at(job: &Job, place: usize) -> &SlotJob
 fn obey(rt: &impl Abort, machine: &mut Machine, orders: u32) -> Result<(), AllocError>
     ensures { machine.new.slots ≡ machine.old.slots }
 {
+    let service = Service::new(|word: u64| word);
     for _i in 0..orders {
         assert!(rt; machine.journal().calls() < CALL_LIMIT);
-        machine.order()?;
+        machine.order_with(&service)?;
     }
     Ok(())
 }

@@ -1,11 +1,14 @@
 //! Whole calls over memory: each answer, and what is written at it.
 ghost use Rattle.std.specs.Prelude.{◌≤◌};
+ghost use Rattle.kdf_service.specs.Rules.{IsService};
 
 mod commands;
 mod outside;
+mod services;
 
 use kdf_io::{MemorySink, MemorySource};
-use kdf_top::{Status, run};
+use kdf_service::Service;
+use kdf_top::{Status, run_with};
 use std::alloc::{AllocError, Global};
 use std::process::Abort;
 
@@ -37,7 +40,7 @@ const REPORT: &str = "KDF9 REPORT 1\n\
 /// Commands that read a job.
 const READING: [&[&str]; 3] = [&["run"], &["alone", "0"], &["asm", "0"]];
 
-const USAGE: &str = "USAGE kdf9 run, alone K, asm K, make N\n";
+const USAGE: &str = "USAGE kdf9 run, alone K, asm K, make N, save, resume, check\n";
 
 /// Words, and a source and a sink: how many bytes a read gives at most, which reads fail, for how
 /// many bytes there is room, how many a put takes at most, and which puts fail.
@@ -65,9 +68,21 @@ fn whole<'a>(words: &'a [&'a str], job: &'a [u8]) -> Call<'a> {
     }
 }
 
-/// What a call answers, and what it writes. Of the commands `run` and `make` keep the machine where
-/// they are done.
+/// What a call answers, and what it writes, where a service answers 0.
 fn answer(rt: &impl Abort, alloc: Global, call: &Call) -> Result<(Status, Vec<u8>), AllocError> {
+    let service = Service::new(|_word: u64| 0);
+    answer_with(rt, alloc, call, &service)
+}
+
+/// What a call answers, and what it writes. Commands that run a job under Director keep the machine where they are done.
+fn answer_with<F: Fn(u64) -> u64>(
+    rt: &impl Abort,
+    alloc: Global,
+    call: &Call,
+    service: &Service<F>,
+) -> Result<(Status, Vec<u8>), AllocError>
+    requires { IsService (F.pre service.now) (F.post service.now) }
+{
     let mut words = Vec::new(alloc);
     for word in call.words {
         words.push(String::from_str(alloc, word)?)?;
@@ -77,9 +92,12 @@ fn answer(rt: &impl Abort, alloc: Global, call: &Call) -> Result<(Status, Vec<u8
     let mut source = MemorySource::new(bytes, call.most, Vec::from_slice(alloc, call.fail)?);
     let put_fail = Vec::from_slice(alloc, call.put_fail)?;
     let mut sink = MemorySink::new(alloc, call.room, call.put_most, put_fail)?;
-    let outcome = run(alloc, &words, &mut source, &mut sink);
+    let outcome = run_with(alloc, &words, &mut source, &mut sink, service);
     let status = outcome.status;
-    let keeps = matches!(call.words.first(), Some(&"run" | &"make"));
+    let keeps = matches!(
+        call.words.first(),
+        Some(&"run" | &"save" | &"resume" | &"make")
+    );
     assert!(rt; outcome.machine.is_some() == (keeps && status == Status::Done));
     outcome.close();
     Ok((status, Vec::from_slice(alloc, sink.bytes())?))

@@ -1,5 +1,5 @@
 //! Laws of journals of programs whose transfers take their time, each the contract of a function that does nothing. In
-//! each of them `slots` are those that are loaded, and `J` is a journal.
+//! each of them `slots` are those that are loaded, `J` is a journal, and `heard` is what a program heard of the service, if it asked it.
 ghost use Rattle.std.specs.Prelude.{◌≡◌, ◌≢◌, ℕ, ◌-◌, ◌≤◌, List, [], ◌∷◌, ◌++◌, Some, None, false, true, is_some, length, min, not, slice_set, take};
 ghost use Rattle.kdf_journal.specs.declared.entry.Entry.{Entry};
 ghost use Rattle.kdf_journal.specs.declared.kind.Kind.{Kind};
@@ -7,7 +7,7 @@ ghost use Rattle.kdf_journal.specs.Counts.{Hold, answers, moved, over, pending, 
 ghost use Rattle.kdf_journal.specs.Steps.{Note, Step, Obeys, Holds, Waits, Moves, Ends, Sets, Swaps};
 ghost use Rattle.kdf_journal.specs.Steps.{added, journal_of, steps};
 ghost use Rattle.kdf_schedule.specs.declared.event.Event.{Event};
-ghost use Rattle.kdf_schedule.specs.Calls.{Call, calls_made};
+ghost use Rattle.kdf_schedule.specs.Calls.{Call};
 ghost use Rattle.kdf_transfer.specs.AtOnce.{written};
 ghost use Rattle.kdf_processor.specs.declared.step.Need.TheVariants.{Pool};
 ghost use Rattle.kdf_processor.specs.Claims.{taken};
@@ -18,70 +18,38 @@ ghost use Rattle.kdf_processor.specs.Row.{row};
 ghost use Rattle.kdf_transfer.specs.Slots.{Slot};
 ghost use Rattle.kdf_processor.specs.State.{device_in, is_pooled};
 ghost use Rattle.kdf_director.specs.Course.{lone_step_at, step_at};
-ghost use Rattle.kdf_course.specs.Cut.{cut};
 ghost use Rattle.kdf_director.specs.Flights.{Flight, completed, flights_after, mine_of, move_count};
 ghost use Rattle.kdf_director.specs.Flights.{unmoved, with_flight};
 ghost use Rattle.kdf_director.specs.Flying.{AreFlying};
-ghost use Rattle.kdf_director.specs.Follows.{Follows, IsJournal, IsRising, IsWhole};
+ghost use Rattle.kdf_director.specs.Follows.{IsRising};
 ghost use Rattle.kdf_director.specs.Holders.{has_mark, is_taker};
 ghost use Rattle.kdf_director.specs.Legal.{note_of, IsLegal, IsTrue, Meets};
 ghost use Rattle.kdf_director.specs.Next.{next};
 ghost use Rattle.kdf_director.specs.Seen.{begun_row, with_both, with_store};
-ghost use Rattle.kdf_director.specs.Slots.{AreSlots, start};
+ghost use Rattle.kdf_director.specs.Served.{unasked, IsJournalFor};
+ghost use Rattle.kdf_director.specs.Slots.{AreSlots, NoneServed, start};
 ghost use Rattle.kdf_director.specs.Told.{flights_of, further, is_of, is_pending_after, lone_world, mine_after, own};
 ghost use Rattle.kdf_director.specs.Told.{own_after, seen_of, seen_world};
 ghost use Rattle.kdf_director.specs.True.{truth};
 ghost use Rattle.kdf_director.specs.World.{first_need};
 
-/// Slots have at most one journal under a schedule.
-pub fn one_journal()
-    ensures { (slots : List Slot) (events : List Event) (J K : List Entry)
-        → IsJournal slots events J → IsJournal slots events K → J ≡ K }
-{}
-
-/// Slots have a journal under each schedule that doesn't set the clock back and exchanges slots alone.
+/// Slots of which none is served have a journal under each schedule that doesn't set the clock back and exchanges slots alone.
 pub fn a_journal()
-    ensures { (slots : List Slot) (events : List Event) → IsRising 0 events
-        → (J : List Entry) × IsJournal slots events J }
-{}
-
-/// A schedule may be cut anywhere, also in the middle of an event of orders: of the journal of the slots, what answers the
-/// calls before the cut is their journal under those calls.
-pub fn cut()
-    ensures legal { (slots : List Slot) (n : ℕ) (J : List Entry) → IsLegal slots J → IsLegal slots (cut n J) }
-    ensures truly { (slots : List Slot) (n : ℕ) (J : List Entry) → IsTrue slots J → IsTrue slots (cut n J) }
-    ensures whole { (slots : List Slot) (events : List Event) (before later : List Call) (J : List Entry)
-        → IsJournal slots events J → calls_made events ≡ before ++ later →
-        IsWhole slots before (cut (length before) J) }
-    ensures journal { (slots : List Slot) (events earlier : List Event) (later : List Call) (J : List Entry)
-        → IsJournal slots events J → calls_made events ≡ calls_made earlier ++ later →
-        IsJournal slots earlier (cut (length (calls_made earlier)) J) }
-{}
-
-/// Read singly, the journal of a schedule is the beginning of that of a longer one.
-pub fn resumed()
-    ensures { (slots : List Slot) (events further : List Event) (J K : List Entry) →
-        IsJournal slots events J → IsJournal slots (events ++ further) K →
-        (Q : List Step) × (steps K ≡ Q ++ steps J) }
-{}
-
-/// And so is each legal and true journal that follows a schedule up to somewhere, of the schedule's whole one.
-pub fn stopped_run()
-    ensures { (slots : List Slot) (events : List Event) (left : List Call) (J K : List Entry) →
-        IsLegal slots J → IsTrue slots J → Follows slots (calls_made events) left J →
-        IsJournal slots events K → (Q : List Step) × (steps K ≡ Q ++ steps J) }
+    ensures { (slots : List Slot) (events : List Event) → NoneServed slots → IsRising 0 events
+        → (J : List Entry) × IsJournalFor unasked slots events J }
 {}
 
 /// A journal without entries is legal and true, and each program is then at its start, with no transfer. A legal and true
-/// journal stays so with a step that meets the rules and is true, and a legal one was legal at each moment before.
+/// journal stays so with a step that meets the rules and is true, whatever is heard of the service, and a legal one was legal at each
+/// moment before.
 pub fn legal_step()
     ensures empty { (slots : List Slot) → IsLegal slots [] × IsTrue slots [] }
     ensures start { (slots : List Slot) (p : ℕ) → own slots [] p ≡ start slots p }
     ensures idle { (slots : List Slot) (p d : ℕ) → flights_of slots [] p d ≡ None }
-    ensures longer { (slots : List Slot) (J : List Entry) (s : Step) → IsLegal slots J →
-        Meets (lone_world slots J) slots J s → IsLegal slots (added J s) }
-    ensures truly { (slots : List Slot) (J : List Entry) (s : Step) → IsLegal slots J → IsTrue slots J →
-        Meets (lone_world slots J) slots J s → IsTrue slots (added J s) }
+    ensures longer { (slots : List Slot) (J : List Entry) (heard : ℕ) (s : Step) → IsLegal slots J →
+        Meets (lone_world slots J) slots J heard s → IsLegal slots (added J s) }
+    ensures truly { (slots : List Slot) (J : List Entry) (heard : ℕ) (s : Step) → IsLegal slots J → IsTrue slots J →
+        Meets (lone_world slots J) slots J heard s → IsTrue slots (added J s) }
     ensures before { (slots : List Slot) (s : Step) (P : List Step) →
         IsLegal slots (journal_of (s ∷ P)) → IsLegal slots (journal_of P) }
 {}
@@ -124,29 +92,29 @@ pub fn judged_alike()
     ensures note { (slots : List Slot) (J : List Entry) (p : ℕ) (answer : Question → ℕ) →
         first_need (lone_world slots J) p ≡ None
         → note_of (seen_of slots J p) answer ≡ note_of (own slots J p) answer }
-    ensures step { (slots : List Slot) (J : List Entry) (s : Step) →
-        Meets (seen_world slots J) slots J s → Meets (lone_world slots J) slots J s }
-    ensures call { (slots : List Slot) (J : List Entry) (c : Call) →
-        step_at (seen_world slots J) slots J c ≡ lone_step_at slots J c }
+    ensures step { (slots : List Slot) (J : List Entry) (heard : ℕ) (s : Step) →
+        Meets (seen_world slots J) slots J heard s → Meets (lone_world slots J) slots J heard s }
+    ensures call { (slots : List Slot) (J : List Entry) (heard : ℕ) (c : Call) →
+        step_at (seen_world slots J) slots J heard c ≡ lone_step_at slots J heard c }
 {}
 
 /// A program that obeys makes a row of its next order, where a transfer only begins: of its lone state, of its transfers
 /// in flight, and of what is seen. Of every other program nothing changes.
 pub fn order_obeyed()
-    ensures own { (slots : List Slot) (J : List Entry) (p : ℕ) (note : Note) → IsLegal slots J →
-        Meets (lone_world slots J) slots J (Obeys p note) →
+    ensures own { (slots : List Slot) (J : List Entry) (p heard : ℕ) (note : Note) → IsLegal slots J →
+        Meets (lone_world slots J) slots J heard (Obeys p note) →
         own slots (added J (Obeys p note)) p
-        ≡ row (own slots J p) (truth (lone_world slots J) J p) }
-    ensures flights { (slots : List Slot) (J : List Entry) (p : ℕ) (note : Note) → AreSlots slots →
-        IsLegal slots J → Meets (lone_world slots J) slots J (Obeys p note) →
+        ≡ row (own slots J p) (truth (lone_world slots J) J p heard) }
+    ensures flights { (slots : List Slot) (J : List Entry) (p heard : ℕ) (note : Note) → AreSlots slots →
+        IsLegal slots J → Meets (lone_world slots J) slots J heard (Obeys p note) →
         flights_of slots (added J (Obeys p note)) p
         ≡ flights_after (flights_of slots J p) (own slots J p) (next_effect (own slots J p)) }
-    ensures seen { (slots : List Slot) (J : List Entry) (p : ℕ) (note : Note) → AreSlots slots →
-        IsLegal slots J → Meets (lone_world slots J) slots J (Obeys p note) →
+    ensures seen { (slots : List Slot) (J : List Entry) (p heard : ℕ) (note : Note) → AreSlots slots →
+        IsLegal slots J → Meets (lone_world slots J) slots J heard (Obeys p note) →
         seen_of slots (added J (Obeys p note)) p
-        ≡ begun_row (seen_of slots J p) (truth (lone_world slots J) J p) }
-    ensures others { (slots : List Slot) (J : List Entry) (p q : ℕ) (note : Note) → AreSlots slots →
-        IsLegal slots J → Meets (lone_world slots J) slots J (Obeys p note) → p ≢ q →
+        ≡ begun_row (seen_of slots J p) (truth (lone_world slots J) J p heard) }
+    ensures others { (slots : List Slot) (J : List Entry) (p q heard : ℕ) (note : Note) → AreSlots slots →
+        IsLegal slots J → Meets (lone_world slots J) slots J heard (Obeys p note) → p ≢ q →
         (own slots (added J (Obeys p note)) q ≡ own slots J q)
         × (flights_of slots (added J (Obeys p note)) q ≡ flights_of slots J q) }
 {}
@@ -217,9 +185,9 @@ pub fn holders()
     ensures held { (slots : List Slot) (J : List Entry) (p d : ℕ) → AreSlots slots → IsLegal slots J →
         IsTrue slots J → is_pooled (own slots J p).stock.claims d ≡ true → not (over p J) ≡ true
         → has_mark (own slots J p) d ≡ is_taker p (taker d J) }
-    ensures taken { (slots : List Slot) (J : List Entry) (p : ℕ) (kind : Kind) → AreSlots slots →
+    ensures taken { (slots : List Slot) (J : List Entry) (p heard : ℕ) (kind : Kind) → AreSlots slots →
         IsLegal slots J → IsTrue slots J → not (over p J) ≡ true →
         is_pending_after slots J p (Pool kind) ≡ false
-        → taken (own slots J p).stock.claims kind (truth (lone_world slots J) J p (FreeOf kind))
-        ≡ truth (lone_world slots J) J p (FreeOf kind) }
+        → taken (own slots J p).stock.claims kind (truth (lone_world slots J) J p heard (FreeOf kind))
+        ≡ truth (lone_world slots J) J p heard (FreeOf kind) }
 {}

@@ -10,8 +10,8 @@ ghost use Rattle.kdf_course.specs.Legal.{Noted};
 ghost use Rattle.kdf_service.specs.Rules.{IsService};
 ghost use Rattle.kdf_transfer.specs.Slots.{Slot};
 ghost use Rattle.kdf_director.specs.Follows.{Follows, IsWhole};
-ghost use Rattle.kdf_director.specs.Legal.{IsLegal};
-ghost use Rattle.kdf_director.specs.Served.{is_true_for, IsJournalFor, IsTrueFor};
+ghost use Rattle.kdf_director.specs.Legal.{IsLegal, IsTrue};
+ghost use Rattle.kdf_director.specs.Served.{is_true_for, unasked, IsAnswered, IsJournalFor, IsTrueFor};
 
 /// With a service, slots have at most one journal under a schedule.
 pub fn one_journal<F: Fn(u64) -> u64>()
@@ -23,6 +23,7 @@ pub fn one_journal<F: Fn(u64) -> u64>()
 /// A schedule may be cut anywhere, also in the middle of an event of orders: of the journal of the slots with a service, what
 /// answers the calls before the cut is their journal under those calls.
 pub fn cut<F: Fn(u64) -> u64>()
+    ensures legal { (slots : List Slot) (n : ℕ) (J : List Entry) → IsLegal slots J → IsLegal slots (cut n J) }
     ensures truly { (rule : F) (slots : List Slot) (n : ℕ) (J : List Entry) →
         IsTrueFor (F.post rule) slots J → IsTrueFor (F.post rule) slots (cut n J) }
     ensures whole { (rule : F) (slots : List Slot) (events : List Event) (before later : List Call)
@@ -51,10 +52,19 @@ pub fn stopped_run<F: Fn(u64) -> u64>()
 {}
 
 /// A journal without entries is true for every service. One that is true for a service stays so with a step that no order makes, and
-/// with an order whose answer, if it asks, is one of the service's or the true one.
+/// with an order whose answer, if it asks, is one of the service's or the true one; and so with each call of a machine. It is true also as
+/// far as no service counts. Where no order asked the service, it is true for every service.
 pub fn true_step<F: Fn(u64) -> u64>()
     ensures empty { (rule : F) (slots : List Slot) → IsTrueFor (F.post rule) slots [] }
     ensures longer { (rule : F) (slots : List Slot) (J : List Entry) (s : Step) → IsLegal slots J →
         IsTrueFor (F.post rule) slots J → Noted (is_true_for (F.post rule) slots J) s →
         IsTrueFor (F.post rule) slots (added J s) }
+    ensures answered { (rule : F) (slots : List Slot) (J K : List Entry) → IsLegal slots J →
+        IsTrueFor (F.post rule) slots J → IsAnswered (F.post rule) slots J K → IsTrueFor (F.post rule) slots K }
+    ensures truly { (rule : F) (slots : List Slot) (J : List Entry) →
+        IsTrueFor (F.post rule) slots J → IsTrue slots J }
+    ensures every { (rule : F) (slots : List Slot) (J : List Entry) →
+        IsTrueFor unasked slots J → IsTrueFor (F.post rule) slots J }
+    ensures unanswered { (rule : F) (slots : List Slot) (J K : List Entry) →
+        IsAnswered unasked slots J K → IsAnswered (F.post rule) slots J K }
 {}

@@ -4,8 +4,11 @@ use std::alloc::{AllocError, Global};
 use std::test::Fail;
 
 /// The commands.
-const COMMANDS: [(&[&str], Command); 13] = [
+const COMMANDS: [(&[&str], Command); 16] = [
     (&["run"], Command::Run),
+    (&["save"], Command::Save),
+    (&["resume"], Command::Resume),
+    (&["check"], Command::Check),
     (&["alone", "0"], Command::Alone(0)),
     (&["alone", "1"], Command::Alone(1)),
     (&["alone", "2"], Command::Alone(2)),
@@ -110,12 +113,9 @@ const OTHER_VALUES: [&[&str]; 25] = [
 ];
 
 /// Names of commands that this program hasn't.
-const NO_COMMANDS: [&[&str]; 14] = [
-    &["check"],
+const NO_COMMANDS: [&[&str]; 11] = [
     &["check", "0"],
-    &["save"],
     &["save", "0"],
-    &["resume"],
     &["resume", "0"],
     &["watch", "0"],
     &["watch", "0", "0"],
@@ -136,8 +136,11 @@ fn command(alloc: Global, list: &[&str]) -> Result<Option<Command>, AllocError> 
 }
 
 /// What is read, or made.
-const INPUTS: [(Command, Input); 4] = [
+const INPUTS: [(Command, Input); 7] = [
     (Command::Run, Input::Read(4_194_304)),
+    (Command::Save, Input::Read(4_194_304)),
+    (Command::Resume, Input::Read(268_435_456)),
+    (Command::Check, Input::Read(268_435_456)),
     (Command::Alone(3), Input::Read(4_194_304)),
     (Command::Asm(0), Input::Read(4_194_304)),
     (Command::Make(7), Input::Made(7)),

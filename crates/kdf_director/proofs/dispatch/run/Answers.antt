@@ -1,5 +1,5 @@
-use Rattle.std.proofs.Common.{◌≡◌, map, ap, ap₂, ◌∙◌, subst}
-use Rattle.kdf_director.specs.Parts.{Reach, Seat, Shared, reach, reach_of, seat, seat_of, shared_in, window_at}
+use Rattle.std.proofs.Common.{◌≡◌, map, ap, subst}
+use Rattle.kdf_director.specs.Parts.{Reach, Seat, Shared, reach, reach_of, seat, seat_of, shared_in}
 use Rattle.kdf_director.specs.Stints.{keeping_of}
 use Rattle.kdf_director.specs.Turned.{HasTried}
 use Rattle.kdf_director.proofs.Retired.{run_by}
@@ -7,10 +7,8 @@ use Rattle.kdf_director.proofs.dispatch.run.Goals as goal
 use Rattle.kdf_director.proofs.dispatch.run.Goals.{After-try_next}
 
 -- what the slot reaches
-reached : (c : After-try_next) → reach c.window_of-window.result c.deref.result.now c.deref-2.result.now c.args.slot.now.served ≡ reach_of c.args.windows.now c.args.slot.now
-reached c =
-    ap₂ (λ w ds. reach w ds c.deref-2.result.now c.args.slot.now.served) c.window_of-window.ensures c.deref.ensures.value
-    ∙ ap (λ ps. reach (window_at c.args.windows.now c.args.slot.now.p) c.args.slot.now.devices.items ps c.args.slot.now.served) c.deref-2.ensures.value
+reached : (c : After-try_next) → reach c.window_of-window.result c.args.slot.now ≡ reach_of c.args.windows.now c.args.slot.now
+reached c = ap (λ w. reach w c.args.slot.now) c.window_of-window.ensures
 
 pub returns-clause-ran : goal.returns-clause-ran
 returns-clause-ran c =
@@ -19,6 +17,6 @@ returns-clause-ran c =
     let s : Shared = shared_in c.args.store.now c.args.places.now.items in
     let mid : Seat = seat c.args.program.now.p c.try_next.new.registers c.try_next.new.claimed c.try_next.new.spooled.items (map keeping_of c.try_next.new.stints.items) in
     let between : Shared = shared_in c.try_next.new.store c.try_next.new.places.items in
-    run_by (reach_of c.args.windows.now c.args.slot.now) c.args.time before s mid between _ _ c.in_ok-tried.tried.0 c.in_ok-tried.tried.1
-    (subst (λ (r : Reach). HasTried r c.args.time before s mid between c.in_ok-tried.tried.0 c.in_ok-tried.tried.1) (reached at) c.in_ok-tried.ensures.tried)
+    run_by (reach_of c.args.windows.now c.args.slot.now) c.args.moment before s mid between _ _ c.in_ok-tried.tried.0 c.in_ok-tried.tried.1
+    (subst (λ (r : Reach). HasTried r c.args.moment before s mid between c.in_ok-tried.tried.0 c.in_ok-tried.tried.1) (reached at) c.in_ok-tried.ensures.tried)
     (c.settle.ensures.both c.try_next.new.store)

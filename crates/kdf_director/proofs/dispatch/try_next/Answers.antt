@@ -17,8 +17,8 @@ returns-clause-tried c =
     let made = c.new-turn.ensures in
     let kept = c.obey_next.ensures.same in
     if_ok c.obey_next.result _ _
-    (λ x h. ran_back c.new-turn.result c.obey_next.new.turn c.args.p c.args.registers.now c.obey_next.new.registers c.args.claimed.now _ c.args.spooled.now.items _ c.args.stints.now.items _ (reach c.args.window c.args.devices.now c.args.pool.now c.args.served) c.args.time
-    (shared_in c.args.store.now c.args.places.now.items) _ _ x.0 x.1 made.part made.time (lent at) made.note h
+    (λ x h. ran_back c.new-turn.result c.obey_next.new.turn c.args.p c.args.registers.now c.obey_next.new.registers c.args.claimed.now _ c.args.spooled.now.items _ c.args.stints.now.items _ (reach c.args.window c.args.slot.now) c.args.moment
+    (shared_in c.args.store.now c.args.places.now.items) _ _ x.0 x.1 made.part made.moment (lent at) made.note h
     (c.claimed-1.given.1 (sym (kept.claimed ∙ made.same_claimed)))
     (ap (λ v. v.items) (c.spooled-1.given.1 (sym (kept.spooled ∙ made.same_spooled))))
     (ap (λ v. v.items) (c.stints-1.given.1 (sym (kept.stints ∙ made.same_stints))))
@@ -32,7 +32,7 @@ returns-clause-err c =
     let made = c.new-turn.ensures in
     let kept = c.obey_next.ensures.same in
     on_err c.obey_next.result _ _
-    (λ h. left_back c.new-turn.result c.obey_next.new.turn c.args.p c.args.registers.now c.obey_next.new.registers c.args.claimed.now _ c.args.spooled.now.items _ c.args.stints.now.items _ (reach c.args.window c.args.devices.now c.args.pool.now c.args.served)
+    (λ h. left_back c.new-turn.result c.obey_next.new.turn c.args.p c.args.registers.now c.obey_next.new.registers c.args.claimed.now _ c.args.spooled.now.items _ c.args.stints.now.items _ (reach c.args.window c.args.slot.now)
     (shared_in c.args.store.now c.args.places.now.items) _ _ made.part (lent at) h.0 h.1
     (c.claimed-1.given.1 (sym (kept.claimed ∙ made.same_claimed)))
     (ap (λ v. v.items) (c.spooled-1.given.1 (sym (kept.spooled ∙ made.same_spooled))))

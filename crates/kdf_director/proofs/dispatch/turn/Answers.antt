@@ -75,7 +75,7 @@ returns-clause-turned c =
     let at = (goal.at.returns-clause-turned c).After-index_mut in
     if_ok c.run.result _ _
     (λ x h. turned_all c.args.windows.now c.args.slots.now c.args.programs.now.items c.args.i c.requires.there c.requires.slots c.index-slots-i.result c.index_mut.result.now c.index-slots-i.is c.index_mut.ensures.value
-    c.args.time (s at) (shared_in c.run.new.store c.run.new.places.items) c.run.new.program x.0 x.1 c.requires.running (on at) h)
+    c.args.moment (s at) (shared_in c.run.new.store c.run.new.places.items) c.run.new.program x.0 x.1 c.requires.running (on at) h)
     c.run.ensures.ran
 
 pub returns-clause-running : goal.returns-clause-running
@@ -83,7 +83,7 @@ returns-clause-running c =
     let at = (goal.at.returns-clause-running c).After-index_mut in
     on_either c.run.result _ _ _ c.run.ensures.ran c.run.ensures.err
     (λ x h. running_all c.args.windows.now c.args.slots.now c.args.programs.now.items c.args.i c.requires.there c.requires.slots c.index-slots-i.result c.index_mut.result.now c.index-slots-i.is c.index_mut.ensures.value
-    c.args.time (s at) (shared_in c.run.new.store c.run.new.places.items) c.run.new.program x.0 x.1 c.requires.running (on at) h)
+    c.args.moment (s at) (shared_in c.run.new.store c.run.new.places.items) c.run.new.program x.0 x.1 c.requires.running (on at) h)
     (λ h. subst (λ seats. IsRunning (reaches_in c.args.windows.now c.args.slots.now) seats (shared_in c.run.new.store c.run.new.places.items))
     (sym (unturned_all c.args.windows.now c.args.slots.now c.args.programs.now.items c.args.i c.requires.there c.requires.slots c.index-slots-i.result c.index_mut.result.now c.index-slots-i.is c.index_mut.ensures.value c.run.new.program h.0))
     (subst (IsRunning (reaches_in c.args.windows.now c.args.slots.now) (seats_in c.args.programs.now.items)) (sym h.1) c.requires.running))

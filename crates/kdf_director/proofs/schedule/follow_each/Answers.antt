@@ -9,27 +9,28 @@ use Rattle.kdf_director.proofs.Schedules.{no_calls, ended_early, ended_late, one
 use Rattle.kdf_director.proofs.schedule.follow_each.Goals as goal
 
 pub loop-event-init : goal.loop-event-init
-loop-event-init c = record {
+loop-event-init g c = record {
   taken = no_calls c.args.machine.now.slots (steps c.args.machine.now.journal) c.args.events.now;
   few = c.requires.few;
   room = c.requires.room;
   spent = omega arith;
   rises = c.requires.rises;
   same_slots = refl;
+  truly = c.requires.truly;
 }
 
 pub returns-then-not-is_any_live-clause-steps : goal.returns-then-not-is_any_live-clause-steps
-returns-then-not-is_any_live-clause-steps c =
+returns-then-not-is_any_live-clause-steps g c =
     ended_early c.args.machine.now.slots (steps c.args.machine.now.journal) c.args.events.now c.loop-event.event-index c.loop-event.machine.slots c.loop-event.machine.journal
     c.if-not-is_any_live.ensures.legal c.loop-event.invariant.same_slots c.loop-event.invariant.taken (sym c.if-not-is_any_live.ensures.live)
 
 pub returns-clause-steps : goal.returns-clause-steps
-returns-clause-steps c =
+returns-clause-steps g c =
     ended_late c.args.machine.now.slots (steps c.args.machine.now.journal) c.args.events.now c.loop-event.event-index c.loop-event.machine.slots c.loop-event.machine.journal
     c.journal-journal.ensures.legal c.loop-event.invariant.same_slots c.loop-event.invariant.taken (omega arith)
 
 pub loop-event-preserved : goal.loop-event-preserved
-loop-event-preserved c =
+loop-event-preserved g c =
     let lt : c.loop-event.event-index < length c.args.events.now = omega arith in
     record {
       taken =
@@ -40,15 +41,16 @@ loop-event-preserved c =
       spent = omega (arith, c.loop-event.invariant.spent, c.in_ok-make_calls.ensures.room, sum_by-drop_more entries_in c.args.events.now c.loop-event.event-index (Orders 0) lt);
       rises = rw c.in_ok-make_calls.ensures.time (rises-rest (clock c.loop-event.machine.journal) (get_or c.args.events.now c.loop-event.event-index (Orders 0)) _ (rises-from c.args.events.now c.loop-event.event-index (Orders 0) (clock c.loop-event.machine.journal) lt c.loop-event.invariant.rises));
       same_slots = c.in_ok-make_calls.ensures.slots ∙ c.loop-event.invariant.same_slots;
+      truly = c.in_ok-make_calls.ensures.truly;
     }
 
 pub make_calls-requires-clause-room : goal.make_calls-requires-clause-room
-make_calls-requires-clause-room c =
+make_calls-requires-clause-room g c =
     let lt : c.loop-event.event-index < length c.args.events.now = omega arith in
     omega (arith, c.loop-event.invariant.room, sum_by-drop_more entries_in c.args.events.now c.loop-event.event-index (Orders 0) lt)
 
 pub make_calls-requires-clause-rises : goal.make_calls-requires-clause-rises
-make_calls-requires-clause-rises c =
+make_calls-requires-clause-rises g c =
     let lt : c.loop-event.event-index < length c.args.events.now = omega arith in
     rises-first (clock c.loop-event.machine.journal) (get_or c.args.events.now c.loop-event.event-index (Orders 0)) _
     (rises-from c.args.events.now c.loop-event.event-index (Orders 0) (clock c.loop-event.machine.journal) lt c.loop-event.invariant.rises)

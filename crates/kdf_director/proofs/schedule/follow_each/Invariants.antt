@@ -7,13 +7,15 @@ use Rattle.kdf_director.specs.Follows.{IsRising, entries_in}
 use Rattle.kdf_course.specs.Follows.{Reaches}
 use Rattle.kdf_director.specs.Next.{lone_dispatched}
 use Rattle.kdf_director.proofs.schedule.follow_each.Given as goal
+use Rattle.kdf_director.specs.Served.{IsTrueFor}
 
 abbrev pub invariant-loop-event : goal.invariant-loop-event
-invariant-loop-event l = record {
+invariant-loop-event g l = record {
   taken : Reaches (lone_dispatched l.fn.machine.slots) (steps l.fn.machine.journal) (calls_made (take l.event-index l.events)) (steps l.machine.journal);
   few : calls l.machine.journal + order_count (drop l.event-index l.events) ≤ 20000000;
   room : sum_by entries_in (drop l.event-index l.events) ≤ l.machine.room;
   spent : l.fn.machine.room + sum_by entries_in (drop l.event-index l.events) ≤ l.machine.room + sum_by entries_in l.events;
   rises : IsRising (clock l.machine.journal) (drop l.event-index l.events);
   same_slots : l.machine.slots ≡ l.fn.machine.slots;
+  truly : IsTrueFor (λ n a. goal.F-post g l.service n a) l.machine.slots l.machine.journal;
 }

@@ -4,57 +4,70 @@ use Rattle.kdf_schedule.specs.Calls.{AMove, AnEnd, AClock, ASwap}
 use Rattle.kdf_schedule.specs.Events.{IsInRange}
 use Rattle.kdf_director.proofs.Calls.{entered_on, calls-entered, clock-entered}
 use Rattle.kdf_director.proofs.schedule.make_calls.Goals as goal
+use Rattle.kdf_director.proofs.ForService.{true_entered}
 
 pub returns-in-Move-clause-steps : goal.returns-in-Move-clause-steps
-returns-in-Move-clause-steps c = rw c.in-Move.is (entered_on c.args.machine.now c.move_words.new.self (AMove c.in-Move.d c.in-Move.n) (Moves c.in-Move.d c.in-Move.n) c.requires.legal c.requires.live refl c.move_words.ensures.entered)
+returns-in-Move-clause-steps g c = rw c.in-Move.is (entered_on c.args.machine.now c.move_words.new.self (AMove c.in-Move.d c.in-Move.n) (Moves c.in-Move.d c.in-Move.n) c.requires.legal c.requires.live refl c.move_words.ensures.entered)
+
+pub returns-in-Move-clause-truly : goal.returns-in-Move-clause-truly
+returns-in-Move-clause-truly g c = true_entered (λ n a. goal.F-post g c.args.service.now n a) c.args.machine.now c.move_words.new.self (Moves c.in-Move.d c.in-Move.n) c.requires.legal c.requires.truly tt c.move_words.ensures.entered
 
 pub returns-in-Move-clause-calls : goal.returns-in-Move-clause-calls
-returns-in-Move-clause-calls c = rw c.in-Move.is (omega (arith, calls-entered c.args.machine.now c.move_words.new.self (Moves c.in-Move.d c.in-Move.n) c.move_words.ensures.entered))
+returns-in-Move-clause-calls g c = rw c.in-Move.is (omega (arith, calls-entered c.args.machine.now c.move_words.new.self (Moves c.in-Move.d c.in-Move.n) c.move_words.ensures.entered))
 
 pub returns-in-Move-clause-time : goal.returns-in-Move-clause-time
-returns-in-Move-clause-time c = rw c.in-Move.is (clock-entered c.args.machine.now c.move_words.new.self (Moves c.in-Move.d c.in-Move.n) c.move_words.ensures.entered)
+returns-in-Move-clause-time g c = rw c.in-Move.is (clock-entered c.args.machine.now c.move_words.new.self (Moves c.in-Move.d c.in-Move.n) c.move_words.ensures.entered)
 
 pub returns-in-End-clause-steps : goal.returns-in-End-clause-steps
-returns-in-End-clause-steps c = rw c.in-End.is (entered_on c.args.machine.now c.end.new.self (AnEnd c.in-End.d) (Ends c.in-End.d) c.requires.legal c.requires.live refl c.end.ensures.entered)
+returns-in-End-clause-steps g c = rw c.in-End.is (entered_on c.args.machine.now c.end.new.self (AnEnd c.in-End.d) (Ends c.in-End.d) c.requires.legal c.requires.live refl c.end.ensures.entered)
+
+pub returns-in-End-clause-truly : goal.returns-in-End-clause-truly
+returns-in-End-clause-truly g c = true_entered (λ n a. goal.F-post g c.args.service.now n a) c.args.machine.now c.end.new.self (Ends c.in-End.d) c.requires.legal c.requires.truly tt c.end.ensures.entered
 
 pub returns-in-End-clause-calls : goal.returns-in-End-clause-calls
-returns-in-End-clause-calls c = rw c.in-End.is (omega (arith, calls-entered c.args.machine.now c.end.new.self (Ends c.in-End.d) c.end.ensures.entered))
+returns-in-End-clause-calls g c = rw c.in-End.is (omega (arith, calls-entered c.args.machine.now c.end.new.self (Ends c.in-End.d) c.end.ensures.entered))
 
 pub returns-in-End-clause-time : goal.returns-in-End-clause-time
-returns-in-End-clause-time c = rw c.in-End.is (clock-entered c.args.machine.now c.end.new.self (Ends c.in-End.d) c.end.ensures.entered)
+returns-in-End-clause-time g c = rw c.in-End.is (clock-entered c.args.machine.now c.end.new.self (Ends c.in-End.d) c.end.ensures.entered)
 
 pub returns-in-Clock-clause-steps : goal.returns-in-Clock-clause-steps
-returns-in-Clock-clause-steps c = rw c.in-Clock.is (entered_on c.args.machine.now c.clock.new.self (AClock c.in-Clock.t) (Sets c.in-Clock.t) c.requires.legal c.requires.live refl c.clock.ensures.entered)
+returns-in-Clock-clause-steps g c = rw c.in-Clock.is (entered_on c.args.machine.now c.clock.new.self (AClock c.in-Clock.t) (Sets c.in-Clock.t) c.requires.legal c.requires.live refl c.clock.ensures.entered)
+
+pub returns-in-Clock-clause-truly : goal.returns-in-Clock-clause-truly
+returns-in-Clock-clause-truly g c = true_entered (λ n a. goal.F-post g c.args.service.now n a) c.args.machine.now c.clock.new.self (Sets c.in-Clock.t) c.requires.legal c.requires.truly tt c.clock.ensures.entered
 
 pub returns-in-Clock-clause-calls : goal.returns-in-Clock-clause-calls
-returns-in-Clock-clause-calls c = rw c.in-Clock.is (omega (arith, calls-entered c.args.machine.now c.clock.new.self (Sets c.in-Clock.t) c.clock.ensures.entered))
+returns-in-Clock-clause-calls g c = rw c.in-Clock.is (omega (arith, calls-entered c.args.machine.now c.clock.new.self (Sets c.in-Clock.t) c.clock.ensures.entered))
 
 pub returns-in-Clock-clause-time : goal.returns-in-Clock-clause-time
-returns-in-Clock-clause-time c = rw c.in-Clock.is (clock-entered c.args.machine.now c.clock.new.self (Sets c.in-Clock.t) c.clock.ensures.entered)
+returns-in-Clock-clause-time g c = rw c.in-Clock.is (clock-entered c.args.machine.now c.clock.new.self (Sets c.in-Clock.t) c.clock.ensures.entered)
 
 pub returns-in-Swap-clause-steps : goal.returns-in-Swap-clause-steps
-returns-in-Swap-clause-steps c = rw c.in-Swap.is (entered_on c.args.machine.now c.swap.new.self (ASwap c.in-Swap.p c.in-Swap.q) (Swaps c.in-Swap.p c.in-Swap.q) c.requires.legal c.requires.live refl c.swap.ensures.entered)
+returns-in-Swap-clause-steps g c = rw c.in-Swap.is (entered_on c.args.machine.now c.swap.new.self (ASwap c.in-Swap.p c.in-Swap.q) (Swaps c.in-Swap.p c.in-Swap.q) c.requires.legal c.requires.live refl c.swap.ensures.entered)
+
+pub returns-in-Swap-clause-truly : goal.returns-in-Swap-clause-truly
+returns-in-Swap-clause-truly g c = true_entered (λ n a. goal.F-post g c.args.service.now n a) c.args.machine.now c.swap.new.self (Swaps c.in-Swap.p c.in-Swap.q) c.requires.legal c.requires.truly tt c.swap.ensures.entered
 
 pub returns-in-Swap-clause-calls : goal.returns-in-Swap-clause-calls
-returns-in-Swap-clause-calls c = rw c.in-Swap.is (omega (arith, calls-entered c.args.machine.now c.swap.new.self (Swaps c.in-Swap.p c.in-Swap.q) c.swap.ensures.entered))
+returns-in-Swap-clause-calls g c = rw c.in-Swap.is (omega (arith, calls-entered c.args.machine.now c.swap.new.self (Swaps c.in-Swap.p c.in-Swap.q) c.swap.ensures.entered))
 
 pub returns-in-Swap-clause-time : goal.returns-in-Swap-clause-time
-returns-in-Swap-clause-time c = rw c.in-Swap.is (clock-entered c.args.machine.now c.swap.new.self (Swaps c.in-Swap.p c.in-Swap.q) c.swap.ensures.entered)
+returns-in-Swap-clause-time g c = rw c.in-Swap.is (clock-entered c.args.machine.now c.swap.new.self (Swaps c.in-Swap.p c.in-Swap.q) c.swap.ensures.entered)
 
 pub move_words-requires-clause-device : goal.move_words-requires-clause-device
-move_words-requires-clause-device c = let range = subst IsInRange c.in-Move.is c.requires.in_range in omega (arith, range.0)
+move_words-requires-clause-device g c = let range = subst IsInRange c.in-Move.is c.requires.in_range in omega (arith, range.0)
 
 pub move_words-requires-clause-some : goal.move_words-requires-clause-some
-move_words-requires-clause-some c = let range = subst IsInRange c.in-Move.is c.requires.in_range in omega (arith, range.1)
+move_words-requires-clause-some g c = let range = subst IsInRange c.in-Move.is c.requires.in_range in omega (arith, range.1)
 
 pub move_words-requires-clause-few : goal.move_words-requires-clause-few
-move_words-requires-clause-few c = let range = subst IsInRange c.in-Move.is c.requires.in_range in omega (arith, range.2)
+move_words-requires-clause-few g c = let range = subst IsInRange c.in-Move.is c.requires.in_range in omega (arith, range.2)
 
 pub end-requires-clause-device : goal.end-requires-clause-device
-end-requires-clause-device c = let range = subst IsInRange c.in-End.is c.requires.in_range in omega (arith, range)
+end-requires-clause-device g c = let range = subst IsInRange c.in-End.is c.requires.in_range in omega (arith, range)
 
 pub swap-requires-clause-p : goal.swap-requires-clause-p
-swap-requires-clause-p c = let range = subst IsInRange c.in-Swap.is c.requires.in_range in omega (arith, range.0)
+swap-requires-clause-p g c = let range = subst IsInRange c.in-Swap.is c.requires.in_range in omega (arith, range.0)
 
 pub swap-requires-clause-q : goal.swap-requires-clause-q
-swap-requires-clause-q c = let range = subst IsInRange c.in-Swap.is c.requires.in_range in omega (arith, range.1)
+swap-requires-clause-q g c = let range = subst IsInRange c.in-Swap.is c.requires.in_range in omega (arith, range.1)

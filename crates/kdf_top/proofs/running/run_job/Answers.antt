@@ -6,18 +6,18 @@ use Rattle.kdf_top.proofs.Schedules.{entries_bound, rises}
 use Rattle.kdf_top.proofs.running.run_job.Goals as goal
 
 pub load-requires-clause-images : goal.load-requires-clause-images
-load-requires-clause-images c = fitting_images c.args.job.now.slots.items c.args.images.now c.requires.images
+load-requires-clause-images g c = fitting_images c.args.job.now.slots.items c.args.images.now c.requires.images
 
 pub follow-requires-clause-room : goal.follow-requires-clause-room
-follow-requires-clause-room c =
+follow-requires-clause-room g c =
     let bound = entries_bound c.args.job.now.events.items in
     let room = c.in_ok-machine.ensures.room in
     rw c.deref.ensures.value (omega arith)
 
 pub follow-requires-clause-rises : goal.follow-requires-clause-rises
-follow-requires-clause-rises c = rw c.deref.ensures.value (rises 0 c.args.job.now.events.items c.requires.job.schedule.rising c.requires.job.schedule.each)
+follow-requires-clause-rises g c = rw c.deref.ensures.value (rises 0 c.args.job.now.events.items c.requires.job.schedule.rising c.requires.job.schedule.each)
 
 pub returns-in-Ok-clause-slots : goal.returns-in-Ok-clause-slots
-returns-in-Ok-clause-slots c =
+returns-in-Ok-clause-slots g c =
     c.in-Ok.ensures.slots ∙ c.in_ok-machine.ensures.slots
     ∙ ap (λ (xs : List (List ℕ)). loading.slots_of (shown_job c.args.job.now).slots xs) (same_words c.args.job.now.slots.items c.args.images.now c.requires.images)

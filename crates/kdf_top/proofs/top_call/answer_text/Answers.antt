@@ -1,18 +1,34 @@
-use Rattle.std.proofs.Common.{Some, None, arith}
-use Rattle.kdf_top.specs.Answers.{status_of_job}
-use Rattle.kdf_top.proofs.Answering.{given_memory, as_called, by_job_fault}
+use Rattle.std.proofs.Common.{ℕ, Some, subst, sym}
+use Rattle.std.proofs.lemmas.Bool.{false≢true}
+use Rattle.kdf_top.specs.Answers.{IsCalled, IsMade, status_of}
+use Rattle.kdf_top.proofs.Answering.{given_made, given_memory, given_refused, given_write_fault}
+use Rattle.kdf_top.proofs.Called.{one_called}
 use Rattle.kdf_top.proofs.top_call.answer_text.Goals as goal
 
-pub returns-in-Err-Fault : goal.returns-in-Err-Fault
-returns-in-Err-Fault g c =
-    as_called _ _ _ c.args.job_bytes.now _ _ _ _ (by_job_fault c.args.job_bytes.now (Some (c.in-Err-Fault.fault, c.in-Err-Fault.line)) (rw c.in-Err-Fault.field-0-is at c.in-Err-Fault.ensures).fault)
-    (rw c.in-Err-Fault.field-0-is at c.refuse.ensures.given (Some c.args.command) c.args.job_bytes.now)
-
-pub returns-in-Err-Memory : goal.returns-in-Err-Memory
-returns-in-Err-Memory g c =
-    rw (c.without_machine.ensures.status, c.without_machine.ensures.machine) (given_memory (status_of_job c.args.job_bytes.now) _ c.args.job_bytes.now _)
+pub returns-in-Ok-write_all : goal.returns-in-Ok-write_all
+returns-in-Ok-write_all g c =
+    let answers : ℕ → ℕ → Type 0 = λ n a. goal.F-post g c.args.service.now n a in
+    let made : IsMade answers c.args.command c.args.text.now c.deref.result.now c.in-Ok.field-0.machine =
+    subst (λ z. IsMade answers c.args.command c.args.text.now z c.in-Ok.field-0.machine) (sym c.deref.ensures.value) (rw c.in-Ok.is at c.make.ensures.made) in
+    given_made answers c.requires.service.one c.args.command c.args.text.now _ _ made _ _ c.in-Ok-write_all.ensures.all c.write_all.ensures.room_count c.write_all.ensures.never_falls
 
 pub returns-in-Ok : goal.returns-in-Ok
 returns-in-Ok g c =
-    as_called _ _ _ c.args.job_bytes.now _ _ _ _ (by_job_fault c.args.job_bytes.now None c.in-Ok.ensures.ok)
-    (c.answer_job.ensures c.args.job_bytes.now c.in-Ok.ensures.ok (record { told = c.in-Ok.ensures.shown; bytes = omega arith }))
+    let answers : ℕ → ℕ → Type 0 = λ n a. goal.F-post g c.args.service.now n a in
+    let made : IsMade answers c.args.command c.args.text.now c.deref.result.now c.in-Ok.field-0.machine =
+    subst (λ z. IsMade answers c.args.command c.args.text.now z c.in-Ok.field-0.machine) (sym c.deref.ensures.value) (rw c.in-Ok.is at c.make.ensures.made) in
+    rw (c.give_up.ensures.status, c.give_up.ensures.machine)
+    (given_write_fault answers c.requires.service.one c.args.command c.args.text.now _ _ made _ _
+    c.in-Err.ensures.failed c.in-Err.ensures.front (λ h. false≢true (c.in-Err.ensures.room_takes h)) c.write_all.ensures.never_falls)
+
+pub returns-in-Err-Refused : goal.returns-in-Err-Refused
+returns-in-Err-Refused g c =
+    let answers : ℕ → ℕ → Type 0 = λ n a. goal.F-post g c.args.service.now n a in
+    let reason = rw c.in-Err-Refused.field-0-is at (rw c.in-Err-Refused.is at c.make.ensures.reason) in
+    rw c.refuse.ensures.machine
+    (given_refused answers (IsCalled answers c.args.command c.args.text.now) c.in-Err-Refused.status (Some c.args.command) c.args.text.now _ _ _ reason.0 reason.1
+    (λ x called. one_called answers c.requires.service.one c.args.command c.args.text.now (status_of c.args.command c.args.text.now) x c.in-Err-Refused.status called reason.1)
+    c.refuse.ensures.refused)
+
+pub returns : goal.returns
+returns g c = rw (c.without_machine.ensures.status, c.without_machine.ensures.machine) (given_memory _ _ _ _ _)

@@ -1,5 +1,6 @@
-use Rattle.kdf_director.proofs.OneJournal.{a_journal_lem}
+use Rattle.kdf_director.specs.Served.{unasked}
+use Rattle.kdf_director.proofs.ForService.{a_journal_for}
 use Rattle.kdf_director.proofs.laws.journals.a_journal.Goals as goal
 
 pub returns : goal.returns
-returns c = a_journal_lem
+returns c slots events none rises = a_journal_for unasked slots none events rises

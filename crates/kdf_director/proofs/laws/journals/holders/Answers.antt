@@ -5,4 +5,4 @@ pub returns-clause-held : goal.returns-clause-held
 returns-clause-held c slots J p d are l truly pooled live = legal_held slots J are l truly p d pooled live
 
 pub returns-clause-taken : goal.returns-clause-taken
-returns-clause-taken c slots J p kind are l truly live free = legal_taken slots J are l truly p kind live free
+returns-clause-taken c slots J p heard kind are l truly live free = legal_taken slots J are l truly p heard kind live free

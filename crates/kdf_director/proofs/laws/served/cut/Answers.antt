@@ -1,5 +1,9 @@
 use Rattle.kdf_director.proofs.ForService.{journal_for_cut, true_for_cut, whole_for_cut}
+use Rattle.kdf_director.proofs.Judged.{legal_cut}
 use Rattle.kdf_director.proofs.laws.served.cut.Goals as goal
+
+pub returns-clause-legal : goal.returns-clause-legal
+returns-clause-legal g c = legal_cut
 
 pub returns-clause-truly : goal.returns-clause-truly
 returns-clause-truly g c rule slots n J truly = true_for_cut (λ n a. goal.F-post g rule n a) slots n J truly

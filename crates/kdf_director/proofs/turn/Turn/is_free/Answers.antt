@@ -1,4 +1,4 @@
-use Rattle.std.proofs.Common.{get_or, map, false, ap, ◌∙◌}
+use Rattle.std.proofs.Common.{get_or, map, false, ap₂, ◌∙◌}
 use Rattle.std.specs.Prelude.{◌&&◌, not}
 use Rattle.kdf_transfer.specs.Devices.{is_wanted}
 use Rattle.kdf_director.specs.Spots.{spot_at, spot_of}
@@ -12,5 +12,5 @@ pub returns : goal.returns
 returns c =
     let t = c.args.self.now in
     c.is_free.ensures
-    ∙ ap (λ ps. owns (numbers t.devices.now) c.args.d && (not (get_or t.claimed.now c.args.d false) && is_wanted c.args.wanted.now (spot_at (map spot_of ps) c.args.d).fixture)) c.deref.ensures.value
+    ∙ ap₂ (λ ds ps. owns (numbers ds) c.args.d && (not (get_or t.claimed.now c.args.d false) && is_wanted c.args.wanted.now (spot_at (map spot_of ps) c.args.d).fixture)) c.deref.ensures.value c.deref-2.ensures.value
     ∙ free_shown (part_of t) (shared t) c.args.d c.args.wanted.now (kept_in t) c.requires

@@ -59,7 +59,7 @@ invariant_of-self-clause-active c =
     let t = c.args.self.now in
     let at = (goal.at.invariant_of-self-clause-active c).After-take_back_at in
     let by = (goal.at.invariant_of-self-clause-active c).After-hand_in in
-    subst (λ e. IsActiveBy t.p t.window t.devices.now t.pool.now t.served (set t.claimed.now e false) c.hand_in.new.stints.items c.take_back_at.new.places.items) (sym c.from-2.ensures)
+    subst (λ e. IsActiveBy t.p t.window t.slot.now (set t.claimed.now e false) c.hand_in.new.stints.items c.take_back_at.new.places.items) (sym c.from-2.ensures)
     (give_active t c.args.d c.hand_in.new.stints.items c.take_back_at.new.places.items (inside at) (its at) (are by (leaves at)) (shows at))
 
 pub returns : goal.returns
@@ -68,7 +68,7 @@ returns c =
     let at = (goal.at.returns c).After-take_back_at in
     let by = (goal.at.returns c).After-hand_in in
     record {
-      same = record { time = refl; claimed = refl; spooled = refl; stints = refl; store = refl; places = refl; block = refl };
+      same = record { moment = refl; claimed = refl; spooled = refl; stints = refl; store = refl; places = refl; block = refl };
       part = ap₂ (λ e ks. let q : Part = record (part_of t) { claimed = set t.claimed.now e false; stints = ks } in q) c.from-2.ensures (are by (leaves at));
       shared = ap (λ ss. let s : Shared = record { cells = t.store.now; spots = ss } in s) (shows at);
       note = refl;

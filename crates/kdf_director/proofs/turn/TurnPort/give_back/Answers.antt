@@ -16,8 +16,8 @@ use Rattle.kdf_director.proofs.turn.TurnPort.give_back.Goals.{After-is_some}
 pooled : (c : After-is_some) → in_pool (part_of c.args.self.now) c.args.device ≡ c.is_some.result
 pooled c =
     let t = c.args.self.now in
-    ap is_some (number_at (lent_kind t.pool.now) c.args.device None (claimed_small (part_of t) (shared t) c.args.device c.requires.claimed))
-    ∙ sym (c.is_some.ensures ∙ ap is_some c.kind_lent.ensures)
+    ap is_some (number_at (lent_kind t.slot.now.pool.items) c.args.device None (claimed_small (part_of t) (shared t) c.args.device c.requires.claimed))
+    ∙ sym (c.is_some.ensures ∙ ap is_some (c.kind_lent.ensures ∙ ap (λ ps. lent_kind ps c.args.device) c.deref.ensures.value))
 
 pub return_pooled-requires-clause-pooled : goal.return_pooled-requires-clause-pooled
 return_pooled-requires-clause-pooled c = pooled (goal.at.return_pooled-requires-clause-pooled c).After-is_some ∙ c.if-is_some.true
@@ -39,7 +39,7 @@ returns-else-is_some c =
     let t = c.args.self.now in
     let not = pooled (goal.at.returns-else-is_some c).After-is_some ∙ c.if-is_some.false in
     record {
-      same = record { time = refl; claimed = refl; spooled = refl; stints = refl; store = refl; places = refl; block = refl };
+      same = record { moment = refl; claimed = refl; spooled = refl; stints = refl; store = refl; places = refl; block = refl };
       part = ap (λ e. let q : Part = record (part_of t) { claimed = set t.claimed.now e false } in q) c.from.ensures
           ∙ ap (λ b. part_after (part_of t) (shared t) (Releases b c.args.device)) (sym not);
       shared = ap (λ b. after_act (part_of t) (shared t) (Releases b c.args.device)) (sym not);

@@ -53,7 +53,7 @@ invariant_of-self-clause-active c =
     let t = c.args.self.now in
     let from = (goal.at.invariant_of-self-clause-active c).After-from in
     let at = (goal.at.invariant_of-self-clause-active c).After-push_reserved in
-    subst (λ e. IsActiveBy t.p t.window t.devices.now t.pool.now t.served (set t.claimed.now e true) c.push_reserved.new.self.items c.lend_at.new.places.items) (sym c.from-2.ensures)
+    subst (λ e. IsActiveBy t.p t.window t.slot.now (set t.claimed.now e true) c.push_reserved.new.self.items c.lend_at.new.places.items) (sym c.from-2.ensures)
     (take_active t c.least_free-d.result c.push_reserved.new.self.items c.lend_at.new.places.items (inside from) (free from) (are at) (shows at))
 
 pub returns-clause-can : goal.returns-clause-can
@@ -68,7 +68,7 @@ returns-clause-recorded c =
     let answer = unwrap_or (free_in (part_of t).pool (shared t).spots c.args.kind) 0 in
     let lent = lent_is (part_of t) (shared t) c.args.kind c.least_free-d.result (active_in t) c.least_free-d.ensures.number c.least_free-d.ensures.least in
     record {
-      same = record { time = refl; claimed = refl; spooled = refl; stints = refl; store = refl; places = refl; block = refl };
+      same = record { moment = refl; claimed = refl; spooled = refl; stints = refl; store = refl; places = refl; block = refl };
       part = ap (λ e. let q : Part = record (part_of t) { claimed = set t.claimed.now e true; stints = map keeping_of c.push_reserved.new.self.items } in q) c.from-2.ensures
           ∙ take_part (part_of t) (shared t) c.args.kind answer c.least_free-d.result (map keeping_of c.push_reserved.new.self.items) lent (are at);
       shared = take_shared (part_of t) (shared t) c.args.kind answer c.least_free-d.result (map spot_of c.lend_at.new.places.items) lent (shows at);

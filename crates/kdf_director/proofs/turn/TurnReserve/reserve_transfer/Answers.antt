@@ -7,4 +7,4 @@ use Rattle.kdf_director.proofs.turn.TurnReserve.reserve_transfer.Goals as goal
 pub returns-clause-shows : goal.returns-clause-shows
 returns-clause-shows c =
     let t = c.args.self.now in
-    ap (λ spots. view (part_of t) t.time (share t.store.now spots)) c.make_ready_at.ensures.spots
+    ap (λ spots. view (part_of t) t.moment (share t.store.now spots)) c.make_ready_at.ensures.spots

@@ -1,0 +1,17 @@
+pub mod Judging
+pub mod Desks
+pub mod Places
+pub mod Comes
+pub mod Pendings
+pub mod Tries
+pub mod Entries
+pub mod Kept
+pub mod Turning
+pub mod Nexts
+pub mod Keeping
+pub mod Loaded
+pub mod Calls
+pub mod Reading
+pub mod Pairs
+pub mod Checking
+pub mod Unserved

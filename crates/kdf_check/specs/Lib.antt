@@ -1,0 +1,12 @@
+pub mod Differs
+pub mod Verdict
+pub mod Watching
+pub mod Around
+pub mod Desk
+pub mod Tracks
+pub mod Tried
+pub mod Entered
+pub mod Keeps
+pub mod Turned
+pub mod Begun
+pub mod Report

@@ -1,0 +1,26 @@
+-- What the turn of a program leaves.
+use Rattle.std.specs.Prelude.{◌≡◌, ◌≢◌, ℕ, List, Option}
+use Rattle.std.specs.Option.{option_map}
+use Rattle.kdf_journal.specs.declared.entry.Entry.{Entry}
+use Rattle.kdf_journal.specs.Counts.{last_hold}
+use Rattle.kdf_schedule.specs.Calls.{AnOrder}
+use Rattle.kdf_transfer.specs.Slots.{Slot}
+use Rattle.kdf_alone.specs.Bench.{state_with}
+use Rattle.kdf_director.specs.Told.{own}
+use Rattle.kdf_director.specs.World.{need_of}
+use Rattle.kdf_check.specs.declared.around.Pending.{Pending}
+use Rattle.kdf_check.specs.declared.program.Program.{Program}
+use Rattle.kdf_check.specs.Keeps.{GoesOn}
+use Rattle.kdf_check.specs.Tracks.{Tells}
+
+-- the journal K answers a call more than J, in which it was the turn of program p: it keeps to K, the others stay, and the table tells what
+-- is pending
+pub record IsTurned (answers : ℕ → ℕ → Type 0) (slots : List Slot) (J : List Entry) (p : ℕ) (x : Program) (table : List (Option Pending))
+    (K : List Entry) : Type 0 where
+  pub goes_on : GoesOn answers slots J AnOrder K
+  pub number : x.desk.p ≡ p
+  pub own_is : state_with x.registers x.desk.bench ≡ own slots K p
+  pub hold_is : x.hold ≡ option_map need_of (last_hold p K)
+  pub others : (q : ℕ) → p ≢ q → own slots K q ≡ own slots J q
+  pub other_holds : (q : ℕ) → p ≢ q → last_hold q K ≡ last_hold q J
+  pub tells : Tells slots K table

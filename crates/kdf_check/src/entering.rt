@@ -1,0 +1,64 @@
+//! What is entered of the turn of a program.
+ghost use Rattle.std.specs.Prelude.{◌≡◌, ◌<◌, ◌≤◌};
+ghost use Rattle.kdf_journal.specs.Counts.{calls, moves};
+ghost use Rattle.kdf_journal.specs.declared.entry.Entry.TheVariants.{Ran};
+ghost use Rattle.kdf_journal.specs.Joined.{pushed};
+ghost use Rattle.kdf_journal.specs.Steps.{held};
+ghost use Rattle.kdf_director.specs.Taken.{hold_left};
+ghost use Rattle.kdf_director.specs.World.{hold_of};
+ghost use Rattle.kdf_check.specs.Entered.{entered, with_entry, IsNote};
+
+use kdf_journal::{CALL_LIMIT, Entry, Journal, MOVE_LIMIT};
+use kdf_processor::{Need, Step};
+
+/// Enters how the turn of program `p` ended; an entry tells of its order, if it isn't quiet.
+pub fn enter(journal: &mut Journal, p: u8, step: Step, entry: Option<Entry>)
+    requires room { 2 ≤ journal.old.spare }
+    requires few_calls { calls journal.old.entries < CALL_LIMIT }
+    requires few_moves { moves journal.old.entries ≤ MOVE_LIMIT }
+    requires note { IsNote entry }
+    ensures { journal.new.entries ≡ entered journal.old.entries p step entry }
+{
+    match step {
+        Step::Held(need) => journal.push(entry_of(p, need)),
+        Step::Done => write(journal, p, entry),
+        Step::Fails(kind) => write(journal, p, Some(Entry::Fail { p, kind })),
+        Step::Ends => write(journal, p, Some(Entry::Ended { p })),
+    }
+}
+
+/// Counts an order of program `p`, with the entry that tells of it.
+fn write(journal: &mut Journal, p: u8, entry: Option<Entry>)
+    requires room { 2 ≤ journal.old.spare }
+    requires few_calls { calls journal.old.entries < CALL_LIMIT }
+    requires few_moves { moves journal.old.entries ≤ MOVE_LIMIT }
+    requires note { IsNote entry }
+    ensures { journal.new.entries
+        ≡ with_entry (pushed journal.old.entries (Ran p 1)) entry }
+{
+    journal.push(Entry::Ran { p, n: 1 });
+    if let Some(entry) = entry {
+        journal.push(entry);
+    }
+}
+
+/// The entry of a hold by a need.
+fn entry_of(p: u8, need: Need) -> Entry
+    ensures { result ≡ held p (hold_of need) }
+{
+    match need {
+        Need::Group(group) => Entry::Lov { p, group },
+        Need::Device(d) => Entry::Busy { p, d },
+        Need::Pool(kind) => Entry::Wait { p, kind },
+    }
+}
+
+/// What holds a program whose turn ended so.
+pub fn hold_left(step: Step) -> Option<Need>
+    ensures { result ≡ hold_left step }
+{
+    match step {
+        Step::Held(need) => Some(need),
+        Step::Done | Step::Fails(_) | Step::Ends => None,
+    }
+}

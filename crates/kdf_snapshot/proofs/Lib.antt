@@ -1,0 +1,10 @@
+pub mod Places
+pub mod Reading
+pub mod Sealed
+pub mod Offsets
+pub mod Dividing
+pub mod CutLines
+pub mod Fronts
+pub mod Words
+pub mod Unserved
+pub mod SeenWords

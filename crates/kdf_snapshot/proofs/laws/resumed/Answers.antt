@@ -1,0 +1,6 @@
+use Rattle.kdf_director.specs.Loading.{slots_of}
+use Rattle.kdf_director.proofs.ForService.{resumed_for}
+use Rattle.kdf_snapshot.proofs.laws.resumed.Goals as goal
+
+pub returns : goal.returns
+returns g c rule is front further images J K j k = resumed_for _ (slots_of front.slots images) is.one front.events further J K j k

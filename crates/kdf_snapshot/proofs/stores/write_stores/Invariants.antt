@@ -1,0 +1,11 @@
+use Rattle.std.proofs.Common.{map, take}
+use Rattle.std.specs.List.{flat_map}
+use Rattle.kdf_director.specs.Shown.{state_at}
+use Rattle.kdf_job.specs.Shows.{shown_slot}
+use Rattle.kdf_text.specs.Text.{Adds}
+use Rattle.kdf_snapshot.specs.Stores.{slot_lines}
+use Rattle.kdf_snapshot.proofs.stores.write_stores.Given as goal
+
+abbrev pub invariant-loop-slot : goal.invariant-loop-slot
+invariant-loop-slot l =
+    Adds l.initial.out l.out (flat_map (λ slot. slot_lines slot (state_at l.machine slot.p)) (map shown_slot (take l.slot-index l.slots)))

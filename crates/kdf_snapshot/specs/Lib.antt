@@ -1,0 +1,9 @@
+pub mod Differs
+pub mod Snapshot
+pub mod Faults
+pub mod Apart
+pub mod Passed
+pub mod Parts
+pub mod Stores
+pub mod Rebuilt
+pub mod Joined

@@ -1,0 +1,41 @@
+//! Laws of the definitions, each the contract of a function that does nothing.
+ghost use Rattle.std.specs.Prelude.{◌≡◌, ℕ, ◌+◌, ◌-◌, ◌<◌, All, List, ◌++◌, drop, length, take};
+ghost use Rattle.kdf_text.specs.Lines.{lines};
+ghost use Rattle.kdf_text.specs.Text.{text};
+ghost use Rattle.kdf_journal.specs.declared.entry.Entry.{Entry};
+ghost use Rattle.kdf_journal.specs.Steps.{Step, steps};
+ghost use Rattle.kdf_schedule.specs.declared.event.Event.{Event};
+ghost use Rattle.kdf_service.specs.Rules.{IsService};
+ghost use Rattle.kdf_job.specs.Job.{Job};
+ghost use Rattle.kdf_director.specs.Shown.{Shown, ShowsSeen, state_at};
+ghost use Rattle.kdf_director.specs.Told.{seen_of};
+ghost use Rattle.kdf_snapshot.specs.Joined.{IsJournalOf, joined};
+ghost use Rattle.kdf_snapshot.specs.Snapshot.{offset};
+ghost use Rattle.kdf_snapshot.specs.Stores.{HasStore, store_lines};
+
+/// What stands after the offset of a line is the text of that line and those after it. What stands between the offsets of two lines is
+/// the text of the lines between.
+pub fn offsets()
+    ensures rest { (bytes : List ℕ) (k : ℕ) →
+        lines (drop (offset bytes k) bytes) ≡ drop k (lines bytes) }
+    ensures between { (bytes : List ℕ) (k n : ℕ) → k + n < length (lines bytes) →
+        take (offset bytes (k + n) - offset bytes k) (drop (offset bytes k) bytes)
+        ≡ text (take n (drop k (lines bytes))) }
+{}
+
+/// The words that a snapshot has of a machine, in which each program's own state is what is seen of its lone run, are those that its
+/// journal tells to be seen of each program.
+pub fn words_of_seen()
+    ensures { (m : Shown) (job : Job) → ShowsSeen m → All (HasStore m) job.slots →
+        store_lines job (state_at m) ≡ store_lines job (seen_of m.slots m.journal) }
+{}
+
+/// Read singly, the journal of a front job is the beginning of that of the joined job: with one service, whose rule is `rule`, and the
+/// same images of the decks. So a run that goes on where its front was saved comes to what it would have come to.
+pub fn resumed<F: Fn(u64) -> u64>()
+    ensures { (rule : F) → IsService (F.pre rule) (F.post rule) → (front : Job)
+        (further : List Event) (images : List (List ℕ)) (J K : List Entry) →
+        IsJournalOf (F.post rule) front images J →
+        IsJournalOf (F.post rule) (joined front further) images K →
+        (Q : List Step) × (steps K ≡ Q ++ steps J) }
+{}

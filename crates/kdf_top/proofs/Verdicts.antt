@@ -1,0 +1,27 @@
+-- The text of a verdict, part by part, and the verdict on what stands after a job.
+use Rattle.std.proofs.Common.{◌≡◌, ℕ, List, [], ◌∷◌, ◌++◌, subst}
+use Rattle.kdf_text.specs.Text.{end_line, text}
+use Rattle.kdf_text.proofs.Texts.{text_more}
+use Rattle.kdf_transfer.specs.Slots.{Slot}
+use Rattle.kdf_job.specs.Front.{front_job}
+use Rattle.kdf_job.specs.Job.{Job}
+use Rattle.kdf_check.specs.Report.{IsCheck}
+use Rattle.kdf_check.specs.declared.verdict.Verdict.{Verdict}
+use Rattle.kdf_top.specs.Due.{IsVerdictOf, check_line, verdict_line, verdict_lines}
+use Rattle.kdf_top.specs.Loaded.{slots_of}
+use Rattle.kdf_top.specs.Snapshots.{after_job}
+
+pub verdict_whole : (v : Verdict) (none head mid all : List ℕ) → none ≡ [] → head ≡ none ++ text (check_line ∷ []) → mid ≡ head ++ text (verdict_line v ∷ [])
+    → all ≡ mid ++ text (end_line ∷ []) → all ≡ text (verdict_lines v)
+verdict_whole v none head mid all is_none first second last =
+    let whole = text_more none mid all (check_line ∷ verdict_line v ∷ []) (end_line ∷ []) (text_more none head mid (check_line ∷ []) (verdict_line v ∷ []) first second) last in
+    subst (λ x. all ≡ x ++ text (verdict_lines v)) is_none whole
+
+pub verdict_of : (answers : ℕ → ℕ → Type 0) (bytes : List ℕ) (j : Job) (slots : List Slot) (rest due : List ℕ) (v : Verdict) → j ≡ front_job bytes → slots ≡ slots_of j → rest ≡ after_job bytes
+    → IsCheck answers slots j.events rest v → due ≡ text (verdict_lines v) → IsVerdictOf answers bytes due
+verdict_of answers bytes j slots rest due v is_front are is_rest check is_due = (
+  v,
+  subst (λ (x : Job). IsCheck answers (slots_of x) x.events (after_job bytes) v) is_front
+      (subst (λ bs. IsCheck answers (slots_of j) j.events bs v) is_rest (subst (λ (xs : List Slot). IsCheck answers xs j.events rest v) are check)),
+  is_due,
+)

@@ -1,0 +1,34 @@
+use Rattle.std.proofs.Common.{◌∙◌, ap, refl, List, ℕ}
+use Rattle.kdf_job.specs.Shows.{shown_job}
+use Rattle.kdf_director.specs.Loading as loading
+use Rattle.kdf_top.proofs.LoadedDecks.{fitting_images, same_words}
+use Rattle.kdf_top.proofs.Resumptions.{other_journal}
+use Rattle.kdf_top.proofs.resuming.run_on.Goals as goal
+
+pub rebuild_with-requires-clause-images : goal.rebuild_with-requires-clause-images
+rebuild_with-requires-clause-images g c =
+    let s = c.args.snapshot.now in
+    rw c.deref.ensures.value (fitting_images s.job.slots.items s.images.items c.requires.read.loaded.images)
+
+pub go_on-requires-clause-saved : goal.go_on-requires-clause-saved
+go_on-requires-clause-saved g c =
+    let s = c.args.snapshot.now in
+    let made = c.in-Ok.ensures in
+    record {
+      slots = (rw c.deref.ensures.value at made.slots) ∙ ap (λ (xs : List (List ℕ)). loading.slots_of (shown_job s.job).slots xs) (same_words s.job.slots.items s.images.items c.requires.read.loaded.images);
+      journal = made.journal;
+      seen = made.seen;
+      entries = made.entries ∙ c.deref-2.ensures.value;
+      room = made.room;
+    }
+
+pub returns-in-Err-Differs-clause-reason : goal.returns-in-Err-Differs-clause-reason
+returns-in-Err-Differs-clause-reason g c =
+    let s = c.args.snapshot.now in
+    let refused = rw (c.deref.ensures.value, c.deref-2.ensures.value) at (rw c.in-Err-Differs.field-0-is at c.in-Err-Differs.ensures.refused) in
+    rw c.in-Err-Differs.field-0-is (
+      tt {0},
+      other_journal s c.requires.read (λ n a. goal.F-post g c.args.service.now n a) _ refused.0 c.in-Err-Differs.place _
+          (ap (λ (xs : List (List ℕ)). loading.slots_of (shown_job s.job).slots xs) (same_words s.job.slots.items s.images.items c.requires.read.loaded.images))
+          refused.1 refused.2 refl,
+    )
