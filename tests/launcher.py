@@ -264,13 +264,15 @@ def says_how_a_job_is_handed_in(checkout):
     for command, text in (("save", "a job"), ("resume", "a snapshot"), ("check", "a job with its report")):
         yield differs(checkout.start(command, "my.job"), 42, f"<first><{command}><my.job>", f"{text} is read from standard input: ./kdf9 {command} < my.job")
     yield differs(checkout.start("alone", "0", "my job"), 42, "<first><alone><0><my job>", "./kdf9 alone 0 < my\\ job")
-    for words in (["run"], ["save"], ["resume"], ["check"], ["alone", "0"], ["asm", "3"], ["make", "0"], ["sum"], ["run", "--json"], ["check", "--json"]):
+    yield differs(checkout.start("watch", "0", "2", "my job"), 42, "<first><watch><0><2><my job>", "./kdf9 watch 0 2 < my\\ job")
+    for words in (["run"], ["save"], ["resume"], ["check"], ["alone", "0"], ["asm", "3"], ["watch", "0", "2"], ["make", "0"], ["sum"], ["run", "--json"], ["check", "--json"]):
         yield differs(checkout.start(*words), 42, "<first>" + "".join(f"<{word}>" for word in words))
 
 
 def says_that_a_terminal_is_read(checkout):
     checkout.start("make", "0")
     yield differs(at_terminal(checkout, "alone", "0"), 42, "<first><alone><0>job\n", "from the terminal")
+    yield differs(at_terminal(checkout, "watch", "3", "8191"), 42, "<first><watch><3><8191>job\n", "reading a job from the terminal")
     yield differs(at_terminal(checkout, "check"), 42, "<first><check>job\n", "reading a job with its report from the terminal")
     yield differs(at_terminal(checkout, "--help"), 42, "<first><--help>job\n", "./kdf9 run < FILE")
 

@@ -12,6 +12,7 @@ from page_pool import SUITES as POOL
 from page_runs import orders_are_those_of_the_program, runs_are_looked_at, runs_are_those_of_the_program
 from page_service import SUITES as SERVED
 from page_theorem import SUITES as THEOREM, no_run_before
+from page_watch import SUITES as WATCHED
 from page_worker import worker_alone
 from shown import CTRL, Shown, id_of
 from toolkit import HEAD, ROOT, TAIL, job_of_deck, kdf9
@@ -21,6 +22,17 @@ LOOP = "KDF9 JOB 1\nSLOT 0\nSTORE 32\nDECK\nPROGRAM;\n1; J1;\nFINISH;\nENDDECK\n
 
 # Makes the browser refuse the machine, like one whose memories have 32-bit addresses.
 WITHOUT_MEMORY64 = "const validate = WebAssembly.validate; WebAssembly.validate = (bytes) => bytes[11] !== 4 && validate(bytes);"
+
+# Makes the memory of each machine end at so many bytes.
+LITTLE_MEMORY = """const LIMIT = `const grow = WebAssembly.Memory.prototype.grow;
+WebAssembly.Memory.prototype.grow = function (pages) {
+  if (this.buffer.byteLength + 65536 * Number(pages) > 6000000) throw new RangeError("no more");
+  return grow.call(this, pages);
+};`;
+globalThis.Blob = class extends Blob {
+  constructor(parts, how) { super(how?.type === "text/javascript" ? [LIMIT, ...parts] : parts, how); }
+};"""
+LONG_DECK = "PROGRAM; " + "DUMMY; " * 40000 + "FINISH;"
 
 # Lines of devices and SHOW lines, the lines of the schedule, the label of the control that has the fault, and what is said there.
 FAULTY_PARTS = [
@@ -269,6 +281,17 @@ def browsers_without_the_machine(opened, address):
     shown.page.close()
 
 
+def memory_comes_to_its_end(opened, address):
+    """If there is no more memory, the page says so, and goes on with the next job."""
+    shown = Shown(opened(address, before=LITTLE_MEMORY))
+    small, large = job_of_deck("PROGRAM; ZERO; OUT; FINISH;"), job_of_deck(LONG_DECK).replace("STORE 32", "STORE 8192")
+    for job, status, said in ((small, 0, "Done"), (large, 7, "Status 7: there was no memory."), (small, 0, "Done")):
+        shown.write_job(job)
+        got = shown.run("run")[1], shown.state()
+        yield f"little memory, {len(job)} bytes", None if got[0] == status and said in got[1] else f"{got}"
+    shown.page.close()
+
+
 def controls_have_names(shown):
     """Each control has a name for a screen reader, no two elements have the same id, and nothing is wider than a narrow window."""
     for name in (PICTURED, SHARED):
@@ -300,7 +323,7 @@ def nothing_is_fetched(running, address):
 
 SUITES = (
     runs_are_looked_at, faults_are_shown, faults_stand_at_their_parts, parts_and_text_are_in_step, snapshots_are_resumed_and_reports_checked,
-    schedules_write_themselves, runs_are_stopped, faults_stand_at_their_places, *POOL, *SERVED, *THEOREM, controls_have_names, orders_are_those_of_the_program, runs_are_those_of_the_program,
+    schedules_write_themselves, runs_are_stopped, faults_stand_at_their_places, *POOL, *SERVED, *WATCHED, *THEOREM, controls_have_names, orders_are_those_of_the_program, runs_are_those_of_the_program,
 )
 
 
@@ -319,6 +342,7 @@ def cases(file):
         yield from no_run_before(opened, address)
         yield from links_hold_jobs(shown, opened, address)
         yield from browsers_without_the_machine(opened, address)
+        yield from memory_comes_to_its_end(opened, address)
         yield from nothing_is_fetched(running, address)
         yield from pages_are_made_with_jobs(opened, file)
 

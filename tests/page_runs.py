@@ -15,7 +15,7 @@ from kdf9.job import read_lines, read_slots
 from kdf9.report import read_report
 from kdf9.schedule import cut_before_next, job_with, read_schedule
 
-COMMAND = re.compile(r"run|save|resume|check|(?:alone|asm|make)\n\d+")
+COMMAND = re.compile(r"run|save|resume|check|(?:alone|asm|make)\n\d+|watch\n\d+\n\d+")
 
 # A longer job comes as a file, and a text of more bytes is left out.
 LONGEST_WRITTEN, LONGEST_GIVEN = 100_000, 100_000_000

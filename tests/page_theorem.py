@@ -41,7 +41,7 @@ BOTH = """[...document.querySelectorAll('#compared > details')].map((it) =>
     [...it.querySelectorAll('tbody tr')].map((row) => [...row.children].map((cell) => cell.textContent)))"""
 
 # Which buttons of the panel can't be pressed.
-DISABLED = "['see', 'compare-alone', 'compare-before', 'shuffle'].map((name) => document.getElementById(name).disabled)"
+DISABLED = "['see', 'compare-alone', 'compare-before', 'shuffle', 'neighbours'].map((name) => document.getElementById(name).disabled)"
 
 # A job that runs for some time.
 LOOP = job_of_deck("PROGRAM; 1; J1; FINISH;").replace("ORDERS 10\n", "ORDERS 20000000\n")
@@ -210,8 +210,20 @@ def decks_of_neighbours_are_changed(shown):
     yield "another deck", wrong_verdicts(shown, seen, now, text) or wrong_marks(seen)
     verdicts = [each["verdict"][:20] for each in seen]
     yield "its neighbour is the same", None if verdicts == ["Not in the run befor", "The same."] else f"{verdicts}"
+    run(shown, text)
+    shown.js(f"{id_of('kept')}.value = '1'; {id_of('seed')}.value = 7")
+    seen = compared(shown, "neighbours")
+    now = shown.js("kdf9.job()")
+    yield "neighbours by chance", wrong_verdicts(shown, seen, now, text) or wrong_marks(seen)
+    verdicts = [each["verdict"][:20] for each in seen]
+    is_changed = re.sub("(DUMMY; )+", "", now) == text and now != text
+    yield "the program that stays", None if verdicts == ["Not in the run befor", "The same."] and is_changed else f"{verdicts} {now}"
     plain = text_of("examples/adds-5-and-7")
     run(shown, plain)
+    shown.js(f"{id_of('kept')}.value = '0'")
+    shown.click("neighbours")
+    shown.idle()
+    yield "no neighbours", None if "no program in slot 0 with a neighbour" in shown.state() and shown.js("kdf9.job()") == plain else shown.state()
     moved = plain.replace("SLOT 0", "SLOT 1")
     run(shown, moved)
     seen = compared(shown, "compare-before")
@@ -248,19 +260,19 @@ def panel_is_for_everybody(shown):
     yield "the button above leads to the panel", None if is_there else f"{focus} {seen}"
     shown.example("reads-tape")
     left = shown.js(f"[{id_of('compared')}.childElementCount, {DISABLED}]")
-    yield "another job clears the panel", None if left == [0, [True, True, True, False]] else f"{left}"
+    yield "another job clears the panel", None if left == [0, [True, True, True, False, False]] else f"{left}"
     shown.write_job(LOOP)
     shown.click("shuffle")
     shown.page.press("Escape", 27)
     shown.idle()
     stopped = [shown.state(), shown.js(DISABLED)]
-    yield "a shuffle is stopped", None if stopped == ["▸ Stopped.", [True, True, True, False]] else f"{stopped}"
+    yield "a shuffle is stopped", None if stopped == ["▸ Stopped.", [True, True, True, False, False]] else f"{stopped}"
 
 
 def no_run_before(opened, address):
     """A fresh page compares nothing; after the first run it compares with the lone runs, and after the second with the run before."""
     shown = Shown(opened(address))
-    for due in ([True, True, True, False], [False, False, True, False], [False, False, False, False]):
+    for due in ([True, True, True, False, False], [False, False, True, False, False], [False] * 5):
         seen = shown.js(DISABLED)
         yield f"buttons of the panel: {json.dumps(due)}", None if seen == due else f"are {seen}"
         shown.run("run")

@@ -57,10 +57,11 @@ class Shown:
             self.page.choose_file("file", file.name)
             self.page.wait(f"{id_of('state')}.textContent.includes({json.dumps(name)})")
 
-    def run(self, command, value="0"):
+    def run(self, command, value="0", place="0"):
         """What the Run button shows, and the status."""
         self.choose("command", command)
-        self.js(f"{id_of('value')}.value = {json.dumps(value)}")
+        for name, text in (("value", value), ("place", place)):
+            self.js(f"{id_of(name)}.value = {json.dumps(text)}")
         self.click("run")
         self.idle()
         return self.js("kdf9.text()"), self.js(f"Number({id_of('state')}.dataset.status)")

@@ -40,22 +40,27 @@ export function painted(deck) {
   return [...comments, ...references].sort((one, other) => one.start - other.start);
 }
 
-/** The words and the REF lines of a listing; null for a slot that the job doesn't have. */
+/** The place of the first order of the main part, the words and the REF lines of a listing; null for a slot that the job doesn't have. */
 export function readListing(text) {
   const lines = text.split("\n");
   const words = lines.filter((line) => line.startsWith("WORD ")).map((line) => line.split(" ")[2]);
-  return words.length === 0 ? null : { words, references: lines.filter((line) => line.startsWith("REF ")) };
+  if (words.length === 0) return null;
+  const [, word, syllable] = lines.find((line) => line.startsWith("START ")).split(" ").map(Number);
+  return { start: SYLLABLES * word + syllable, words, references: lines.filter((line) => line.startsWith("REF ")) };
 }
 
-/** A deck next to its listing, in which each store has its name. */
+/** A deck next to its listing, in which each store has its name, and each part the place of its first order. */
 export class Layout {
   constructor(deck, listing) {
+    this.start = listing.start;
     this.syllables = listing.words.flatMap(syllablesOf);
     this.references = listing.references.values();
+    this.unplaced = [];
     this.names = [];
     this.orders = new Map();
     this.place = sizeOfOrder(this.syllables[0]);
     this.part = null;
+    this.parts = new Map();
     this.groups = new Map();
     for (const statement of statementsOf(deck)) {
       this.add(statement);
@@ -76,10 +81,16 @@ export class Layout {
     return this.orders.get(SYLLABLES * word + syllable);
   }
 
+  /** The statement of the first order of the main part, or undefined if it has none. */
+  get first() {
+    return this.orders.get(this.start);
+  }
+
   add(statement) {
     const { text } = statement;
-    if (/^\d+$/.test(text)) this.refer(Number(text));
-    else if (text === "*" || text === "FINISH") this.fill();
+    if (/^\d+$/.test(text)) this.unplaced.push(Number(text));
+    else if (text === "*") this.fill();
+    else if (text === "FINISH") this.close();
     else if (OPENING.test(text)) this.open(OPENING.exec(text));
     else if (CONSTANT.test(text)) return;
     else if (this.part === null) this.declare(DECLARATION.exec(text));
@@ -87,14 +98,24 @@ export class Layout {
   }
 
   order(statement) {
+    this.placeReferences();
     this.orders.set(this.place, statement);
     this.place += sizeOfOrder(this.syllables[this.place] ?? 0);
   }
 
-  /** The listing says what the place of each reference is, and has to agree. */
-  refer(number) {
-    const due = `REF ${this.part} ${number} ${Math.floor(this.place / SYLLABLES)} ${this.place % SYLLABLES}`;
-    if (this.references.next().value !== due) throw new OtherDeck();
+  /** The references since the last order mean this place, also if a `*` came between. The listing says what the place of each is, and has to agree. */
+  placeReferences() {
+    for (const number of this.unplaced) {
+      const due = `REF ${this.part} ${number} ${Math.floor(this.place / SYLLABLES)} ${this.place % SYLLABLES}`;
+      if (this.references.next().value !== due) throw new OtherDeck();
+    }
+    this.unplaced = [];
+  }
+
+  /** Ends a part. */
+  close() {
+    this.placeReferences();
+    this.fill();
   }
 
   fill() {
@@ -102,9 +123,10 @@ export class Layout {
   }
 
   open([, part, last]) {
-    this.fill();
+    this.close();
     this.part = Number(part ?? 0);
     if (last !== undefined) this.name("V", this.part ? `P${this.part}` : "", Number(last) + 1);
+    this.parts.set(this.part, this.place);
   }
 
   declare(declaration) {

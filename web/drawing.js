@@ -6,6 +6,7 @@ import { FLYING, HELD, LENT, RAN, READY, WAITS, columnsOf } from "./timeline.js"
 const NAMESPACE = "http://www.w3.org/2000/svg";
 const NAME = 100, WIDTH = 900, ROW = 22, HEIGHT = 14, DIGIT = 11, MOST_COLUMNS = 450;
 const LEGEND = "Full: obeyed orders, or a transfer for the program whose number it has. Hatched: held up. Thin line: could go on while another ran.";
+const LEGEND_OF_STOPS = " Triangles: stops of the watch.";
 const LEGEND_OF_POOL = " Dotted: waits for a device of the pool. In a frame: a device of the pool, lent to the program whose number it has.";
 
 function svg(name, attributes, ...children) {
@@ -46,26 +47,34 @@ function flights(columns, top) {
   ];
 }
 
+/** A triangle below a row for each of these calls. */
+function triangles(calls, total, top) {
+  const places = new Set(calls.map((call) => Math.round(NAME + WIDTH * call / total)));
+  return [...places].map((x) => svg("path", { d: `M${x} ${top + HEIGHT}l3.5 6h-7z`, class: "stop" }));
+}
+
 /** The row of a device: its transfers, and to whom it was lent if it is one of the pool. */
 function rowOf(timeline, device) {
   const spans = timeline.devices.get(device);
   return timeline.pool.has(device) ? { name: `pool device ${device}`, spans: [...timeline.lendings.get(device), ...spans] } : { name: `device ${device}`, spans };
 }
 
-/** The picture of a timeline, and a function that marks a call in it. `choose` is called with the call that is clicked. The picture has room for `calls`. */
-export function drawTimeline(timeline, choose, { name: title = "The run over time", hasLegend = true, calls = timeline.total } = {}) {
+/** The picture of a timeline, and a function that marks a call in it. `choose` is called with the call that is clicked. The picture has room for `calls`, and shows
+ * the stops of a watch if there are any. */
+export function drawTimeline(timeline, choose, { name: title = "The run over time", hasLegend = true, calls = timeline.total, stops = null } = {}) {
   const rows = [
     ...[...timeline.slots].map(([slot, spans]) => ({ name: `program ${slot}`, spans, slot })),
     ...[...timeline.devices.keys()].map((device) => rowOf(timeline, device)),
   ];
   const total = Math.max(1, calls), count = Math.min(total, MOST_COLUMNS), height = ROW * rows.length + 6;
-  const legend = LEGEND + (timeline.pool.size ? LEGEND_OF_POOL : "");
+  const legend = LEGEND + (timeline.pool.size ? LEGEND_OF_POOL : "") + (stops ? LEGEND_OF_STOPS : "");
   const drawn = rows.flatMap(({ name, spans, slot }, at) => {
     const columns = columnsOf(spans, total, count), top = 4 + at * ROW;
     return [
       svg("text", { x: 0, y: top + HEIGHT - 2 }, name),
       ...rectangles(columns, READY, () => "ready", top), ...rectangles(columns, HELD, () => "held", top), ...rectangles(columns, WAITS, () => "waits", top),
       ...rectangles(columns, RAN, () => `ran slot-${slot}`, top), ...flights(columns, top),
+      ...(stops && slot === stops.slot ? triangles(stops.calls, total, top) : []),
     ];
   });
   const line = svg("line", { y1: 0, y2: height, class: "now" });

@@ -4,19 +4,20 @@ import { byId, make } from "./dom.js";
 import { Engine, STATUSES, Stopped, bytesOf, canRun, unpacked } from "./engine.js";
 import { faultOf } from "./fault.js";
 import { hintOf } from "./hints.js";
-import { EMPTY_JOB, frontOf } from "./job.js";
+import { EMPTY_JOB, frontOf, readJob } from "./job.js";
 import { JobView } from "./jobview.js";
 import { hasJob, jobOfLink, packedJob, saveFile } from "./link.js";
 import { isReadable, layoutsOf, resultsOf, shownText } from "./results.js";
 import { Replay } from "./replay.js";
 import { NoSchedule, scheduled } from "./schedule.js";
-import { MOST_SEED, shuffled } from "./shuffle.js";
+import { MOST_SEED, shuffled, withOtherNeighbours } from "./shuffle.js";
 import { Theorem } from "./theorem.js";
+import { NoPlace, drawStops, readWatch, watchable, wordOf } from "./watch.js";
 
 const DONE = 0, SNAPSHOT_HAS_FAULT = 8, FAULTS = [2, 3, SNAPSHOT_HAS_FAULT];
 
-/** The commands that have a slot or a number, and those that read a job with a snapshot or a report after it. */
-const WITH_VALUE = ["alone", "asm", "make"], READ_MORE = ["resume", "check"];
+/** The commands that have a slot or a number, those that read a job with a snapshot or a report after it, and those whose run can be shown call by call. */
+const WITH_VALUE = ["watch", "alone", "asm", "make"], READ_MORE = ["resume", "check"], RUN = ["run", "watch"];
 
 const MEBIBYTE = 2 ** 20;
 const OWN = "own";
@@ -28,7 +29,7 @@ const texts = JSON.parse(byId("texts").textContent);
 const view = new JobView(byId("editors"), changed);
 let engine = null;
 let lastText = "";
-let lastRun = null; // what can be shown call by call: the job, its report, and the layouts of its decks
+let lastRun = null; // what can be shown call by call: the job, its report, the layouts of its decks, and the stops of a watch if there was one
 let pause = 0;
 
 // The job with the schedule that was shuffled last, and the job that it was made from. So a seed gives the same schedule however often it was shuffled before.
@@ -74,6 +75,7 @@ async function lookForFault() {
 function sayFailed(error) {
   if (error instanceof Stopped) say("Stopped.", true);
   else if (error instanceof NoSchedule) say(`There is no schedule: ${error.message}.`, true);
+  else if (error instanceof NoPlace) say(`There is nothing to watch: ${error.message}.`, true);
   else say(`The machine stopped: ${error.message}`, true);
 }
 
@@ -92,14 +94,27 @@ async function showFault({ status, text: answer }, job) {
   return fault;
 }
 
-function words() {
-  const command = byId("command").value;
-  return WITH_VALUE.includes(command) ? [command, byId("value").value] : [command];
+/** The words of the chosen command. A place that is watched may be written as a jump of the deck names it. */
+async function words() {
+  const command = byId("command").value, value = byId("value").value;
+  if (command === "watch") return [command, value, await wordOf(ask, view.text, value, byId("place").value.trim())];
+  return WITH_VALUE.includes(command) ? [command, value] : [command];
+}
+
+/** Offers the places that can be watched in the deck of the chosen slot. */
+async function offerPlaces() {
+  if (!engine || engine.isBusy) return;
+  try {
+    const places = await watchable(ask, view.text, byId("value").value);
+    byId("places").replaceChildren(...places.map(([name, word]) => new Option(`word ${word}`, name)));
+  } catch (error) {
+    if (!(error instanceof Stopped)) sayFailed(error);
+  }
 }
 
 /** Shows whether the machine is at work. */
 function setBusy(isBusy) {
-  byId("run").disabled = byId("schedule").disabled = byId("shuffle").disabled = isBusy || !engine;
+  for (const id of ["run", "schedule", "shuffle", "neighbours"]) byId(id).disabled = isBusy || !engine;
   byId("compare-alone").disabled = isBusy || lastRun === null;
   byId("compare-before").disabled = isBusy || lastRun === null || theorem.before === null;
   byId("stop").disabled = !isBusy;
@@ -122,7 +137,7 @@ async function work(text, task) {
 }
 
 async function run() {
-  if (!byId("run").disabled) await work("Running.", () => runNow(words()));
+  if (!byId("run").disabled) await work("Running.", async () => runNow(await words()));
 }
 
 /** Shows what the machine answers to the words of a command for the job. */
@@ -131,9 +146,11 @@ async function runNow(asked) {
   showText("", []);
   const answer = await ask(asked, text);
   const fault = await showFault(answer, text);
-  const layouts = answer.status === DONE && asked[0] !== "make" ? await layoutsOf(ask, jobOf(asked[0], text)) : new Map();
-  showText(answer.text, answer.status === DONE ? resultsOf(answer.text, layouts) : []);
-  lastRun = answer.status === DONE && asked[0] === "run" && isReadable(answer.text) ? { text, report: answer.text, layouts } : null;
+  const isDone = answer.status === DONE, layouts = isDone && asked[0] !== "make" ? await layoutsOf(ask, jobOf(asked[0], text)) : new Map();
+  const stops = readWatch(answer.text), report = stops ? stops.report : answer.text;
+  const sections = isDone ? [...(stops ? [drawStops(stops, layouts.get(stops.slot), look)] : []), ...resultsOf(report, layouts)] : [];
+  showText(answer.text, sections);
+  lastRun = isDone && RUN.includes(asked[0]) && isReadable(report) ? { text, report, layouts, stops } : null;
   if (lastRun) theorem.take(lastRun);
   byId("look").disabled = byId("see").disabled = lastRun === null;
   byId("stale").hidden = text === view.text;
@@ -158,9 +175,9 @@ async function explain(job) {
   return { ...fault, hint: await hintOf(ask, fault, job) };
 }
 
-/** Shows the last run call by call. */
-function look() {
-  replay.open(lastRun.text, lastRun.report, lastRun.layouts);
+/** Shows the last run call by call, first after this call. */
+function look(call) {
+  replay.open(lastRun, call);
   goTo("replay");
 }
 
@@ -213,31 +230,52 @@ async function writeSchedule() {
   });
 }
 
-/** Runs the job with another schedule, and compares the run with the one before, which is of the job as it was. */
-async function shuffle() {
+/** The seed that is typed, or one by chance; null if what is typed is none. */
+function readSeed() {
   const typed = byId("seed").value.trim(), seed = typed === "" ? Math.floor(Math.random() * (MOST_SEED + 1)) : Number(typed);
-  if (!/^\d*$/.test(typed) || seed > MOST_SEED) return say(`A seed is a number from 0 to ${MOST_SEED}.`, true);
-  return work("Shuffling the schedule.", async () => {
+  return /^\d*$/.test(typed) && seed <= MOST_SEED ? seed : null;
+}
+
+/** Runs the job as `change` makes it from a seed, and compares the run with the one before, which is of the job as it was. `change` gives what is said of the two
+ * runs, or null if it has said why there is no other job. */
+async function compareChanged(text, change) {
+  const seed = readSeed();
+  if (seed === null) return say(`A seed is a number from 0 to ${MOST_SEED}.`, true);
+  return work(text, async () => {
     byId("command").value = "run";
     chooseCommand();
     if (lastRun?.text !== view.text) await runNow(["run"]);
-    if (lastRun === null) return;
-    if (view.text !== mixed.text) mixed.from = view.text;
-    mixed.text = await shuffled(ask, mixed.from, seed);
-    if (mixed.text === mixed.from) return say("There is nothing to shuffle: this job has one program and no transfers.", true);
-    view.show(mixed.text);
+    const said = lastRun && await change(seed);
+    if (!said) return;
     changed();
     await runNow(["run"]);
-    if (lastRun) return theorem.withBefore(`The schedule was shuffled with seed ${seed}. Here is this run beside the run before.`);
+    if (lastRun) await theorem.withBefore(`${said} with seed ${seed}. Here is this run beside the run before.`);
   });
 }
+
+const shuffle = () => compareChanged("Shuffling the schedule.", async (seed) => {
+  if (view.text !== mixed.text) mixed.from = view.text;
+  mixed.text = await shuffled(ask, mixed.from, seed);
+  if (mixed.text === mixed.from) return say("There is nothing to shuffle: this job has one program and no transfers.", true);
+  view.show(mixed.text);
+  return "The schedule was shuffled";
+});
+
+const changeNeighbours = () => compareChanged("Changing the neighbours.", async (seed) => {
+  const kept = byId("kept").value, numbers = readJob(view.text).slots.map(({ number }) => number);
+  if (!numbers.includes(kept) || numbers.length < 2) return say(`There is no program in slot ${kept} with a neighbour.`, true);
+  const text = await withOtherNeighbours(ask, view.text, kept, seed);
+  if (text === null) return say("There is no room in a neighbour's store, or its deck can't begin with other orders.", true);
+  view.show(text);
+  return `The neighbours of program ${kept} begin with more orders now, chosen`;
+});
 
 /** Begins with another job, and with the words of its command. A run in progress is stopped. */
 function begin(text, args) {
   stop();
   view.show(text);
   byId("link-said").hidden = true;
-  [byId("command").value, byId("value").value] = [args[0], args[1] ?? "0"];
+  [byId("command").value, byId("value").value, byId("place").value] = [args[0], args[1] ?? "0", args[2] ?? "0"];
   chooseCommand();
   showText("", []);
 }
@@ -245,6 +283,7 @@ function begin(text, args) {
 function chooseCommand() {
   const command = byId("command").value;
   byId("value-field").hidden = !WITH_VALUE.includes(command);
+  byId("place-field").hidden = command !== "watch";
   byId("value-label").textContent = command === "make" ? "Number" : "Slot";
 }
 
@@ -258,7 +297,7 @@ function chooseExample() {
 
 /** Shows the report that was recorded of an example, if the machine can't run. */
 function showRecorded({ report }) {
-  showText(report ?? "", report ? resultsOf(report, new Map()) : []);
+  showText(report ?? "", report ? resultsOf(readWatch(report)?.report ?? report, new Map()) : []);
 }
 
 async function openFile() {
@@ -311,8 +350,10 @@ function attend() {
   byId("run").onclick = run;
   byId("stop").onclick = stop;
   byId("schedule").onclick = writeSchedule;
-  byId("look").onclick = look;
+  byId("look").onclick = () => look(0);
+  byId("place").onfocus = offerPlaces;
   byId("shuffle").onclick = shuffle;
+  byId("neighbours").onclick = changeNeighbours;
   byId("see").onclick = see;
   byId("compare-alone").onclick = compareWithAlone;
   byId("compare-before").onclick = () => work("Comparing this run with the run before.", () => theorem.withBefore());
@@ -360,7 +401,7 @@ async function openStart() {
   begin(texts.start, ["run"]);
   if (!engine) return;
   await run();
-  if (lastRun) look();
+  if (lastRun) look(0);
 }
 
 // For use from the browser's console: the machine's answer to the words of a command for a job, the fault of a job, and the job and the text that are shown.

@@ -3,6 +3,7 @@
 
 import { button, choice, labelled, make, table } from "./dom.js";
 import { readJob, writeJob } from "./job.js";
+import { mediumOf } from "./medium.js";
 import { NAMES_OF_POOL, callsOf, numberOf, readReport, saidOf, stateOfStint } from "./report.js";
 import { readSchedule, writeSchedule } from "./schedule.js";
 import { Timeline } from "./timeline.js";
@@ -27,12 +28,12 @@ export class Replay {
     this.element.addEventListener("keydown", (event) => this.press(event));
   }
 
-  /** Shows the run of a job, from its report and the layouts of its decks. */
-  open(text, report, layouts) {
-    Object.assign(this, { text, layouts, job: readJob(text), timeline: new Timeline(readReport(report)), wanted: null, isAsking: false, last: null });
+  /** Shows the run of a job after a call, from its report, the layouts of its decks, and the stops of a watch, or null. */
+  open({ text, report, layouts, stops }, call) {
+    Object.assign(this, { text, layouts, stops, job: readJob(text), timeline: new Timeline(readReport(report)), wanted: null, isAsking: false, last: null });
     this.draw();
     this.element.hidden = false;
-    return this.show(0);
+    return this.show(call);
   }
 
   close() {
@@ -42,36 +43,38 @@ export class Replay {
   }
 
   draw() {
-    const { timeline } = this;
+    const { timeline, stops } = this;
     this.slider = make("input", { type: "range", min: "0", max: `${timeline.total}`, value: "0", oninput: () => this.show(Number(this.slider.value)) });
-    this.slot = choice([...timeline.slots.keys()].map((slot) => [`${slot}`, `program ${slot}`]), undefined, () => {});
+    this.slot = choice([...timeline.slots.keys()].map((slot) => [`${slot}`, `program ${slot}`]), `${stops?.slot}`, () => {});
     this.where = make("output", {});
-    const { picture, mark } = drawTimeline(timeline, (call) => this.show(call));
+    const { picture, mark } = drawTimeline(timeline, (call) => this.show(call), { stops });
     this.mark = mark;
-    const go = (name, key, call) => button(name, () => this.show(call()), { title: `Key ${key}` });
+    const go = (name, key) => button(name, () => this.show(this.callOf(key)), { title: `Key ${key}` });
     const bar = make("div", { class: "bar", role: "group", "aria-label": "Where in the run" },
       labelled("After call", this.slider), this.where,
-      go("A call back", "b", () => this.call - 1), go("A call on", "f", () => this.call + 1),
-      go("Next event", "e", () => timeline.next(timeline.events, this.call)), go("Next hold", "h", () => timeline.next(timeline.holds, this.call)),
-      go("Next order of", "o", () => this.nextOrder()), labelled("Program", this.slot));
+      go("A call back", "b"), go("A call on", "f"), go("Next event", "e"), go("Next hold", "h"),
+      ...(stops ? [go("Previous stop", "p"), go("Next stop", "n")] : []), go("Next order of", "o"), labelled("Program", this.slot));
     this.shown = make("div", { class: "moment" });
     this.element.replaceChildren(make("h2", {}, "The run, call by call"), picture, bar, this.shown);
   }
 
-  nextOrder() {
-    return this.timeline.nextOrder(Number(this.slot.value), this.call);
+  /** The call to which a key leads, or undefined. */
+  callOf(key) {
+    const { timeline, call, stops } = this;
+    const to = {
+      b: () => call - 1, f: () => call + 1, e: () => timeline.next(timeline.events, call), h: () => timeline.next(timeline.holds, call),
+      o: () => timeline.nextOrder(Number(this.slot.value), call), n: () => stops && timeline.next(stops.calls, call), p: () => stops && timeline.previous(stops.calls, call),
+    };
+    return to[key]?.() ?? undefined;
   }
 
   /** Does what the button of the pressed key does. */
   press(event) {
     if (!this.timeline || event.ctrlKey || event.altKey || event.metaKey) return;
-    const { timeline, call } = this;
-    const to = {
-      b: () => call - 1, f: () => call + 1, e: () => timeline.next(timeline.events, call), h: () => timeline.next(timeline.holds, call), o: () => this.nextOrder(),
-    }[event.key];
-    if (!to) return;
+    const to = this.callOf(event.key);
+    if (to === undefined) return;
     event.preventDefault();
-    this.show(to());
+    this.show(to);
   }
 
   /** Shows the machine after a call. While a question to the machine is open, only the call that was asked for last is kept. */
@@ -159,13 +162,13 @@ export class Replay {
       make("h3", {}, `Program ${section.slot}: ${state}`),
       make("p", {}, `After ${section.orders} order${section.orders === 1 ? "" : "s"}. Next: ${nextOf(section, next)}.`),
       this.drawDeck(section, next), this.drawRegisters(section, before), this.drawWords(section, before, layout),
-      ...section.devices.map((device, at) => this.drawOwnDevice(call, device, before.devices[at])),
+      ...section.devices.map((device, at) => this.drawOwnDevice(call, device, before.devices[at], section.slot)),
       ...section.stints.map((_, at) => this.drawStint(call, section, before, at)));
   }
 
   /** The deck with the next statement marked. */
   drawDeck(section, next) {
-    const { deck } = this.job.slots.find(({ number }) => number === `${section.slot}`);
+    const { deck } = this.slotOf(section.slot);
     if (!next || section.state === "ENDED") return make("pre", { class: "deck", tabindex: "0", "aria-label": "Deck" }, deck);
     const mark = make("mark", {}, deck.slice(next.start, next.end));
     setTimeout(() => { mark.parentElement.scrollTop = mark.offsetTop - mark.parentElement.offsetTop - 60; });
@@ -188,7 +191,7 @@ export class Replay {
 
   /** The words that changed in the call, and those that the job shows. */
   drawWords(section, before, layout) {
-    const slot = this.job.slots.find(({ number }) => number === `${section.slot}`);
+    const slot = this.slotOf(section.slot);
     const changed = new Set(changedWords(section, before).map(({ address }) => address));
     const ranges = slot.shows.map((show) => show.split(" ").map(Number));
     const isShown = (address) => changed.has(address) || ranges.some(([first, last]) => first <= address && address <= last);
@@ -198,9 +201,15 @@ export class Replay {
       `${changed.has(address) ? CHANGED : ""}${layout?.nameOf(address) ?? `E${address}`}`, make("code", {}, octal), `${numberOf(octal)}`]));
   }
 
-  drawOwnDevice(call, device, before) {
+  drawOwnDevice(call, device, before, slot) {
     const isChanged = JSON.stringify(device) !== JSON.stringify(before), state = device.isClaimed ? "claimed" : "not claimed";
-    return this.drawDevice(call, device, { isChanged, name: `device ${device.number}`, state, flight: this.timeline.flightAfter(device.number, call) });
+    const { media } = this.slotOf(slot).devices.find(({ number }) => number === `${device.number}`);
+    return this.drawDevice(call, device, { isChanged, name: `device ${device.number}`, state, media, flight: this.timeline.flightAfter(device.number, call) });
+  }
+
+  /** The slot of this number, as the job has it. */
+  slotOf(slot) {
+    return this.job.slots.find(({ number }) => number === `${slot}`);
   }
 
   /** What the program has done in a stint with a device of the pool. The device's transfer belongs to its holder. */
@@ -211,14 +220,14 @@ export class Replay {
     return this.drawDevice(call, stint, { isChanged, name: `pool device ${stint.number}`, state, flight: own });
   }
 
-  drawDevice(call, { number, kind, place, blocks }, { isChanged, name, state, flight }) {
+  drawDevice(call, device, { isChanged, name, state, flight, media = [] }) {
+    const { number, kind, place } = device;
     const isMove = ({ calls, entry: [what, device] }) => what === "MOVE" && device === number && calls >= flight.start && calls <= call;
     const moves = flight ? this.timeline.entries.filter(isMove) : [];
     const said = `${isChanged ? CHANGED : ""}${name[0].toUpperCase()}${name.slice(1)}, ${kind}: ${state}, place ${place}`;
     const transfer = flight ? `; a transfer since call ${flight.start}, ${moves.reduce((sum, { entry }) => sum + entry[2], 0)} words moved by MOVE` : "";
-    const attributes = { class: "blocks", tabindex: "0", "aria-label": `The blocks of ${name}` };
-    const shown = blocks.length ? [make("pre", attributes, blocks.map(({ text }) => text).join("\n"))] : [];
-    return make("div", {}, make("p", {}, `${said}${transfer}.`), ...shown);
+    const lines = mediumOf(device, media), attributes = { class: "blocks", tabindex: "0", "aria-label": `What is on ${name}` };
+    return make("div", {}, make("p", {}, `${said}${transfer}.`), ...(lines.length ? [make("pre", attributes, lines.join("\n"))] : []));
   }
 
   /** Who has each device of the pool after the call, and who waits for one; nothing if the pool has no devices. */

@@ -1,5 +1,8 @@
 // The texts that say what became of programs: the report of a run, and the text of a program that ran alone.
 
+/** How many characters of a text are read at most. */
+export const LONGEST_READ = 20000000;
+
 /** A device of a section, or a stint with one of the pool. */
 function readDevice(rest) {
   const [number, kind, claim, , place, , flag] = rest.split(" ");
@@ -73,6 +76,19 @@ export function timed(entries) {
     calls += callsOf(entry);
     return [before, entry];
   });
+}
+
+/** The calls at which the program of a slot obeyed these orders of its own, which are in ascending sequence; 0 for order 0. It has to have obeyed that many. */
+export function callsOfOrders(entries, slot, orders) {
+  const calls = [];
+  let obeyed = 0;
+  while (orders[calls.length] === 0) calls.push(0);
+  for (const [before, [kind, number, more]] of timed(entries)) {
+    if (kind !== "RAN" || number !== slot) continue;
+    while (orders[calls.length] <= obeyed + more) calls.push(before + orders[calls.length] - obeyed);
+    obeyed += more;
+  }
+  return calls;
 }
 
 /** What a device of the pool is called, by its kind. */

@@ -3,16 +3,13 @@
 import { make, table } from "./dom.js";
 import { Layout, readListing } from "./deck.js";
 import { readJob } from "./job.js";
-import { many, numberOf, readReport, saidOf, stateOfStint, timed } from "./report.js";
+import { LONGEST_READ, many, numberOf, readReport, saidOf, stateOfStint, timed } from "./report.js";
 
 const OUT_OF_SERVICE = 64n;
 const FLAGS = ["V, the overflow flag", "TR, the test register"];
 
 // How many characters of a text, entries of a journal and words of a program are shown at most. The saved file has all of them.
 const MOST_SHOWN = 100000, MOST_ENTRIES = 1000, MOST_WORDS = 1000;
-
-// A longer report is only shown, and not read.
-const LONGEST_READ = 20000000;
 
 /** Whether a text is a report, or the text of a lone run, and short enough to be read. */
 export const isReadable = (text) => text.length <= LONGEST_READ && /^KDF9 (REPORT|ALONE) /.test(text);

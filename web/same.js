@@ -1,23 +1,11 @@
 // Whether a program comes to the same in two worlds: in two runs, or in a run and alone. Its states are the machine's own reports, with the whole store shown.
 
 import { readJob, writeJob } from "./job.js";
-import { readReport, timed } from "./report.js";
+import { callsOfOrders, readReport } from "./report.js";
 import { readSchedule, writeSchedule } from "./schedule.js";
 
 const count = (number, what) => `${number} ${what}${number === 1 ? "" : "s"}`;
 const listed = (words) => (words.length > 1 ? `${words.slice(0, -1).join(", ")} and ${words.at(-1)}` : words[0]);
-
-/** The call at which the program of a slot obeyed this order of its own; 0 for order 0. It has to have obeyed that many. */
-export function callOfOrder(entries, slot, order) {
-  let obeyed = 0;
-  for (const [calls, [kind, number, orders]] of timed(entries)) {
-    if (obeyed >= order) break;
-    if (kind !== "RAN" || number !== slot) continue;
-    if (obeyed + orders >= order) return calls + order - obeyed;
-    obeyed += orders;
-  }
-  return 0;
-}
 
 /** The entries of a program's orders that asked, or gave back a device of the pool, each with the number of its order. */
 function* askedBy(entries, slot) {
@@ -138,7 +126,7 @@ export class Shared {
 
   async state(orders) {
     const { whole, number } = this;
-    const text = orders < this.orders ? await whole.runTo(callOfOrder(whole.entries, number, orders)) : whole.text;
+    const text = orders < this.orders ? await whole.runTo(callsOfOrders(whole.entries, number, [orders])[0]) : whole.text;
     return { lines: linesOfSections(text).get(number), flying: inFlight(readReport(text).entries, number) };
   }
 }

@@ -1,13 +1,14 @@
 // Another schedule of a job, by chance: transfers end and move at other calls, the clock shows its times at other calls, and programs exchange their priorities.
-// A seed gives the same schedule each time.
+// Or other decks of its programs. A seed gives the same each time.
 
 import { readJob, writeJob } from "./job.js";
 import { callsOf, readReport } from "./report.js";
+import { layoutsOf } from "./results.js";
 import { NoSchedule, readSchedule, withTransfers, writeSchedule } from "./schedule.js";
 
 export const MOST_SEED = 999999;
 
-const MOST_CALLS = 20000000, LONGEST_TRANSFER = 60, MOST_MOVES = 3, MOST_WORDS = 9, MOST_SWAPS = 6;
+const MOST_CALLS = 20000000, LONGEST_TRANSFER = 60, MOST_MOVES = 3, MOST_WORDS = 9, MOST_SWAPS = 6, MOST_DUMMIES = 9;
 
 /** A number from 0 up to below `end`, which depends on nothing but the other numbers. */
 function chance(end, ...numbers) {
@@ -53,4 +54,16 @@ export async function shuffled(ask, text, seed) {
   const calls = Math.min(MOST_CALLS, readSchedule(job.schedule).calls + LONGEST_TRANSFER * transfers);
   const schedule = writeSchedule({ calls, events: others(job, made, seed) });
   return withTransfers(ask, writeJob({ ...job, schedule }), (transfer) => eventsOf(transfer, seed));
+}
+
+/** The text of a job in which the main part of each program but this one begins with some more orders, which do nothing; null if one of these decks then has a fault. */
+export async function withOtherNeighbours(ask, text, kept, seed) {
+  const job = readJob(text), layouts = await layoutsOf(ask, text);
+  const slots = job.slots.map((slot) => {
+    const first = slot.number === kept ? undefined : layouts.get(Number(slot.number))?.first;
+    const more = "DUMMY; ".repeat(1 + chance(MOST_DUMMIES, seed, 9, Number(slot.number)));
+    return first ? { ...slot, deck: slot.deck.slice(0, first.start) + more + slot.deck.slice(first.start) } : slot;
+  });
+  const changed = writeJob({ ...job, slots });
+  return (await ask(["asm", "0"], changed)).status === 0 ? changed : null;
 }

@@ -4,8 +4,8 @@ import { aligned } from "./aligned.js";
 import { make, table } from "./dom.js";
 import { drawTimeline } from "./drawing.js";
 import { linesOf } from "./job.js";
-import { HOLDS, callsOf, many, numberOf, saidOf } from "./report.js";
-import { Alone, Shared, Whole, callOfOrder, compare } from "./same.js";
+import { HOLDS, callsOf, callsOfOrders, many, numberOf, saidOf } from "./report.js";
+import { Alone, Shared, Whole, compare } from "./same.js";
 import { Timeline } from "./timeline.js";
 
 const THIS_RUN = "in this run", RUN_BEFORE = "in the run before";
@@ -111,7 +111,7 @@ function changesOf(whole, slot, other, like) {
   const told = ([run, number]) => {
     const own = run.entries.filter(([, owner]) => owner === number), section = run.sections.find((each) => each.slot === number);
     const stretches = own.filter(([kind]) => kind === "RAN").length, holds = own.filter(([kind]) => HOLDS.includes(kind)).length;
-    const last = section.orders ? `, the last at call ${callOfOrder(run.entries, number, section.orders).toLocaleString("en")}` : "";
+    const last = section.orders ? `, the last at call ${callsOfOrders(run.entries, number, [section.orders])[0].toLocaleString("en")}` : "";
     return `it obeyed ${many(section.orders, "order")} in ${many(stretches, "stretch", "stretches")}${last}, and was held up ${many(holds, "time")}`;
   };
   const [before, now] = [[other, like], [whole, slot]].map(told);

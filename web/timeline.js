@@ -173,6 +173,11 @@ export class Timeline {
   next(calls, call) {
     return calls.find((each) => each > call) ?? this.total;
   }
+
+  /** The last of these calls that is before `call`; the beginning of the run if there is none. */
+  previous(calls, call) {
+    return calls.findLast((each) => each < call) ?? 0;
+  }
 }
 
 /** The columns of a row of the picture: the share of each kind of span in each column, and for a device the slot of its transfer or its holder. */

@@ -16,6 +16,9 @@ DECLARATION = re.compile(r"Y([A-Z]?)(\d+)\Z")
 OPENING = re.compile(r"(?:PROGRAM|P(\d+))(?:V(\d+))?\Z")
 CONSTANT = re.compile(r"V(\d+)=")
 
+# The name of a place in an image: word and syllable, or a reference and a part as a jump names them.
+PLACE = re.compile(r"(\d{1,4})/([0-5])|(\d{1,4})?(?:P(\d{1,3}))?")
+
 # The number of a Q-store in a statement that sets a part of it, and in one that uses one.
 SETS_Q = re.compile(r"(?:\A=[+R]?[QCIM]|TOQ)(\d+)\Z")
 USES_Q = re.compile(r"[QCIM](\d+)")
@@ -119,8 +122,10 @@ class Layout:
         self.names = []
         self._place = self.rows[0].size
         self._part = None
-        self._groups = {}
-        self._references = iter(listing.references)
+        self._parts, self._groups = {}, {}
+        self._listed = listing.references
+        self._references = iter(self._listed)
+        self._open_references = []
         for statement in statements(deck):
             self._add(statement)
             if statement.text == "FINISH":
@@ -180,14 +185,31 @@ class Layout:
         ours = [names for names in self.names if (names.before, names.after) == (before, after) and number < names.count]
         return ours[0].address + number if ours else None
 
+    def place_of(self, name):
+        """The place that a name is of, or None where there is no such reference or part. A reference without a part is one of the main part."""
+        found = PLACE.fullmatch(name)
+        if not found or not name:
+            return None
+        word, syllable, reference, part = (number and int(number) for number in found.groups())
+        if word is not None:
+            return WORD * word + syllable
+        return self._parts.get(part) if reference is None else self._place_of_reference(part or 0, reference)
+
+    def _place_of_reference(self, part, reference):
+        """The place of a reference, which the listing has; or None."""
+        head = f"REF {part} {reference} "
+        places = [line[len(head):].split(" ") for line in self._listed if line.startswith(head)]
+        return WORD * int(places[0][0]) + int(places[0][1]) if places else None
+
     def _add(self, statement):
         text = statement.text
         if text.isdigit():
-            self._refer(int(text))
+            self._open_references.append(len(self.rows))
             self.rows.append(Row("reference", self._place, 0, statement))
         elif text == "*":
             self._add_star(statement)
         elif text == "FINISH":
+            self._place_references()
             self._fill()
             self._put("heading", 0, statement)
         elif OPENING.match(text):
@@ -198,13 +220,17 @@ class Layout:
         elif self._part is None:
             self._declare(DECLARATION.match(text), statement)
         else:
+            self._place_references()
             first = self.image[self._place] if self._place < len(self.image) else 0
             self._put("order", size_of_order(first), statement)
 
-    def _refer(self, number):
-        """The listing says where each reference is, and has to agree."""
-        if next(self._references, None) != f"REF {self._part} {number} {self._place // WORD} {self._place % WORD}":
-            raise BadInput(OTHER_DECK)
+    def _place_references(self):
+        """The references since the last order mean this place, also if a `*` came between. The listing says where each reference is, and has to agree."""
+        for at in self._open_references:
+            row = self.rows[at] = self.rows[at]._replace(place=self._place)
+            if next(self._references, None) != f"REF {self._part} {int(row.statement.text)} {row.place // WORD} {row.place % WORD}":
+                raise BadInput(OTHER_DECK)
+        self._open_references = []
 
     def _add_star(self, statement):
         """A `*` after a `*` is left out: it fills nothing, and a deck may have millions."""
@@ -227,6 +253,7 @@ class Layout:
             self._put("filling", rest, None)
 
     def _open(self, opening, statement):
+        self._place_references()
         self._fill()
         self._put("heading", 0, statement)
         self._part = int(opening[1] or 0)
@@ -234,6 +261,7 @@ class Layout:
             count = int(opening[2]) + 1
             self.names.append(Names("V", f"P{self._part}" if self._part else "", self._place // WORD, count))
             self._place += WORD * count
+        self._parts[self._part] = self._place
 
     def _name_groups(self):
         for letter in sorted(self._groups):

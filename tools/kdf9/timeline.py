@@ -13,17 +13,23 @@ def timed(entries):
         calls += calls_of(entry)
 
 
+def calls_of_orders(entries, slot, orders):
+    """The calls at which the program of a slot obeyed these orders of its own, whose numbers rise from 1 on; only of those that it obeyed."""
+    obeyed, rest = 0, iter(orders)
+    order = next(rest, None)
+    for calls, entry in timed(entries):
+        if order is None:
+            return
+        if entry[0] == "RAN" and entry[1] == slot:
+            while order is not None and order <= obeyed + entry[2]:
+                yield calls + order - obeyed
+                order = next(rest, None)
+            obeyed += entry[2]
+
+
 def call_of_order(entries, slot, order):
     """The call at which the program of a slot obeyed this order of its own; 0 for order 0. It has to have obeyed that many."""
-    obeyed = 0
-    for calls, entry in timed(entries):
-        if obeyed >= order:
-            break
-        if entry[0] == "RAN" and entry[1] == slot:
-            if obeyed + entry[2] >= order:
-                return calls + order - obeyed
-            obeyed += entry[2]
-    return 0
+    return next(calls_of_orders(entries, slot, [order]), 0) if order else 0
 
 
 def asked_by(entries, slot):

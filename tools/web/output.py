@@ -10,7 +10,7 @@ from web.engine import NoEngine, engine
 def write_page(command, job=None):
     """Writes the page and returns the status. If there is a job, it runs when the page opens. `command` is what was typed."""
     if sys.stdout is None or sys.stdout.isatty():
-        say(f"the page is a file of some 400,000 bytes: {command} > kdf9.html")
+        say(f"the page is a file of some 500,000 bytes: {command} > kdf9.html")
         return 1
     try:
         sys.stdout.buffer.write(page(engine(say), job).encode("utf-8"))

@@ -50,7 +50,7 @@ impl Alone {
     {
         Ok(Alone {
             registers: Registers::new(),
-            bench: load_bench(alloc, slot, image, slot.served)?,
+            bench: load_bench(alloc, slot, image)?,
         })
     }
 

@@ -2,8 +2,7 @@
 ghost use Rattle.std.specs.Prelude.{◌≡◌, ◌≤◌, All, None, length, map, IfOk};
 ghost use Rattle.std.specs.Option.{option_map};
 ghost use Rattle.kdf_job.specs.Shows.{shown_device, shown_slot};
-ghost use Rattle.kdf_job.specs.Slots.{fixture_on, lent_kind, numbered, progress_on};
-ghost use Rattle.kdf_job.specs.Slots.{slot_with};
+ghost use Rattle.kdf_job.specs.Slots.{fixture_on, lent_kind, numbered, progress_on, slot_of};
 ghost use Rattle.kdf_processor.specs.State.{filled, stocked};
 ghost use Rattle.kdf_transfer.specs.ByNumber.{by_number};
 ghost use Rattle.kdf_alone.specs.Bench.{stock_of};
@@ -20,22 +19,15 @@ use kdf_word::Word;
 use std::alloc::{AllocError, Global};
 
 /// What a slot has before the first order of its program: the words of the image at the front of its store, its devices and those
-/// of the pool, none of them claimed. It is served where that is said.
-pub fn load_bench(
-    alloc: Global,
-    slot: &SlotJob,
-    image: &Image,
-    served: bool,
-) -> Result<Bench, AllocError>
+/// of the pool, none of them claimed.
+pub fn load_bench(alloc: Global, slot: &SlotJob, image: &Image) -> Result<Bench, AllocError>
     requires fits { length image.now.words.items ≤ slot.now.size }
     requires apart { IsApart (shown_slot slot.now) }
-    ensures { IfOk result (λ b. stock_of b
-        ≡ stocked (slot_with slot.now.p slot.now.size image.now.words.items
-        (map shown_device slot.now.devices.items) slot.now.pool.items served)) }
+    ensures { IfOk result (λ b. stock_of b ≡ stocked (slot_of (shown_slot slot.now) image.now.words.items)) }
 {
     let words = store(alloc, slot.size, &image.words)?;
     let places = places(alloc, slot)?;
-    Ok(Bench::new(alloc, slot.size, words, places, served))
+    Ok(Bench::new(alloc, slot.size, words, places, slot.served))
 }
 
 /// The words of a store of this size with an image at its front, and zeros after.

@@ -16,7 +16,7 @@ use Rattle.kdf_director.specs.Served.{IsJournalFor}
 use Rattle.kdf_director.proofs.ForService.{true_for_nil}
 use Rattle.kdf_director.proofs.Judged.{legal_nil}
 use Rattle.kdf_director.proofs.Loadable.{are_loads, are_slots}
-use Rattle.kdf_check.specs.declared.around.Pending.{Pending}
+use Rattle.kdf_check.specs.declared.table.Pending.{Pending}
 use Rattle.kdf_check.specs.declared.program.Program.{Program}
 use Rattle.kdf_check.specs.declared.verdict.Verdict.{Verdict}
 use Rattle.kdf_check.specs.declared.verdict.Verdict.TheVariants.{No}

@@ -27,8 +27,8 @@ use Rattle.kdf_director.proofs.ForService.{true_for_added, true_of_for}
 use Rattle.kdf_director.proofs.Judged.{legal_added}
 use Rattle.kdf_director.proofs.Owns.{asked-start, own-ran, own-same}
 use Rattle.kdf_director.proofs.Worlds.{next_on, next_slot}
-use Rattle.kdf_check.specs.declared.around.Around.{Around}
-use Rattle.kdf_check.specs.declared.around.Pending.{Pending}
+use Rattle.kdf_check.specs.Around.{Around}
+use Rattle.kdf_check.specs.declared.table.Pending.{Pending}
 use Rattle.kdf_check.specs.declared.program.Program.{Program}
 use Rattle.kdf_check.specs.Keeps.{place_at, IsFollowed, IsKeptAt, Keeps}
 use Rattle.kdf_check.specs.Tracks.{IsAround, Tells}
@@ -74,7 +74,7 @@ module _ (answers : ℕ → ℕ → Type 0) (slots : List Slot) (J : List Entry)
     pub next-live : x.registers.state ≡ life.Live
     next-live = live_is x.registers.state on_live
 
-    pub next-posed : (around : Around) → IsAround slots J around → IsPosed slots J around x.registers x.desk
+    pub next-posed : (around : Around) → IsAround slots J around → IsPosed slots J x.p around x.registers x.bench
     next-posed around is = record {
       are = k.are;
       legal = k.legal;
@@ -89,7 +89,7 @@ module _ (answers : ℕ → ℕ → Type 0) (slots : List Slot) (J : List Entry)
         let same : x.registers.ran ≡ ran p J = ap (λ (s : State). s.registers.ran) f.own_is ∙ own-ran slots J p (ap (λ (s : State). is_live s.registers.state) (sym f.own_is) ∙ on_live) in
         omega (arith, same, ran-le-calls p J, few)
 
-    pub next-asked : calls J < 20000000 → (state_with x.registers x.desk.bench).stock.asked < 20000000
+    pub next-asked : calls J < 20000000 → (state_with x.registers x.bench).stock.asked < 20000000
     next-asked few = omega (arith, ap (λ (s : State). s.stock.asked) f.own_is, own-asked slots J p, ran-le-calls p J, few)
 
   -- ---- the place of the program that is next, found by its number

@@ -23,7 +23,7 @@ use Rattle.kdf_director.proofs.FlightsAdded.{flights-end, flights-move, pending_
 use Rattle.kdf_director.proofs.LegalFacts.{legal_asked}
 use Rattle.kdf_director.proofs.Obeying.{obeys-flights, obeys-others}
 use Rattle.kdf_director.proofs.OnCourse.{flights-quiet, legal-course}
-use Rattle.kdf_check.specs.declared.around.Pending.{Pending}
+use Rattle.kdf_check.specs.declared.table.Pending.{Pending}
 use Rattle.kdf_check.specs.Around.{is_among}
 use Rattle.kdf_check.specs.Desk.{groups_in, table_after, IsInTable}
 use Rattle.kdf_check.specs.Tracks.{Tells, TellsAt}

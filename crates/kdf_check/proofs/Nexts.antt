@@ -15,8 +15,8 @@ use Rattle.kdf_director.specs.Next.{any_live, lone_dispatched, next, there_in}
 use Rattle.kdf_director.specs.Told.{lone_world}
 use Rattle.kdf_director.specs.World.{need_of}
 use Rattle.kdf_director.proofs.LegalFacts.{legal_alive}
-use Rattle.kdf_check.specs.declared.around.Around.{Around}
-use Rattle.kdf_check.specs.declared.around.Pending.{Pending}
+use Rattle.kdf_check.specs.Around.{Around}
+use Rattle.kdf_check.specs.declared.table.Pending.{Pending}
 use Rattle.kdf_check.specs.declared.program.Program.{Program}
 use Rattle.kdf_check.specs.Desk.{shown_by}
 use Rattle.kdf_check.specs.Keeps.{goes, is_on, is_stopped, place_at, IsFollowed, IsKeptAt, Keeps}
@@ -51,7 +51,7 @@ module _ (answers : ℕ → ℕ → Type 0) (slots : List Slot) (J : List Entry)
   live-so places r b same found is = sym on-same ∙ ap (list_any is_on) (sym same) ∙ sym found ∙ is
 
   module _ (around : Around) (is : IsAround slots J around) where
-    stopped-by : (p : ℕ) (x : Program) (h : Option Hold) → x.desk.p ≡ p → IsFollowed slots J p x → is_stopped around x (option_map need_of h) ≡ stands (lone_dispatched slots J) p h
+    stopped-by : (p : ℕ) (x : Program) (h : Option Hold) → x.p ≡ p → IsFollowed slots J p x → is_stopped around x (option_map need_of h) ≡ stands (lone_dispatched slots J) p h
     stopped-by p x None n f = refl
     stopped-by p x (Some by) n f =
         ap₂ (λ (q : ℕ) (s : Stock). is_pending (shown_by q around s) (need_of by)) n (ap (λ (s : State). s.stock) f.own_is)

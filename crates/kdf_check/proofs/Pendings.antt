@@ -27,9 +27,8 @@ use Rattle.kdf_director.specs.Told.{flight_of, flights_of, free_after, is_free_a
 use Rattle.kdf_director.specs.Told as journal
 use Rattle.kdf_director.specs.True.{one_if, truth}
 use Rattle.kdf_director.proofs.Holding.{legal_taken}
-use Rattle.kdf_check.specs.declared.around.Around.{Around}
-use Rattle.kdf_check.specs.declared.around.Pending.{Pending}
-use Rattle.kdf_check.specs.Around.{covers, free_in, is_among, is_busy_in, is_free_in, is_of, is_out_in, mine_in}
+use Rattle.kdf_check.specs.Around.{Around, covers, free_in, is_among, is_busy_in, is_free_in, is_of, is_out_in, mine_in}
+use Rattle.kdf_check.specs.declared.table.Pending.{Pending}
 use Rattle.kdf_check.specs.Desk.{answer_in, shown_by, taken_in}
 use Rattle.kdf_check.specs.Tracks.{IsAround, TellsAt}
 use Rattle.kdf_check.specs.Tried.{lone_truth}

@@ -14,6 +14,7 @@ use Rattle.kdf_processor.specs.declared.registers.Registers.{Registers}
 use Rattle.kdf_processor.specs.declared.step.Need.{Need}
 use Rattle.kdf_processor.specs.declared.step.Step.{Step as Ending}
 use Rattle.kdf_processor.specs.State.{State}
+use Rattle.kdf_alone.specs.declared.bench.Bench.{Bench}
 use Rattle.kdf_alone.specs.Bench.{state_with}
 use Rattle.kdf_director.specs.Advance.{IsHeard}
 use Rattle.kdf_director.specs.Legal.{note_of, IsLegal, Meets}
@@ -27,9 +28,8 @@ use Rattle.kdf_director.proofs.ForService.{heard_note}
 use Rattle.kdf_director.proofs.Judged.{need_again}
 use Rattle.kdf_director.proofs.Obeying.{obeys-others, obeys-own}
 use Rattle.kdf_director.proofs.Owns.{own-same}
-use Rattle.kdf_check.specs.declared.around.Around.{Around}
-use Rattle.kdf_check.specs.declared.around.Pending.{Pending}
-use Rattle.kdf_check.specs.declared.desk.Desk.{Desk}
+use Rattle.kdf_check.specs.Around.{Around}
+use Rattle.kdf_check.specs.declared.table.Pending.{Pending}
 use Rattle.kdf_check.specs.declared.program.Program.{Program}
 use Rattle.kdf_check.specs.Entered.{entered}
 use Rattle.kdf_check.specs.Tracks.{Tells}
@@ -39,13 +39,13 @@ use Rattle.kdf_check.proofs.Entries.{held-entered, obeyed-entered, obeyed-free}
 use Rattle.kdf_check.proofs.Kept.{held_keeps, obeyed_keeps}
 
 -- what a turn leaves: the program's lone state by the journal with its step, the others', what holds each, and the table
-record IsTurn (slots : List Slot) (J : List Entry) (p : ℕ) (ending : Ending) (registers : Registers) (desk : Desk) (K : List Entry) : Type 0 where
-  pub state : state_with registers desk.bench ≡ own slots K p
+record IsTurn (slots : List Slot) (J : List Entry) (p : ℕ) (ending : Ending) (registers : Registers) (bench : Bench) (table : List (Option Pending)) (entry : Option Entry) (K : List Entry) : Type 0 where
+  pub state : state_with registers bench ≡ own slots K p
   pub others : (q : ℕ) → p ≢ q → own slots K q ≡ own slots J q
   pub hold : hold_left ending ≡ option_map need_of (last_hold p K)
   pub other_holds : (q : ℕ) → p ≢ q → last_hold q K ≡ last_hold q J
-  pub tells : Tells slots K desk.around.table
-  pub entered_is : entered J p ending desk.entry ≡ K
+  pub tells : Tells slots K table
+  pub entered_is : entered J p ending entry ≡ K
 
 module _ (slots : List Slot) (J : List Entry) (p : ℕ) (around : Around) (ending : Ending)
     (are : AreSlots slots) (l : IsLegal slots J) (turn_is : next (lone_world slots J) slots J ≡ Some p) (tells : Tells slots J around.table) where
@@ -68,9 +68,9 @@ module _ (slots : List Slot) (J : List Entry) (p : ℕ) (around : Around) (endin
   hold_there : (q : ℕ) (o : Option Hold) → p ≢ q → cond (eqb p q) o (last_hold q J) ≡ last_hold q J
   hold_there q o ne = ap (λ b. cond b o (last_hold q J)) (ne_eqb p q ne)
 
-  left_by : (x : Program) (o : Option Need) → first_need (lone_world slots J) p ≡ o → IsTried slots J p around (outcome_by slots J heard p o) ending x.registers x.desk
-      → IsTurn slots J p ending x.registers x.desk (added J (step_by slots J heard p o))
-  left_by x None free t =
+  left_by : (x : Program) (table : List (Option Pending)) (entry : Option Entry) (o : Option Need) → first_need (lone_world slots J) p ≡ o → IsTried slots J p around (outcome_by slots J heard p o) ending x.registers x.bench table entry
+      → IsTurn slots J p ending x.registers x.bench table entry (added J (step_by slots J heard p o))
+  left_by x table entry None free t =
       let meets = meets_by None free in
       let answer = lone_truth slots J heard p in
       record {
@@ -79,9 +79,9 @@ module _ (slots : List Slot) (J : List Entry) (p : ℕ) (around : Around) (endin
         hold = ap hold_left t.ending_is ∙ obeyed-free answer s ∙ ap (option_map need_of) (sym (last_hold-added p J (Obeys p note) ∙ hold_here None));
         other_holds = λ q ne. last_hold-added q J (Obeys p note) ∙ hold_there q None ne;
         tells = subst (Tells slots (added J (Obeys p note))) (sym t.table_is) (obeyed_keeps slots J p heard note around.table are l tells meets t.inside);
-        entered_is = ap₂ (entered J p) t.ending_is t.entry ∙ obeyed-entered J p answer s;
+        entered_is = ap₂ (entered J p) t.ending_is t.entry_is ∙ obeyed-entered J p answer s;
       }
-  left_by x (Some need) held t =
+  left_by x table entry (Some need) held t =
       let by : Hold = hold_of need in
       record {
         state = t.state ∙ sym (own-same slots J (Holds p by) p refl refl);
@@ -89,18 +89,18 @@ module _ (slots : List Slot) (J : List Entry) (p : ℕ) (around : Around) (endin
         hold = ap hold_left t.ending_is ∙ ap (λ (n : Need). Some n) (sym (need_again need)) ∙ ap (option_map need_of) (sym (last_hold-added p J (Holds p by) ∙ hold_here (Some by)));
         other_holds = λ q ne. last_hold-added q J (Holds p by) ∙ hold_there q (Some by) ne;
         tells = subst (Tells slots (added J (Holds p by))) (sym t.table_is) (held_keeps slots J p by around.table are l tells);
-        entered_is = ap (λ (e : Ending). entered J p e x.desk.entry) t.ending_is ∙ held-entered J p need x.desk.entry;
+        entered_is = ap (λ (e : Ending). entered J p e entry) t.ending_is ∙ held-entered J p need entry;
       }
 
   turn_meets : Meets (lone_world slots J) slots J heard (step_of slots J heard p)
   turn_meets = meets_by (first_need (lone_world slots J) p) refl
 
-  turn_left : (x : Program) → IsTried slots J p around (outcome_of slots J heard p) ending x.registers x.desk → IsTurn slots J p ending x.registers x.desk (added J (step_of slots J heard p))
-  turn_left x = left_by x (first_need (lone_world slots J) p) refl
+  turn_left : (x : Program) (table : List (Option Pending)) (entry : Option Entry) → IsTried slots J p around (outcome_of slots J heard p) ending x.registers x.bench table entry → IsTurn slots J p ending x.registers x.bench table entry (added J (step_of slots J heard p))
+  turn_left x table entry = left_by x table entry (first_need (lone_world slots J) p) refl
 
-  truly_by : (answers : ℕ → ℕ → Type 0) → IsHeard answers (own slots J p) heard → (o : Option Need) → Noted (is_true_for answers slots J) (step_by slots J heard p o)
-  truly_by answers is None = heard_note answers slots J p heard is
-  truly_by answers is (Some need) = tt
+  truly_by : (answers : ℕ → ℕ → Type 0) (o : Option Need) → (o ≡ None → IsHeard answers (own slots J p) heard) → Noted (is_true_for answers slots J) (step_by slots J heard p o)
+  truly_by answers None is = heard_note answers slots J p heard (is refl)
+  truly_by answers (Some need) is = tt
 
   call_by : (o : Option Need) → call_of (step_by slots J heard p o) ≡ AnOrder
   call_by None = refl
@@ -110,23 +110,20 @@ module _ (slots : List Slot) (J : List Entry) (p : ℕ) (around : Around) (endin
   turn_call = call_by (first_need (lone_world slots J) p)
 
   -- the turn as a whole, from what was entered
-  pub turned : (answers : ℕ → ℕ → Type 0) → IsHeard answers (own slots J p) heard → (x : Program) (table : List (Option Pending)) (K : List Entry) → IsTried slots J p around (outcome_of slots J heard p) ending x.registers x.desk → x.hold ≡ hold_left ending → table ≡ x.desk.around.table → K ≡ entered J x.desk.p ending x.desk.entry
+  pub turned : (answers : ℕ → ℕ → Type 0) → (first_need (lone_world slots J) p ≡ None → IsHeard answers (own slots J p) heard) → (x : Program) (table : List (Option Pending)) (entry : Option Entry) (K : List Entry) → IsTried slots J p around (outcome_of slots J heard p) ending x.registers x.bench table entry → x.p ≡ p → x.hold ≡ hold_left ending → K ≡ entered J p ending entry
       → IsTurned answers slots J p x table K
-  turned answers is_heard x table K t hold_is table_is k = subst (IsTurned answers slots J p x table) (sym k_is) (record {
-    goes_on = record { step = s'; call = turn_call; heard = heard; meets = turn_meets; truly = truly_by answers is_heard (first_need (lone_world slots J) p); entered = refl };
-    number = t.p_is;
+  turned answers is_heard x table entry K t p_is hold_is k = subst (IsTurned answers slots J p x table) (sym (k ∙ left.entered_is)) (record {
+    goes_on = record { step = s'; call = turn_call; heard = heard; meets = turn_meets; truly = truly_by answers (first_need (lone_world slots J) p) is_heard; entered = refl };
+    number = p_is;
     own_is = left.state;
     hold_is = hold_is ∙ left.hold;
     others = left.others;
     other_holds = left.other_holds;
-    tells = subst (Tells slots (added J s')) (sym table_is) left.tells;
+    tells = left.tells;
   })
     where
       s' : Step
       s' = step_of slots J heard p
 
-      left : IsTurn slots J p ending x.registers x.desk (added J s')
-      left = turn_left x t
-
-      k_is : K ≡ added J s'
-      k_is = k ∙ ap (λ (q : ℕ). entered J q ending x.desk.entry) t.p_is ∙ left.entered_is
+      left : IsTurn slots J p ending x.registers x.bench table entry (added J s')
+      left = turn_left x table entry t

@@ -7,6 +7,6 @@ use Rattle.kdf_check.specs.declared.program.Program.{Program}
 
 -- it is that of the slot, and nothing has held it
 pub record IsBegun (s : Slot) (x : Program) : Type 0 where
-  pub number : x.desk.p ≡ s.p
-  pub begun : state_with x.registers x.desk.bench ≡ begin s
+  pub number : x.p ≡ s.p
+  pub begun : state_with x.registers x.bench ≡ begin s
   pub free : x.hold ≡ None

@@ -1,4 +1,5 @@
--- What a desk shows, and what an acting call does to it. A desk is a program's bench, and what stands around the program.
+-- What a desk shows, and what an acting call does to it. A desk is a program's bench, and what stands around the program,
+-- for one order.
 use Rattle.std.specs.Prelude.{◌≡◌, ℕ, ◌/◌, ◌<◌, not, true, List, Option, Some, None, is_some, slice_set, if◌then◌else◌}
 use Rattle.std.specs.List.{list_any}
 use Rattle.kdf_journal.specs.declared.entry.Entry.{Entry}
@@ -7,16 +8,18 @@ use Rattle.kdf_journal.specs.declared.kind.Kind.{Kind}
 use Rattle.kdf_transfer.specs.AtOnce.{has_area}
 use Rattle.kdf_transfer.specs.Devices.{test_of}
 use Rattle.kdf_transfer.specs.declared.order.TransferOrder.{TransferOrder}
+use Rattle.kdf_processor.specs.declared.registers.Registers.{Registers}
+use Rattle.kdf_processor.specs.declared.step.Step.{Step as Ending}
 use Rattle.kdf_processor.specs.Claims.{taken}
 use Rattle.kdf_processor.specs.Effect.{Act, Starts, Asks, Releases, Question, IsBusy, IsOut, Time, FreeOf, OfService}
+use Rattle.kdf_processor.specs.Outcome.{outcome}
 use Rattle.kdf_processor.specs.Row.{at_once}
 use Rattle.kdf_processor.specs.State.{Claims, Stock, device_in, device_limit, word_in}
 use Rattle.kdf_processor.specs.View.{View, groups_of}
 use Rattle.kdf_alone.specs.Bench.{stock_of, HasRoom as HasBenchRoom}
 use Rattle.kdf_director.specs.True.{one_if}
-use Rattle.kdf_check.specs.Around.{free_in, is_busy_in, is_out_in, mine_in}
-use Rattle.kdf_check.specs.declared.around.Around.{Around}
-use Rattle.kdf_check.specs.declared.around.Pending.{Pending}
+use Rattle.kdf_check.specs.Around.{Around, around_by, free_in, is_busy_in, is_out_in, mine_in}
+use Rattle.kdf_check.specs.declared.table.Pending.{Pending}
 use Rattle.kdf_check.specs.declared.desk.Desk.{Desk}
 
 -- ---- what is shown
@@ -48,8 +51,11 @@ shown_by p around k =
       mine = mine_in p around.table;
     }
 
+abbrev pub around_of : Desk → Around
+around_of d = around_by d.table.now.places d.journal.now.entries d.heard
+
 abbrev pub shown : Desk → View
-shown d = shown_by d.p d.around (stock_of d.bench)
+shown d = shown_by d.p (around_of d) (stock_of d.bench.now)
 
 -- ---- what an act does
 
@@ -75,10 +81,16 @@ entry_after p k (Asks question answer) entry = Some (Answer p answer)
 entry_after p k (Releases true d) entry = Some (Give p d)
 entry_after p k act entry = entry
 
+-- it is a desk over the same bench and the same table
+pub record SameDesk (old new : Desk) : Type 0 where
+  pub bench : new.bench.ghost_name ≡ old.bench.ghost_name
+  pub table : new.table.ghost_name ≡ old.table.ghost_name
+
 -- an acting call does at once what it does, and is told
 pub record Acts (old : Desk) (act : Act) (new : Desk) : Type 0 where
-  pub stock : stock_of new.bench ≡ at_once act (stock_of old.bench)
-  pub around : new.around ≡ record old.around { table = table_after old.p act old.around.table }
+  pub same : SameDesk old new
+  pub stock : stock_of new.bench.now ≡ at_once act (stock_of old.bench.now)
+  pub around : around_of new ≡ record (around_of old) { table = table_after old.p act old.table.now.places }
   pub inside : IsInTable act
   pub entry : new.entry ≡ entry_after old.p old.order act old.entry
   pub p : new.p ≡ old.p
@@ -86,12 +98,20 @@ pub record Acts (old : Desk) (act : Act) (new : Desk) : Type 0 where
 
 -- there is room for what it keeps
 abbrev pub HasRoom : Desk → Act → Type 0
-HasRoom d act = HasBenchRoom d.bench act
+HasRoom d act = HasBenchRoom d.bench.now act
 
 -- nothing but its spare memory changes
 pub record Stays (old new : Desk) : Type 0 where
-  pub stock : stock_of new.bench ≡ stock_of old.bench
-  pub around : new.around ≡ old.around
+  pub same : SameDesk old new
+  pub stock : stock_of new.bench.now ≡ stock_of old.bench.now
+  pub around : around_of new ≡ around_of old
   pub entry : new.entry ≡ old.entry
   pub p : new.p ≡ old.p
   pub order : new.order ≡ old.order
+
+-- an order was obeyed at it, and so the journal tells of that
+pub record HasObeyed (old : Desk) (r : Registers) (new : Desk) (left : Registers) (ended : Ending) (told : Option Entry) : Type 0 where
+  pub step : ended ≡ (outcome (shown old) r).step
+  pub registers : left ≡ (outcome (shown old) r).registers
+  pub acted : Acts old (outcome (shown old) r).act new
+  pub told_is : told ≡ new.entry

@@ -18,8 +18,8 @@ use Rattle.kdf_director.specs.Served.{is_true_for, IsTrueFor}
 use Rattle.kdf_director.specs.Slots.{AreSlots, slot_of}
 use Rattle.kdf_director.specs.Told.{lone_world, own}
 use Rattle.kdf_director.specs.World.{need_of}
-use Rattle.kdf_check.specs.declared.around.Around.{Around}
-use Rattle.kdf_check.specs.declared.around.Pending.{Pending}
+use Rattle.kdf_check.specs.Around.{Around}
+use Rattle.kdf_check.specs.declared.table.Pending.{Pending}
 use Rattle.kdf_check.specs.declared.program.Program.{Program}
 use Rattle.kdf_check.specs.Desk.{shown_by}
 use Rattle.kdf_check.specs.Tracks.{Tells}
@@ -34,7 +34,7 @@ is_on (Some x) = is_live x.registers.state
 -- what held it is pending still
 abbrev pub is_stopped : Around → Program → Option Need → Bool
 is_stopped around x None = false
-is_stopped around x (Some need) = is_pending (shown_by x.desk.p around (stock_of x.desk.bench)) need
+is_stopped around x (Some need) = is_pending (shown_by x.p around (stock_of x.bench)) need
 
 -- it is live, and nothing holds it up still
 abbrev pub goes : Around → Option Program → Bool
@@ -50,8 +50,8 @@ place_at programs p = slice_index_or programs p None
 -- the program of slot p has its lone state, and what held it is known
 pub record IsFollowed (slots : List Slot) (J : List Entry) (p : ℕ) (x : Program) : Type 0 where
   pub there : is_some (slot_of slots p) ≡ true
-  pub number : x.desk.p ≡ p
-  pub own_is : state_with x.registers x.desk.bench ≡ own slots J p
+  pub number : x.p ≡ p
+  pub own_is : state_with x.registers x.bench ≡ own slots J p
   pub hold_is : x.hold ≡ option_map need_of (last_hold p J)
 
 abbrev pub IsKeptAt : List Slot → List Entry → ℕ → Option Program → Type 0

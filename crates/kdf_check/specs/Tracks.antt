@@ -6,9 +6,8 @@ use Rattle.kdf_transfer.specs.Slots.{Slot}
 use Rattle.kdf_processor.specs.State.{device_limit}
 use Rattle.kdf_director.specs.Flights.{touches}
 use Rattle.kdf_director.specs.Told.{flights_of}
-use Rattle.kdf_check.specs.declared.around.Around.{Around}
-use Rattle.kdf_check.specs.declared.around.Pending.{Pending}
-use Rattle.kdf_check.specs.Around.{is_among}
+use Rattle.kdf_check.specs.Around.{Around, is_among}
+use Rattle.kdf_check.specs.declared.table.Pending.{Pending}
 
 -- what stands at the place of device d tells the transfer there, where the journal has one pending, and which groups its area touches
 abbrev pub TellsAt : List Slot → List Entry → ℕ → Option Pending → Type 0
@@ -24,5 +23,5 @@ pub record Tells (slots : List Slot) (J : List Entry) (table : List (Option Pend
 -- who has the devices of the pool is told too, and the time
 pub record IsAround (slots : List Slot) (J : List Entry) (around : Around) : Type 0 where
   pub tells : Tells slots J around.table
-  pub held : (d : ℕ) → d < device_limit → slice_index_or around.holders d None ≡ holder d J
+  pub held : (d : ℕ) → d < device_limit → around.holders d ≡ holder d J
   pub time : around.time ≡ clock J

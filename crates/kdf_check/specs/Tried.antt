@@ -10,14 +10,15 @@ use Rattle.kdf_processor.specs.declared.step.Step.{Step as Ending}
 use Rattle.kdf_processor.specs.Effect.{Question}
 use Rattle.kdf_processor.specs.Outcome.{Outcome, held_or}
 use Rattle.kdf_processor.specs.Row.{next_of, taken}
+use Rattle.kdf_alone.specs.declared.bench.Bench.{Bench}
 use Rattle.kdf_alone.specs.Bench.{state_with}
 use Rattle.kdf_director.specs.Legal.{note_of, IsLegal, IsTrue}
 use Rattle.kdf_director.specs.Slots.{AreSlots}
 use Rattle.kdf_director.specs.Told.{lone_world, own}
 use Rattle.kdf_director.specs.True.{truth}
 use Rattle.kdf_director.specs.World.{first_need, hold_of}
-use Rattle.kdf_check.specs.declared.around.Around.{Around}
-use Rattle.kdf_check.specs.declared.desk.Desk.{Desk}
+use Rattle.kdf_check.specs.Around.{Around}
+use Rattle.kdf_check.specs.declared.table.Pending.{Pending}
 use Rattle.kdf_check.specs.Desk.{entry_after, IsInTable, table_after}
 use Rattle.kdf_check.specs.Tracks.{IsAround}
 
@@ -41,22 +42,21 @@ step_by slots J heard p (Some need) = Holds p (hold_of need)
 abbrev pub step_of : List Slot → List Entry → ℕ → ℕ → Step
 step_of slots J heard p = step_by slots J heard p (first_need (lone_world slots J) p)
 
--- a live program has its lone state at its desk, and what stands around it is as the journal tells
-pub record IsPosed (slots : List Slot) (J : List Entry) (around : Around) (registers : Registers)
-    (desk : Desk) : Type 0 where
+-- program p is live, it has its lone state over its bench, and what stands around it is as the journal tells
+pub record IsPosed (slots : List Slot) (J : List Entry) (p : ℕ) (around : Around) (registers : Registers)
+    (bench : Bench) : Type 0 where
   pub are : AreSlots slots
   pub legal : IsLegal slots J
   pub truly : IsTrue slots J
   pub around_is : IsAround slots J around
-  pub live : not (over desk.p J) ≡ true
-  pub own_is : state_with registers desk.bench ≡ own slots J desk.p
+  pub live : not (over p J) ≡ true
+  pub own_is : state_with registers bench ≡ own slots J p
 
--- its next order was tried there, and came out so
+-- its next order was tried there, and came out so: this is what it has, what is pending, and what the journal tells of the order
 pub record IsTried (slots : List Slot) (J : List Entry) (p : ℕ) (around : Around) (o : Outcome) (ending : Ending)
-    (registers : Registers) (desk : Desk) : Type 0 where
+    (registers : Registers) (bench : Bench) (table : List (Option Pending)) (entry : Option Entry) : Type 0 where
   pub ending_is : ending ≡ o.step
-  pub state : state_with registers desk.bench ≡ taken o (own slots J p)
-  pub table_is : desk.around.table ≡ table_after p o.act around.table
+  pub state : state_with registers bench ≡ taken o (own slots J p)
+  pub table_is : table ≡ table_after p o.act around.table
   pub inside : IsInTable o.act
-  pub entry : desk.entry ≡ entry_after p ((own slots J p).registers.ran + 1) o.act None
-  pub p_is : desk.p ≡ p
+  pub entry_is : entry ≡ entry_after p ((own slots J p).registers.ran + 1) o.act None

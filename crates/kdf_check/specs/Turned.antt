@@ -8,7 +8,7 @@ use Rattle.kdf_transfer.specs.Slots.{Slot}
 use Rattle.kdf_alone.specs.Bench.{state_with}
 use Rattle.kdf_director.specs.Told.{own}
 use Rattle.kdf_director.specs.World.{need_of}
-use Rattle.kdf_check.specs.declared.around.Pending.{Pending}
+use Rattle.kdf_check.specs.declared.table.Pending.{Pending}
 use Rattle.kdf_check.specs.declared.program.Program.{Program}
 use Rattle.kdf_check.specs.Keeps.{GoesOn}
 use Rattle.kdf_check.specs.Tracks.{Tells}
@@ -18,8 +18,8 @@ use Rattle.kdf_check.specs.Tracks.{Tells}
 pub record IsTurned (answers : ℕ → ℕ → Type 0) (slots : List Slot) (J : List Entry) (p : ℕ) (x : Program) (table : List (Option Pending))
     (K : List Entry) : Type 0 where
   pub goes_on : GoesOn answers slots J AnOrder K
-  pub number : x.desk.p ≡ p
-  pub own_is : state_with x.registers x.desk.bench ≡ own slots K p
+  pub number : x.p ≡ p
+  pub own_is : state_with x.registers x.bench ≡ own slots K p
   pub hold_is : x.hold ≡ option_map need_of (last_hold p K)
   pub others : (q : ℕ) → p ≢ q → own slots K q ≡ own slots J q
   pub other_holds : (q : ℕ) → p ≢ q → last_hold q K ≡ last_hold q J

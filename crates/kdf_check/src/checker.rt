@@ -14,6 +14,7 @@ use crate::load::load;
 use crate::report::first_difference;
 use crate::schedule::follow;
 use crate::source::Source;
+use crate::table::Table;
 use kdf_job::Job;
 use kdf_journal::Journal;
 use kdf_place::Image;
@@ -48,7 +49,7 @@ pub fn check_with<F: Fn(u64) -> u64>(
     }
     let source = Source { job, images };
     let mut programs = load(alloc, &source.job.slots, source.images)?;
-    let mut table = [None; 16];
+    let mut table = Table::new();
     let mut journal = Journal::new(alloc);
     follow(source, &mut programs, &mut table, &mut journal, service)?;
     Ok(verdict_of(first_difference(lines, journal.entries())))

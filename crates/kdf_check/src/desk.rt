@@ -2,59 +2,71 @@
 ghost use Rattle.std.specs.Prelude.{◌≡◌};
 ghost use Rattle.kdf_check.specs.Desk.{groups_in};
 
-use crate::around::{Around, Pending};
+use crate::pool::first_free;
+use crate::table::{Pending, Table};
 use kdf_alone::Bench;
-use kdf_journal::{Entry, Kind};
+use kdf_journal::{Entry, Journal, Kind};
 use kdf_processor::{Port, Reserve, Test};
 use kdf_transfer::TransferOrder;
 use kdf_word::Word;
 use std::alloc::AllocError;
 
-/// A program's bench, over which each transfer is made at once, and what stands around the program.
+/// A program's bench, over which each transfer is made at once, and what stands around the program, for one order. All is lent but what the
+/// journal is to tell.
 #[derive(Drop)]
-pub struct Desk {
-    pub p: u8,
-    pub bench: Bench,
-    pub around: Around,
+pub struct Desk<'a> {
+    p: u8,
+    bench: &'a mut Bench,
+    table: &'a mut Table,
+    /// What happened so far: it tells who has the devices of the pool, and the time.
+    journal: &'a Journal,
+    /// What the service answers, if the order asks it.
+    heard: Word,
     /// Which own order of the program is tried.
-    pub order: u32,
+    order: u32,
     /// What the journal tells of it, beside that it was obeyed.
-    pub entry: Option<Entry>,
+    entry: Option<Entry>,
 }
 
-impl Desk {
+impl<'a> Desk<'a> {
     ghost use Rattle.std.specs.Prelude.{None};
+    ghost use Rattle.kdf_check.specs.Around.{around_by};
+    ghost use Rattle.kdf_check.specs.Desk.{around_of};
 
-    /// The desk of program `p` with its bench, before its first order.
-    pub fn new(p: u8, bench: Bench) -> Desk
-        ensures bench { result.bench ≡ bench }
+    /// The desk of program `p` for its own order `order`, with its bench, the transfers that are pending and the journal so far.
+    pub fn new(
+        p: u8,
+        bench: &'a mut Bench,
+        table: &'a mut Table,
+        journal: &'a Journal,
+        heard: Word,
+        order: u32,
+    ) -> Desk<'a>
         ensures p { result.p ≡ p }
+        ensures bench { result.bench.now ≡ bench.old }
+        ensures table { result.table.now ≡ table.old }
+        ensures around { around_of result ≡ around_by table.old.places journal.now.entries heard }
+        ensures order { result.order ≡ order }
+        ensures entry { result.entry ≡ None }
+        ensures same_bench { result.bench.ghost_name ≡ bench.entry.ghost_name }
+        ensures same_table { result.table.ghost_name ≡ table.entry.ghost_name }
     {
         Desk {
             p,
             bench,
-            around: Around {
-                table: [None; 16],
-                holders: [None; 16],
-                time: 0,
-                heard: Word::default(),
-            },
-            order: 0,
+            table,
+            journal,
+            heard,
+            order,
             entry: None,
         }
     }
 
-    /// Has what stands around the program at hand for its own next order, `order`.
-    pub fn prepare(&mut self, around: Around, order: u32)
-        ensures bench { self.new.bench ≡ self.old.bench }
-        ensures p { self.new.p ≡ self.old.p }
-        ensures around { self.new.around ≡ around }
-        ensures order { self.new.order ≡ order }
-        ensures entry { self.new.entry ≡ None }
+    /// What the journal tells of the order, beside that it was obeyed.
+    pub fn entry(&self) -> Option<Entry>
+        ensures { result ≡ self.now.entry }
     {
-        self.around = around;
-        self.order = order;
-        self.entry = None;
+        self.entry
     }
 }
 
@@ -69,7 +81,7 @@ fn groups_in(order: TransferOrder, first: u16, last: u16) -> Option<(u16, u16)>
     }
 }
 
-impl Port for Desk {
+impl Port for Desk<'_> {
     ghost use Rattle.std.specs.Prelude.{refl};
     ghost use Rattle.kdf_check.specs.Desk.{shown, Acts, HasRoom};
 
@@ -84,7 +96,7 @@ impl Port for Desk {
     }
 
     fn read(&self, address: u16) -> Result<Word, u16> {
-        if self.around.is_out(self.p, address / 32) {
+        if self.table.is_out(self.p, address / 32) {
             Err(address / 32)
         } else {
             Ok(self.bench.word(address))
@@ -92,7 +104,7 @@ impl Port for Desk {
     }
 
     fn write(&mut self, address: u16, word: Word) -> Result<(), u16> {
-        if self.around.is_out(self.p, address / 32) {
+        if self.table.is_out(self.p, address / 32) {
             Err(address / 32)
         } else {
             self.bench.write(address, word)
@@ -100,7 +112,7 @@ impl Port for Desk {
     }
 
     fn first_out(&self, first: u16, last: u16) -> Option<u16> {
-        self.around.first_out(self.p, first, last)
+        self.table.first_out(self.p, first, last)
     }
 
     fn held(&self, device: u16) -> Option<Kind> {
@@ -108,11 +120,11 @@ impl Port for Desk {
     }
 
     fn busy(&self, device: u8) -> bool {
-        self.around.is_busy(device)
+        self.table.is_busy(device)
     }
 
     fn first_busy(&self) -> Option<u8> {
-        self.around.first_own(self.p)
+        self.table.first_own(self.p)
     }
 
     fn test(&self, device: u8, what: Test) -> bool {
@@ -121,10 +133,8 @@ impl Port for Desk {
 
     fn start(&mut self, device: u8, order: TransferOrder, first: u16, last: u16) {
         self.bench.start(device, order, first, last);
-        self.around.table[usize::from(device)] = Some(Pending {
-            p: self.p,
-            groups: groups_in(order, first, last),
-        });
+        let groups = groups_in(order, first, last);
+        self.table.begin(device, Pending { p: self.p, groups });
         self.entry = Some(Entry::Start {
             p: self.p,
             d: device,
@@ -133,21 +143,21 @@ impl Port for Desk {
     }
 
     fn ask_busy(&mut self, device: u8) -> bool {
-        let v = u64::from(self.around.is_busy(device));
+        let v = u64::from(self.table.is_busy(device));
         self.bench.prepare(v);
         self.entry = Some(Entry::Answer { p: self.p, v });
         self.bench.ask_busy(device)
     }
 
     fn ask_area(&mut self, first: u16, last: u16) -> bool {
-        let v = u64::from(self.around.is_any_out(self.p, first, last));
+        let v = u64::from(self.table.is_any_out(self.p, first, last));
         self.bench.prepare(v);
         self.entry = Some(Entry::Answer { p: self.p, v });
         self.bench.ask_area(first, last)
     }
 
     fn ask_time(&mut self) -> u64 {
-        let v = self.around.time;
+        let v = self.journal.clock();
         self.bench.prepare(v);
         self.entry = Some(Entry::Answer { p: self.p, v });
         self.bench.ask_time()
@@ -158,7 +168,7 @@ impl Port for Desk {
     }
 
     fn ask_service(&mut self, word: Word) -> Word {
-        let v = self.around.heard.bits();
+        let v = self.heard.bits();
         self.bench.prepare(v);
         self.entry = Some(Entry::Answer { p: self.p, v });
         self.bench.ask_service(word)
@@ -177,11 +187,11 @@ impl Port for Desk {
     }
 
     fn pool_free(&self, kind: Kind) -> bool {
-        self.around.first_free(&self.bench, kind).is_some()
+        first_free(self.journal, self.bench, kind).is_some()
     }
 
     fn take_pool(&mut self, kind: Kind) -> u8 {
-        let free = self.around.first_free(&self.bench, kind).unwrap_or(0);
+        let free = first_free(self.journal, self.bench, kind).unwrap_or(0);
         self.bench.prepare(u64::from(free));
         let d = self.bench.take_pool(kind);
         self.entry = Some(Entry::Take { p: self.p, d });
@@ -202,10 +212,18 @@ impl Port for Desk {
         self.bench.spool(stream, first, last);
     }
 
-    ghost stays = { λ _. record { stock = refl; around = refl; inside = tt; entry = refl; p = refl; order = refl } };
+    ghost stays = { λ _. record {
+      same = record { bench = refl; table = refl };
+      stock = refl;
+      around = refl;
+      inside = tt;
+      entry = refl;
+      p = refl;
+      order = refl;
+    } };
 }
 
-impl Reserve for Desk {
+impl Reserve for Desk<'_> {
     ghost use Rattle.std.specs.Prelude.{refl};
     ghost use Rattle.kdf_processor.proofs.Rooms.{little_room};
     ghost use Rattle.kdf_alone.specs.Bench.{CanAsk, CanSpool, CanStart, CanTake};
@@ -213,11 +231,19 @@ impl Reserve for Desk {
 
     ghost keeps = { Stays };
 
-    ghost itself = { λ _. record { stock = refl; around = refl; entry = refl; p = refl; order = refl } };
+    ghost itself = { λ _. record {
+      same = record { bench = refl; table = refl };
+      stock = refl;
+      around = refl;
+      entry = refl;
+      p = refl;
+      order = refl;
+    } };
 
-    ghost ready = { λ d. CanAsk d.bench };
+    ghost ready = { λ d. CanAsk d.bench.now };
 
-    ghost little = { λ d act can little. little_room (CanStart d.bench) (CanSpool d.bench) (CanTake d.bench) (CanAsk d.bench) act can little };
+    ghost little = { λ d act can little. little_room (CanStart d.bench.now) (CanSpool d.bench.now) (CanTake d.bench.now)
+        (CanAsk d.bench.now) act can little };
 
     fn reserve_transfer(
         &mut self,

@@ -3,17 +3,18 @@
 //! and no ring.
 #![tactic(auto)]
 
-mod around;
 mod checker;
 mod desk;
 mod entering;
 pub mod laws;
 mod load;
 mod next;
+mod pool;
 mod program;
 mod report;
 mod schedule;
 mod source;
+mod table;
 mod trying;
 mod turns;
 mod verdict;

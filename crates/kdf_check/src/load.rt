@@ -8,7 +8,6 @@ ghost use Rattle.kdf_director.specs.Loading.{HaveImages, load_of, slot_of, slots
 ghost use Rattle.kdf_check.specs.Begun.{IsBegun};
 ghost use Rattle.kdf_check.specs.Keeps.{place_at, IsKeptAt};
 
-use crate::desk::Desk;
 use crate::program::Program;
 use kdf_alone::load_bench;
 use kdf_job::SlotJob;
@@ -22,10 +21,11 @@ fn first(alloc: Global, slot: &SlotJob, image: &Image) -> Result<Program, AllocE
     requires apart { IsApart (shown_slot slot.now) }
     ensures { IfOk result (IsBegun (slot_of (load_of (shown_slot slot.now) image.now.words.items))) }
 {
-    let bench = load_bench(alloc, slot, image, slot.served)?;
+    let bench = load_bench(alloc, slot, image)?;
     Ok(Program {
+        p: slot.p,
         registers: Registers::new(),
-        desk: Desk::new(slot.p, bench),
+        bench,
         hold: None,
     })
 }

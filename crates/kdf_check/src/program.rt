@@ -1,13 +1,14 @@
 //! A program that is followed.
 
-use crate::desk::Desk;
+use kdf_alone::Bench;
 use kdf_processor::{Need, Registers};
 
 /// A program that is followed by itself.
 #[derive(Drop)]
 pub struct Program {
+    pub p: u8,
     pub registers: Registers,
-    pub desk: Desk,
+    pub bench: Bench,
     /// What held it, where it was held when it was last its turn.
     pub hold: Option<Need>,
 }

@@ -14,10 +14,10 @@ ghost use Rattle.kdf_director.specs.Served.{IsJournalFor};
 ghost use Rattle.kdf_service.specs.Rules.{IsService};
 ghost use Rattle.kdf_check.specs.Keeps.{Keeps};
 
-use crate::around::Pending;
 use crate::next::is_any_on;
 use crate::program::Program;
 use crate::source::Source;
+use crate::table::Table;
 use crate::turns::order;
 use kdf_journal::{CALL_LIMIT, Entry, Journal, MOVE_LIMIT};
 use kdf_schedule::Event;
@@ -29,14 +29,14 @@ use std::alloc::AllocError;
 pub fn follow<F: Fn(u64) -> u64>(
     source: Source,
     programs: &mut Vec<Option<Program>>,
-    table: &mut [Option<Pending>; 16],
+    table: &mut Table,
     journal: &mut Journal,
     service: &Service<F>,
 ) -> Result<(), AllocError>
     ghost slots: { List Slot }
     requires service { IsService (F.pre service.now) (F.post service.now) }
     requires fresh { journal.old.entries ≡ [] }
-    requires keeps { Keeps (F.post service.now) slots journal.old.entries table.old programs.old.items }
+    requires keeps { Keeps (F.post service.now) slots journal.old.entries table.old.places programs.old.items }
     requires few_events { length source.job.now.events.items ≤ 500000 }
     requires few { order_count source.job.now.events.items ≤ CALL_LIMIT }
     requires rises { IsRising 0 source.job.now.events.items }
@@ -50,21 +50,21 @@ pub fn follow<F: Fn(u64) -> u64>(
 /// Makes the calls of events, and stops as soon as no program is live.
 fn follow_each<F: Fn(u64) -> u64>(
     programs: &mut Vec<Option<Program>>,
-    table: &mut [Option<Pending>; 16],
+    table: &mut Table,
     journal: &mut Journal,
     events: &[Event],
     service: &Service<F>,
 ) -> Result<(), AllocError>
     ghost slots: { List Slot }
     requires service { IsService (F.pre service.now) (F.post service.now) }
-    requires keeps { Keeps (F.post service.now) slots journal.old.entries table.old programs.old.items }
+    requires keeps { Keeps (F.post service.now) slots journal.old.entries table.old.places programs.old.items }
     requires few { calls journal.old.entries + order_count events.now ≤ CALL_LIMIT }
     requires few_moves { moves journal.old.entries + 4096 * length events.now ≤ MOVE_LIMIT }
     requires rises { IsRising (clock journal.old.entries) events.now }
     requires in_range { All IsInRange events.now }
     ensures steps { OnOk result (Reaches (lone_dispatched slots) (steps journal.old.entries)
         (calls_made events.now) (steps journal.new.entries)) }
-    ensures keeps { OnOk result (Keeps (F.post service.now) slots journal.new.entries table.new programs.new.items) }
+    ensures keeps { OnOk result (Keeps (F.post service.now) slots journal.new.entries table.new.places programs.new.items) }
 {
     for event in events {
         if !is_any_on(programs) {
@@ -78,7 +78,7 @@ fn follow_each<F: Fn(u64) -> u64>(
 /// The calls of one event, or fewer where no program is live any more.
 fn make_calls<F: Fn(u64) -> u64>(
     programs: &mut Vec<Option<Program>>,
-    table: &mut [Option<Pending>; 16],
+    table: &mut Table,
     journal: &mut Journal,
     event: Event,
     service: &Service<F>,
@@ -86,14 +86,14 @@ fn make_calls<F: Fn(u64) -> u64>(
     ghost slots: { List Slot }
     requires service { IsService (F.pre service.now) (F.post service.now) }
     requires live { any_live slots journal.old.entries ≡ true }
-    requires keeps { Keeps (F.post service.now) slots journal.old.entries table.old programs.old.items }
+    requires keeps { Keeps (F.post service.now) slots journal.old.entries table.old.places programs.old.items }
     requires few { calls journal.old.entries + orders_in event ≤ CALL_LIMIT }
     requires few_moves { moves journal.old.entries + 4096 ≤ MOVE_LIMIT }
     requires rises { IsRising (clock journal.old.entries) (event ∷ []) }
     requires in_range { IsInRange event }
     ensures steps { OnOk result (Reaches (lone_dispatched slots) (steps journal.old.entries)
         (calls_of event) (steps journal.new.entries)) }
-    ensures keeps { OnOk result (Keeps (F.post service.now) slots journal.new.entries table.new programs.new.items) }
+    ensures keeps { OnOk result (Keeps (F.post service.now) slots journal.new.entries table.new.places programs.new.items) }
     ensures calls { OnOk result (calls journal.new.entries ≤ calls journal.old.entries + orders_in event) }
     ensures moves { OnOk result (moves journal.new.entries ≤ moves journal.old.entries + 4096) }
     ensures time { OnOk result (clock journal.new.entries ≡ time_behind (clock journal.old.entries) event) }
@@ -102,7 +102,7 @@ fn make_calls<F: Fn(u64) -> u64>(
         Event::Orders(n) => obey_orders(programs, table, journal, n, service)?,
         Event::Move(d, n) => enter_event(journal, Entry::Move { d, n })?,
         Event::End(d) => {
-            table[usize::from(d)] = None;
+            table.end(d);
             enter_event(journal, Entry::End { d })?;
         }
         Event::Clock(t) => enter_event(journal, Entry::Clock { t })?,
@@ -125,19 +125,19 @@ fn enter_event(journal: &mut Journal, entry: Entry) -> Result<(), AllocError>
 /// So many orders, or fewer where no program is live any more.
 fn obey_orders<F: Fn(u64) -> u64>(
     programs: &mut Vec<Option<Program>>,
-    table: &mut [Option<Pending>; 16],
+    table: &mut Table,
     journal: &mut Journal,
     n: u32,
     service: &Service<F>,
 ) -> Result<(), AllocError>
     ghost slots: { List Slot }
     requires service { IsService (F.pre service.now) (F.post service.now) }
-    requires keeps { Keeps (F.post service.now) slots journal.old.entries table.old programs.old.items }
+    requires keeps { Keeps (F.post service.now) slots journal.old.entries table.old.places programs.old.items }
     requires few { calls journal.old.entries + n ≤ CALL_LIMIT }
     requires few_moves { moves journal.old.entries ≤ MOVE_LIMIT }
     ensures steps { OnOk result (Reaches (lone_dispatched slots) (steps journal.old.entries)
         (replicate n AnOrder) (steps journal.new.entries)) }
-    ensures keeps { OnOk result (Keeps (F.post service.now) slots journal.new.entries table.new programs.new.items) }
+    ensures keeps { OnOk result (Keeps (F.post service.now) slots journal.new.entries table.new.places programs.new.items) }
     ensures calls { OnOk result (calls journal.new.entries ≤ calls journal.old.entries + n) }
     ensures moves { OnOk result (moves journal.new.entries ≡ moves journal.old.entries) }
     ensures time { OnOk result (clock journal.new.entries ≡ clock journal.old.entries) }

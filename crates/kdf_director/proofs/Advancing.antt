@@ -1,7 +1,7 @@
 -- A machine whose program obeyed an order, or was held, stays as a machine is, and shows just that.
-use Rattle.std.specs.Prelude.{find, unwrap_or}
+use Rattle.std.specs.Prelude.{find, unwrap_or, IfSome}
 use Rattle.std.specs.List.{AllPairs}
-use Rattle.std.proofs.Common.{◌≡◌, ◌≢◌, ℕ, suc, ◌<◌, true, false, List, [], ◌∷◌, length, get_or, map, Option, Some, None, is_some, cond, refl, sym, ap, ap₂, ◌∙◌, subst, ⊎_elim, arith}
+use Rattle.std.proofs.Common.{◌≡◌, ◌≢◌, ℕ, suc, ◌<◌, ◌^◌, true, false, List, [], ◌∷◌, length, get_or, map, Option, Some, None, is_some, cond, refl, sym, ap, ap₂, ◌∙◌, subst, ⊎_elim, arith}
 use Rattle.std.proofs.lemmas.Bool.{cases_eq, eq-eqb, ne_eqb}
 use Rattle.kdf_journal.specs.declared.entry.Entry.{Entry}
 use Rattle.kdf_journal.specs.declared.journal.TheConstants.{CALL_LIMIT}
@@ -11,6 +11,7 @@ use Rattle.kdf_journal.specs.Steps.{Note, Obeys, added}
 use Rattle.kdf_journal.proofs.Added.{calls-added, moves-added}
 use Rattle.kdf_processor.specs.declared.step.Step.{Step as Ending}
 use Rattle.kdf_processor.specs.declared.step.Step.TheVariants as ending
+use Rattle.kdf_processor.specs.Ahead.{word_asked}
 use Rattle.kdf_processor.specs.Effect.{Question, Act, Nothing, Writes, Starts, Asks, Acquires, Releases, Spools, FreeOf, Effect, Failing, Ending as Finishing}
 use Rattle.kdf_processor.specs.Needs.{needs, next_effect}
 use Rattle.kdf_processor.specs.Row.{done_by}
@@ -30,9 +31,9 @@ use Rattle.kdf_director.specs.Seen.{begun_row, seen}
 use Rattle.kdf_director.specs.Shown.{Shown, state_at, state_in, world_of}
 use Rattle.kdf_director.specs.Viewed.{states_in}
 use Rattle.kdf_director.specs.Slots.{slot_of, start_of}
-use Rattle.kdf_director.specs.Told.{is_pending_after, lone_world, mine_after, own, seen_of, seen_world}
+use Rattle.kdf_director.specs.Told.{flights_of, is_pending_after, lone_world, mine_after, own, seen_of, seen_world}
 use Rattle.kdf_director.specs.True.{truth}
-use Rattle.kdf_director.specs.Turned.{HasTurned}
+use Rattle.kdf_director.specs.Turned.{word_over, HasTurned}
 use Rattle.std.specs.Option.{option_map}
 use Rattle.kdf_director.specs.World as world
 use Rattle.kdf_director.specs.World.{first_need}
@@ -43,12 +44,13 @@ use Rattle.kdf_director.proofs.Judging.{hold_same}
 use Rattle.kdf_director.proofs.Lent.{IsGoing, holder_then}
 use Rattle.kdf_director.proofs.Judged.{legal_added, true_added}
 use Rattle.kdf_director.proofs.Obeying.{obeys-others, obeys-seen}
-use Rattle.kdf_director.proofs.OnCourse.{legal-course}
+use Rattle.kdf_director.proofs.OnCourse.{apart-mine, free as calm, legal-course}
 use Rattle.kdf_director.proofs.SeenJournals.{same-need, same-note}
 use Rattle.kdf_director.proofs.Worlds.{next-world, next_on, next_slot}
 use Rattle.kdf_director.specs.Shared.{moment}
 use Rattle.kdf_director.specs.Taken.{HasAsked}
-use Rattle.kdf_director.proofs.HeardWords.{heard_of}
+use Rattle.kdf_director.proofs.Beginning.{same_next}
+use Rattle.kdf_director.proofs.HeardWords.{heard_so, word_is}
 
 -- ---- states by slots
 
@@ -152,30 +154,30 @@ module _ (slots : List Slot) (reaches : List Reach) (seats : List Seat) (s : Sha
   unfolding first_need
   by_state there = ap (λ x. find (is_pending_after slots J p) (needs x (mine_after J p))) (state_is there)
 
-  -- what is heard where its next order asks the service, by its own state and by the lone one
-  module _ (answers : ℕ → ℕ → Type 0) (heard : ℕ) (asked : HasAsked answers (reach_at reaches i).served (seat_at seats i).registers heard) where
-    own_heard : (n : ℕ) → IsHeard answers (own_state reaches seats s n i) heard
-    unfolding own_state
-    own_heard n = heard_of answers (reach_at reaches i).served (seat_at seats i).registers heard asked (own_state reaches seats s n i) refl refl
+  -- where nothing holds it up, nothing does by its lone state
+  lone_free : hold_of reaches seats s i ≡ None → first_need (lone_world slots J) p ≡ None
+  lone_free free =
+      sym (same-need slots J p)
+      ∙ sym (hold_same slots J reaches seats s a.running a.following i lt (legal-course slots J a.are a.legal p) a.lent)
+      ∙ free
 
-    pub state_heard : is_some (slot_of slots p) ≡ true → IsHeard answers (state_at m p) heard
-    state_heard there =
-        subst (λ (x : State). IsHeard answers x heard) ((a.following.each i lt).is_seen ∙ sym (state_is there)) (own_heard (asked_at seats J i))
+  -- what is heard where its next order, which nothing holds up, asks the service, by its own state and by the lone one
+  module _ (answers : ℕ → ℕ → Type 0) (heard : Option ℕ) (asked : HasAsked answers (word_over (seat_at seats i) (reach_at reaches i) s) heard) (free : hold_of reaches seats s i ≡ None) where
+    own_heard : (n : ℕ) → IsHeard answers (own_state reaches seats s n i) (unwrap_or heard 0)
+    own_heard n =
+        subst (λ o. IfSome o (λ word. (word < 2 ^ 48) × answers word (unwrap_or heard 0))) (word_is reaches seats s i a.running lt free n)
+        (heard_so answers (word_over (seat_at seats i) (reach_at reaches i) s) heard asked)
 
-    own_registers : (n : ℕ) → (own_state reaches seats s n i).registers ≡ (seat_at seats i).registers
-    unfolding own_state
-    own_registers n = refl
-
-    own_served : (n : ℕ) → (own_state reaches seats s n i).stock.claims.served ≡ (reach_at reaches i).served
-    unfolding own_state
-    own_served n = refl
-
-    pub lone_heard : IsHeard answers (own slots J p) heard
+    pub lone_heard : IsHeard answers (own slots J p) (unwrap_or heard 0)
     lone_heard =
-        let seen = (a.following.each i lt).is_seen in
-        heard_of answers (reach_at reaches i).served (seat_at seats i).registers heard asked (own slots J p)
-        (sym (ap (λ (x : State). x.registers) seen) ∙ own_registers (asked_at seats J i))
-        (sym (ap (λ (x : State). x.stock.claims.served) seen) ∙ own_served (asked_at seats J i))
+        subst (λ (e : Effect). IfSome (word_asked e) (λ word. (word < 2 ^ 48) × answers word (unwrap_or heard 0)))
+        (ap next_effect (a.following.each i lt).is_seen
+        ∙ sym (same_next (flights_of slots J p) (mine_after J p) (own slots J p) (apart-mine slots J p (calm slots J p (lone_free free)))))
+        (own_heard (asked_at seats J i))
+
+    pub state_heard : is_some (slot_of slots p) ≡ true → IsHeard answers (state_at m p) (unwrap_or heard 0)
+    state_heard there =
+        subst (λ (x : State). IsHeard answers x (unwrap_or heard 0)) ((a.following.each i lt).is_seen ∙ sym (state_is there)) (own_heard (asked_at seats J i))
 
   -- what holds it up by its own state
   pub need_is : is_some (slot_of slots p) ≡ true → first_need (world_of m) p ≡ hold_of reaches seats s i
@@ -195,10 +197,7 @@ module _ (slots : List Slot) (reaches : List Reach) (seats : List Seat) (s : Sha
     turn_lone = next-world (own slots J) (state_at m) slots J ∙ turn
 
     free_lone : first_need (lone_world slots J) p ≡ None
-    free_lone =
-        sym (same-need slots J p)
-        ∙ sym (hold_same slots J reaches seats s a.running a.following i lt (legal-course slots J a.are a.legal p) a.lent)
-        ∙ free
+    free_lone = lone_free free
 
     abbrev noted : Note
     noted = note_of (own slots J p) answer

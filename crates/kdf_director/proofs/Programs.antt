@@ -1,5 +1,5 @@
 -- One program of all, and its slot.
-use Rattle.std.specs.Prelude.{find}
+use Rattle.std.specs.Prelude.{find, unwrap_or}
 use Rattle.std.specs.List.{range_with_len}
 use Rattle.std.proofs.Common.{◌≡◌, ℕ, ◌-◌, ◌<◌, eqb, true, false, List, [], length, map, get_or, set, Option, None, sym, ap, ap₂, ◌∙◌, subst, arith}
 use Rattle.std.proofs.Math.Seq.{map-set_same}
@@ -20,16 +20,20 @@ use Rattle.kdf_director.specs.Going.{place_of, goes, goes_at, hold_at, AreNearHo
 use Rattle.kdf_director.specs.Parts.{Reach, Seat, Shared, reach_of, seat_of, window_at}
 use Rattle.kdf_director.specs.Running.{no_seat, seat_at, reach_at, reaches_in, seats_in, IsRunning}
 use Rattle.kdf_director.specs.Taken.{HasTaken, hold_left, progress_of, step_told, HasAsked}
-use Rattle.kdf_director.specs.Turned.{HasRun, HasTurned}
+use Rattle.kdf_director.specs.Turned.{word_over, HasRun, HasTurned}
 use Rattle.kdf_director.proofs.Turned.{turned, turned_running}
 use Rattle.kdf_director.specs.Shared.{moment}
 
 abbrev no_reach : Reach
 no_reach = record { base = 0; size = 0; devices = []; pool = []; served = false }
 
+-- what a slot reaches
+pub reach_there : (windows : List Window) (slots : List Loaded) (i : ℕ) → i < length slots → (slot : Loaded) → slot ≡ get_or slots i slot → reach_of windows slot ≡ reach_at (reaches_in windows slots) i
+reach_there windows slots i lt slot slot_is = ap (reach_of windows) slot_is ∙ sym (get_or-map (reach_of windows) slots i slot no_reach lt)
+
 module _ (windows : List Window) (slots : List Loaded) (programs : List Program) (i : ℕ) (lt : i < length programs) (many : length slots ≡ length programs) (slot : Loaded) (program : Program) (slot_is : slot ≡ get_or slots i slot) (program_is : program ≡ get_or programs i program) where
   pub reach_is : reach_of windows slot ≡ reach_at (reaches_in windows slots) i
-  reach_is = ap (reach_of windows) slot_is ∙ sym (get_or-map (reach_of windows) slots i slot no_reach (omega arith))
+  reach_is = reach_there windows slots i (omega arith) slot slot_is
 
   pub seat_is : seat_of program ≡ seat_at (seats_in programs) i
   seat_is = ap seat_of program_is ∙ sym (get_or-map seat_of programs i program no_seat lt)
@@ -38,10 +42,10 @@ module _ (windows : List Window) (slots : List Loaded) (programs : List Program)
   within = omega (arith, length-map programs seat_of)
 
   -- what was heard for it
-  pub asked_at : (answers : ℕ → ℕ → Type 0) (heard : ℕ) → HasAsked answers slot.served program.registers heard → HasAsked answers (reach_at (reaches_in windows slots) i).served (seat_at (seats_in programs) i).registers heard
-  asked_at answers heard asked =
-      subst (λ (r : Reach). HasAsked answers r.served (seat_at (seats_in programs) i).registers heard) reach_is
-      (subst (λ (x : Seat). HasAsked answers slot.served x.registers heard) seat_is asked)
+  pub asked_at : (s : Shared) (answers : ℕ → ℕ → Type 0) (heard : Option ℕ) → HasAsked answers (word_over (seat_of program) (reach_of windows slot) s) heard → HasAsked answers (word_over (seat_at (seats_in programs) i) (reach_at (reaches_in windows slots) i) s) heard
+  asked_at s answers heard asked =
+      subst (λ (r : Reach). HasAsked answers (word_over (seat_at (seats_in programs) i) r s) heard) reach_is
+      (subst (λ (x : Seat). HasAsked answers (word_over x (reach_of windows slot) s) heard) seat_is asked)
 
   -- what held it
   pub hold_is : hold_at (map (λ (x : Program). x.hold) programs) i ≡ program.hold
@@ -95,7 +99,7 @@ module _ (programs : List Program) (i : ℕ) (lt : i < length programs) (program
   running_entered reaches s run = subst (λ xs. IsRunning reaches xs s) (sym seats_entered) run
 
   -- so its turn was taken
-  pub taken_entered : (reaches : List Reach) (before : List Seat) (s left : Shared) (holds : List (Option Need)) (J K : List Entry) (ended : Step) (noted : Note) (answer : Progress) (answers : ℕ → ℕ → Type 0) (heard : ℕ) → HasAsked answers (reach_at reaches i).served (seat_at before i).registers heard → HasTurned reaches (moment (clock J) heard) i before s (seats_in programs) left ended noted → map (λ (x : Program). x.hold) programs ≡ holds → new.hold ≡ hold_left ended → K ≡ added J (step_told program.p program.registers.ran ended noted) → answer ≡ progress_of program.p ended
+  pub taken_entered : (reaches : List Reach) (before : List Seat) (s left : Shared) (holds : List (Option Need)) (J K : List Entry) (ended : Step) (noted : Note) (answer : Progress) (answers : ℕ → ℕ → Type 0) (heard : Option ℕ) → HasAsked answers (word_over (seat_at before i) (reach_at reaches i) s) heard → HasTurned reaches (moment (clock J) (unwrap_or heard 0)) i before s (seats_in programs) left ended noted → map (λ (x : Program). x.hold) programs ≡ holds → new.hold ≡ hold_left ended → K ≡ added J (step_told program.p program.registers.ran ended noted) → answer ≡ progress_of program.p ended
       → HasTaken answers reaches i before s holds J (seats_in (set programs i new)) left (map (λ (x : Program). x.hold) (set programs i new)) K answer
   taken_entered reaches before s left holds J K ended noted answer answers heard asked turned kept hold journal told =
       record {
@@ -103,7 +107,7 @@ module _ (programs : List Program) (i : ℕ) (lt : i < length programs) (program
         asked = asked;
         ended = ended;
         noted = noted;
-        turned = subst (λ xs. HasTurned reaches (moment (clock J) heard) i before s xs left ended noted) (sym seats_entered) turned;
+        turned = subst (λ xs. HasTurned reaches (moment (clock J) (unwrap_or heard 0)) i before s xs left ended noted) (sym seats_entered) turned;
         left_held = map-set (λ (x : Program). x.hold) programs i new ∙ ap₂ (λ xs h. set xs i h) kept hold;
         entered = journal ∙ ap (λ (x : Seat). added J (step_told x.p x.registers.ran ended noted)) (sym seat_then);
         answered = told ∙ ap (λ (x : Seat). progress_of x.p ended) (sym seat_then);

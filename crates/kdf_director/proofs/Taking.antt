@@ -1,5 +1,6 @@
 -- What the turn of a program that is next makes of the machine.
 use Rattle.std.specs.Option.{option_map}
+use Rattle.std.specs.Prelude.{unwrap_or}
 use Rattle.std.proofs.Common.{◌≡◌, ◌≢◌, ℕ, ◌<◌, inl, inr, true, false, List, length, get_or, map, set, Option, Some, None, is_some, cond, refl, sym, ap, ap₂, ◌∙◌, subst, ⊎_elim, arith}
 use Rattle.std.proofs.Math.Path.{fun_ext}
 use Rattle.std.proofs.lemmas.Bool.{cases_eq, eq-eqb, ne_eqb}
@@ -157,6 +158,10 @@ module _ (service : ℕ → ℕ → Type 0) (slots : List Slot) (reaches : List 
     p = (seat_at seats i).p
 
     module _ (turn : next (world_of m) slots J ≡ Some p) (seats' : List Seat) (s' : Shared) (holds' : List (Option Need)) (K : List Entry) (answer : Progress) (t : HasTaken service reaches i seats s holds J seats' s' holds' K answer) (run : IsRunning reaches seats' s') where
+      -- what was heard of the service, or 0
+      abbrev heard : ℕ
+      heard = unwrap_or t.heard 0
+
       same_numbers : map (λ (x : Seat). x.p) seats' ≡ map (λ (x : Seat). x.p) seats
       same_numbers =
           ext_get_or 0 _ _
@@ -209,33 +214,33 @@ module _ (service : ℕ → ℕ → Type 0) (slots : List Slot) (reaches : List 
 
       -- it obeyed
       abbrev noted : Note
-      noted = note_of (own slots J p) (truth (lone_world slots J) J p t.heard)
+      noted = note_of (own slots J p) (truth (lone_world slots J) J p heard)
 
-      outcome_free : hold_of reaches seats s i ≡ None → outcome_at reaches seats s (moment (clock J) t.heard) 0 i ≡ next_of (own_state reaches seats s 0 i) (answers_at reaches seats (moment (clock J) t.heard) s i)
+      outcome_free : hold_of reaches seats s i ≡ None → outcome_at reaches seats s (moment (clock J) heard) 0 i ≡ next_of (own_state reaches seats s 0 i) (answers_at reaches seats (moment (clock J) heard) s i)
       unfolding outcome_at
-      outcome_free free = ap (λ o. held_or (seat_at seats i).registers o (next_of (own_state reaches seats s 0 i) (answers_at reaches seats (moment (clock J) t.heard) s i))) free
+      outcome_free free = ap (λ o. held_or (seat_at seats i).registers o (next_of (own_state reaches seats s 0 i) (answers_at reaches seats (moment (clock J) heard) s i))) free
 
       not_held : hold_of reaches seats s i ≡ None → IsNotHeld t.ended
       not_held free =
           subst IsNotHeld (sym (t.turned.step 0 ∙ ap (λ (o : Outcome). o.step) (outcome_free free)))
-          (done_free (answers_at reaches seats (moment (clock J) t.heard) s i) (next_effect (own_state reaches seats s 0 i)) (own_state reaches seats s 0 i))
+          (done_free (answers_at reaches seats (moment (clock J) heard) s i) (next_effect (own_state reaches seats s 0 i)) (own_state reaches seats s 0 i))
 
       free_turn : hold_of reaches seats s i ≡ None → HasAdvanced service m slots reaches seats' s' holds' K room answer
       free_turn free =
           by_step (Obeys p noted) None (progress.Ran p)
           (step_free (seat_at seats' i).p (seat_at seats' i).registers.ran t.ended t.noted (not_held free)
-          ∙ ap₂ (λ q n. Obeys q n) (t.turned.numbers i) (told slots reaches seats s J room a i lt t.heard turn free seats' s' t.ended t.noted t.turned run few same_numbers))
+          ∙ ap₂ (λ q n. Obeys q n) (t.turned.numbers i) (told slots reaches seats s J room a i lt heard turn free seats' s' t.ended t.noted t.turned run few same_numbers))
           (hold_free t.ended (not_held free))
           (progress_free (seat_at seats' i).p t.ended (not_held free) ∙ ap (λ q. progress.Ran q) (t.turned.numbers i))
           (record {
-            agrees = agrees_obeyed slots reaches seats s J room a i lt t.heard turn free seats' s' t.ended t.noted t.turned run few same_numbers;
+            agrees = agrees_obeyed slots reaches seats s J room a i lt heard turn free seats' s' t.ended t.noted t.turned run few same_numbers;
             holds_are = holds_more (Obeys p noted) None (ap (λ b. option_map need_of (cond b None (last_hold p J))) (eq-eqb p p refl)) (λ k ne. ap (λ b. cond b None (last_hold k J)) (ne_eqb p k ne));
             advance = record {
-              heard = t.heard;
-              is_heard = state_heard slots reaches seats s J room a i lt service t.heard t.asked there;
-              advance = shows_obeyed slots reaches seats s J room a i lt t.heard turn free seats' s' t.ended t.noted t.turned run few same_numbers;
+              heard = heard;
+              is_heard = state_heard slots reaches seats s J room a i lt service t.heard t.asked free there;
+              advance = shows_obeyed slots reaches seats s J room a i lt heard turn free seats' s' t.ended t.noted t.turned run few same_numbers;
             };
-            answered = inr (Obeys p noted, refl, heard_note service slots J p t.heard (lone_heard slots reaches seats s J room a i lt service t.heard t.asked));
+            answered = inr (Obeys p noted, refl, heard_note service slots J p heard (lone_heard slots reaches seats s J room a i lt service t.heard t.asked free));
           })
 
       -- it was held
@@ -246,9 +251,9 @@ module _ (service : ℕ → ℕ → Type 0) (slots : List Slot) (reaches : List 
         abbrev st : Step
         st = Holds p (world.hold_of need)
 
-        outcome_held : (n : ℕ) → outcome_at reaches seats s (moment (clock J) t.heard) n i ≡ record { step = ending.Held need; registers = (seat_at seats i).registers; act = Nothing }
+        outcome_held : (n : ℕ) → outcome_at reaches seats s (moment (clock J) heard) n i ≡ record { step = ending.Held need; registers = (seat_at seats i).registers; act = Nothing }
         unfolding outcome_at
-        outcome_held n = ap (λ o. held_or (seat_at seats i).registers o (next_of (own_state reaches seats s n i) (answers_at reaches seats (moment (clock J) t.heard) s i))) held
+        outcome_held n = ap (λ o. held_or (seat_at seats i).registers o (next_of (own_state reaches seats s n i) (answers_at reaches seats (moment (clock J) heard) s i))) held
 
         ended_is : t.ended ≡ ending.Held need
         ended_is = t.turned.step 0 ∙ ap (λ (o : Outcome). o.step) (outcome_held 0)

@@ -87,12 +87,16 @@ ran_back t u p r left claimed claimed' spooled spooled' stints stints' reach m s
           (obeyed.acted.shared ∙ ap₂ (λ a b. after_act a b o.act) part_is shared_is ∙ ap (λ (x : Outcome). after_act q s x.act) same);
     }
 
+-- the fields of a program that were lent to be looked at
+pub lent_back : (t : Turn) (p : ℕ) (r : Registers) (claimed claimed' : List Bool) (spooled spooled' : List Spooled) (stints stints' : List Stint) (reach : Reach) → part_of t ≡ part_in (seat p r claimed spooled (map keeping_of stints)) reach → claimed' ≡ t.claimed.now → spooled' ≡ t.spooled.now.items → stints' ≡ t.stints.now.items → seat p r claimed' spooled' (map keeping_of stints') ≡ seat p r claimed spooled (map keeping_of stints)
+lent_back t p r claimed claimed' spooled spooled' stints stints' reach part claimed_is spooled_is stints_are =
+    ap₂ (λ a b. seat p r a b (map keeping_of stints')) (claimed_is ∙ ap (λ (x : Part). x.claimed) part) (spooled_is ∙ ap (λ (x : Part). x.spooled) part)
+    ∙ ap (seat p r claimed spooled) (ap (map keeping_of) stints_are ∙ ap (λ (x : Part). x.stints) part)
+
 -- and for one that had no memory
 pub left_back : (t u : Turn) (p : ℕ) (r left : Registers) (claimed claimed' : List Bool) (spooled spooled' : List Spooled) (stints stints' : List Stint) (reach : Reach) (s : Shared) (cells : Cells) (places : List Place) → part_of t ≡ part_in (seat p r claimed spooled (map keeping_of stints)) reach → shared t ≡ s → left ≡ r → Stays t u → claimed' ≡ u.claimed.now → spooled' ≡ u.spooled.now.items → stints' ≡ u.stints.now.items → cells ≡ u.store.now → places ≡ u.places.now.items → (seat p left claimed' spooled' (map keeping_of stints') ≡ seat p r claimed spooled (map keeping_of stints)) × (shared_in cells places ≡ s)
-left_back t u p r left claimed claimed' spooled spooled' stints stints' reach s cells places part_is shared_is same stays claimed_is spooled_is stints_are cells_are places_are =
-    let part : part_of u ≡ part_in (seat p r claimed spooled (map keeping_of stints)) reach = stays.part ∙ part_is in (
-      ap (λ x. seat p x claimed' spooled' (map keeping_of stints')) same
-          ∙ ap₂ (λ a b. seat p r a b (map keeping_of stints')) (claimed_is ∙ ap (λ (x : Part). x.claimed) part) (spooled_is ∙ ap (λ (x : Part). x.spooled) part)
-          ∙ ap (seat p r claimed spooled) (ap (map keeping_of) stints_are ∙ ap (λ (x : Part). x.stints) part),
-      shared_back u cells places s cells_are places_are (stays.shared ∙ shared_is),
-    )
+left_back t u p r left claimed claimed' spooled spooled' stints stints' reach s cells places part_is shared_is same stays claimed_is spooled_is stints_are cells_are places_are = (
+  ap (λ x. seat p x claimed' spooled' (map keeping_of stints')) same
+      ∙ lent_back u p r claimed claimed' spooled spooled' stints stints' reach (stays.part ∙ part_is) claimed_is spooled_is stints_are,
+  shared_back u cells places s cells_are places_are (stays.shared ∙ shared_is),
+)

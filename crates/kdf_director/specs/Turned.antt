@@ -1,5 +1,6 @@
 -- What the try of one order does: to one program, and to all.
-use Rattle.std.specs.Prelude.{◌≡◌, ◌≢◌, ◌<◌, ℕ, List, length, true}
+use Rattle.std.specs.Prelude.{◌≡◌, ◌≢◌, ◌<◌, ℕ, List, length, true, Option}
+use Rattle.kdf_processor.specs.Ahead.{act_word}
 use Rattle.kdf_processor.specs.declared.step.Step.{Step}
 use Rattle.kdf_processor.specs.Outcome.{Outcome, outcome}
 use Rattle.kdf_director.specs.Seen.{tried}
@@ -9,12 +10,16 @@ use Rattle.kdf_director.specs.Notes.{note_of}
 use Rattle.kdf_director.specs.Parts.{Part, Seat, Reach, Shared, in_pool, part_in, part_after, asked_after}
 use Rattle.kdf_director.specs.Running.{seat_at, part_at, own_state, outcome_at}
 use Rattle.kdf_director.specs.Settled.{Both, both_of, holder_left, settled}
-use Rattle.kdf_director.specs.Shared.{view, after_act}
+use Rattle.kdf_director.specs.Shared.{moment, view, after_act}
 use Rattle.kdf_director.specs.Spots.{spot_at}
 
 -- what the next order of a program comes to
 abbrev pub outcome_over : Seat → Reach → Moment → Shared → Outcome
 outcome_over seat reach m s = outcome (view (part_in seat reach) m s) seat.registers
+
+-- the word of which its next order asks the service, if it does: what an order asks depends on no answer, so any moment tells it
+abbrev pub word_over : Seat → Reach → Shared → Option ℕ
+word_over seat reach s = act_word (outcome_over seat reach (moment 0 0) s).act
 
 -- the program after an outcome
 abbrev pub seat_after : Part → Shared → Outcome → Seat

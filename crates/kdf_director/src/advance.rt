@@ -26,10 +26,11 @@ use kdf_lockout::Store;
 use kdf_processor::Life;
 use kdf_relocate::Window;
 use kdf_service::Service;
+use kdf_word::Word;
 use std::alloc::{AllocError, Global};
 
-/// Tries the next order of program `i`, whose turn it is, and enters how that ended. If its order may ask the service, the answer is drawn before
-/// it. At Err all is unchanged.
+/// Tries the next order of program `i`, whose turn it is, and enters how that ended. If its order asks the service, the answer is drawn before it.
+/// At Err all is unchanged.
 fn take_turn<F: Fn(u64) -> u64>(
     alloc: Global,
     windows: &[Window; 4],
@@ -69,9 +70,10 @@ fn take_turn<F: Fn(u64) -> u64>(
         ≡ map (λ (x : Program). x.hold) programs.old.items) }
     ensures journal_err { OnErr result (journal.new ≡ journal.old) }
 {
+    let answer = heard(alloc, windows, slots, programs, store, places, i, service);
     let moment = Moment {
         time: journal.clock(),
-        heard: heard(&slots[i], &programs[i], service),
+        heard: answer.unwrap_or(Word::default()),
     };
     let (step, note) = turn(alloc, windows, slots, programs, store, places, moment, i)?;
     Ok(enter(journal, &mut programs[i], step, note))

@@ -1,39 +1,152 @@
-//! What is heard of the service before an order.
-ghost use Rattle.std.specs.Prelude.{true};
+//! What is heard of the service before an order that asks it.
+ghost use Rattle.std.specs.Prelude.{◌≡◌, ◌+◌, ◌*◌, ◌%◌, ◌<◌, ◌≤◌, length, map};
 ghost use Rattle.kdf_service.specs.Rules.{IsService};
+ghost use Rattle.kdf_director.specs.Keeping.{IsActive, IsKept};
+ghost use Rattle.kdf_director.specs.Parts.{part_in, reach, reach_of, seat, seat_of, shared_in, window_at};
+ghost use Rattle.kdf_director.specs.Running.{reach_at, reaches_in, seat_at, seats_in, IsRunning};
+ghost use Rattle.kdf_director.specs.Spots.{AreDry};
+ghost use Rattle.kdf_director.specs.Stints.{keeping_of};
 ghost use Rattle.kdf_director.specs.Taken.{HasAsked};
+ghost use Rattle.kdf_director.specs.Turned.{word_over};
 
-use crate::{Loaded, Program};
-use kdf_processor::{Registers, word_ahead};
+use crate::dispatch::window_of;
+use crate::turn::Turn;
+use crate::{Loaded, Moment, Place, Program, Stint};
+use kdf_lockout::Store;
+use kdf_processor::{Life, Registers, Spooled, asks_ahead, word_ahead};
+use kdf_relocate::Window;
 use kdf_service::Service;
 use kdf_word::Word;
+use std::alloc::Global;
 
-/// What is heard of the service before the next order of a program. Only of a program that is served it is asked.
-#[inline(always)]
-pub(crate) fn heard<F: Fn(u64) -> u64>(
+/// The word of which the next order of program `p` asks the service, in its slot and over its window. All is lent for that, and nothing changes.
+fn word_asked(
+    alloc: Global,
+    p: u8,
+    window: Window,
     slot: &Loaded,
-    program: &Program,
-    service: &Service<F>,
-) -> Word
-    requires service { IsService (F.pre service.now) (F.post service.now) }
-    ensures { HasAsked (F.post service.now) slot.now.served program.now.registers result }
+    registers: &Registers,
+    claimed: &mut [bool; 16],
+    spooled: &mut Vec<Spooled>,
+    stints: &mut Vec<Stint>,
+    store: &mut Store,
+    places: &mut Vec<Place>,
+) -> Option<Word>
+    requires at_group { window.base % 32 ≡ 0 }
+    requires in_store { window.base + window.size ≤ 32 * length store.old }
+    requires sixteen { length places.old.items ≡ 16 }
+    requires dry { AreDry places.old.items }
+    requires kept { IsKept (part_in (seat p registers.now claimed.old spooled.old.items (map keeping_of stints.old.items))
+        (reach window slot.now)) (shared_in store.old places.old.items) }
+    requires active { IsActive (part_in (seat p registers.now claimed.old spooled.old.items (map keeping_of stints.old.items))
+        (reach window slot.now)) (shared_in store.old places.old.items) }
+    ensures asked { result ≡ word_over (seat p registers.now claimed.old spooled.old.items (map keeping_of stints.old.items))
+        (reach window slot.now) (shared_in store.old places.old.items) }
+    ensures seat { seat p registers.now claimed.new spooled.new.items (map keeping_of stints.new.items)
+        ≡ seat p registers.now claimed.old spooled.old.items (map keeping_of stints.old.items) }
+    ensures store { store.new ≡ store.old }
+    ensures places { places.new ≡ places.old }
 {
-    if slot.served {
-        hear(&program.registers, service)
-    } else {
-        Word::default()
-    }
+    let mut block = Vec::new(alloc);
+    let moment = Moment {
+        time: 0,
+        heard: Word::default(),
+    };
+    let turn = Turn::new(
+        alloc, p, window, moment, slot, claimed, spooled, stints, store, places, &mut block,
+    );
+    asks_ahead(registers, &turn)
 }
 
-/// What the service answers to the word of which the next order may ask it, or 0 where it can't ask. Most programs aren't served: this stays out
-/// of the way of their orders.
+/// What the service answers to the word of which the next order of a program asks it; None where that asks nothing. Most programs aren't served:
+/// this stays out of the way of their orders.
 #[inline(never)]
-fn hear<F: Fn(u64) -> u64>(registers: &Registers, service: &Service<F>) -> Word
+fn hear<F: Fn(u64) -> u64>(
+    alloc: Global,
+    windows: &[Window; 4],
+    slot: &Loaded,
+    program: &mut Program,
+    store: &mut Store,
+    places: &mut Vec<Place>,
+    service: &Service<F>,
+) -> Option<Word>
     requires service { IsService (F.pre service.now) (F.post service.now) }
-    ensures { HasAsked (F.post service.now) true registers.now result }
+    requires at_group { (window_at windows.now slot.now.p).base % 32 ≡ 0 }
+    requires in_store { (window_at windows.now slot.now.p).base
+        + (window_at windows.now slot.now.p).size ≤ 32 * length store.old }
+    requires sixteen { length places.old.items ≡ 16 }
+    requires dry { AreDry places.old.items }
+    requires kept { IsKept (part_in (seat_of program.old) (reach_of windows.now slot.now))
+        (shared_in store.old places.old.items) }
+    requires active { IsActive (part_in (seat_of program.old) (reach_of windows.now slot.now))
+        (shared_in store.old places.old.items) }
+    ensures asked { HasAsked (F.post service.now)
+        (word_over (seat_of program.old) (reach_of windows.now slot.now) (shared_in store.old places.old.items)) result }
+    ensures seat { seat_of program.new ≡ seat_of program.old }
+    ensures hold { program.new.hold ≡ program.old.hold }
+    ensures store { store.new ≡ store.old }
+    ensures places { places.new ≡ places.old }
 {
-    match word_ahead(registers) {
-        Some(word) => service.ask(word),
-        None => Word::default(),
+    if word_ahead(&program.registers).is_none() {
+        return None;
+    }
+    let window = window_of(windows, slot.p);
+    let word = word_asked(
+        alloc,
+        program.p,
+        window,
+        slot,
+        &program.registers,
+        &mut program.claimed,
+        &mut program.spooled,
+        &mut program.stints,
+        store,
+        places,
+    )?;
+    Some(service.ask(word))
+}
+
+/// What is heard of the service before the next order of program `i`: its answer to the word of which that order asks it. The service is asked
+/// there and nowhere else: None where the order asks nothing. Nothing changes.
+#[inline(always)]
+pub(crate) fn heard<F: Fn(u64) -> u64>(
+    alloc: Global,
+    windows: &[Window; 4],
+    slots: &[Loaded],
+    programs: &mut Vec<Program>,
+    store: &mut Store,
+    places: &mut Vec<Place>,
+    i: usize,
+    service: &Service<F>,
+) -> Option<Word>
+    requires service { IsService (F.pre service.now) (F.post service.now) }
+    requires there { i < length programs.old.items }
+    requires slots { length slots.now ≡ length programs.old.items }
+    requires live { (seat_at (seats_in programs.old.items) i).registers.state ≡ Life.Live }
+    requires running { IsRunning (reaches_in windows.now slots.now) (seats_in programs.old.items)
+        (shared_in store.old places.old.items) }
+    requires dry { AreDry places.old.items }
+    ensures asked { HasAsked (F.post service.now) (word_over (seat_at (seats_in programs.old.items) i)
+        (reach_at (reaches_in windows.now slots.now) i) (shared_in store.old places.old.items)) result }
+    ensures seats { seats_in programs.new.items ≡ seats_in programs.old.items }
+    ensures holds { map (λ (x : Program). x.hold) programs.new.items
+        ≡ map (λ (x : Program). x.hold) programs.old.items }
+    ensures many { length programs.new.items ≡ length programs.old.items }
+    ensures store { store.new ≡ store.old }
+    ensures places { places.new ≡ places.old }
+{
+    let slot = &slots[i];
+    if slot.served {
+        hear(
+            alloc,
+            windows,
+            slot,
+            &mut programs[i],
+            store,
+            places,
+            service,
+        )
+    } else {
+        None
     }
 }

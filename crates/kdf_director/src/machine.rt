@@ -163,6 +163,14 @@ impl Machine {
         self.room
     }
 
+    /// Takes memory for so many entries more of the journal, which then need not grow for them, and changes nothing that is seen. At Err
+    /// there is none.
+    pub fn reserve_entries(&mut self, more: u32) -> Result<(), AllocError>
+        ensures { self.new ≡ self.old }
+    {
+        self.journal.reserve(more.saturating_add(self.room + 2))
+    }
+
     /// Moves the next `n` words, 1 to 4,096, of the transfer on device `d`, or those that are left; where it has none, that
     /// they were called for is entered all the same. Every other program stays as it is.
     pub fn move_words(&mut self, d: u8, n: u16)

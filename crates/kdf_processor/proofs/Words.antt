@@ -1,5 +1,5 @@
 -- The word of which an order asks the service is the one that its nest tells ahead.
-use Rattle.std.proofs.Common.{◌≡◌, ℕ, Bool, true, false, cond, eqb, ltb, List, [], ◌∷◌, Option, Some, None, refl, ap, ◌∙◌}
+use Rattle.std.proofs.Common.{◌≡◌, ℕ, Bool, true, false, cond, eqb, ltb, List, [], ◌∷◌, Option, Some, None, refl, sym, ap, ◌∙◌}
 use Rattle.std.specs.Prelude.{◌&&◌}
 use Rattle.kdf_journal.specs.declared.failure.Failure.TheVariants.{Liv, Nouv, Claim, Out}
 use Rattle.kdf_journal.specs.declared.kind.Kind.{Kind}
@@ -12,10 +12,15 @@ use Rattle.kdf_transfer.specs.Devices.{is_kind}
 use Rattle.kdf_transfer.specs.declared.order.TransferOrder.{TransferOrder}
 use Rattle.kdf_transfer.specs.declared.wanted.Wanted.TheVariants.{Kinded, Labelled}
 use Rattle.kdf_processor.specs.declared.registers.Registers.{Registers}
-use Rattle.kdf_processor.specs.Ahead.{word_ahead, word_asked}
+use Rattle.kdf_processor.specs.declared.look.Ahead.{Ahead}
+use Rattle.kdf_processor.specs.declared.look.Ahead.TheVariants as ahead
+use Rattle.kdf_processor.specs.declared.step.Need.{Need}
+use Rattle.kdf_processor.specs.Ahead.{act_word, ahead_word, word_ahead, word_asked, IsAhead, IsOrdinary, IsTaking}
 use Rattle.kdf_processor.specs.Claims.{claim, free_for, kind_numbered, may_take, taken}
-use Rattle.kdf_processor.specs.Effect.{of_change, Effect, Failing, Ending, Changing, Fetching, Keeping, Testing, Starting, Asking, IsBusy, IsOut, Time, FreeOf, OfService, Claiming, Returning, Spooling}
-use Rattle.kdf_processor.specs.Needs.{effect_at, effect_or_liv, order_at}
+use Rattle.kdf_processor.specs.Effect.{Act, Nothing, Writes, Starts, Asks, Acquires, Releases, Spools, of_change, Effect, Failing, Ending, Changing, Fetching, Keeping, Testing, Starting, Asking, IsBusy, IsOut, Time, FreeOf, OfService, Claiming, Returning, Spooling}
+use Rattle.kdf_processor.specs.Needs.{effect_at, effect_or_liv, needs_at, order_at}
+use Rattle.kdf_processor.specs.Outcome.{done, held_or, outcome}
+use Rattle.kdf_processor.specs.View.{View, first_pending}
 use Rattle.kdf_processor.specs.State.{Claims, is_pooled}
 use Rattle.kdf_processor.specs.Table.{asks_service, claims_found, claims_kind, claims_or_takes, device_effect, effect, guarded, is_area, on_top, out_effect, plain_row, spools, starts, transfer_of, with_nest}
 use Rattle.kdf_processor.proofs.Small.{IsMild, change_mild, guarded_mild, minor_mild}
@@ -163,3 +168,83 @@ or_liv_told c r (Some o) = effect_told c r o
 -- so it is with the next order
 pub next_told : (c : Claims) (word : ℕ → ℕ) (r : Registers) → IsTold c r.nest (effect_at c word r)
 next_told c word r = or_liv_told c r (order_at c.size word r.at)
+
+-- ---- acts
+
+-- an order that is obeyed asks the service of what its effect asks
+pub done_word : (v : View) (r : Registers) (e : Effect) → act_word (done v r e).act ≡ word_asked e
+done_word v r (Failing kind) = refl
+done_word v r (Ending after) = refl
+done_word v r (Changing after) = refl
+done_word v r (Fetching a after) = refl
+done_word v r (Keeping a w after) = refl
+done_word v r (Testing d what after) = refl
+done_word v r (Starting d o first last after) = refl
+done_word v r (Asking (IsBusy d) after) = refl
+done_word v r (Asking (IsOut first last) after) = refl
+done_word v r (Asking Time after) = refl
+done_word v r (Asking (FreeOf kind) after) = refl
+done_word v r (Asking (OfService word) after) = refl
+done_word v r (Claiming d after) = refl
+done_word v r (Returning pooled d after) = refl
+done_word v r (Spooling stream first last after) = refl
+
+-- so where an order asks the service, the program is served, and the nest tells the word
+word_told : (v : View) (r : Registers) (word : ℕ) → act_word (outcome v r).act ≡ Some word → (v.claims.served ≡ true) × (word_ahead r.nest ≡ Some word)
+word_told v r word = by_need (first_pending v (needs_at v.claims v.word r v.mine))
+  where
+    by_need : (o : Option Need) → act_word (held_or r o (done v r (effect_at v.claims v.word r))).act ≡ Some word → (v.claims.served ≡ true) × (word_ahead r.nest ≡ Some word)
+    by_need (Some need) is = cc
+    by_need None is =
+        let told = next_told v.claims v.word r in
+        let asked : word_asked (effect_at v.claims v.word r) ≡ Some word = sym (done_word v r (effect_at v.claims v.word r)) ∙ is in
+        (told.served word asked, told.ahead word asked)
+
+-- no other order asks it
+pub unserved_word : (v : View) (r : Registers) → v.claims.served ≡ false → act_word (outcome v r).act ≡ None
+unserved_word v r unserved = by_word (act_word (outcome v r).act) refl
+  where
+    by_word : (o : Option ℕ) → act_word (outcome v r).act ≡ o → o ≡ None
+    by_word None is = refl
+    by_word (Some word) is = cc (sym unserved ∙ (word_told v r word is).0)
+
+pub untold_word : (v : View) (r : Registers) → word_ahead r.nest ≡ None → act_word (outcome v r).act ≡ None
+untold_word v r untold = by_word (act_word (outcome v r).act) refl
+  where
+    by_word : (o : Option ℕ) → act_word (outcome v r).act ≡ o → o ≡ None
+    by_word None is = refl
+    by_word (Some word) is = cc (sym untold ∙ (word_told v r word is).1)
+
+-- where an ask of the service is ahead, it is of that word
+ordinary_word : (act : Act) → IsOrdinary act → act_word act ≡ None
+ordinary_word Nothing is = refl
+ordinary_word (Writes a w) is = refl
+ordinary_word (Starts d o first last) is = refl
+ordinary_word (Asks (IsBusy d) answer) is = refl
+ordinary_word (Asks (IsOut first last) answer) is = refl
+ordinary_word (Asks Time answer) is = refl
+ordinary_word (Asks (FreeOf kind) answer) is = refl
+ordinary_word (Asks (OfService word) answer) is = absurd is
+ordinary_word (Acquires d) is = refl
+ordinary_word (Releases pooled d) is = refl
+ordinary_word (Spools stream first last) is = refl
+
+taking_word : (act : Act) → IsTaking act → act_word act ≡ None
+taking_word Nothing is = refl
+taking_word (Writes a w) is = refl
+taking_word (Starts d o first last) is = refl
+taking_word (Asks (IsBusy d) answer) is = refl
+taking_word (Asks (IsOut first last) answer) is = refl
+taking_word (Asks Time answer) is = refl
+taking_word (Asks (FreeOf kind) answer) is = refl
+taking_word (Asks (OfService word) answer) is = absurd is
+taking_word (Acquires d) is = refl
+taking_word (Releases pooled d) is = refl
+taking_word (Spools stream first last) is = refl
+
+pub ahead_asks : (act : Act) (a : Ahead) → IsAhead act a → ahead_word a ≡ act_word act
+ahead_asks act (ahead.Starts d o first last) is = sym (ap act_word is)
+ahead_asks act (ahead.Spools stream first last) is = sym (ap act_word is)
+ahead_asks act (ahead.Asks word) is = sym is
+ahead_asks act ahead.Takes is = sym (taking_word act is)
+ahead_asks act ahead.Else is = sym (ordinary_word act is)

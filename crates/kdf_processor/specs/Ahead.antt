@@ -14,18 +14,33 @@ IsSmall (Asks (FreeOf kind) answer) = ⊥
 IsSmall (Spools stream first last) = ⊥
 IsSmall _ = Unit {0}
 
--- an act that neither begins a transfer nor spools: it may take a device from the pool
+-- an act that is small, and by which the service isn't asked
+abbrev pub IsOrdinary : Act → Type 0
+IsOrdinary (Asks (OfService word) answer) = ⊥
+IsOrdinary act = IsSmall act
+
+-- an act that is ordinary, or takes a device from the pool
 abbrev pub IsTaking : Act → Type 0
-IsTaking (Starts d o first last) = ⊥
-IsTaking (Spools stream first last) = ⊥
-IsTaking _ = Unit {0}
+IsTaking (Asks (FreeOf kind) answer) = Unit {0}
+IsTaking act = IsOrdinary act
+
+-- the word of which an act asks the service, if it asks it
+abbrev pub act_word : Act → Option ℕ
+act_word (Asks (OfService word) answer) = Some word
+act_word act = None
 
 -- this act is ahead
 abbrev pub IsAhead : Act → Ahead → Type 0
 IsAhead act (ahead.Starts d o first last) = act ≡ Starts d o first last
 IsAhead act (ahead.Spools stream first last) = act ≡ Spools stream first last
+IsAhead act (ahead.Asks word) = act_word act ≡ Some word
 IsAhead act ahead.Takes = IsTaking act
-IsAhead act ahead.Else = IsSmall act
+IsAhead act ahead.Else = IsOrdinary act
+
+-- the word of which the service is asked, where that is ahead
+abbrev pub ahead_word : Ahead → Option ℕ
+ahead_word (ahead.Asks word) = Some word
+ahead_word other = None
 
 -- an order that begins with this syllable may act otherwise: it is that of OUT, or of one that begins a transfer
 abbrev pub may_begin : ℕ → Bool

@@ -44,7 +44,7 @@ pub use kdf_journal::Failure;
 pub use kdf_nest::{Links, Nest};
 pub use kdf_qstore::QStores;
 pub use kdf_transfer::{Test, Wanted};
-pub use look::{Ahead, look_ahead, may_want_memory, word_ahead};
+pub use look::{Ahead, asks_ahead, look_ahead, may_want_memory, word_ahead};
 pub use numbers::least;
 pub use obeying::{obey, obey_fetched};
 pub use port::Port;

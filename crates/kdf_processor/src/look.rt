@@ -3,7 +3,7 @@ ghost use Rattle.std.specs.Prelude.{◌≡◌, ◌∷◌, []};
 ghost use Rattle.std.specs.Result.{result_ok};
 ghost use Rattle.kdf_decode.specs.Decoding.{first_decoded};
 ghost use Rattle.kdf_syllable.specs.Spelling.{IsOrder};
-ghost use Rattle.kdf_processor.specs.Ahead.{IsAhead, may_begin, word_ahead};
+ghost use Rattle.kdf_processor.specs.Ahead.{act_word, may_begin, word_ahead, IsAhead};
 ghost use Rattle.kdf_processor.specs.Outcome.{outcome};
 ghost use Rattle.kdf_processor.specs.Plan.{done_plan, try_order, try_decoded, try_plan, IsSound, IsSettled};
 ghost use Rattle.kdf_processor.specs.View.{View};
@@ -18,7 +18,7 @@ use kdf_syllable::Order;
 use kdf_transfer::TransferOrder;
 use kdf_word::Word;
 
-/// The act of a next order, as far as memory is taken for it.
+/// The act of a next order, as far as memory is taken for it, or the service asked.
 #[derive(Clone, Copy, PartialEq, Eq)]
 pub enum Ahead {
     /// It begins a transfer.
@@ -34,10 +34,26 @@ pub enum Ahead {
         first: u16,
         last: u16,
     },
+    /// It asks the service of this word.
+    Asks(Word),
     /// It may take a device from the pool.
     Takes,
     /// It does anything else, or nothing.
     Else,
+}
+
+impl Ahead {
+    ghost use Rattle.kdf_processor.specs.Ahead.{ahead_word};
+
+    /// The word of which the service is asked.
+    fn asked(self) -> Option<Word>
+        ensures { result ≡ ahead_word self }
+    {
+        match self {
+            Ahead::Asks(word) => Some(word),
+            Ahead::Starts { .. } | Ahead::Spools { .. } | Ahead::Takes | Ahead::Else => None,
+        }
+    }
 }
 
 /// What a settled plan acts on, where none of its needs is pending.
@@ -61,6 +77,7 @@ fn ahead_of(plan: Plan) -> Ahead
             first,
             last,
         },
+        Plan::AskService { word } => Ahead::Asks(word),
         _ => Ahead::Else,
     }
 }
@@ -116,7 +133,7 @@ pub fn word_ahead(registers: &Registers) -> Option<Word>
     }
 }
 
-/// The act of the next order, as far as memory is taken for it.
+/// The act of the next order, as far as memory is taken for it, or the service asked. Where one of its needs is pending it does nothing.
 #[inline(never)]
 pub fn look_ahead<P: Port>(registers: &Registers, port: &P) -> Ahead
     ensures { IsAhead (outcome (P.shows port.now) registers.now).act result }
@@ -146,4 +163,11 @@ fn look_at_spelt<P: Port>(
         Ok(order) => look_at_order(registers, port, order),
         Err(_) => Ahead::Else,
     }
+}
+
+/// The word of which the next order asks the service; None where it asks nothing, or one of its needs is pending.
+pub fn asks_ahead<P: Port>(registers: &Registers, port: &P) -> Option<Word>
+    ensures { result ≡ act_word (outcome (P.shows port.now) registers.now).act }
+{
+    look_ahead(registers, port).asked()
 }

@@ -108,6 +108,6 @@ fn take_ahead<P: Reserve>(port: &mut P, ahead: Ahead) -> Result<(), AllocError>
         } => port.reserve_transfer(device, order, first, last),
         Ahead::Spools { first, last, .. } => port.reserve_text(first, last),
         Ahead::Takes => port.reserve_stint(),
-        Ahead::Else => Ok(()),
+        Ahead::Asks(_) | Ahead::Else => Ok(()),
     }
 }

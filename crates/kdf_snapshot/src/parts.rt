@@ -13,6 +13,9 @@ use crate::{SnapshotFault, SplitError};
 use kdf_journal::{Entry, read_entry};
 use std::alloc::Global;
 
+// `END 0` has as many bytes, and no printed entry has fewer.
+const SHORTEST: usize = 5;
+
 /// The parts of a snapshot after its job. Offsets count from the byte after the job.
 #[derive(Drop)]
 pub struct Parts {
@@ -81,7 +84,7 @@ fn take_entries(alloc: Global, at: &mut Cursor) -> Result<Vec<Entry>, SplitError
     ensures passed { IfOk result (λ es. Passed (length es.items + 1) at.old at.new) }
     ensures fault { IfErr result (λ e. Says e (entries_from at.old.lines.number (ahead at.old.lines))) }
 {
-    let mut entries = Vec::new(alloc);
+    let mut entries = Vec::with_capacity(alloc, count_entries(*at))?;
     while !at.is_at_end() {
         let number = at.lines.number;
         let line = at.take_line();
@@ -94,6 +97,23 @@ fn take_entries(alloc: Global, at: &mut Cursor) -> Result<Vec<Entry>, SplitError
         entries.push(entry)?;
     }
     Err(SplitError::Fault(SnapshotFault::BadEntry, at.lines.number))
+}
+
+/// How many lines may be entries, up to the first that is too short for one, as `SEAL` is. So memory for as many entries is less than
+/// three times that of the lines.
+fn count_entries(at: Cursor) -> usize
+    ensures { result ≤ length at.entry.lines.rest.now }
+{
+    let mut at = at;
+    let mut count = 0;
+    while !at.is_at_end() {
+        let line = at.take_line();
+        if line.len() < SHORTEST {
+            return count;
+        }
+        count += 1;
+    }
+    count
 }
 
 /// Passes what is sealed, with the first line `ENDSNAPSHOT`, and tells the offset of that line; `None` where there is none.

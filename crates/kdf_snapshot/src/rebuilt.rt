@@ -63,6 +63,10 @@ pub fn rebuild_with<F: Fn(u64) -> u64>(
     let Ok(mut machine) = Machine::load(alloc, job, images) else {
         return Err(RebuildError::Memory);
     };
+    if machine.reserve_entries(entries.len() as u32).is_err() {
+        machine.close();
+        return Err(RebuildError::Memory);
+    }
     match follow(&mut machine, &job.events[..first], service) {
         Ok(()) => compared(machine, entries),
         Err(_) => {

@@ -15,7 +15,7 @@ use Rattle.kdf_check.specs.Verdict.{IsVerdict}
 use Rattle.kdf_check.specs.declared.verdict.Verdict.{Verdict}
 use Rattle.kdf_check.proofs.Judging.{one_verdict_lem}
 use Rattle.kdf_top.specs.declared.command.Command.{Command}
-use Rattle.kdf_top.specs.declared.command.Command.TheVariants.{Run, Save, Resume, Check, Alone, Asm, Make}
+use Rattle.kdf_top.specs.declared.command.Command.TheVariants.{Run, Save, Resume, Check, Alone, Asm, Make, Watch}
 use Rattle.kdf_top.specs.declared.status.Status.{Status}
 use Rattle.kdf_top.specs.declared.status.Status.TheVariants as status
 use Rattle.kdf_top.specs.Answers.{IsCalled, IsCalledWhere, IsDueAt, IsFaultless, IsTextOf, IsTrusted, or_decks, status_of, status_of_lines}
@@ -59,6 +59,7 @@ done_lines Check bytes is = ap status_of_line is
 done_lines (Alone p) bytes is = ap status_of_line is
 done_lines (Asm p) bytes is = ap status_of_line is
 done_lines (Make n) bytes is = ap status_of_line is
+done_lines (Watch k w) bytes is = ap status_of_line is
 
 pub done_status : (c : Command) (bytes : List ℕ) → IsFaultless c bytes → deck_fault (job_of c bytes).slots ≡ None → status_of c bytes ≡ status.Done
 done_status c bytes is assembles = ap (λ s. or_decks s (deck_fault (job_of c bytes).slots)) (done_lines c bytes is) ∙ ap (or_decks status.Done) assembles
@@ -71,6 +72,7 @@ called_where answers Check bytes trusted = refl
 called_where answers (Alone p) bytes trusted = refl
 called_where answers (Asm p) bytes trusted = refl
 called_where answers (Make n) bytes trusted = refl
+called_where answers (Watch k w) bytes trusted = refl
 
 pub called_done : (answers : ℕ → ℕ → Type 0) (c : Command) (bytes : List ℕ) → IsFaultless c bytes → deck_fault (job_of c bytes).slots ≡ None → IsTrusted answers c bytes
     → IsCalled answers c bytes status.Done
@@ -126,6 +128,7 @@ module _ (answers : ℕ → ℕ → Type 0) (one : (n a b : ℕ) → n < 2 ^ 48 
   one_called (Alone s) bytes found x y p q = p ∙ sym q
   one_called (Asm s) bytes found x y p q = p ∙ sym q
   one_called (Make n) bytes found x y p q = p ∙ sym q
+  one_called (Watch k w) bytes found x y p q = p ∙ sym q
 
   one_journal_where : (keeps : Bool) (j : Job) (J K : List Entry) → IsJournalWhere answers keeps j J → IsJournalWhere answers keeps j K → J ≡ K
   one_journal_where true j J K p q = one_for answers (slots_of j) one j.events J K p q
@@ -141,6 +144,7 @@ module _ (answers : ℕ → ℕ → Type 0) (one : (n a b : ℕ) → n < 2 ^ 48 
   one_from (Alone s) bytes J d e p q = p ∙ sym q
   one_from (Asm s) bytes J d e p q = p ∙ sym q
   one_from (Make n) bytes J d e p q = p ∙ sym q
+  one_from (Watch k w) bytes J d e p q = p ∙ sym q
 
   one_text : (c : Option Command) (bytes d e : List ℕ) → IsTextOf answers c bytes d → IsTextOf answers c bytes e → d ≡ e
   one_text None bytes d e p q = absurd p

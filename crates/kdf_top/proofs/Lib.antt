@@ -14,3 +14,7 @@ pub mod Sealing
 pub mod Lines
 pub mod Resumptions
 pub mod Verdicts
+pub mod TwoValues
+pub mod StopLines
+pub mod Hyphens
+pub mod Watches

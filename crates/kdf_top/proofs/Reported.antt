@@ -1,5 +1,5 @@
 -- What is written of a machine that was loaded from a job and shows what is seen of the lone runs is what is due of the job.
-use Rattle.std.proofs.Common.{◌≡◌, ℕ, List, [], ◌∷◌, ◌++◌, length, sym, ◌∙◌, ap, subst, All}
+use Rattle.std.proofs.Common.{◌≡◌, ℕ, ◌*◌, List, [], ◌∷◌, ◌++◌, length, refl, sym, ◌∙◌, ap, ap₂, subst, All}
 use Rattle.kdf_transfer.specs.Slots.{Slot}
 use Rattle.kdf_job.specs.Job.{Job}
 use Rattle.kdf_job.specs.Reading.{job}
@@ -14,13 +14,14 @@ use Rattle.kdf_director.proofs.OnCourse.{legal-course}
 use Rattle.kdf_report.specs.MadeFrom.{HasProgram}
 use Rattle.kdf_report.specs.Text.{journal_lines, report_text}
 use Rattle.kdf_report.proofs.SeenPrograms.{has_programs, report_seen}
-use Rattle.kdf_top.specs.Due.{IsMachineOf, report_of, summary_of}
+use Rattle.kdf_top.specs.Due.{IsMachineOf, report_of, stops_text, summary_of, watched_of}
 use Rattle.kdf_top.specs.Snapshots.{ended, sealed_text, sealed_with, snapshot_of, snapshot_with}
 use Rattle.kdf_top.specs.Loaded.{images_of, slots_of}
 use Rattle.kdf_report.specs.Summary.{summary_text}
 use Rattle.kdf_report.proofs.SummaryTexts.{summary_seen}
 use Rattle.kdf_snapshot.specs.Snapshot.{journal_line, seal_line}
 use Rattle.kdf_text.specs.Text.{text}
+use Rattle.kdf_watch.specs.Stops.{stops_of}
 use Rattle.kdf_top.proofs.Sealing.{sealed_seen}
 
 module _ (j : Job) (m : Shown) (are : AreSlots j.slots) (fits : HaveImages j.slots (images_of j.slots)) (loaded : m.slots ≡ slots_of j) (seen : ShowsSeen m) where
@@ -46,6 +47,14 @@ module _ (j : Job) (m : Shown) (are : AreSlots j.slots) (fits : HaveImages j.slo
         let of_slots : t ≡ report_text j m.journal (seen_of (slots_of j) m.journal) =
         e ∙ report_seen m j seen programs ∙ ap (λ (slots : List Slot). report_text j m.journal (seen_of slots m.journal)) loaded in
         subst (λ (x : Job). t ≡ report_text x m.journal (seen_of (slots_of x) m.journal)) is_job of_slots
+
+    -- the stops of a watch, and the report
+    pub watched_own : (slot address : ℕ) (stops t : List ℕ) → stops ≡ stops_of m.slots m.journal slot (6 * address)
+        → t ≡ stops_text slot address stops ++ report_text j m.journal (state_at m) → t ≡ watched_of slot address k m.journal
+    watched_own slot address stops t are e =
+        let of_slots : stops ≡ stops_of (slots_of k) m.journal slot (6 * address) =
+        are ∙ ap (λ (slots : List Slot). stops_of slots m.journal slot (6 * address)) (loaded ∙ ap slots_of is_job) in
+        e ∙ ap₂ (λ (xs ys : List ℕ). xs ++ ys) (ap (stops_text slot address) of_slots) (report_own (report_text j m.journal (state_at m)) refl)
 
     -- what is sealed
     pub sealed_own : sealed_with j (state_at m) ≡ sealed_text k m.journal

@@ -1,5 +1,5 @@
 -- What comes of a snapshot that was read, from what its machine has run.
-use Rattle.std.proofs.Common.{◌≡◌, ℕ, ◌+◌, ◌-◌, ◌≤◌, inl, inr, List, length, length-take, take, drop, None, Ok, refl, sym, ap, ap₂, ◌∙◌, subst, arith}
+use Rattle.std.proofs.Common.{◌≡◌, ℕ, ◌+◌, ◌-◌, ◌≤◌, inl, inr, List, length, length-drop, length-take, take, drop, None, Ok, refl, sym, ap, ap₂, ◌∙◌, subst, arith}
 use Rattle.std.proofs.Math.Seq.{take-append_seam}
 use Rattle.kdf_text.specs.Lines.{lines}
 use Rattle.kdf_journal.specs.declared.entry.Entry.{Entry}
@@ -15,6 +15,7 @@ use Rattle.kdf_director.specs.Served.{IsJournalFor}
 use Rattle.kdf_director.specs.Shown.{Shown}
 use Rattle.kdf_snapshot.specs.Differs.{IsDifference}
 use Rattle.kdf_snapshot.specs.Parts.{IsInside, shown_parts}
+use Rattle.kdf_snapshot.specs.declared.parts.Parts.{Parts as SplitParts}
 use Rattle.kdf_snapshot.specs.Snapshot.{Parts, parts_of}
 use Rattle.kdf_snapshot.specs.declared.fault.SnapshotFault.TheVariants.{JournalDiffers, SealDiffers}
 use Rattle.kdf_top.specs.Answered.{IsReason}
@@ -36,33 +37,50 @@ parts_read : (bytes : List ℕ) (end line : ℕ) (p : Parts) → end ≡ front_l
 parts_read bytes end line p is_end is_line split =
     sym (ap₂ parts_of (is_line ∙ ap (λ n. length (lines (take n bytes)) + 1) is_end) (ap (λ n. drop n bytes) is_end)) ∙ split
 
-pub is_read : (s : Snapshot) (old : Job) → length s.text.now ≤ TEXT_LIMIT → s.end ≡ front_length s.text.now → s.end ≤ length s.text.now → s.line ≡ length (lines (take s.end s.text.now)) + 1
-    → front_fault s.text.now ≡ None → old ≡ front_job s.text.now → parts_of s.line (drop s.end s.text.now) ≡ Ok (shown_parts s.parts)
-    → IsInside s.line (length (drop s.end s.text.now)) s.parts → more_fault s.parts.more_line old.events (drop s.parts.more_from (drop s.end s.text.now)) ≡ None
-    → shown_job s.job ≡ joined old (more_events (drop s.parts.more_from (drop s.end s.text.now))) → s.first ≡ length old.events → IsJob (shown_job s.job)
-    → HasImages (shown_job s.job).slots s.images.items → deck_fault (shown_job s.job).slots ≡ None → IsRead s
-is_read s old within is_end end_within is_line front is_old split inside more is_joined first well images assembles =
-    let bytes = s.text.now in
-    let has : parts_in bytes ≡ Ok (shown_parts s.parts) = parts_read bytes s.end s.line (shown_parts s.parts) is_end is_line split in
-    let are : shown_parts s.parts ≡ parts bytes = sym (ap parts_or_none has) in
-    let after : drop s.parts.more_from (drop s.end bytes) ≡ further bytes (shown_parts s.parts) = ap (λ n. drop s.parts.more_from (drop n bytes)) is_end in
-    let no_more : more_fault s.parts.more_line (front_job bytes).events (further bytes (shown_parts s.parts)) ≡ None =
-    subst (λ (x : List ℕ). more_fault s.parts.more_line (front_job bytes).events x ≡ None) after (subst (λ (j : Job). more_fault s.parts.more_line j.events (drop s.parts.more_from (drop s.end bytes)) ≡ None) is_old more) in
-    let told : shown_job s.job ≡ resumed_job bytes =
-    is_joined ∙ ap₂ (λ (j : Job) (x : List ℕ). joined j (more_events x)) is_old after ∙ ap (resumed_with bytes) are in
-    let few : s.line ≤ s.end + 1 = omega (arith, is_line, few_lines (take s.end bytes), length-take s.end bytes) in
-    record {
-      within = within;
-      snapshot = record { front = front; split = has ∙ ap Ok are; further = subst (λ (p : Parts). more_fault p.more_line (front_job bytes).events (further bytes p) ≡ None) are no_more };
-      end = is_end;
-      end_within = end_within;
-      line = is_line ∙ ap (λ n. length (lines (take n bytes)) + 1) is_end;
-      line_most = few;
-      parts = are;
-      inside = inside;
-      first = first ∙ ap (λ (j : Job). length j.events) is_old;
-      loaded = record { told = told; well_formed = well; images = images; assembles = subst (λ (j : Job). deck_fault j.slots ≡ None) told assembles };
-    }
+module _ (bytes : List ℕ) (end line : ℕ) (p : SplitParts) (is_end : end ≡ front_length bytes) (is_line : line ≡ length (lines (take end bytes)) + 1)
+    (split : parts_of line (drop end bytes) ≡ Ok (shown_parts p)) where
+  has_parts : parts_in bytes ≡ Ok (shown_parts p)
+  has_parts = parts_read bytes end line (shown_parts p) is_end is_line split
+
+  are_parts : shown_parts p ≡ parts bytes
+  are_parts = sym (ap parts_or_none has_parts)
+
+  pub entries_read : p.entries.items ≡ (parts bytes).entries
+  entries_read = ap (λ (q : Parts). q.entries) are_parts
+
+  -- the lines that are sealed
+  sealed_at : lines (take (p.more_from - p.seal_from) (drop p.seal_from (drop end bytes))) ≡ sealed_lines bytes (parts bytes)
+  sealed_at =
+      ap (λ n. lines (take (p.more_from - p.seal_from) (drop p.seal_from (drop n bytes)))) is_end
+      ∙ ap (λ (q : Parts). sealed_lines bytes q) are_parts
+
+  pub is_read : (s : Snapshot) (old : Job) → length bytes ≤ TEXT_LIMIT → end ≤ length bytes → s.line ≡ line → front_fault bytes ≡ None → old ≡ front_job bytes
+      → IsInside line (length (drop end bytes)) p → more_fault p.more_line old.events (drop p.more_from (drop end bytes)) ≡ None
+      → shown_job s.job ≡ joined old (more_events (drop p.more_from (drop end bytes))) → s.first ≡ length old.events → IsJob (shown_job s.job)
+      → HasImages (shown_job s.job).slots s.images.items → deck_fault (shown_job s.job).slots ≡ None
+      → s.seal_line ≡ s.line + length p.entries.items + 2 → s.sealed.items ≡ take (p.more_from - p.seal_from) (drop p.seal_from (drop end bytes)) → IsRead bytes s
+  is_read s old within end_within line_told front is_old inside more is_joined first well images assembles is_seal is_sealed =
+      let after : drop p.more_from (drop end bytes) ≡ further bytes (shown_parts p) = ap (λ n. drop p.more_from (drop n bytes)) is_end in
+      let no_more : more_fault p.more_line (front_job bytes).events (further bytes (shown_parts p)) ≡ None =
+      subst (λ (x : List ℕ). more_fault p.more_line (front_job bytes).events x ≡ None) after (subst (λ (j : Job). more_fault p.more_line j.events (drop p.more_from (drop end bytes)) ≡ None) is_old more) in
+      let told : shown_job s.job ≡ resumed_job bytes =
+      is_joined ∙ ap₂ (λ (j : Job) (x : List ℕ). joined j (more_events x)) is_old after ∙ ap (resumed_with bytes) are_parts in
+      let many : length p.entries.items ≡ length (parts bytes).entries = ap length entries_read in
+      let few : length p.entries.items ≤ TEXT_LIMIT = omega (arith, within, inside.entries, inside.seal, inside.more, inside.end, length-drop end bytes) in
+      let most : s.line ≤ TEXT_LIMIT + 1 = omega (arith, within, line_told, is_line, few_lines (take end bytes), length-take end bytes) in
+      let sealed_size : length s.sealed.items ≤ TEXT_LIMIT =
+      omega (arith, within, ap length is_sealed, length-take (p.more_from - p.seal_from) (drop p.seal_from (drop end bytes)), inside.more, inside.end, length-drop end bytes) in
+      record {
+        snapshot = record { front = front; split = has_parts ∙ ap Ok are_parts; further = subst (λ (q : Parts). more_fault q.more_line (front_job bytes).events (further bytes q) ≡ None) are_parts no_more };
+        few = omega (arith, many, few);
+        line = line_told ∙ is_line ∙ ap (λ n. length (lines (take n bytes)) + 1) is_end;
+        line_most = most;
+        seal_line = omega (arith, is_seal, many);
+        sealed = ap lines is_sealed ∙ sealed_at;
+        sealed_most = sealed_size;
+        first = first ∙ ap (λ (j : Job). length j.events) is_old;
+        loaded = record { told = told; well_formed = well; images = images; assembles = subst (λ (j : Job). deck_fault j.slots ≡ None) told assembles };
+      }
 
 -- why a run doesn't go on, from why the snapshot isn't that of its journal
 pub reason_for : (answers : ℕ → ℕ → Type 0) (bytes : List ℕ) (J : List Entry) (e : MakeError) → IsJournalFor answers (slots_of (front_job bytes)) (front_job bytes).events J
@@ -76,27 +94,24 @@ pub reason_called : (answers : ℕ → ℕ → Type 0) (bytes : List ℕ) (e : M
 reason_called answers bytes e is assembles reason =
     subst (λ found. IsReason (IsCalledWhere answers Resume bytes found) e) (sym (done_status Resume bytes is assembles)) reason
 
-module _ (s : Snapshot) (is : IsRead s) where
+module _ (bytes : List ℕ) (s : Snapshot) (is : IsRead bytes s) where
   -- its first events are those of the job at the front
-  events_front : take s.first (shown_job s.job).events ≡ (front_job s.text.now).events
+  events_front : take s.first (shown_job s.job).events ≡ (front_job bytes).events
   events_front =
-      ap (λ n. take n (shown_job s.job).events) is.first ∙ ap (λ (j : Job). take (length (front_job s.text.now).events) j.events) is.loaded.told
-      ∙ take-append_seam (front_job s.text.now).events (more_events (further s.text.now (parts s.text.now)))
+      ap (λ n. take n (shown_job s.job).events) is.first ∙ ap (λ (j : Job). take (length (front_job bytes).events) j.events) is.loaded.told
+      ∙ take-append_seam (front_job bytes).events (more_events (further bytes (parts bytes)))
 
   pub journal_front : (answers : ℕ → ℕ → Type 0) (slots : List Slot) (J : List Entry) → slots ≡ slots_of (shown_job s.job)
-      → IsJournalFor answers slots (take s.first (shown_job s.job).events) J → IsJournalFor answers (slots_of (front_job s.text.now)) (front_job s.text.now).events J
+      → IsJournalFor answers slots (take s.first (shown_job s.job).events) J → IsJournalFor answers (slots_of (front_job bytes)) (front_job bytes).events J
   journal_front answers slots J loaded journal =
-      subst (λ (events : List Event). IsJournalFor answers (slots_of (front_job s.text.now)) events J) events_front
+      subst (λ (events : List Event). IsJournalFor answers (slots_of (front_job bytes)) events J) events_front
       (subst (λ (xs : List Slot). IsJournalFor answers xs (take s.first (shown_job s.job).events) J) (loaded ∙ ap slots_of is.loaded.told) journal)
 
-  entries_are : s.parts.entries.items ≡ (parts s.text.now).entries
-  entries_are = ap (λ (p : Parts). p.entries) is.parts
-
   -- the entries differ from the journal
-  pub other_journal : (answers : ℕ → ℕ → Type 0) (slots : List Slot) (J : List Entry) (place line : ℕ) → slots ≡ slots_of (shown_job s.job)
-      → IsJournalFor answers slots (take s.first (shown_job s.job).events) J → IsDifference s.parts.entries.items J place → line ≡ s.line + 1 + place
-      → IsComparedFor answers s.text.now (status.Snapshot JournalDiffers line)
-  other_journal answers slots J place line loaded journal differs is_line = (
+  pub other_journal : (answers : ℕ → ℕ → Type 0) (slots : List Slot) (entries J : List Entry) (place line : ℕ) → entries ≡ (parts bytes).entries → slots ≡ slots_of (shown_job s.job)
+      → IsJournalFor answers slots (take s.first (shown_job s.job).events) J → IsDifference entries J place → line ≡ s.line + 1 + place
+      → IsComparedFor answers bytes (status.Snapshot JournalDiffers line)
+  other_journal answers slots entries J place line are loaded journal differs is_line = (
     J,
     journal_front answers slots J loaded journal,
     inr (inl (
@@ -105,38 +120,31 @@ module _ (s : Snapshot) (is : IsRead s) where
       record {
         place = place;
         line_is = is_line ∙ ap (λ n. n + 1 + place) is.line;
-        differs = subst (λ (es : List Entry). IsDifference es J place) entries_are differs;
+        differs = subst (λ (es : List Entry). IsDifference es J place) are differs;
       },
     )),
   )
 
   -- what is sealed, and what it is compared with
-  module _ (m : Shown) (these those : List ℕ) (entries : m.journal ≡ s.parts.entries.items) (is_these : lines these ≡ sealed_lines s.text.now (parts s.text.now))
-      (is_those : those ≡ sealed_text (front_job s.text.now) m.journal) where
-    pub same_seal : lines these ≡ lines those → IsOf s.text.now m.journal
-    same_seal same = record { entries = sym (entries ∙ entries_are); sealed = sym is_these ∙ same ∙ ap lines is_those }
+  module _ (m : Shown) (these those : List ℕ) (entries : m.journal ≡ (parts bytes).entries) (is_these : these ≡ s.sealed.items)
+      (is_those : those ≡ sealed_text (front_job bytes) m.journal) where
+    pub same_seal : lines these ≡ lines those → IsOf bytes m.journal
+    same_seal same = record { entries = sym entries; sealed = sym (ap lines is_these ∙ is.sealed) ∙ same ∙ ap lines is_those }
 
-    pub other_seal : (place line : ℕ) → IsDifference (lines these) (lines those) place → line ≡ s.line + length s.parts.entries.items + 2 + place
-        → IsCompared s.text.now m.journal (status.Snapshot SealDiffers line)
+    pub other_seal : (place line : ℕ) → IsDifference (lines these) (lines those) place → line ≡ s.seal_line + place → IsCompared bytes m.journal (status.Snapshot SealDiffers line)
     other_seal place line differs is_line =
         inr (inr (
           line,
           refl,
           record {
-            entries = sym (entries ∙ entries_are);
+            entries = sym entries;
             place = place;
-            line_is = is_line ∙ ap₂ (λ n k. n + k + 2 + place) is.line (ap length (sym entries));
-            differs = subst (λ (ls : List (List ℕ)). IsDifference ls (lines (sealed_text (front_job s.text.now) m.journal)) place) is_these
+            line_is = omega (arith, is_line, is.seal_line, is.line, ap length entries);
+            differs = subst (λ (ls : List (List ℕ)). IsDifference ls (lines (sealed_text (front_job bytes) m.journal)) place) (ap lines is_these ∙ is.sealed)
                 (subst (λ (ls : List (List ℕ)). IsDifference (lines these) ls place) (ap lines is_those) differs);
           },
         ))
 
   -- where the snapshot is that of the journal, it is trusted
-  pub trusted : (answers : ℕ → ℕ → Type 0) (m : Shown) → IsSaved answers s m → IsOf s.text.now m.journal → IsComparedFor answers s.text.now status.Done
+  pub trusted : (answers : ℕ → ℕ → Type 0) (m : Shown) → IsSaved answers bytes s m → IsOf bytes m.journal → IsComparedFor answers bytes status.Done
   trusted answers m saved of = (m.journal, journal_front answers m.slots m.journal saved.slots saved.journal, inl (refl, of))
-
-  -- the lines that are sealed
-  pub sealed_at : lines (take (s.parts.more_from - s.parts.seal_from) (drop s.parts.seal_from (drop s.end s.text.now))) ≡ sealed_lines s.text.now (parts s.text.now)
-  sealed_at =
-      ap (λ n. lines (take (s.parts.more_from - s.parts.seal_from) (drop s.parts.seal_from (drop n s.text.now)))) is.end
-      ∙ ap (λ (p : Parts). sealed_lines s.text.now p) is.parts

@@ -15,7 +15,7 @@ use Rattle.kdf_director.specs.Shown.{Shown}
 use Rattle.kdf_snapshot.specs.Snapshot.{Parts}
 use Rattle.kdf_snapshot.specs.declared.fault.SnapshotFault.{SnapshotFault}
 use Rattle.kdf_top.specs.declared.command.Command.{Command}
-use Rattle.kdf_top.specs.declared.command.Command.TheVariants.{Run, Save, Resume, Check, Alone, Asm, Make}
+use Rattle.kdf_top.specs.declared.command.Command.TheVariants.{Run, Save, Resume, Check, Alone, Asm, Make, Watch}
 use Rattle.kdf_top.specs.declared.command.Input.{Input}
 use Rattle.kdf_top.specs.declared.command.Input.TheVariants.{Read, Made}
 use Rattle.kdf_top.specs.declared.status.Status.{Status}
@@ -98,6 +98,7 @@ lines_no_usage Check bytes e = job_no_usage (front_fault bytes) e
 lines_no_usage (Alone p) bytes e = job_no_usage (job_fault bytes) e
 lines_no_usage (Asm p) bytes e = job_no_usage (job_fault bytes) e
 lines_no_usage (Make n) bytes e = job_no_usage (job_fault bytes) e
+lines_no_usage (Watch k w) bytes e = job_no_usage (job_fault bytes) e
 
 compared_no_usage : (answers : ℕ → ℕ → Type 0) (bytes : List ℕ) → ¬ (IsComparedFor answers bytes status.Usage)
 compared_no_usage answers bytes (J, journal, inl p) = let e = p.0 in cc
@@ -120,6 +121,7 @@ where_no_usage answers Check bytes found other called = other (sym called)
 where_no_usage answers (Alone p) bytes found other called = other (sym called)
 where_no_usage answers (Asm p) bytes found other called = other (sym called)
 where_no_usage answers (Make n) bytes found other called = other (sym called)
+where_no_usage answers (Watch k w) bytes found other called = other (sym called)
 
 called_no_usage : (answers : ℕ → ℕ → Type 0) (c : Command) (bytes : List ℕ) → ¬ (IsCalled answers c bytes status.Usage)
 called_no_usage answers c bytes = where_no_usage answers c bytes (status_of c bytes) (decks_no_usage (status_of_lines c bytes) (deck_fault (job_of c bytes).slots) (lines_no_usage c bytes))
@@ -136,6 +138,7 @@ large_called answers Check bytes = refl
 large_called answers (Alone p) bytes = refl
 large_called answers (Asm p) bytes = refl
 large_called answers (Make n) bytes = refl
+large_called answers (Watch k w) bytes = refl
 
 large_only : (answers : ℕ → ℕ → Type 0) (c : Command) (bytes : List ℕ) (x : Status) → IsCalledWhere answers c bytes status.Large x → x ≡ status.Large
 large_only answers Run bytes x called = called
@@ -145,6 +148,7 @@ large_only answers Check bytes x called = called
 large_only answers (Alone p) bytes x called = called
 large_only answers (Asm p) bytes x called = called
 large_only answers (Make n) bytes x called = called
+large_only answers (Watch k w) bytes x called = called
 
 short_enough : (c : Command) (limit : ℕ) (bytes : List ℕ) → input_of c ≡ Read limit → length bytes ≤ limit → called_by (Some c) bytes ≡ status_of c (job_text c bytes)
 short_enough c limit bytes e short = rw (e, le-ltb limit (length bytes) short) refl
@@ -167,6 +171,7 @@ limit_within Check = omega arith
 limit_within (Alone p) = omega arith
 limit_within (Asm p) = omega arith
 limit_within (Make n) = omega arith
+limit_within (Watch k w) = omega arith
 
 limit_read : (c : Command) (limit : ℕ) → input_of c ≡ Read limit → limit_of c ≡ limit
 limit_read Run limit is = cc
@@ -176,6 +181,7 @@ limit_read Check limit is = cc
 limit_read (Alone p) limit is = cc
 limit_read (Asm p) limit is = cc
 limit_read (Make n) limit is = cc
+limit_read (Watch k w) limit is = cc
 
 pub within_limit : (c : Command) (limit : ℕ) → input_of c ≡ Read limit → limit ≤ TEXT_LIMIT
 within_limit c limit is = let same = limit_read c limit is in omega (arith, limit_within c)

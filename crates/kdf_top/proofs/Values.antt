@@ -23,21 +23,21 @@ or_false_left : (a b : Bool) → (a || b) ≡ false → a ≡ false
 or_false_left false b h = refl
 or_false_left true b h = h
 
-or_false_right : (a b : Bool) → (a || b) ≡ false → b ≡ false
+pub or_false_right : (a b : Bool) → (a || b) ≡ false → b ≡ false
 or_false_right false b h = h
 or_false_right true b h = absurd (cc)
 
 pub simple : (app : App) → is_simple_and_free app ≡ true → is_simple app ≡ true
 simple app h = and_true_left (is_simple app) (is_free_app (built app)) h
 
-same_text : (t : Text) → bytes_eq t t ≡ true
+pub same_text : (t : Text) → bytes_eq t t ≡ true
 same_text t = (bytes_eq-Decides t t).1 refl
 
 -- the first two of words that don't begin with `-`
-first_plain : (word : Text) (rest : List Text) → any_hyphen (word ∷ rest) ≡ false → has_hyphen word ≡ false
+pub first_plain : (word : Text) (rest : List Text) → any_hyphen (word ∷ rest) ≡ false → has_hyphen word ≡ false
 first_plain word rest h = or_false_left (has_hyphen word) (any_hyphen rest) h
 
-second_plain : (word more : Text) (rest : List Text) → any_hyphen (word ∷ more ∷ rest) ≡ false → has_hyphen more ≡ false
+pub second_plain : (word more : Text) (rest : List Text) → any_hyphen (word ∷ more ∷ rest) ≡ false → has_hyphen more ≡ false
 second_plain word more rest h = first_plain more rest (or_false_right (has_hyphen word) (any_hyphen (more ∷ rest)) h)
 
 -- such a word is no flag
@@ -67,7 +67,7 @@ plain_fault s word h plain =
     ∙ ap (λ o. option_map_or (λ flags. bundle_fault s.rules s.args_override_self flags h) o []) (no_short word plain)
 
 -- between two words, where the next positional is that of the place
-abbrev at : ℕ → Held → Walk
+abbrev pub at : ℕ → Held → Walk
 at place held = record {
   held = held;
   waiting = idle;
@@ -80,13 +80,13 @@ turn_plain : (s : Shape) (place : ℕ) (h : Held) (word : Text) → has_hyphen w
 turn_plain s place h word plain =
     ap₂ (λ (k : Kinds) (met : Held × Step). or_else k (step_fault s place met.0 met.1)) (plain_fault s word h plain) (plain_met s.rules place word h plain)
 
-walked_plain : (c : List Rule) (place : ℕ) (h : Held) (word : Text) → has_hyphen word ≡ false
+pub walked_plain : (c : List Rule) (place : ℕ) (h : Held) (word : Text) → has_hyphen word ≡ false
     → walked c [] (at place h) word ≡ to_positional c (arg_by_index c place) word (at place h) h
 unfolding walked
 walked_plain c place h word plain =
     ap (λ (met : Held × Step). after_step c word (at place h) met.0 met.1) (plain_met c place word h plain)
 
-walk_plain : (s : Shape) (place : ℕ) (h : Held) (word : Text) (rest : List Text) → has_hyphen word ≡ false
+pub walk_plain : (s : Shape) (place : ℕ) (h : Held) (word : Text) (rest : List Text) → has_hyphen word ≡ false
     → walk_fault s [] (at place h) (word ∷ rest)
     ≡ or_else (step_fault s place h value) (walk_fault s [] (to_positional s.rules (arg_by_index s.rules place) word (at place h) h) rest)
 unfolding walk_fault
@@ -94,22 +94,22 @@ walk_plain s place h word rest plain =
     ap₂ (λ (k : Kinds) (w : Walk). or_else k (walk_fault s [] w rest)) (turn_plain s place h word plain) (walked_plain s.rules place h word plain)
 
 -- the fault of words, from that of the walk over them and from where it ends
-outcome : App → Kinds → Walk → Kinds
+unfoldable pub outcome : App → Kinds → Walk → Kinds
 outcome a of_walk w =
     or_else of_walk (or_else (entered_fault a w.stopped) (or_else (settle_fault a.top.rules a.top.args_override_self w.held)
     (or_else (defaults_fault (settled a.top.rules w.held).rows a.top.rules)
     (check_fault a.top (finished a.top.rules w.held) (is_some (entered a w.stopped))))))
 
-by_outcome : (a : App) (words : List Text) → a.top.no_binary_name ≡ true
+pub by_outcome : (a : App) (words : List Text) → a.top.no_binary_name ≡ true
     → fault_of a words ≡ outcome (built a) (walk_fault (built a).top (names_of (built a)) (walk_from nothing_held) words) (walk (built a).top.rules (names_of (built a)) nothing_held words)
 unfolding outcome
 by_outcome a words named = rw named refl
 
-faulty_walk : (a : App) (k : ErrorKind) (ks of_walk : Kinds) (w : Walk) → of_walk ≡ k ∷ ks → outcome a of_walk w ≡ k ∷ ks
+pub faulty_walk : (a : App) (k : ErrorKind) (ks of_walk : Kinds) (w : Walk) → of_walk ≡ k ∷ ks → outcome a of_walk w ≡ k ∷ ks
 unfolding outcome
 faulty_walk a k ks of_walk w e = rw e refl
 
-is_fault : (kinds : Kinds) (k : ErrorKind) (ks : Kinds) → kinds ≡ k ∷ ks → kinds ≢ []
+pub is_fault : (kinds : Kinds) (k : ErrorKind) (ks : Kinds) → kinds ≡ k ∷ ks → kinds ≢ []
 is_fault kinds k ks e none = let bad : k ∷ ks ≡ [] = sym e ∙ none in cc
 
 -- a command that takes no value: no words have no fault, and others have one
@@ -133,7 +133,7 @@ pub no_value : (app : App) (name : Text) (words : List Text) (r : Option ArgMatc
 no_value app name words r e h found = bare_parses name words r h (subst (λ a. Parses a words r) e found)
 
 -- a command that takes one value: where the walk is after the first word
-one_held : Text → Text → Held
+unfoldable pub one_held : Text → Text → Held
 one_held id word = record { rows = []; pending = Some (id, word ∷ []); skip = 0 }
 
 one_walk : (name id word : Text) → has_hyphen word ≡ false

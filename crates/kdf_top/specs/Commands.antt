@@ -6,7 +6,7 @@ use Rattle.kdf_job.specs.Made.{made_text}
 use Rattle.kdf_top.specs.declared.command.Input.{Input}
 use Rattle.kdf_top.specs.declared.command.Input.TheVariants.{Read, Made}
 use Rattle.kdf_top.specs.declared.command.Command.{Command}
-use Rattle.kdf_top.specs.declared.command.Command.TheVariants.{Run, Save, Resume, Check, Alone, Asm, Make}
+use Rattle.kdf_top.specs.declared.command.Command.TheVariants.{Run, Save, Resume, Check, Alone, Asm, Make, Watch}
 
 -- a slot's number as a word: 0, 1, 2 or 3
 abbrev pub slot_of_word : List ℕ → Option ℕ
@@ -15,6 +15,15 @@ slot_of_word word = number_in 0 3 word
 -- the number of a made job as a word: 0 to 65535, decimal, without leading zeros
 abbrev pub made_of_word : List ℕ → Option ℕ
 made_of_word word = number_in 0 65535 word
+
+-- an address of the largest store as a word: 0 to 8191
+abbrev pub address_of_word : List ℕ → Option ℕ
+address_of_word word = number_in 0 8191 word
+
+-- the watch at an address of a slot, where there are both
+abbrev pub watch_at : Option ℕ → Option ℕ → Option Command
+watch_at (Some slot) (Some address) = Some (Watch slot address)
+watch_at _ _ = None
 
 -- the commands of a name alone
 abbrev pub command_of_name : List ℕ → Option Command
@@ -33,10 +42,18 @@ command_of_value name value =
     else (if is_text (codes "make") name then option_map Make (made_of_word value)
     else None))
 
--- what the words ask for: `run`, `alone K`, `asm K`, `make N`, `save`, `resume` or `check`; no other list of words is a command
+-- the command of a name and two values
+abbrev pub command_of_values : List ℕ → List ℕ → List ℕ → Option Command
+command_of_values name value second =
+    if is_text (codes "watch") name then watch_at (slot_of_word value) (address_of_word second)
+    else None
+
+-- what the words ask for: `run`, `alone K`, `asm K`, `make N`, `save`, `resume`, `check` or `watch K W`; no other list of words is a
+-- command
 unfoldable pub command : List (List ℕ) → Option Command
 command (name ∷ []) = command_of_name name
 command (name ∷ value ∷ []) = command_of_value name value
+command (name ∷ value ∷ second ∷ []) = command_of_values name value second
 command _ = None
 
 -- the words are a command
@@ -87,10 +104,17 @@ keeps_machine Run = true
 keeps_machine Save = true
 keeps_machine Resume = true
 keeps_machine (Make n) = true
+keeps_machine (Watch slot address) = true
 keeps_machine _ = false
 
 -- the slot that a command names is one of the four
 abbrev pub HasSlot : Command → Type 0
 HasSlot (Alone slot) = slot < 4
 HasSlot (Asm slot) = slot < 4
+HasSlot (Watch slot address) = slot < 4
 HasSlot _ = Unit {0}
+
+-- the address that a command names is one of the largest store
+abbrev pub HasAddress : Command → Type 0
+HasAddress (Watch slot address) = address < 8192
+HasAddress _ = Unit {0}

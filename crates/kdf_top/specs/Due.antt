@@ -1,6 +1,6 @@
 -- The text that each command makes of a job, and what it is made from. `answers n a` says that a is one of the answers of the
 -- installation's service to n.
-use Rattle.std.specs.Prelude.{◌≡◌, ℕ, List, [], ◌∷◌, ◌++◌, codes, decimal, length, Bool, Option, Some, None, Result, Ok, Err, true, false}
+use Rattle.std.specs.Prelude.{◌≡◌, ℕ, ◌*◌, List, [], ◌∷◌, ◌++◌, codes, decimal, length, map, Bool, Option, Some, None, Result, Ok, Err, true, false}
 use Rattle.kdf_journal.specs.declared.entry.Entry.{Entry}
 use Rattle.kdf_schedule.specs.Calls.{order_count}
 use Rattle.kdf_schedule.specs.declared.event.Event.{Event}
@@ -23,11 +23,12 @@ use Rattle.kdf_check.specs.declared.verdict.Verdict.{Verdict}
 use Rattle.kdf_check.specs.declared.verdict.Verdict.TheVariants.{Yes, No}
 use Rattle.kdf_report.specs.Text.{absent_text, alone_text, report_text}
 use Rattle.kdf_report.specs.Summary.{summary_text}
+use Rattle.kdf_watch.specs.Stops.{stops_of}
 use Rattle.kdf_top.specs.Commands.{keeps_machine}
 use Rattle.kdf_top.specs.Loaded.{slot_numbered, slots_of}
 use Rattle.kdf_top.specs.Snapshots.{after_job, resumed_job, snapshot_of}
 use Rattle.kdf_top.specs.declared.command.Command.{Command}
-use Rattle.kdf_top.specs.declared.command.Command.TheVariants.{Run, Save, Resume, Check, Alone, Asm, Make}
+use Rattle.kdf_top.specs.declared.command.Command.TheVariants.{Run, Save, Resume, Check, Alone, Asm, Make, Watch}
 
 -- ---- a program by itself
 
@@ -67,6 +68,24 @@ report_of j J = report_text j J (seen_of (slots_of j) J)
 abbrev pub summary_of : ℕ → List ℕ → List Entry → List ℕ
 summary_of n bytes J = summary_text n (length bytes) (job bytes) J (seen_of (slots_of (job bytes)) J)
 
+-- ---- a job under Director that is watched
+
+-- the first line of a watch at an address of a slot, and the line of a stop after so many orders
+abbrev pub watch_line : (slot address : ℕ) → List ℕ
+watch_line slot address = codes "KDF9 WATCH " ++ decimal slot ++ codes " " ++ decimal address
+
+abbrev pub stop_line : ℕ → List ℕ
+stop_line n = codes "STOP " ++ decimal n
+
+-- the lines of all stops, after the first line
+abbrev pub stops_text : (slot address : ℕ) → (stops : List ℕ) → List ℕ
+stops_text slot address stops = text (watch_line slot address ∷ map stop_line stops)
+
+-- the stops of a job whose journal is J: the numbers of those orders of the slot's program by itself after which its next one is at
+-- syllable 0 of the word at the address; and then the job's report
+abbrev pub watched_of : (slot address : ℕ) → Job → List Entry → List ℕ
+watched_of slot address j J = stops_text slot address (stops_of (slots_of j) J slot (6 * address)) ++ report_of j J
+
 -- ---- the verdict on a report that stands after its job
 
 abbrev pub check_line : List ℕ
@@ -101,6 +120,7 @@ IsTextFrom answers Check bytes J due = IsVerdictOf answers bytes due
 IsTextFrom answers (Alone p) bytes J due = due ≡ alone_of p (job bytes)
 IsTextFrom answers (Asm p) bytes J due = due ≡ listing_of p (job bytes)
 IsTextFrom answers (Make n) bytes J due = due ≡ summary_of n bytes J
+IsTextFrom answers (Watch slot address) bytes J due = due ≡ watched_of slot address (job bytes) J
 
 -- the journal that a command's text is made from: where it runs its job under Director it is the job's, legal and whole, and true
 -- for the service; and where it doesn't, it is empty

@@ -22,7 +22,7 @@ snapshot_fault_line fault line = codes "SNAPSHOT " ++ snapshot_fault_name fault 
 
 -- the line that tells how the program is used
 abbrev pub usage_line : List ℕ
-usage_line = codes "USAGE kdf9 run, alone K, asm K, make N, save, resume, check"
+usage_line = codes "USAGE kdf9 run, alone K, asm K, make N, save, resume, check, watch K W"
 
 -- the line that tells that there are more bytes than so many
 abbrev pub large_line : ℕ → List ℕ

@@ -23,6 +23,11 @@ abbrev pub only : List (List ℕ) → Option (List ℕ)
 only (word ∷ []) = Some word
 only _ = None
 
+-- the words of a list of two
+abbrev pub both : List (List ℕ) → Option (List ℕ × List ℕ)
+both (word ∷ other ∷ []) = Some (word, other)
+both _ = None
+
 -- a command to `clap` that takes no value, and has no flags either
 abbrev pub bare : Text → App
 bare name = on_top (λ s. record s { no_binary_name = true; disable_help_flag = true }) (new_app name)
@@ -34,6 +39,10 @@ needed id = record (new_rule id) { required = true; action = Some Set }
 -- a command to `clap` that takes one value
 abbrev pub with_one : Text → Text → App
 with_one name id = with_rule (bare name) (needed id)
+
+-- a command to `clap` that takes two values
+abbrev pub with_two : Text → Text → Text → App
+with_two name id other = with_rule (with_one name id) (needed other)
 
 -- the words have a fault to the command; or they have none, and these are their matches
 abbrev pub Parses : App → List (List ℕ) → Option ArgMatches → Type 0

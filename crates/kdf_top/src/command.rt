@@ -1,6 +1,6 @@
 //! The commands of the program.
 ghost use Rattle.std.specs.Prelude.{◌≡◌, ◌∷◌, true, false, IfOk, IfSome, is_some, map, string_bytes};
-ghost use Rattle.kdf_top.specs.Commands.{HasSlot, command, input_of, limit_by, limit_of, made_of_word, slot_of_word};
+ghost use Rattle.kdf_top.specs.Commands.{HasAddress, HasSlot, address_of_word, command, input_of, limit_by, limit_of, made_of_word, slot_of_word, watch_at};
 ghost use Rattle.kdf_top.specs.Values.{any_hyphen};
 
 mod values;
@@ -11,7 +11,7 @@ use kdf_text::number_in;
 use std::alloc::{AllocError, Global};
 use values::{Values, any_hyphen};
 
-/// What the words after the program's name ask for. A slot is below 4.
+/// What the words after the program's name ask for. A slot is below 4, and an address below 8192.
 #[derive(Clone, Copy, PartialEq, Eq)]
 pub enum Command {
     /// `run`: reads a job, runs it under Director and writes its report.
@@ -28,6 +28,9 @@ pub enum Command {
     Asm(u8),
     /// `make N`: makes job N, runs it under Director and writes a summary.
     Make(u16),
+    /// `watch K W`: reads a job, runs it under Director, and writes when the program of slot K came to syllable 0 of the word at
+    /// address W, and the report.
+    Watch(u8, u16),
 }
 
 /// Where the text of a command comes from.
@@ -47,6 +50,9 @@ const LAST_SLOT: u64 = 3;
 
 /// The highest number of a made job.
 const LAST_MADE: u64 = 65_535;
+
+/// The highest address of a store.
+const LAST_ADDRESS: u64 = 8191;
 
 impl Command {
     /// How many bytes the command's text may have.
@@ -85,6 +91,7 @@ pub fn limit_by(command: Option<Command>) -> usize
 pub fn command_of(alloc: Global, words: &[String]) -> Result<Option<Command>, AllocError>
     ensures value { IfOk result (λ c. c ≡ command (map string_bytes words.now)) }
     ensures slot { IfOk result (λ c. IfSome c HasSlot) }
+    ensures address { IfOk result (λ c. IfSome c HasAddress) }
     ensures hyphen { IfOk result (λ c. is_some c ≡ true
         → any_hyphen (map string_bytes words.now) ≡ false) }
 {
@@ -101,12 +108,13 @@ pub fn command_of(alloc: Global, words: &[String]) -> Result<Option<Command>, Al
     }
 }
 
-/// The commands: of each its name, the value that it takes, if any, and how that is read.
+/// The commands: of each its name, the values that it takes, if any, and how they are read.
 #[tactic(auto, unfolding(crate::specs::Commands::command))]
 fn command_of_name(values: Values<'_>) -> Result<Option<Command>, AllocError>
     ensures value { IfOk result (λ c. c
         ≡ command (values.entry.name.now ∷ map string_bytes values.entry.words.now)) }
     ensures slot { IfOk result (λ c. IfSome c HasSlot) }
+    ensures address { IfOk result (λ c. IfSome c HasAddress) }
 {
     match values.name {
         "run" => Ok(values.none()?.then_some(Command::Run)),
@@ -116,6 +124,7 @@ fn command_of_name(values: Values<'_>) -> Result<Option<Command>, AllocError>
         "alone" => Ok(values.one()?.and_then(slot).map(Command::Alone)),
         "asm" => Ok(values.one()?.and_then(slot).map(Command::Asm)),
         "make" => Ok(values.one()?.and_then(made).map(Command::Make)),
+        "watch" => Ok(values.two()?.and_then(watch)),
         _ => Ok(None),
     }
 }
@@ -132,4 +141,20 @@ fn made(word: &str) -> Option<u16>
     ensures { result ≡ made_of_word word.now }
 {
     Some(number_in(0, LAST_MADE, word.as_bytes())? as u16)
+}
+
+/// The watch that two words name.
+fn watch(words: (&str, &str)) -> Option<Command>
+    ensures value { result ≡ watch_at (slot_of_word words.entry.0.now) (address_of_word words.entry.1.now) }
+    ensures slot { IfSome result HasSlot }
+    ensures address { IfSome result HasAddress }
+{
+    Some(Command::Watch(slot(words.0)?, address(words.1)?))
+}
+
+/// The address that a word names.
+fn address(word: &str) -> Option<u16>
+    ensures { result ≡ address_of_word word.now }
+{
+    Some(number_in(0, LAST_ADDRESS, word.as_bytes())? as u16)
 }

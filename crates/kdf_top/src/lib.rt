@@ -18,6 +18,7 @@ mod saving;
 mod slot;
 mod status;
 mod top_call;
+mod watching;
 pub mod worked;
 
 pub use command::{Command, Input, command_of, worked as worked_commands};

@@ -1,9 +1,10 @@
 //! What each command makes of its text: a text and, where it runs a job under Director, the machine.
-ghost use Rattle.std.specs.Prelude.{◌≡◌, ◌≤◌, Ok, Err, Some, None, IfErr, IfOk, length};
+ghost use Rattle.std.specs.Prelude.{◌≡◌, ◌<◌, ◌≤◌, Ok, Err, Some, None, IfErr, IfOk, length};
 ghost use Rattle.kdf_job.specs.declared.job.TheConstants.{TEXT_LIMIT};
 ghost use Rattle.kdf_service.specs.Rules.{IsService};
 ghost use Rattle.kdf_top.specs.Answered.{IsReason};
 ghost use Rattle.kdf_top.specs.Answers.{IsCalled, IsMade};
+ghost use Rattle.kdf_top.specs.Commands.{HasAddress};
 ghost use Rattle.kdf_top.specs.declared.command.Command.TheVariants as command;
 ghost use Rattle.kdf_top.specs.declared.reason.MakeError.TheVariants.{Memory};
 
@@ -16,6 +17,7 @@ use crate::reason::MakeError;
 use crate::resuming::resume;
 use crate::running::run_job;
 use crate::saving::snapshot;
+use crate::watching::{watch_job, watched_text};
 use kdf_director::Machine;
 use kdf_report::{report, summary};
 use kdf_service::Service;
@@ -31,22 +33,24 @@ pub struct Made {
 pub fn make<F: Fn(u64) -> u64>(
     alloc: Global,
     command: Command,
-    text: &[u8],
+    text: Vec<u8>,
     service: &Service<F>,
 ) -> Result<Made, MakeError>
     requires service { IsService (F.pre service.now) (F.post service.now) }
-    requires within { length text.now ≤ TEXT_LIMIT }
-    ensures made { IfOk result (λ made. IsMade (F.post service.now) command text.now made.text.items made.machine) }
-    ensures reason { IfErr result (IsReason (IsCalled (F.post service.now) command text.now)) }
+    requires within { length text.items ≤ TEXT_LIMIT }
+    requires address { HasAddress command }
+    ensures made { IfOk result (λ made. IsMade (F.post service.now) command text.items made.text.items made.machine) }
+    ensures reason { IfErr result (IsReason (IsCalled (F.post service.now) command text.items)) }
 {
     match command {
-        Command::Run => run(alloc, text, service),
-        Command::Save => save(alloc, text, service),
+        Command::Run => run(alloc, &text, service),
+        Command::Save => save(alloc, &text, service),
         Command::Resume => resume(alloc, text, service),
-        Command::Check => without_machine(check(alloc, text, service)),
-        Command::Alone(p) => without_machine(alone(alloc, text, p)),
-        Command::Asm(p) => without_machine(list(alloc, text, p)),
-        Command::Make(n) => sum(alloc, n, text, service),
+        Command::Check => without_machine(check(alloc, &text, service)),
+        Command::Alone(p) => without_machine(alone(alloc, &text, p)),
+        Command::Asm(p) => without_machine(list(alloc, &text, p)),
+        Command::Make(n) => sum(alloc, n, &text, service),
+        Command::Watch(slot, address) => watch(alloc, slot, address, &text, service),
     }
 }
 
@@ -99,6 +103,26 @@ fn sum<F: Fn(u64) -> u64>(
     let (job, images) = load(alloc, job_bytes)?;
     let machine = run_job(alloc, &job, &images, service)?;
     let text = summary(alloc, n, job_bytes.len() as u32, &job, &machine);
+    with_machine(text, machine)
+}
+
+/// Runs a job, and makes the text of when the program of a slot came to an address, with the job's report.
+fn watch<F: Fn(u64) -> u64>(
+    alloc: Global,
+    slot: u8,
+    address: u16,
+    job_bytes: &[u8],
+    service: &Service<F>,
+) -> Result<Made, MakeError>
+    requires service { IsService (F.pre service.now) (F.post service.now) }
+    requires within { length job_bytes.now ≤ TEXT_LIMIT }
+    requires address { address < 8192 }
+    ensures made { IfOk result (λ made. IsMade (F.post service.now) (command.Watch slot address) job_bytes.now made.text.items made.machine) }
+    ensures reason { IfErr result (IsReason (IsCalled (F.post service.now) (command.Watch slot address) job_bytes.now)) }
+{
+    let (job, images) = load(alloc, job_bytes)?;
+    let (machine, stops) = watch_job(alloc, &job, &images, slot, address, service)?;
+    let text = watched_text(alloc, slot, address, &stops, &job, &machine);
     with_machine(text, machine)
 }
 

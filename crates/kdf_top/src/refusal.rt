@@ -24,7 +24,7 @@ fn write_refusal(out: &mut String, limit: usize, status: Status) -> Result<(), A
     match status {
         Status::Usage => writeln!(
             out,
-            "USAGE kdf9 run, alone K, asm K, make N, save, resume, check"
+            "USAGE kdf9 run, alone K, asm K, make N, save, resume, check, watch K W"
         ),
         Status::Job { fault, line } => {
             let name = fault.name();

@@ -1,15 +1,14 @@
 //! A run that goes on from a snapshot.
-ghost use Rattle.std.specs.Prelude.{◌≡◌, ◌-◌, ◌≤◌, drop, IfErr, IfOk, OnOk, length, take};
+ghost use Rattle.std.specs.Prelude.{◌≡◌, ◌-◌, ◌≤◌, ℕ, List, drop, IfErr, IfOk, OnOk, length, take};
 ghost use Rattle.kdf_director.specs.Shown.{ShowsSeen};
 ghost use Rattle.kdf_job.specs.Shows.{shown_job};
 ghost use Rattle.kdf_job.specs.declared.job.TheConstants.{TEXT_LIMIT};
 ghost use Rattle.kdf_service.specs.Rules.{IsService};
-ghost use Rattle.kdf_text.specs.Lines.{lines};
 ghost use Rattle.kdf_top.specs.Answered.{IsReason};
 ghost use Rattle.kdf_top.specs.Answers.{IsCalled, IsMade, status_of};
 ghost use Rattle.kdf_top.specs.Loaded.{slots_of};
 ghost use Rattle.kdf_top.specs.Resumed.{HasRun, IsRead, IsSaved};
-ghost use Rattle.kdf_top.specs.Snapshots.{IsCompared, IsComparedFor, IsOf, parts, sealed_lines};
+ghost use Rattle.kdf_top.specs.Snapshots.{IsCompared, IsComparedFor, IsOf, parts};
 ghost use Rattle.kdf_top.specs.declared.command.Command.TheVariants as command;
 ghost use Rattle.kdf_top.specs.declared.status.Status.TheVariants as status;
 
@@ -21,44 +20,28 @@ use crate::reason::MakeError;
 use crate::saving::sealed_text;
 use kdf_director::{Machine, follow_on};
 use kdf_job::{Job, line_count, read_job_front, read_more};
+use kdf_journal::Entry;
 use kdf_place::Image;
 use kdf_report::report;
 use kdf_service::Service;
-use kdf_snapshot::{Parts, RebuildError, SnapshotFault, rebuild_with, split};
+use kdf_snapshot::{RebuildError, SnapshotFault, rebuild_with, split};
 use std::alloc::Global;
 
-/// A snapshot that was read, with what goes on after it.
+/// A snapshot that was read, with what goes on after it, but for the entries of its journal.
 #[derive(Drop)]
-pub struct Snapshot<'a> {
-    /// The whole text.
-    pub text: &'a [u8],
-    /// Where the job at its front ends.
-    pub end: usize,
-    /// The number of the line that begins there.
+pub struct Snapshot {
+    /// The number of the line after the job at the front.
     pub line: u32,
-    /// What stands there.
-    pub parts: Parts,
+    /// The number of the line after `SEAL`.
+    pub seal_line: u32,
+    /// The lines from there up to `ENDSNAPSHOT`, and with it.
+    pub sealed: Vec<u8>,
     /// How many events the job at the front has.
     pub first: usize,
     /// The job, with the further events.
     pub job: Job,
     /// The images of its decks.
     pub images: Vec<Image>,
-}
-
-impl<'a> Snapshot<'a> {
-    /// The lines after `SEAL` up to `ENDSNAPSHOT`, and with it.
-    fn sealed(&self) -> &'a [u8]
-        requires { IsRead self.now }
-        ensures lines { lines result.now ≡ sealed_lines self.now.text.now (parts self.now.text.now) }
-        ensures within { length result.now ≤ TEXT_LIMIT }
-    {
-        part(
-            rest(self.text, self.end),
-            self.parts.seal_from,
-            self.parts.more_from,
-        )
-    }
 }
 
 /// The bytes of a text from an offset on.
@@ -78,28 +61,32 @@ fn part(text: &[u8], from: usize, to: usize) -> &[u8]
     &text[from..to]
 }
 
-/// Reads a snapshot and what goes on after it, makes its run again, compares it, goes on with it, and makes the report of the whole.
+/// Reads a snapshot and what goes on after it, makes its run again, compares it, goes on with it, and makes the report of the whole. What it
+/// doesn't need any more it gives up at once: the text before the run, and the entries before the report.
 pub fn resume<F: Fn(u64) -> u64>(
     alloc: Global,
-    text: &[u8],
+    text: Vec<u8>,
     service: &Service<F>,
 ) -> Result<Made, MakeError>
+    ghost bytes: { List ℕ }
     requires service { IsService (F.pre service.now) (F.post service.now) }
-    requires within { length text.now ≤ TEXT_LIMIT }
-    ensures made { IfOk result (λ made. IsMade (F.post service.now) command.Resume text.now made.text.items made.machine) }
-    ensures reason { IfErr result (IsReason (IsCalled (F.post service.now) command.Resume text.now)) }
+    requires text { text.items ≡ bytes }
+    requires within { length bytes ≤ TEXT_LIMIT }
+    ensures made { IfOk result (λ made. IsMade (F.post service.now) command.Resume bytes made.text.items made.machine) }
+    ensures reason { IfErr result (IsReason (IsCalled (F.post service.now) command.Resume bytes)) }
 {
-    let snapshot = read_snapshot(alloc, text)?;
-    let machine = run_on(alloc, &snapshot, service)?;
+    let (snapshot, entries) = read_snapshot(alloc, &text)?;
+    drop(text);
+    let machine = run_on(alloc, &snapshot, entries, service)?;
     let text = report(alloc, &snapshot.job, &machine);
     with_machine(text, machine)
 }
 
 /// Reads a snapshot and what goes on after it.
-fn read_snapshot(alloc: Global, text: &[u8]) -> Result<Snapshot<'_>, MakeError>
+fn read_snapshot(alloc: Global, text: &[u8]) -> Result<(Snapshot, Vec<Entry>), MakeError>
     requires { length text.now ≤ TEXT_LIMIT }
-    ensures text { IfOk result (λ s. s.text.now ≡ text.now) }
-    ensures read { IfOk result IsRead }
+    ensures read { IfOk result (λ r. IsRead text.now r.0) }
+    ensures entries { IfOk result (λ r. r.1.items ≡ (parts text.now).entries) }
     ensures reason { IfErr result (IsReason (λ s. s ≡ status_of command.Resume text.now)) }
 {
     let (mut job, end) = read_job_front(alloc, text)?;
@@ -110,38 +97,46 @@ fn read_snapshot(alloc: Global, text: &[u8]) -> Result<Snapshot<'_>, MakeError>
     let further = rest(after, parts.more_from);
     read_more(alloc, &mut job, further, parts.more_line)?;
     let images = assemble_decks(alloc, &job.slots)?;
-    Ok(Snapshot {
-        text,
-        end,
+    let seal_line = line + parts.entries.len() as u32 + 2;
+    let sealed = Vec::from_slice(alloc, part(after, parts.seal_from, parts.more_from))?;
+    let snapshot = Snapshot {
         line,
-        parts,
+        seal_line,
+        sealed,
         first,
         job,
         images,
-    })
+    };
+    Ok((snapshot, parts.entries))
 }
 
-/// The machine of the whole run, where the snapshot is that of its front.
+/// The machine of the whole run, where the snapshot, which has these entries, is that of its front.
 fn run_on<F: Fn(u64) -> u64>(
     alloc: Global,
     snapshot: &Snapshot,
+    entries: Vec<Entry>,
     service: &Service<F>,
 ) -> Result<Machine, MakeError>
+    ghost bytes: { List ℕ }
     requires service { IsService (F.pre service.now) (F.post service.now) }
-    requires read { IsRead snapshot.now }
-    ensures trusted { OnOk result (IsComparedFor (F.post service.now) snapshot.now.text.now status.Done) }
+    requires read { IsRead bytes snapshot.now }
+    requires entries { entries.items ≡ (parts bytes).entries }
+    ensures trusted { OnOk result (IsComparedFor (F.post service.now) bytes status.Done) }
     ensures run { IfOk result (HasRun (F.post service.now) snapshot.now) }
-    ensures reason { IfErr result (IsReason (IsComparedFor (F.post service.now) snapshot.now.text.now)) }
+    ensures reason { IfErr result (IsReason (IsComparedFor (F.post service.now) bytes)) }
 {
     match rebuild_with(
         alloc,
         &snapshot.job,
         snapshot.first,
         &snapshot.images,
-        &snapshot.parts.entries,
+        &entries,
         service,
     ) {
-        Ok(machine) => go_on(alloc, snapshot, machine, service),
+        Ok(machine) => {
+            drop(entries);
+            go_on(alloc, snapshot, machine, service)
+        }
         Err(RebuildError::Differs(place)) => Err(MakeError::Refused(Status::Snapshot {
             fault: SnapshotFault::JournalDiffers,
             line: snapshot.line + 1 + place,
@@ -157,12 +152,13 @@ fn go_on<F: Fn(u64) -> u64>(
     machine: Machine,
     service: &Service<F>,
 ) -> Result<Machine, MakeError>
+    ghost bytes: { List ℕ }
     requires service { IsService (F.pre service.now) (F.post service.now) }
-    requires read { IsRead snapshot.now }
-    requires saved { IsSaved (F.post service.now) snapshot.now machine }
-    ensures trusted { OnOk result (IsComparedFor (F.post service.now) snapshot.now.text.now status.Done) }
+    requires read { IsRead bytes snapshot.now }
+    requires saved { IsSaved (F.post service.now) bytes snapshot.now machine }
+    ensures trusted { OnOk result (IsComparedFor (F.post service.now) bytes status.Done) }
     ensures run { IfOk result (HasRun (F.post service.now) snapshot.now) }
-    ensures reason { IfErr result (IsReason (IsComparedFor (F.post service.now) snapshot.now.text.now)) }
+    ensures reason { IfErr result (IsReason (IsComparedFor (F.post service.now) bytes)) }
 {
     let mut machine = machine;
     match follow_sealed(alloc, snapshot, &mut machine, service) {
@@ -181,12 +177,13 @@ fn follow_sealed<F: Fn(u64) -> u64>(
     machine: &mut Machine,
     service: &Service<F>,
 ) -> Result<(), MakeError>
+    ghost bytes: { List ℕ }
     requires service { IsService (F.pre service.now) (F.post service.now) }
-    requires read { IsRead snapshot.now }
-    requires saved { IsSaved (F.post service.now) snapshot.now machine.old }
-    ensures trusted { OnOk result (IsComparedFor (F.post service.now) snapshot.now.text.now status.Done) }
+    requires read { IsRead bytes snapshot.now }
+    requires saved { IsSaved (F.post service.now) bytes snapshot.now machine.old }
+    ensures trusted { OnOk result (IsComparedFor (F.post service.now) bytes status.Done) }
     ensures run { OnOk result (HasRun (F.post service.now) snapshot.now machine.new) }
-    ensures reason { IfErr result (IsReason (IsComparedFor (F.post service.now) snapshot.now.text.now)) }
+    ensures reason { IfErr result (IsReason (IsComparedFor (F.post service.now) bytes)) }
 {
     compare_seal(alloc, snapshot, machine)?;
     follow_on(machine, &snapshot.job.events, snapshot.first, service)?;
@@ -195,19 +192,20 @@ fn follow_sealed<F: Fn(u64) -> u64>(
 
 /// Compares what is sealed with what the machine comes to.
 fn compare_seal(alloc: Global, snapshot: &Snapshot, machine: &Machine) -> Result<(), MakeError>
-    requires read { IsRead snapshot.now }
+    ghost bytes: { List ℕ }
+    requires read { IsRead bytes snapshot.now }
     requires slots { machine.now.slots ≡ slots_of (shown_job snapshot.now.job) }
     requires seen { ShowsSeen machine.now }
-    requires entries { machine.now.journal ≡ snapshot.now.parts.entries.items }
-    ensures same { OnOk result (IsOf snapshot.now.text.now machine.now.journal) }
-    ensures other { IfErr result (IsReason (IsCompared snapshot.now.text.now machine.now.journal)) }
+    requires entries { machine.now.journal ≡ (parts bytes).entries }
+    ensures same { OnOk result (IsOf bytes machine.now.journal) }
+    ensures other { IfErr result (IsReason (IsCompared bytes machine.now.journal)) }
 {
     let seal = sealed_text(alloc, &snapshot.job, machine)?;
-    match first_other_line(snapshot.sealed(), &seal) {
+    match first_other_line(&snapshot.sealed, &seal) {
         None => Ok(()),
         Some(place) => Err(MakeError::Refused(Status::Snapshot {
             fault: SnapshotFault::SealDiffers,
-            line: snapshot.line + snapshot.parts.entries.len() as u32 + 2 + place,
+            line: snapshot.seal_line + place,
         })),
     }
 }

@@ -7,7 +7,7 @@ ghost use Rattle.kdf_job.specs.declared.job.TheConstants.{TEXT_LIMIT};
 ghost use Rattle.kdf_service.specs.Rules.{IsService};
 ghost use Rattle.kdf_top.specs.Answered.{inlet, outlet, IsGiven, IsRefusal, IsRefused, IsRun, ReadsAll, Takes};
 ghost use Rattle.kdf_top.specs.Answers.{Answers, IsCalled, IsCalledFor, IsDoneBy, IsDueFor, IsFaultless, IsTrusted, Wrote, WroteFrontBy, is_kept, job_text, reads, reads_by};
-ghost use Rattle.kdf_top.specs.Commands.{command, input_of, is_command, is_too_long};
+ghost use Rattle.kdf_top.specs.Commands.{HasAddress, command, input_of, is_command, is_too_long};
 ghost use Rattle.kdf_top.specs.Deck.{deck_fault};
 ghost use Rattle.kdf_top.specs.Due.{job_of};
 ghost use Rattle.kdf_top.specs.declared.command.Command.{Command as Asked};
@@ -141,6 +141,7 @@ fn answer_command<S: Source, K: Sink, F: Fn(u64) -> u64>(
     service: &Service<F>,
 ) -> Outcome
     requires service { IsService (F.pre service.now) (F.post service.now) }
+    requires address { HasAddress command }
     ensures run { IsRun (F.post service.now) (Some command) result.status result.machine
         (inlet (S.left source.old) (S.faults source.old)) (inlet (S.left source.new) (S.faults source.new))
         (outlet (K.written sink.old) (K.faults sink.old) (K.room sink.old))
@@ -165,6 +166,7 @@ fn answer_read<S: Source, K: Sink, F: Fn(u64) -> u64>(
     service: &Service<F>,
 ) -> Outcome
     requires service { IsService (F.pre service.now) (F.post service.now) }
+    requires address { HasAddress command }
     requires input { input_of command ≡ input.Read limit }
     requires within { limit ≤ TEXT_LIMIT }
     ensures run { IsRun (F.post service.now) (Some command) result.status result.machine
@@ -175,7 +177,7 @@ fn answer_read<S: Source, K: Sink, F: Fn(u64) -> u64>(
     ensures steady_count { S.steady source.old → S.faults source.new ≡ S.faults source.old }
 {
     match read_all(alloc, source, limit) {
-        Ok(text) => answer_text(alloc, command, &text, sink, service),
+        Ok(text) => answer_text(alloc, command, text, sink, service),
         Err(ReadEnd::Large) => refuse(alloc, Some(command), Status::Large, sink),
         Err(ReadEnd::Fault) => without_machine(Status::ReadFault),
         Err(ReadEnd::Memory) => without_machine(Status::Memory),
@@ -191,12 +193,13 @@ fn answer_made<K: Sink, F: Fn(u64) -> u64>(
     service: &Service<F>,
 ) -> Outcome
     requires service { IsService (F.pre service.now) (F.post service.now) }
+    requires address { HasAddress command }
     ensures { IsGiven (F.post service.now) (IsCalled (F.post service.now) command (made_text n)) (Some command) (made_text n) result.status result.machine
         (outlet (K.written sink.old) (K.faults sink.old) (K.room sink.old))
         (outlet (K.written sink.new) (K.faults sink.new) (K.room sink.new)) }
 {
     match generated(alloc, n) {
-        Ok(job_bytes) => answer_text(alloc, command, &job_bytes, sink, service),
+        Ok(job_bytes) => answer_text(alloc, command, job_bytes, sink, service),
         Err(_) => without_machine(Status::Memory),
     }
 }
@@ -232,13 +235,14 @@ fn refuse<K: Sink>(alloc: Global, command: Option<Command>, status: Status, sink
 fn answer_text<K: Sink, F: Fn(u64) -> u64>(
     alloc: Global,
     command: Command,
-    text: &[u8],
+    text: Vec<u8>,
     sink: &mut K,
     service: &Service<F>,
 ) -> Outcome
-    requires within { length text.now ≤ TEXT_LIMIT }
+    requires within { length text.items ≤ TEXT_LIMIT }
     requires service { IsService (F.pre service.now) (F.post service.now) }
-    ensures { IsGiven (F.post service.now) (IsCalled (F.post service.now) command text.now) (Some command) text.now result.status result.machine
+    requires address { HasAddress command }
+    ensures { IsGiven (F.post service.now) (IsCalled (F.post service.now) command text.items) (Some command) text.items result.status result.machine
         (outlet (K.written sink.old) (K.faults sink.old) (K.room sink.old))
         (outlet (K.written sink.new) (K.faults sink.new) (K.room sink.new)) }
 {

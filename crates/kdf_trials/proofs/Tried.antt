@@ -10,7 +10,10 @@ use Rattle.kdf_job.specs.Job.{SlotJob}
 use Rattle.kdf_alone.specs.Program.{IsApart}
 use Rattle.kdf_alone.proofs.Apart.{slot_apart}
 use Rattle.kdf_job.specs.Shows.{shown_job, shown_slot}
-use Rattle.kdf_job.specs.WellFormed.{IsJob, IsSlot}
+use Rattle.kdf_job.specs.WellFormed.{IsJob, IsSchedule, IsSlot}
+use Rattle.kdf_schedule.specs.declared.event.Event.{Event}
+use Rattle.kdf_top.proofs.Schedules.{rises}
+use Rattle.kdf_watch.specs.Cursors.{KeepsLimits}
 
 -- each of the slots is well formed
 pub slot_at : (j : ReadJob) (k : ℕ) (s : ReadSlot) → IsJob (shown_job j) → k < length j.slots.items → s ≡ slice_index_or j.slots.items k s → IsSlot (shown_slot s)
@@ -41,3 +44,7 @@ one_more slots i slot image lt is images fits have =
     let taken : map shown_slot (take (i + 1) slots) ≡ map shown_slot (take i slots) ++ shown_slot slot ∷ [] =
     ap (map shown_slot) (take_more slots i slot lt ∙ ap (λ (s : ReadSlot). take i slots ++ s ∷ []) is) ∙ map-append shown_slot (take i slots) (slot ∷ []) in
     rw (taken, map-append words_of images (image ∷ [])) (have_more (map shown_slot (take i slots)) (map words_of images) (shown_slot slot) (words_of image) have fits)
+
+-- the events of a job keep what is asked of a schedule that is watched
+pub keeps_limits : (events : List Event) → IsSchedule events → KeepsLimits events
+keeps_limits events is = record { short = is.few; few = is.few_orders; rises = rises 0 events is.rising is.each; in_range = is.each }

@@ -55,4 +55,6 @@ mod transfer;
 #[cfg(test)]
 mod usercode;
 #[cfg(test)]
+mod watch;
+#[cfg(test)]
 mod word;

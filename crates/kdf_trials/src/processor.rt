@@ -386,7 +386,7 @@ const LOOKS: [(u64, &[u64], (u16, u16, u16), u16, Ahead); 12] = [
     (0x2100_0000_0000, &[5, 1], (0, 0, 0), 0, Ahead::Else),
     (0x2100_0000_0000, &[4, 1], (0, 0, 0), 6, Ahead::Else),
     (0x2100_0000_0000, &[9], (0, 0, 0), 6, Ahead::Else),
-    (0x2100_0000_0000, &[64, 7], (0, 0, 0), 6, Ahead::Else),
+    (0x2100_0000_0000, &[64, 7], (0, 0, 0), 0, Ahead::Else),
     (0x0100_0000_0000, &[], (0, 0, 0), 6, Ahead::Else),
 ];
 
@@ -478,4 +478,7 @@ fn orders_are_held_up_by_their_needs_in_order(rt: HostRuntime) {
         let bench = port(word, (out, 16, 16, true));
         assert!(rt; look_ahead(&registers(0, nest, q), &bench) == due);
     }
+    let bench = port(0x2100_0000_0000, (6, 16, 16, true));
+    let asks = look_ahead(&registers(0, &[64, 7], (0, 0, 0)), &bench);
+    assert!(rt; asks == Ahead::Asks(Word::new(7)));
 }

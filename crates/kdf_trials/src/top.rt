@@ -38,9 +38,14 @@ const REPORT: &str = "KDF9 REPORT 1\n\
     ENDREPORT\n";
 
 /// Commands that read a job.
-const READING: [&[&str]; 3] = [&["run"], &["alone", "0"], &["asm", "0"]];
+const READING: [&[&str]; 4] = [
+    &["run"],
+    &["alone", "0"],
+    &["asm", "0"],
+    &["watch", "0", "2"],
+];
 
-const USAGE: &str = "USAGE kdf9 run, alone K, asm K, make N, save, resume, check\n";
+const USAGE: &str = "USAGE kdf9 run, alone K, asm K, make N, save, resume, check, watch K W\n";
 
 /// Words, and a source and a sink: how many bytes a read gives at most, which reads fail, for how
 /// many bytes there is room, how many a put takes at most, and which puts fail.
@@ -96,7 +101,7 @@ fn answer_with<F: Fn(u64) -> u64>(
     let status = outcome.status;
     let keeps = matches!(
         call.words.first(),
-        Some(&"run" | &"save" | &"resume" | &"make")
+        Some(&"run" | &"save" | &"resume" | &"make" | &"watch")
     );
     assert!(rt; outcome.machine.is_some() == (keeps && status == Status::Done));
     outcome.close();

@@ -1,8 +1,8 @@
 //! The words after a command's name, read by `clap`. It tells whether there are too few or too many; a word that begins
 //! with `-`, which would be a flag to it, has to be refused before.
 ghost use Rattle.std.specs.Prelude.{◌≡◌, true, false, IfOk, map, option_map, string_bytes};
-ghost use Rattle.clap.specs.Words.{app_of, is_simple_and_free};
-ghost use Rattle.kdf_top.specs.Values.{Parses, any_hyphen, bare, has_hyphen, is_empty, only, with_one};
+ghost use Rattle.clap.specs.Words.{app_of, is_simple_and_free, rule_of};
+ghost use Rattle.kdf_top.specs.Values.{Parses, any_hyphen, bare, both, has_hyphen, is_empty, needed, only, with_one, with_two};
 
 use clap::error::ErrorKind;
 use clap::{Arg, ArgAction, ArgMatches, Command};
@@ -10,6 +10,9 @@ use std::alloc::{AllocError, Global};
 
 /// What `clap` calls the value of a command.
 const VALUE: &str = "value";
+
+/// What `clap` calls the second value of a command.
+const SECOND: &str = "second";
 
 /// Whether a word begins with `-`.
 pub fn any_hyphen(words: &[String]) -> bool
@@ -51,6 +54,17 @@ impl<'a> Values<'a> {
             None => Ok(None),
         }
     }
+
+    /// The two values, where there are no others.
+    pub fn two(self) -> Result<Option<(&'a str, &'a str)>, AllocError>
+        ensures { IfOk result (λ values. option_map (λ v. (v.0.now, v.1.now)) values
+            ≡ both (map string_bytes self.entry.words.now)) }
+    {
+        match parsed(with_two(self.alloc, self.name, VALUE, SECOND)?, self.words)? {
+            Some(matches) => Ok(matches.get_str(VALUE).zip(matches.get_str(SECOND))),
+            None => Ok(None),
+        }
+    }
 }
 
 /// A command that takes no value. Its words are those after its name.
@@ -66,8 +80,27 @@ fn bare<'a>(alloc: Global, name: &'a str) -> Command<'a>
 fn with_one<'a>(alloc: Global, name: &'a str, id: &'a str) -> Result<Command<'a>, AllocError>
     ensures { IfOk result (λ c. app_of c ≡ with_one name.now id.now) }
 {
-    let value = Arg::new(alloc, id).required(true).action(ArgAction::Set);
-    bare(alloc, name).arg(value)
+    bare(alloc, name).arg(needed(alloc, id))
+}
+
+/// A command that takes the values `id` and `other`.
+fn with_two<'a>(
+    alloc: Global,
+    name: &'a str,
+    id: &'a str,
+    other: &'a str,
+) -> Result<Command<'a>, AllocError>
+    ensures { IfOk result (λ c. app_of c ≡ with_two name.now id.now other.now) }
+{
+    with_one(alloc, name, id)?.arg(needed(alloc, other))
+}
+
+/// A value that a command needs.
+fn needed<'a>(alloc: Global, id: &'a str) -> Arg<'a>
+    ensures rule { rule_of result ≡ needed id.now }
+    ensures local { result.global ≡ false }
+{
+    Arg::new(alloc, id).required(true).action(ArgAction::Set)
 }
 
 /// What the command makes of its words, or none where they are faulty to it.

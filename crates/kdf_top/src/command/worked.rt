@@ -4,7 +4,7 @@
 
 ghost use Rattle.std.specs.Prelude.{◌≡◌, [], ◌∷◌, Some, None, codes};
 ghost use Rattle.kdf_top.specs.Commands.{command};
-ghost use Rattle.kdf_top.specs.declared.command.Command.TheVariants.{Run, Alone, Asm, Make};
+ghost use Rattle.kdf_top.specs.declared.command.Command.TheVariants.{Run, Alone, Asm, Make, Watch};
 
 /// A name alone.
 pub fn commands_of_a_name()
@@ -37,4 +37,16 @@ pub fn commands_of_a_number()
     ensures above { command (codes "make" ∷ codes "65536" ∷ []) ≡ None }
     ensures leading_zeros { command (codes "make" ∷ codes "007" ∷ []) ≡ None }
     ensures minus { command (codes "make" ∷ codes "-1" ∷ []) ≡ None }
+{}
+
+/// A name, a slot and an address.
+pub fn commands_of_a_slot_and_an_address()
+    ensures zero { command (codes "watch" ∷ codes "0" ∷ codes "0" ∷ []) ≡ Some (Watch 0 0) }
+    ensures greatest { command (codes "watch" ∷ codes "3" ∷ codes "8191" ∷ []) ≡ Some (Watch 3 8191) }
+    ensures above { command (codes "watch" ∷ codes "0" ∷ codes "8192" ∷ []) ≡ None }
+    ensures fifth { command (codes "watch" ∷ codes "4" ∷ codes "0" ∷ []) ≡ None }
+    ensures leading_zeros { command (codes "watch" ∷ codes "0" ∷ codes "02" ∷ []) ≡ None }
+    ensures slot_is_missing { command (codes "watch" ∷ codes "2" ∷ []) ≡ None }
+    ensures three_values { command (codes "watch" ∷ codes "0" ∷ codes "2" ∷ codes "2" ∷ []) ≡ None }
+    ensures other_name { command (codes "alone" ∷ codes "0" ∷ codes "2" ∷ []) ≡ None }
 {}

@@ -4,7 +4,7 @@ use std::alloc::{AllocError, Global};
 use std::test::Fail;
 
 /// The commands.
-const COMMANDS: [(&[&str], Command); 16] = [
+const COMMANDS: [(&[&str], Command); 20] = [
     (&["run"], Command::Run),
     (&["save"], Command::Save),
     (&["resume"], Command::Resume),
@@ -21,6 +21,10 @@ const COMMANDS: [(&[&str], Command); 16] = [
     (&["make", "4096"], Command::Make(4096)),
     (&["make", "65534"], Command::Make(65534)),
     (&["make", "65535"], Command::Make(65535)),
+    (&["watch", "0", "0"], Command::Watch(0, 0)),
+    (&["watch", "0", "2"], Command::Watch(0, 2)),
+    (&["watch", "2", "10"], Command::Watch(2, 10)),
+    (&["watch", "3", "8191"], Command::Watch(3, 8191)),
 ];
 
 /// Names that aren't spelt as a command's, and words that to `clap` would be flags.
@@ -52,7 +56,7 @@ const OTHER_NAMES: [&[&str]; 24] = [
 ];
 
 /// Commands with too few values, with too many, and with words that to `clap` would be flags.
-const OTHER_LISTS: [&[&str]; 28] = [
+const OTHER_LISTS: [&[&str]; 37] = [
     &["run", "run"],
     &["run", "extra"],
     &["run", ""],
@@ -81,10 +85,19 @@ const OTHER_LISTS: [&[&str]; 28] = [
     &["alone", "--K", "0"],
     &["alone", "--K=0"],
     &["make", "-N", "1"],
+    &["watch"],
+    &["watch", "0"],
+    &["watch", "0", "0", "0"],
+    &["watch", "0", "2", ""],
+    &["watch", "", "0", "2"],
+    &["watch", "--", "0", "2"],
+    &["watch", "0", "-h"],
+    &["watch", "-h", "2"],
+    &["watch", "0", "--"],
 ];
 
-/// Values that are no slot or no number of a made job.
-const OTHER_VALUES: [&[&str]; 25] = [
+/// Values that are no slot, no number of a made job, or no address.
+const OTHER_VALUES: [&[&str]; 36] = [
     &["alone", ""],
     &["alone", "4"],
     &["alone", "00"],
@@ -110,21 +123,27 @@ const OTHER_VALUES: [&[&str]; 25] = [
     &["make", "100000"],
     &["make", "18446744073709551616"],
     &["make", "\u{ff11}"],
+    &["watch", "4", "0"],
+    &["watch", "00", "0"],
+    &["watch", "", "0"],
+    &["watch", "0", ""],
+    &["watch", "0", "00"],
+    &["watch", "0", "02"],
+    &["watch", "0", "+2"],
+    &["watch", "0", "-2"],
+    &["watch", "0", "8192"],
+    &["watch", "0", "10000"],
+    &["watch", "8191", "0"],
 ];
 
-/// Names of commands that this program hasn't.
-const NO_COMMANDS: [&[&str]; 11] = [
+/// Names of commands with values that those don't take.
+const OTHER_COMMANDS: [&[&str]; 6] = [
     &["check", "0"],
     &["save", "0"],
     &["resume", "0"],
-    &["watch", "0"],
-    &["watch", "0", "0"],
-    &["watch", "0", "00"],
-    &["watch", "0", "2"],
-    &["watch", "0", "8192"],
-    &["watch", "4", "0"],
-    &["watch", "0", "0", "0"],
-    &["watch"],
+    &["alone", "0", "2"],
+    &["run", "0", "2"],
+    &["WATCH", "0", "2"],
 ];
 
 fn command(alloc: Global, list: &[&str]) -> Result<Option<Command>, AllocError> {
@@ -136,7 +155,7 @@ fn command(alloc: Global, list: &[&str]) -> Result<Option<Command>, AllocError> 
 }
 
 /// What is read, or made.
-const INPUTS: [(Command, Input); 7] = [
+const INPUTS: [(Command, Input); 8] = [
     (Command::Run, Input::Read(4_194_304)),
     (Command::Save, Input::Read(4_194_304)),
     (Command::Resume, Input::Read(268_435_456)),
@@ -144,6 +163,7 @@ const INPUTS: [(Command, Input); 7] = [
     (Command::Alone(3), Input::Read(4_194_304)),
     (Command::Asm(0), Input::Read(4_194_304)),
     (Command::Make(7), Input::Made(7)),
+    (Command::Watch(0, 2), Input::Read(4_194_304)),
 ];
 
 #[test]
@@ -155,7 +175,7 @@ fn words_are_commands(rt: HostRuntime) -> Result<(), Fail> {
         OTHER_NAMES.as_slice(),
         OTHER_LISTS.as_slice(),
         OTHER_VALUES.as_slice(),
-        NO_COMMANDS.as_slice(),
+        OTHER_COMMANDS.as_slice(),
     ];
     for words in lists.into_iter().flatten() {
         assert!(rt; command(rt.alloc(), words)?.is_none(), "{words:?}");

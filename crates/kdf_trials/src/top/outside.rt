@@ -56,19 +56,41 @@ fn reads_fail(rt: &impl Abort, alloc: Global) -> Result<(), AllocError> {
     Ok(())
 }
 
-/// There is room for fewer bytes of a report than it has, and each put of single bytes fails.
-fn puts_fail(rt: &impl Abort, alloc: Global) -> Result<(), AllocError> {
-    let report = REPORT.as_bytes();
-    for room in 0..report.len() {
-        let mut call = whole(&["run"], JOB.as_bytes());
+/// Commands that run the job, with what they write before its report.
+const REPORTING: [(&[&str], &str); 3] = [
+    (&["run"], ""),
+    (&["watch", "0", "2"], "KDF9 WATCH 0 2\nSTOP 3\n"),
+    (&["watch", "1", "0"], "KDF9 WATCH 1 0\n"),
+];
+
+/// There is room for fewer bytes of a text than it has, and each put of single bytes fails.
+fn puts_fail(
+    rt: &impl Abort,
+    alloc: Global,
+    words: &[&str],
+    due: &[u8],
+) -> Result<(), AllocError> {
+    assert!(rt; due.len() < 1000);
+    expect(rt, alloc, &whole(words, JOB.as_bytes()), Status::Done, due)?;
+    for room in 0..due.len() {
+        let mut call = whole(words, JOB.as_bytes());
         call.room = room;
         call.put_most = 7;
-        expect(rt, alloc, &call, Status::WriteFault, &report[..room])?;
+        expect(rt, alloc, &call, Status::WriteFault, &due[..room])?;
         let fails = [room as u32 + 1];
-        let mut call = whole(&["run"], JOB.as_bytes());
+        let mut call = whole(words, JOB.as_bytes());
         call.put_most = 1;
         call.put_fail = &fails;
-        expect(rt, alloc, &call, Status::WriteFault, &report[..room])?;
+        expect(rt, alloc, &call, Status::WriteFault, &due[..room])?;
+    }
+    Ok(())
+}
+
+/// Puts fail in each text with a report.
+fn reports_fail(rt: &impl Abort, alloc: Global) -> Result<(), AllocError> {
+    for (words, head) in REPORTING {
+        let due = format!(in alloc; "{head}{REPORT}")?;
+        puts_fail(rt, alloc, words, due.as_bytes())?;
     }
     Ok(())
 }
@@ -108,7 +130,7 @@ fn a_job_has_a_limit(rt: &impl Abort, alloc: Global) -> Result<(), AllocError> {
 fn source_and_sink_may_fail_at_every_call(rt: HostRuntime) -> Result<(), Fail> {
     let alloc = rt.alloc();
     reads_fail(&rt, alloc)?;
-    puts_fail(&rt, alloc)?;
+    reports_fail(&rt, alloc)?;
     nothing_is_read(&rt, alloc)?;
     a_job_has_a_limit(&rt, alloc)?;
     for (status, code) in CODES {

@@ -1,11 +1,12 @@
-use Rattle.std.proofs.Common.{◌≤◌, ℕ, List, [], length, map, subst, arith}
+use Rattle.std.proofs.Common.{◌≤◌, ℕ, List, [], Option, length, map, sym, subst, arith}
 use Rattle.kdf_job.specs.Shows.{shown_slot}
 use Rattle.kdf_job.specs.declared.job.SlotJob.{SlotJob as ReadSlot}
 use Rattle.kdf_place.specs.declared.image.Image.{Image}
 use Rattle.kdf_schedule.specs.Calls.{order_count}
 use Rattle.kdf_text.specs.Ahead.{ahead}
 use Rattle.kdf_director.specs.Loading.{slots_of}
-use Rattle.kdf_check.specs.Keeps.{place_at, IsKeptAt}
+use Rattle.kdf_check.specs.declared.table.Pending.{Pending}
+use Rattle.kdf_check.specs.Keeps.{place_at, IsKeptAt, Keeps}
 use Rattle.kdf_check.proofs.Checking.{a-report, no-report, rises, start-keeps}
 use Rattle.kdf_check.proofs.Pairs.{pair}
 use Rattle.kdf_check.proofs.checker.check_with.Goals as goal
@@ -26,7 +27,8 @@ follow-requires g c =
     λ lives within. pair within
     (pair c.requires.service
     (pair c.new-journal.ensures
-    (pair (start-keeps (λ n a. goal.F-post g c.args.service.now n a) jobs images c.requires.job.slots c.requires.images c.new-journal.result.entries programs c.new-journal.ensures kept c.in_ok-programs.ensures.four)
+    (pair (subst (λ (table : List (Option Pending)). Keeps (λ n a. goal.F-post g c.args.service.now n a) (slots_of jobs images) c.new-journal.result.entries table programs) (sym c.new-table.ensures)
+    (start-keeps (λ n a. goal.F-post g c.args.service.now n a) jobs images c.requires.job.slots c.requires.images c.new-journal.result.entries programs c.new-journal.ensures kept c.in_ok-programs.ensures.four))
     (pair few_events
     (pair few
     (pair (rises 0 es schedule.rising schedule.each) schedule.each))))))

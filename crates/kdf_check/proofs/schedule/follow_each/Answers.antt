@@ -21,7 +21,7 @@ loop-event-init g c = record {
 pub returns-then-not-is_any_on-clause-steps : goal.returns-then-not-is_any_on-clause-steps
 returns-then-not-is_any_on-clause-steps g c =
     ended_early g.slots (steps c.args.journal.now.entries) c.args.events.now c.loop-event.event-index g.slots c.loop-event.journal.entries c.loop-event.invariant.keeps.legal refl c.loop-event.invariant.taken
-    (live-so (λ n a. goal.F-post g c.args.service.now n a) g.slots c.loop-event.journal.entries c.loop-event.table c.loop-event.programs.items c.loop-event.invariant.keeps c.deref.result.now c.is_any_on.result false c.deref.ensures.value c.is_any_on.ensures c.if-not-is_any_on.true)
+    (live-so (λ n a. goal.F-post g c.args.service.now n a) g.slots c.loop-event.journal.entries c.loop-event.table.places c.loop-event.programs.items c.loop-event.invariant.keeps c.deref.result.now c.is_any_on.result false c.deref.ensures.value c.is_any_on.ensures c.if-not-is_any_on.true)
 
 pub make_calls-requires : goal.make_calls-requires
 make_calls-requires g c =
@@ -33,7 +33,7 @@ make_calls-requires g c =
     let few_moves : moves c.loop-event.journal.entries + 4096 ≤ 2048000000 = omega (arith, c.loop-event.invariant.few_moves, length-drop i es) in
     λ lives within. pair within
     (pair c.requires.1.0
-    (pair (live-so (λ n a. goal.F-post g c.args.service.now n a) g.slots c.loop-event.journal.entries c.loop-event.table c.loop-event.programs.items c.loop-event.invariant.keeps c.deref.result.now c.is_any_on.result true c.deref.ensures.value c.is_any_on.ensures c.if-not-is_any_on.false)
+    (pair (live-so (λ n a. goal.F-post g c.args.service.now n a) g.slots c.loop-event.journal.entries c.loop-event.table.places c.loop-event.programs.items c.loop-event.invariant.keeps c.deref.result.now c.is_any_on.result true c.deref.ensures.value c.is_any_on.ensures c.if-not-is_any_on.false)
     (pair c.loop-event.invariant.keeps
     (pair few
     (pair few_moves
@@ -50,7 +50,7 @@ loop-event-preserved g c =
     record {
       taken =
           one_more g.slots (steps c.args.journal.now.entries) es i g.slots c.loop-event.journal.entries c.loop-event.invariant.keeps.legal refl c.loop-event.invariant.taken c.make_calls.new.journal.entries (Orders 0) lt
-          (live-so (λ n a. goal.F-post g c.args.service.now n a) g.slots c.loop-event.journal.entries c.loop-event.table c.loop-event.programs.items c.loop-event.invariant.keeps c.deref.result.now c.is_any_on.result true c.deref.ensures.value c.is_any_on.ensures c.if-not-is_any_on.false) new.steps;
+          (live-so (λ n a. goal.F-post g c.args.service.now n a) g.slots c.loop-event.journal.entries c.loop-event.table.places c.loop-event.programs.items c.loop-event.invariant.keeps c.deref.result.now c.is_any_on.result true c.deref.ensures.value c.is_any_on.ensures c.if-not-is_any_on.false) new.steps;
       keeps = new.keeps;
       few = omega (arith, c.loop-event.invariant.few, new.calls, order_count-drop es i (Orders 0) lt);
       few_moves = omega (arith, c.loop-event.invariant.few_moves, new.moves, length-drop i es, length-drop (i + 1) es);

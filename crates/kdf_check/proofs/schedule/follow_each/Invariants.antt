@@ -14,7 +14,7 @@ ghost-make_calls g a = g.slots
 abbrev pub invariant-loop-event : goal.invariant-loop-event
 invariant-loop-event g l = record {
   taken : Reaches (lone_dispatched g.slots) (steps l.fn.journal.entries) (calls_made (take l.event-index l.events)) (steps l.journal.entries);
-  keeps : Keeps (λ n a. goal.F-post g l.service n a) g.slots l.journal.entries l.table l.programs.items;
+  keeps : Keeps (λ n a. goal.F-post g l.service n a) g.slots l.journal.entries l.table.places l.programs.items;
   few : calls l.journal.entries + order_count (drop l.event-index l.events) ≤ 20000000;
   few_moves : moves l.journal.entries + 4096 * length (drop l.event-index l.events) ≤ 2048000000;
   rises : IsRising (clock l.journal.entries) (drop l.event-index l.events);

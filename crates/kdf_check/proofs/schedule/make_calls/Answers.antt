@@ -1,4 +1,4 @@
-use Rattle.std.proofs.Common.{ℕ, ◌∷◌, [], set, None, refl, sym, ap, ◌∙◌, subst, arith}
+use Rattle.std.proofs.Common.{List, ◌∷◌, [], Option, refl, sym, ap, ◌∙◌, subst, arith}
 use Rattle.kdf_journal.specs.Counts.{calls, clock, moves}
 use Rattle.kdf_journal.specs.Steps.{Moves, Ends, Sets, Swaps}
 use Rattle.kdf_journal.proofs.Added.{calls-added, clock-added, moves-added}
@@ -6,6 +6,7 @@ use Rattle.kdf_schedule.specs.declared.event.Event.{Event}
 use Rattle.kdf_schedule.specs.Calls.{AMove, AnEnd, AClock, ASwap}
 use Rattle.kdf_schedule.specs.Events.{IsInRange}
 use Rattle.kdf_director.specs.Follows.{IsRising}
+use Rattle.kdf_check.specs.declared.table.Pending.{Pending}
 use Rattle.kdf_check.specs.Keeps.{Keeps}
 use Rattle.kdf_check.proofs.Calls.{clock-keeps, end-keeps, event-on, move-keeps, swap-keeps}
 use Rattle.kdf_check.proofs.schedule.make_calls.Goals as goal
@@ -14,7 +15,7 @@ pub returns-in_ok-enter_event-in-Move-clause-steps : goal.returns-in_ok-enter_ev
 returns-in_ok-enter_event-in-Move-clause-steps g c = rw c.in-Move.is (event-on g.slots c.args.journal.now.entries c.enter_event.new.journal.entries (AMove c.in-Move.d c.in-Move.n) (Moves c.in-Move.d c.in-Move.n) c.requires.1.1.1.0.legal c.requires.1.1.0 refl c.in_ok-enter_event-in-Move.ensures)
 
 pub returns-in_ok-enter_event-in-Move-clause-keeps : goal.returns-in_ok-enter_event-in-Move-clause-keeps
-returns-in_ok-enter_event-in-Move-clause-keeps g c = move-keeps (λ n a. goal.F-post g c.args.service.now n a) g.slots c.args.journal.now.entries c.enter_event.new.journal.entries c.args.table.now c.args.programs.now.items c.requires.1.1.1.0 c.in-Move.d c.in-Move.n c.in_ok-enter_event-in-Move.ensures
+returns-in_ok-enter_event-in-Move-clause-keeps g c = move-keeps (λ n a. goal.F-post g c.args.service.now n a) g.slots c.args.journal.now.entries c.enter_event.new.journal.entries c.args.table.now.places c.args.programs.now.items c.requires.1.1.1.0 c.in-Move.d c.in-Move.n c.in_ok-enter_event-in-Move.ensures
 
 pub returns-in_ok-enter_event-in-Move-clause-calls : goal.returns-in_ok-enter_event-in-Move-clause-calls
 returns-in_ok-enter_event-in-Move-clause-calls g c = rw c.in-Move.is (omega (arith, ap calls c.in_ok-enter_event-in-Move.ensures, calls-added c.args.journal.now.entries (Moves c.in-Move.d c.in-Move.n)))
@@ -29,7 +30,7 @@ pub returns-in_ok-enter_event-in-End-clause-steps : goal.returns-in_ok-enter_eve
 returns-in_ok-enter_event-in-End-clause-steps g c = rw c.in-End.is (event-on g.slots c.args.journal.now.entries c.enter_event-in-End.new.journal.entries (AnEnd c.in-End.d) (Ends c.in-End.d) c.requires.1.1.1.0.legal c.requires.1.1.0 refl c.in_ok-enter_event-in-End.ensures)
 
 pub returns-in_ok-enter_event-in-End-clause-keeps : goal.returns-in_ok-enter_event-in-End-clause-keeps
-returns-in_ok-enter_event-in-End-clause-keeps g c = subst (λ (i : ℕ). Keeps (λ n a. goal.F-post g c.args.service.now n a) g.slots c.enter_event-in-End.new.journal.entries (set c.args.table.now i None) c.args.programs.now.items) (sym c.from.ensures) (end-keeps (λ n a. goal.F-post g c.args.service.now n a) g.slots c.args.journal.now.entries c.enter_event-in-End.new.journal.entries c.args.table.now c.args.programs.now.items c.requires.1.1.1.0 c.in-End.d c.in_ok-enter_event-in-End.ensures)
+returns-in_ok-enter_event-in-End-clause-keeps g c = subst (λ (table : List (Option Pending)). Keeps (λ n a. goal.F-post g c.args.service.now n a) g.slots c.enter_event-in-End.new.journal.entries table c.args.programs.now.items) (sym c.end.ensures) (end-keeps (λ n a. goal.F-post g c.args.service.now n a) g.slots c.args.journal.now.entries c.enter_event-in-End.new.journal.entries c.args.table.now.places c.args.programs.now.items c.requires.1.1.1.0 c.in-End.d c.in_ok-enter_event-in-End.ensures)
 
 pub returns-in_ok-enter_event-in-End-clause-calls : goal.returns-in_ok-enter_event-in-End-clause-calls
 returns-in_ok-enter_event-in-End-clause-calls g c = rw c.in-End.is (omega (arith, ap calls c.in_ok-enter_event-in-End.ensures, calls-added c.args.journal.now.entries (Ends c.in-End.d)))
@@ -44,7 +45,7 @@ pub returns-in_ok-enter_event-in-Clock-clause-steps : goal.returns-in_ok-enter_e
 returns-in_ok-enter_event-in-Clock-clause-steps g c = rw c.in-Clock.is (event-on g.slots c.args.journal.now.entries c.enter_event-in-Clock.new.journal.entries (AClock c.in-Clock.t) (Sets c.in-Clock.t) c.requires.1.1.1.0.legal c.requires.1.1.0 refl c.in_ok-enter_event-in-Clock.ensures)
 
 pub returns-in_ok-enter_event-in-Clock-clause-keeps : goal.returns-in_ok-enter_event-in-Clock-clause-keeps
-returns-in_ok-enter_event-in-Clock-clause-keeps g c = let rises = subst (λ (e : Event). IsRising (clock c.args.journal.now.entries) (e ∷ [])) c.in-Clock.is c.requires.1.1.1.1.1.1.0 in clock-keeps (λ n a. goal.F-post g c.args.service.now n a) g.slots c.args.journal.now.entries c.enter_event-in-Clock.new.journal.entries c.args.table.now c.args.programs.now.items c.requires.1.1.1.0 c.in-Clock.t rises.0 c.in_ok-enter_event-in-Clock.ensures
+returns-in_ok-enter_event-in-Clock-clause-keeps g c = let rises = subst (λ (e : Event). IsRising (clock c.args.journal.now.entries) (e ∷ [])) c.in-Clock.is c.requires.1.1.1.1.1.1.0 in clock-keeps (λ n a. goal.F-post g c.args.service.now n a) g.slots c.args.journal.now.entries c.enter_event-in-Clock.new.journal.entries c.args.table.now.places c.args.programs.now.items c.requires.1.1.1.0 c.in-Clock.t rises.0 c.in_ok-enter_event-in-Clock.ensures
 
 pub returns-in_ok-enter_event-in-Clock-clause-calls : goal.returns-in_ok-enter_event-in-Clock-clause-calls
 returns-in_ok-enter_event-in-Clock-clause-calls g c = rw c.in-Clock.is (omega (arith, ap calls c.in_ok-enter_event-in-Clock.ensures, calls-added c.args.journal.now.entries (Sets c.in-Clock.t)))
@@ -59,7 +60,7 @@ pub returns-in_ok-enter_event-in-Swap-clause-steps : goal.returns-in_ok-enter_ev
 returns-in_ok-enter_event-in-Swap-clause-steps g c = rw c.in-Swap.is (event-on g.slots c.args.journal.now.entries c.enter_event-in-Swap.new.journal.entries (ASwap c.in-Swap.p c.in-Swap.q) (Swaps c.in-Swap.p c.in-Swap.q) c.requires.1.1.1.0.legal c.requires.1.1.0 refl c.in_ok-enter_event-in-Swap.ensures)
 
 pub returns-in_ok-enter_event-in-Swap-clause-keeps : goal.returns-in_ok-enter_event-in-Swap-clause-keeps
-returns-in_ok-enter_event-in-Swap-clause-keeps g c = let range = subst IsInRange c.in-Swap.is c.requires.1.1.1.1.1.1.1 in swap-keeps (λ n a. goal.F-post g c.args.service.now n a) g.slots c.args.journal.now.entries c.enter_event-in-Swap.new.journal.entries c.args.table.now c.args.programs.now.items c.requires.1.1.1.0 c.in-Swap.p c.in-Swap.q (omega (arith, range.0)) (omega (arith, range.1)) c.in_ok-enter_event-in-Swap.ensures
+returns-in_ok-enter_event-in-Swap-clause-keeps g c = let range = subst IsInRange c.in-Swap.is c.requires.1.1.1.1.1.1.1 in swap-keeps (λ n a. goal.F-post g c.args.service.now n a) g.slots c.args.journal.now.entries c.enter_event-in-Swap.new.journal.entries c.args.table.now.places c.args.programs.now.items c.requires.1.1.1.0 c.in-Swap.p c.in-Swap.q (omega (arith, range.0)) (omega (arith, range.1)) c.in_ok-enter_event-in-Swap.ensures
 
 pub returns-in_ok-enter_event-in-Swap-clause-calls : goal.returns-in_ok-enter_event-in-Swap-clause-calls
 returns-in_ok-enter_event-in-Swap-clause-calls g c = rw c.in-Swap.is (omega (arith, ap calls c.in_ok-enter_event-in-Swap.ensures, calls-added c.args.journal.now.entries (Swaps c.in-Swap.p c.in-Swap.q)))

@@ -14,7 +14,7 @@ ghost-order g a = g.slots
 abbrev pub invariant-loop-i : goal.invariant-loop-i
 invariant-loop-i g l = record {
   taken : Reaches (lone_dispatched g.slots) (steps l.fn.journal.entries) (replicate l._i AnOrder) (steps l.journal.entries);
-  keeps : Keeps (λ n a. goal.F-post g l.service n a) g.slots l.journal.entries l.table l.programs.items;
+  keeps : Keeps (λ n a. goal.F-post g l.service n a) g.slots l.journal.entries l.table.places l.programs.items;
   few : calls l.journal.entries ≤ calls l.fn.journal.entries + l._i;
   same_moves : moves l.journal.entries ≡ moves l.fn.journal.entries;
   time : clock l.journal.entries ≡ clock l.fn.journal.entries;

@@ -1,5 +1,6 @@
 use Rattle.std.proofs.Common.{Some, None, set, refl, sym, ap, ◌∙◌, ℕ, subst, arith, ◌<◌}
 use Rattle.std.proofs.lemmas.Result.{on_ok_weaker}
+use Rattle.kdf_check.specs.Around.{around_by}
 use Rattle.kdf_check.specs.Keeps.{Keeps}
 use Rattle.kdf_check.specs.Turned.{IsTurned}
 use Rattle.kdf_check.proofs.Keeping.{next-asked, next-followed, next-live, next-not-none, next-posed, next-ran, next-within, turned-keeps}
@@ -7,31 +8,31 @@ use Rattle.kdf_check.proofs.Pairs.{pair}
 use Rattle.kdf_check.proofs.turns.take_turn.Goals as goal
 
 pub index_mut-requires : goal.index_mut-requires
-index_mut-requires g c = let within = next-within (λ n a. goal.F-post g c.args.service.now n a) g.slots c.args.journal.now.entries c.args.table.now c.args.programs.now.items c.requires.1.1.1.0 c.args.p c.from.result None c.requires.1.1.0 c.from.ensures in omega (arith, within, c.args.programs.now.ok.0)
+index_mut-requires g c = let within = next-within (λ n a. goal.F-post g c.args.service.now n a) g.slots c.args.journal.now.entries c.args.table.now.places c.args.programs.now.items c.requires.1.1.1.0 c.args.p c.from.result None c.requires.1.1.0 c.from.ensures in omega (arith, within, c.args.programs.now.ok.0)
 
 pub turn-requires : goal.turn-requires
 turn-requires g c =
     let slots = g.slots in
     let J = c.args.journal.now.entries in
-    let table = c.args.table.now in
+    let table = c.args.table.now.places in
     let programs = c.args.programs.now.items in
     let p = c.args.p in
     let x = c.in-Some.program in
     let k = c.requires.1.1.1.0 in
-    let few = c.requires.1.1.1.1.1.1.0 in
+    let few = c.requires.1.1.1.1.1.0 in
     let f = next-followed (λ n a. goal.F-post g c.args.service.now n a) slots J table programs k p c.from.result c.index_mut.result.now c.requires.1.1.0 c.from.ensures x c.index_mut.ensures.value c.in-Some.is in
     let ran : x.registers.ran < 4294967295 = omega (arith, next-ran (λ n a. goal.F-post g c.args.service.now n a) slots J table programs k p x f c.requires.1.1.0 few) in
-    let asked : x.desk.bench.asked < 4294967295 = omega (arith, next-asked (λ n a. goal.F-post g c.args.service.now n a) slots J table programs k p x f c.requires.1.1.0 few) in
+    let asked : x.bench.asked < 4294967295 = omega (arith, next-asked (λ n a. goal.F-post g c.args.service.now n a) slots J table programs k p x f c.requires.1.1.0 few) in
     λ lives within. pair within
     (pair c.requires.1.0
     (pair (c.requires.1.1.0 ∙ ap (λ (q : ℕ). Some q) (sym f.number))
-    (pair (next-posed (λ n a. goal.F-post g c.args.service.now n a) slots J table programs k p x f c.requires.1.1.0 c.args.around c.requires.1.1.1.1.0)
+    (pair (next-posed (λ n a. goal.F-post g c.args.service.now n a) slots J table programs k p x f c.requires.1.1.0 (around_by table J 0) (record { tells = k.tells; held = λ d lt. refl; time = refl }))
     (pair (next-live (λ n a. goal.F-post g c.args.service.now n a) slots J table programs k p x f c.requires.1.1.0)
-    (pair ran (pair asked c.requires.1.1.1.1.1))))))
+    (pair ran (pair asked c.requires.1.1.1.1))))))
 
 pub unreachable-requires : goal.unreachable-requires
 unreachable-requires g c =
-    next-not-none (λ n a. goal.F-post g c.args.service.now n a) g.slots c.args.journal.now.entries c.args.table.now c.args.programs.now.items c.requires.1.1.1.0 c.args.p c.from.result c.index_mut.result.now c.requires.1.1.0 c.from.ensures c.index_mut.ensures.value c.in-None.is
+    next-not-none (λ n a. goal.F-post g c.args.service.now n a) g.slots c.args.journal.now.entries c.args.table.now.places c.args.programs.now.items c.requires.1.1.1.0 c.args.p c.from.result c.index_mut.result.now c.requires.1.1.0 c.from.ensures c.index_mut.ensures.value c.in-None.is
 
 pub returns-clause-keeps : goal.returns-clause-keeps
 returns-clause-keeps g c =
@@ -41,10 +42,10 @@ returns-clause-keeps g c =
     let p = c.args.p in
     let x = c.turn.new.program in
     let k = c.requires.1.1.1.0 in
-    let f = next-followed (λ n a. goal.F-post g c.args.service.now n a) slots J c.args.table.now programs k p c.from.result c.index_mut.result.now c.requires.1.1.0 c.from.ensures c.in-Some.program c.index_mut.ensures.value c.in-Some.is in
+    let f = next-followed (λ n a. goal.F-post g c.args.service.now n a) slots J c.args.table.now.places programs k p c.from.result c.index_mut.result.now c.requires.1.1.0 c.from.ensures c.in-Some.program c.index_mut.ensures.value c.in-Some.is in
     on_ok_weaker c.turn.result
-    (λ t. subst (λ (n : ℕ). Keeps (λ n a. goal.F-post g c.args.service.now n a) slots c.turn.new.journal.entries c.turn.new.table (set programs n (Some x))) (sym c.from.ensures)
-    (turned-keeps (λ n a. goal.F-post g c.args.service.now n a) slots J c.args.table.now programs k p x c.turn.new.table c.turn.new.journal.entries
-    (subst (λ (q : ℕ). IsTurned (λ n a. goal.F-post g c.args.service.now n a) slots J q x c.turn.new.table c.turn.new.journal.entries) f.number t) f.there
-    (next-within (λ n a. goal.F-post g c.args.service.now n a) slots J c.args.table.now programs k p p None c.requires.1.1.0 refl)))
+    (λ t. subst (λ (n : ℕ). Keeps (λ n a. goal.F-post g c.args.service.now n a) slots c.turn.new.journal.entries c.turn.new.table.places (set programs n (Some x))) (sym c.from.ensures)
+    (turned-keeps (λ n a. goal.F-post g c.args.service.now n a) slots J c.args.table.now.places programs k p x c.turn.new.table.places c.turn.new.journal.entries
+    (subst (λ (q : ℕ). IsTurned (λ n a. goal.F-post g c.args.service.now n a) slots J q x c.turn.new.table.places c.turn.new.journal.entries) f.number t) f.there
+    (next-within (λ n a. goal.F-post g c.args.service.now n a) slots J c.args.table.now.places programs k p p None c.requires.1.1.0 refl)))
     c.turn.ensures

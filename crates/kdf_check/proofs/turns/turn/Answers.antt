@@ -1,28 +1,29 @@
-use Rattle.std.proofs.Common.{refl, sym, ap}
-use Rattle.kdf_processor.specs.State.{State}
-use Rattle.kdf_director.specs.Told.{own}
-use Rattle.kdf_director.proofs.HeardWords.{heard_of}
-use Rattle.kdf_check.specs.declared.around.Around.{Around}
-use Rattle.kdf_check.specs.Tried.{IsPosed}
+use Rattle.std.proofs.Common.{refl, sym, ap, subst}
+use Rattle.kdf_check.specs.Around.{around_by}
+use Rattle.kdf_check.specs.Entered.{IsNote}
+use Rattle.kdf_check.proofs.Entries.{note_is}
+use Rattle.kdf_check.proofs.Tries.{heard_with, tried_with}
 use Rattle.kdf_check.proofs.Turning.{turned}
 use Rattle.kdf_check.proofs.turns.turn.Goals as goal
+
+pub enter-requires-clause-note : goal.enter-requires-clause-note
+enter-requires-clause-note g c =
+    let x = c.args.program.now in
+    let t = c.args.table.now.places in
+    let tried = tried_with g.slots c.args.journal.now.entries x.p t c.heard-answer.new.table.places c.try_next.new.table.places x.registers c.try_next.new.registers x.bench c.heard-answer.new.bench c.try_next.new.bench
+    c.unwrap_or-heard.result _ _ c.requires.1.1.1.0 c.heard-answer.ensures.bench (ap (λ u. u.places) c.heard-answer.ensures.table) (c.in_ok-ending.ensures.tried g.slots) in
+    subst IsNote (sym tried.entry_is) (note_is _ _ _)
 
 pub returns : goal.returns
 returns g c =
     let J = c.args.journal.now.entries in
-    let r = c.args.program.now.registers in
-    let desk = c.args.program.now.desk in
+    let x = c.args.program.now in
+    let t = c.args.table.now.places in
     let posed = c.requires.1.1.1.0 in
-    let around : Around = record c.args.around { heard = c.heard.result } in
-    let now : IsPosed g.slots J around r desk = record {
-      are = posed.are;
-      legal = posed.legal;
-      truly = posed.truly;
-      around_is = record { tells = posed.around_is.tells; held = posed.around_is.held; time = posed.around_is.time };
-      live = posed.live;
-      own_is = posed.own_is;
-    } in
-    let heard = heard_of (λ n a. goal.F-post g c.args.service.now n a) desk.bench.served r c.heard.result c.heard.ensures (own g.slots J desk.p)
-    (ap (λ (s : State). s.registers) (sym posed.own_is)) (ap (λ (s : State). s.stock.claims.served) (sym posed.own_is)) in
-    turned g.slots J desk.p around c.in_ok-ending.ending posed.are posed.legal c.requires.1.1.0 posed.around_is.tells (λ n a. goal.F-post g c.args.service.now n a) heard
-    _ _ c.enter.new.journal.entries (c.in_ok-ending.ensures.tried g.slots J now) c.hold_left-program.ensures refl c.enter.ensures
+    let h = c.unwrap_or-heard.result in
+    turned g.slots J x.p (around_by t J h) _ posed.are posed.legal c.requires.1.1.0 posed.around_is.tells (λ n a. goal.F-post g c.args.service.now n a)
+    (heard_with g.slots J x.p t x.registers x.bench posed (λ n a. goal.F-post g c.args.service.now n a) c.heard-answer.result h c.default.result c.unwrap_or-heard.ensures c.default.ensures c.heard-answer.ensures.asked)
+    _ c.try_next.new.table.places _ c.enter.new.journal.entries
+    (tried_with g.slots J x.p t c.heard-answer.new.table.places c.try_next.new.table.places x.registers c.try_next.new.registers x.bench c.heard-answer.new.bench c.try_next.new.bench
+    h _ _ posed c.heard-answer.ensures.bench (ap (λ u. u.places) c.heard-answer.ensures.table) (c.in_ok-ending.ensures.tried g.slots))
+    refl c.hold_left-program.ensures c.enter.ensures

@@ -13,7 +13,7 @@ use Rattle.kdf_snapshot.proofs.parts.take_entries.Goals as goal
 
 pub loop-number-init : goal.loop-number-init
 loop-number-init c =
-    let none = c.new-entries.ensures.items in
+    let none = c.in_ok-entries.ensures.items in
     record {
       passed = subst (λ (es : List Entry). Passed (length es) c.args.at.now c.args.at.now) (sym none) (passed-none c.args.at.now);
       told = sym (ap (λ (es : List Entry). after es (entries_from c.args.at.now.lines.number (ahead c.args.at.now.lines))) none ∙ after-none _);

@@ -6,15 +6,15 @@ use Rattle.kdf_top.proofs.resuming.follow_sealed.Goals as goal
 pub returns-in_err-compare_seal-clause-reason : goal.returns-in_err-compare_seal-clause-reason
 returns-in_err-compare_seal-clause-reason g c =
     let s = c.args.snapshot.now in
-    let saved = c.requires.saved in
+    let saved = c.requires.1.1.1 in
     let p = err_from_is_err_and c.from_residual.result c.from_residual.ensures.1 in
-    rw (p.1, p.2) (reason_for _ s.text.now c.args.machine.now.journal c.in_err-compare_seal.field-0.0
-    (journal_front s c.requires.read _ c.args.machine.now.slots c.args.machine.now.journal saved.slots saved.journal) c.in_err-compare_seal.ensures.other)
+    rw (p.1, p.2) (reason_for _ g.bytes c.args.machine.now.journal c.in_err-compare_seal.field-0.0
+    (journal_front g.bytes s c.requires.1.1.0 _ c.args.machine.now.slots c.args.machine.now.journal saved.slots saved.journal) c.in_err-compare_seal.ensures.other)
 
 pub follow_on-requires-clause-rises : goal.follow_on-requires-clause-rises
 follow_on-requires-clause-rises g c =
-    let schedule = c.requires.read.loaded.well_formed.schedule in
+    let schedule = c.requires.1.1.0.loaded.well_formed.schedule in
     rw c.deref.ensures.value (rises 0 c.args.snapshot.now.job.events.items schedule.rising schedule.each)
 
 pub returns-clause-trusted : goal.returns-clause-trusted
-returns-clause-trusted g c = trusted c.args.snapshot.now c.requires.read _ c.args.machine.now c.requires.saved c.in_ok-compare_seal.ensures.same
+returns-clause-trusted g c = trusted g.bytes c.args.snapshot.now c.requires.1.1.0 _ c.args.machine.now c.requires.1.1.1 c.in_ok-compare_seal.ensures.same

@@ -8,7 +8,7 @@ pub returns-in-Ok-clause-run : goal.returns-in-Ok-clause-run
 returns-in-Ok-clause-run g c =
     run_read _ c.args.command c.args.limit c.requires.input _ _ c.read_all.ensures.at_most c.read_all.ensures.never_falls
     c.in-Ok.text.items c.answer_text.result.status c.answer_text.result.machine _ _
-    c.in-Ok.ensures.within c.in-Ok.ensures.took c.in-Ok.ensures.ended c.in-Ok.ensures.all (rw (← c.deref.ensures.value) c.answer_text.ensures)
+    c.in-Ok.ensures.within c.in-Ok.ensures.took c.in-Ok.ensures.ended c.in-Ok.ensures.all c.answer_text.ensures
 
 pub returns-in-Err-Large-clause-run : goal.returns-in-Err-Large-clause-run
 returns-in-Err-Large-clause-run g c =

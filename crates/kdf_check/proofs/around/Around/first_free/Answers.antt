@@ -1,9 +1,0 @@
-use Rattle.std.proofs.Common.{rules}
-use Rattle.kdf_alone.specs.Bench.{claims_of}
-use Rattle.kdf_check.specs.Around.{free_in, is_free_in}
-use Rattle.kdf_check.proofs.around.Around.first_free.Goals as goal
-
-pub returns-clause-least : goal.returns-clause-least
-unfolding free_in
-returns-clause-least c =
-    c.least.ensures.least (is_free_in c.args.self.now.holders (claims_of c.args.bench.now) c.args.kind) (λ d is lt post. search rules)

@@ -1,0 +1,261 @@
+//! Runs that watches stop and that are continued: each comes to the report of the run that nobody watched, and tells how far it has come.
+ghost use Rattle.std.specs.Prelude.{◌≡◌, ◌%◌, ◌≤◌, ◌==◌, [], true, false, length, map, sum_by};
+ghost use Rattle.kdf_director.specs.Follows.{entries_in};
+ghost use Rattle.kdf_watch.specs.Cursors.{KeepsLimits};
+ghost use Rattle.kdf_place.specs.declared.image.Image.{Image as Made};
+ghost use Rattle.kdf_service.specs.Rules.{IsService};
+ghost use Rattle.kdf_director.specs.Loading.{HaveImages, slots_of};
+ghost use Rattle.kdf_job.specs.Shows.{shown_job, shown_slot};
+ghost use Rattle.kdf_job.specs.WellFormed.{IsJob};
+ghost use Rattle.kdf_watch.specs.Hits.{is_at};
+ghost use Rattle.kdf_watch.specs.Rules.{IsWatch};
+
+mod jobs;
+
+use crate::director::job_of;
+use crate::pool::images_of;
+use jobs::{COUNTS_FOR_EVER, JOBS, SUM};
+use kdf_director::{Machine, follow};
+use kdf_job::Job;
+use kdf_place::Image;
+use kdf_report::report;
+use kdf_schedule::Event;
+use kdf_service::Service;
+use kdf_watch::{Cursor, Look, Stop, Watch, go, stops_at};
+use std::alloc::{AllocError, Global};
+use std::process::Abort;
+use std::test::Fail;
+
+/// How many numbers a half of a word tells apart.
+const HALF: u64 = 1 << 24;
+
+/// No run here has so many stops.
+const MOST_STOPS: u32 = 1_000;
+
+/// After each order of the sum: its number, the place of the next one, the time, and the cursor there.
+const MOMENTS: [(u32, u16, u64, Cursor); 7] = [
+    (1, 6, 0, Cursor { event: 0, calls: 1 }),
+    (2, 9, 0, Cursor { event: 0, calls: 2 }),
+    (3, 12, 0, Cursor { event: 0, calls: 3 }),
+    (4, 13, 5, Cursor { event: 2, calls: 1 }),
+    (5, 16, 5, Cursor { event: 2, calls: 2 }),
+    (6, 17, 5, Cursor { event: 2, calls: 3 }),
+    (7, 18, 5, Cursor { event: 2, calls: 4 }),
+];
+
+/// A job, a place, and the orders of slot 0 after which its program comes there.
+const PLACES: [(&str, u16, &[u32]); 4] = [
+    (SUM, 13, &[4]),
+    (SUM, 14, &[]),
+    (COUNTS_FOR_EVER, 6, &[1, 6, 11, 16]),
+    (COUNTS_FOR_EVER, 9, &[2, 7, 12, 17]),
+];
+
+/// The report of a machine, whose journal is in it.
+fn reported(
+    alloc: Global,
+    job: &Job,
+    images: &[Image],
+    machine: &Machine,
+) -> Result<Vec<u8>, AllocError>
+    requires job { IsJob (shown_job job.now) }
+    requires images { HaveImages (map shown_slot job.now.slots.items)
+        (map (λ (x : Made). x.words.items) images.now) }
+    requires slots { machine.now.slots ≡ slots_of (map shown_slot job.now.slots.items)
+        (map (λ (x : Made). x.words.items) images.now) }
+{
+    let _images = images;
+    let _journal = machine.journal();
+    report(alloc, job, machine)
+}
+
+/// The events of a job.
+fn events_of(job: &Job) -> &[Event]
+    requires { IsJob (shown_job job.now) }
+    ensures limits { KeepsLimits result.now }
+    ensures entries { sum_by entries_in result.now ≤ length job.now.events.items }
+{
+    &job.events
+}
+
+/// A run that a watch stops again and again, and that is continued each time.
+fn follow_watched<F: Fn(u64) -> u64, G: Fn(Look) -> bool>(
+    machine: &mut Machine,
+    events: &[Event],
+    service: &Service<F>,
+    watch: &Watch<G>,
+) -> Result<(), AllocError>
+    requires service { IsService (F.pre service.now) (F.post service.now) }
+    requires watch { IsWatch (G.pre watch.now) (G.post watch.now) }
+    requires limits { KeepsLimits events.now }
+    requires fresh { machine.old.journal ≡ [] }
+    requires room { sum_by entries_in events.now ≤ machine.old.room }
+    ensures { machine.new.slots ≡ machine.old.slots }
+{
+    let mut cursor = Cursor { event: 0, calls: 0 };
+    for _i in 0..MOST_STOPS {
+        match go(machine, events, &mut cursor, service, watch)? {
+            Stop::Watched(_) => {}
+            Stop::Finished => return Ok(()),
+        }
+    }
+    Err(AllocError)
+}
+
+/// The run of a job under a watch has this report.
+fn expect_same<F: Fn(u64) -> u64, G: Fn(Look) -> bool>(
+    rt: &impl Abort,
+    alloc: Global,
+    job: &Job,
+    images: &[Image],
+    service: &Service<F>,
+    watch: &Watch<G>,
+    due: &[u8],
+) -> Result<(), AllocError>
+    requires job { IsJob (shown_job job.now) }
+    requires images { HaveImages (map shown_slot job.now.slots.items)
+        (map (λ (x : Made). x.words.items) images.now) }
+    requires service { IsService (F.pre service.now) (F.post service.now) }
+    requires watch { IsWatch (G.pre watch.now) (G.post watch.now) }
+{
+    let mut machine = Machine::load(alloc, job, images)?;
+    let text = match follow_watched(&mut machine, events_of(job), service, watch) {
+        Ok(()) => reported(alloc, job, images, &machine),
+        Err(error) => Err(error),
+    };
+    machine.close();
+    assert_eq!(rt; text?.as_slice(), due);
+    Ok(())
+}
+
+/// So it is under watches that stop it never, after each order, where the order's number divides by 3, and at a place.
+fn expect_each<F: Fn(u64) -> u64>(
+    rt: &impl Abort,
+    alloc: Global,
+    job: &Job,
+    images: &[Image],
+    service: &Service<F>,
+    due: &[u8],
+) -> Result<(), AllocError>
+    requires job { IsJob (shown_job job.now) }
+    requires images { HaveImages (map shown_slot job.now.slots.items)
+        (map (λ (x : Made). x.words.items) images.now) }
+    requires service { IsService (F.pre service.now) (F.post service.now) }
+{
+    let never = Watch::new(
+        |_look: Look| -> bool
+            ensures { result ≡ false }
+        { false },
+    );
+    expect_same(rt, alloc, job, images, service, &never, due)?;
+    let always = Watch::new(
+        |_look: Look| -> bool
+            ensures { result ≡ true }
+        { true },
+    );
+    expect_same(rt, alloc, job, images, service, &always, due)?;
+    let third = Watch::new(
+        |look: Look| -> bool
+            ensures { result ≡ (look.ran % 3 == 0) }
+        { look.ran % 3 == 0 },
+    );
+    expect_same(rt, alloc, job, images, service, &third, due)?;
+    let place = Watch::new(
+        |look: Look| -> bool
+            ensures { result ≡ is_at 0 6 look }
+        { look.p == 0 && look.at == 6 },
+    );
+    expect_same(rt, alloc, job, images, service, &place, due)
+}
+
+/// The report of a job's run, and its runs under watches.
+fn check(rt: &impl Abort, alloc: Global, text: &str) -> Result<(), AllocError> {
+    let job = job_of(rt, alloc, text)?;
+    let images = images_of(rt, alloc, &job.slots)?;
+    let service = Service::new(|word: u64| word % HALF * HALF + word / HALF);
+    let mut machine = Machine::load(alloc, &job, &images)?;
+    let due = match follow(&mut machine, events_of(&job), &service) {
+        Ok(()) => reported(alloc, &job, &images, &machine),
+        Err(error) => Err(error),
+    };
+    machine.close();
+    expect_each(rt, alloc, &job, &images, &service, &due?)
+}
+
+/// Under a watch that stops it after each order, the run of the sum stops at these moments, and then no more.
+fn expect_moments(
+    rt: &impl Abort,
+    machine: &mut Machine,
+    events: &[Event],
+) -> Result<(), AllocError>
+    requires limits { KeepsLimits events.now }
+    requires fresh { machine.old.journal ≡ [] }
+    requires room { sum_by entries_in events.now ≤ machine.old.room }
+{
+    let service = Service::new(|word: u64| word);
+    let watch = Watch::new(
+        |_look: Look| -> bool
+            ensures { result ≡ true }
+        { true },
+    );
+    let mut cursor = Cursor { event: 0, calls: 0 };
+    for (ran, at, clock, place) in MOMENTS {
+        let look = Look {
+            p: 0,
+            ran,
+            at,
+            clock,
+        };
+        let stop = go(machine, events, &mut cursor, &service, &watch)?;
+        assert!(rt; stop == Stop::Watched(look) && cursor == place);
+    }
+    let stop = go(machine, events, &mut cursor, &service, &watch)?;
+    assert!(rt; stop == Stop::Finished && cursor == Cursor { event: 2, calls: 4 });
+    Ok(())
+}
+
+/// The moments of the sum.
+fn check_moments(rt: &impl Abort, alloc: Global) -> Result<(), AllocError> {
+    let job = job_of(rt, alloc, SUM)?;
+    let images = images_of(rt, alloc, &job.slots)?;
+    let mut machine = Machine::load(alloc, &job, &images)?;
+    let expected = expect_moments(rt, &mut machine, events_of(&job));
+    machine.close();
+    expected
+}
+
+/// The program of slot 0 comes to a place after these orders.
+fn check_place(
+    rt: &impl Abort,
+    alloc: Global,
+    text: &str,
+    at: u16,
+    due: &[u32],
+) -> Result<(), AllocError> {
+    let job = job_of(rt, alloc, text)?;
+    let images = images_of(rt, alloc, &job.slots)?;
+    let service = Service::new(|word: u64| word);
+    let mut machine = Machine::load(alloc, &job, &images)?;
+    let numbers = stops_at(alloc, &mut machine, events_of(&job), &service, 0, at);
+    machine.close();
+    assert_eq!(rt; numbers?.as_slice(), due);
+    Ok(())
+}
+
+#[test]
+fn a_watched_run_comes_to_the_same(rt: HostRuntime) -> Result<(), Fail> {
+    for (name, text) in JOBS {
+        assert!(rt; check(&rt, rt.alloc(), text).is_ok(), "{name}");
+    }
+    Ok(())
+}
+
+#[test]
+fn a_stop_tells_the_moment_and_how_far_the_run_is(rt: HostRuntime) -> Result<(), Fail> {
+    let alloc = rt.alloc();
+    check_moments(&rt, alloc)?;
+    for (text, at, due) in PLACES {
+        check_place(&rt, alloc, text, at, due)?;
+    }
+    Ok(())
+}

@@ -1,0 +1,145 @@
+-- The journal follows the events just up to the cursor, one call or event further on.
+use Rattle.std.proofs.Common.{◌≡◌, ℕ, ◌+◌, ◌≤◌, ◌<◌, List, [], ◌∷◌, ◌++◌, true, false, inl, inr, refl, sym, ◌∙◌, ap, subst, arith, append_assoc, length, drop}
+use Rattle.std.specs.Prelude.{sum_by}
+use Rattle.std.proofs.lemmas.List.Sums.{sum_by-drop_more}
+use Rattle.kdf_journal.specs.declared.entry.Entry.{Entry}
+use Rattle.kdf_journal.specs.Counts.{calls, clock}
+use Rattle.kdf_journal.specs.Steps.{Step, Obeys, Holds, Waits, Moves, Ends, Sets, Swaps, added, steps}
+use Rattle.kdf_journal.proofs.Added.{calls_by, calls-added, clock_by, clock-added}
+use Rattle.kdf_journal.proofs.Steps.{steps-added}
+use Rattle.kdf_schedule.specs.declared.event.Event.{Event}
+use Rattle.kdf_schedule.specs.declared.event.Event.TheVariants.{Orders, Move, End, Clock, Swap}
+use Rattle.kdf_schedule.specs.Calls.{Call, AnOrder, AMove, AnEnd, AClock, ASwap, calls_of, calls_made, orders_in, order_count}
+use Rattle.kdf_schedule.specs.Events.{IsInRange}
+use Rattle.kdf_schedule.proofs.Schedules.{order_count-drop}
+use Rattle.kdf_transfer.specs.Slots.{Slot}
+use Rattle.kdf_course.specs.Follows.{call_of, answered, EachLive}
+use Rattle.kdf_director.specs.Advance.{Enters}
+use Rattle.kdf_director.specs.Follows.{Follows, IsRising, IsWhole, entries_in, time_behind}
+use Rattle.kdf_director.specs.Legal.{IsLegal}
+use Rattle.kdf_director.specs.Next.{any_live, lone_dispatched}
+use Rattle.kdf_director.specs.Shown.{Shown}
+use Rattle.kdf_director.proofs.Schedules.{rises-first, rises-from, rises-rest}
+use Rattle.kdf_watch.specs.declared.cursor.Cursor.{Cursor}
+use Rattle.kdf_watch.specs.Called.{Tells}
+use Rattle.kdf_watch.specs.Cursors.{event_at, calls_left}
+use Rattle.kdf_watch.specs.Onward.{IsAt, called, passed}
+use Rattle.kdf_watch.specs.Entered.{HasEntered}
+use Rattle.kdf_watch.proofs.Ahead.{left-order, left-over, left-event, left-none}
+
+-- a call more was answered
+pub follows_more : (slots : List Slot) (cs left : List Call) (c : Call) (J : List Entry) (s : Step) → Follows slots cs (c ∷ left) J → call_of s ≡ c → IsLegal slots J → any_live slots J ≡ true → Follows slots cs left (added J s)
+follows_more slots cs left c J s f is legal live = record {
+  in_order = ap (λ (P : List Step). answered P ++ left) (steps-added J s) ∙ (append_assoc (answered (steps J)) (call_of s ∷ []) left ∙ (ap (λ (d : Call). answered (steps J) ++ d ∷ left) is ∙ f.in_order));
+  lived = subst (EachLive (lone_dispatched slots)) (sym (steps-added J s)) (f.lived, subst (λ (K : List Entry). any_live slots K ≡ true) (sym legal.in_form) live);
+}
+
+one_call : (s : Step) → calls_by s ≤ 1
+one_call (Obeys p note) = omega arith
+one_call (Holds p by) = omega arith
+one_call Waits = omega arith
+one_call (Moves d n) = omega arith
+one_call (Ends d) = omega arith
+one_call (Sets t) = omega arith
+one_call (Swaps p q) = omega arith
+
+same_time : (t : ℕ) (s : Step) → call_of s ≡ AnOrder → clock_by t s ≡ t
+same_time t (Obeys p note) is = refl
+same_time t (Holds p by) is = refl
+same_time t Waits is = refl
+same_time t (Moves d n) is = refl
+same_time t (Ends d) is = refl
+same_time t (Sets u) is = cc
+same_time t (Swaps p q) is = refl
+
+module _ (es : List Event) (c : Cursor) (m : Shown) (at : IsAt es c m) (lt : c.event < length es) where
+  orders-here : order_count (drop c.event es) ≡ orders_in (event_at es c.event) + order_count (drop (c.event + 1) es)
+  orders-here = order_count-drop es c.event (Orders 0) lt
+
+  entries-here : sum_by entries_in (drop c.event es) ≡ entries_in (event_at es c.event) + sum_by entries_in (drop (c.event + 1) es)
+  entries-here = sum_by-drop_more entries_in es c.event (Orders 0) lt
+
+  rises-here : IsRising (clock m.journal) (event_at es c.event ∷ drop (c.event + 1) es)
+  rises-here = rises-from es c.event (Orders 0) (clock m.journal) lt at.rises
+
+  pub rises_first : IsRising (clock m.journal) (event_at es c.event ∷ [])
+  rises_first = rises-first (clock m.journal) (event_at es c.event) (drop (c.event + 1) es) rises-here
+
+  pub room_here : entries_in (event_at es c.event) ≤ m.room
+  room_here = omega (arith, at.room, entries-here)
+
+  rises-after : IsRising (time_behind (clock m.journal) (event_at es c.event)) (drop (c.event + 1) es)
+  rises-after = rises-rest (clock m.journal) (event_at es c.event) (drop (c.event + 1) es) rises-here
+
+  -- a call of its ORDERS
+  module _ (less : c.calls < orders_in (event_at es c.event)) where
+    pub few_calls : calls m.journal < 20000000
+    few_calls = omega (arith, at.few, orders-here, less)
+
+    pub at_called : (w : Shown) (s : Step) → Tells m w s → call_of s ≡ AnOrder → w.slots ≡ m.slots → w.room ≡ m.room → IsLegal m.slots m.journal → IsAt es (called c) w
+    at_called w s tells is same room legal = record {
+      place = at.place;
+      within = omega (arith, less);
+      follows =
+          subst (λ (K : List Entry). Follows w.slots (calls_made es) (calls_left es (called c)) K) (sym tells.journal)
+          (subst (λ (S : List Slot). Follows S (calls_made es) (calls_left es (called c)) (added m.journal s)) (sym same)
+          (follows_more m.slots (calls_made es) (calls_left es (called c)) AnOrder m.journal s
+          (subst (λ (cs : List Call). Follows m.slots (calls_made es) cs m.journal) (left-order es c lt less) at.follows) is legal tells.live));
+      few = omega (arith, at.few, ap calls tells.journal, calls-added m.journal s, one_call s);
+      room = omega (arith, at.room, room);
+      rises = subst (λ (t : ℕ). IsRising t (drop c.event es)) (sym time) at.rises;
+      time = omega (arith, at.time, time);
+    }
+      where
+        time : clock w.journal ≡ clock m.journal
+        time = ap clock tells.journal ∙ (clock-added m.journal s ∙ same_time (clock m.journal) s is)
+
+  -- the event is passed
+  module _ (all : orders_in (event_at es c.event) ≤ c.calls) where
+    -- where it is one of orders
+    over : (n : ℕ) → event_at es c.event ≡ Orders n → IsAt es (passed c) m
+    over n is = record {
+      place = omega (arith, lt);
+      within = omega arith;
+      follows = subst (λ (cs : List Call). Follows m.slots (calls_made es) cs m.journal) (left-over es c lt n is (omega (arith, all, at.within, ap orders_in is))) at.follows;
+      few = omega (arith, at.few, orders-here, at.within, all);
+      room = omega (arith, at.room, entries-here);
+      rises = subst (λ (e : Event). IsRising (time_behind (clock m.journal) e) (drop (c.event + 1) es)) is rises-after;
+      time = at.time;
+    }
+
+    -- where it is another
+    other : (w : Shown) (call : Call) (s : Step) → Enters m w s → calls_of (event_at es c.event) ≡ call ∷ [] → orders_in (event_at es c.event) ≡ 0 → call_of s ≡ call → calls_by s ≡ 0 → entries_in (event_at es c.event) ≡ 1
+        → clock_by (clock m.journal) s ≡ time_behind (clock m.journal) (event_at es c.event) → clock_by (clock m.journal) s ≤ 140737488355327 → IsLegal m.slots m.journal → any_live m.slots m.journal ≡ true → IsAt es (passed c) w
+    other w call s enters calls_is none is no_calls entry time small legal live = subst (IsAt es (passed c)) (sym enters) (record {
+      place = omega (arith, lt);
+      within = omega arith;
+      follows =
+          follows_more m.slots (calls_made es) (calls_left es (passed c)) call m.journal s
+          (subst (λ (cs : List Call). Follows m.slots (calls_made es) cs m.journal) (left-event es c lt call calls_is (omega (arith, at.within, none))) at.follows) is legal live;
+      few = omega (arith, at.few, orders-here, at.within, none, calls-added m.journal s, no_calls);
+      room = omega (arith, at.room, entries-here, entry);
+      rises = subst (λ (t : ℕ). IsRising t (drop (c.event + 1) es)) (sym (clock-added m.journal s ∙ time)) rises-after;
+      time = omega (arith, clock-added m.journal s, small);
+    })
+
+    by_event : (w : Shown) (e : Event) → event_at es c.event ≡ e → IsInRange e → HasEntered m w e → IsLegal m.slots m.journal → any_live m.slots m.journal ≡ true → IsAt es (passed c) w
+    by_event w (Orders n) is range same legal live = subst (IsAt es (passed c)) (sym same) (over n is)
+    by_event w (Move d n) is range enters legal live =
+        other w (AMove d n) (Moves d n) enters (ap calls_of is) (ap orders_in is) refl refl (ap entries_in is) (sym (ap (time_behind (clock m.journal)) is)) at.time legal live
+    by_event w (End d) is range enters legal live =
+        other w (AnEnd d) (Ends d) enters (ap calls_of is) (ap orders_in is) refl refl (ap entries_in is) (sym (ap (time_behind (clock m.journal)) is)) at.time legal live
+    by_event w (Clock t) is range enters legal live =
+        other w (AClock t) (Sets t) enters (ap calls_of is) (ap orders_in is) refl refl (ap entries_in is) (sym (ap (time_behind (clock m.journal)) is)) range legal live
+    by_event w (Swap p q) is range enters legal live =
+        other w (ASwap p q) (Swaps p q) enters (ap calls_of is) (ap orders_in is) refl refl (ap entries_in is) (sym (ap (time_behind (clock m.journal)) is)) at.time legal live
+
+    pub at_passed : (w : Shown) → IsInRange (event_at es c.event) → HasEntered m w (event_at es c.event) → IsLegal m.slots m.journal → any_live m.slots m.journal ≡ true → IsAt es (passed c) w
+    at_passed w = by_event w (event_at es c.event) refl
+
+-- the run is at its end
+pub whole_early : (es : List Event) (c : Cursor) (m : Shown) → IsAt es c m → any_live m.slots m.journal ≡ false → IsWhole m.slots (calls_made es) m.journal
+whole_early es c m at dead = record { left = calls_left es c; follows = at.follows; at_end = inr dead }
+
+pub whole_late : (es : List Event) (c : Cursor) (m : Shown) → IsAt es c m → length es ≤ c.event → IsWhole m.slots (calls_made es) m.journal
+whole_late es c m at le = record { left = calls_left es c; follows = at.follows; at_end = inl (left-none es c le) }

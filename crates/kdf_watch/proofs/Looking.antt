@@ -1,0 +1,205 @@
+-- The look after an order, and which programs are live.
+use Rattle.std.specs.Prelude.{find, is_some}
+use Rattle.std.specs.Option.{option_map}
+use Rattle.std.proofs.Common.{◌≡◌, ◌≢◌, ℕ, ◌<◌, ◌≤◌, Bool, true, false, cond, ◌&&◌, eqb, ltb, List, [], ◌∷◌, map, fold, Option, Some, None, ◌⊎◌, inl, inr, refl, sym, ◌∙◌, ap, subst, ⊎_elim, arith}
+use Rattle.std.proofs.lemmas.Bool.{and_parts, cases_eq, eq-eqb, ltb-true, ne_eqb}
+use Rattle.kdf_journal.specs.declared.entry.Entry.{Entry}
+use Rattle.kdf_journal.specs.declared.entry.Entry.TheVariants.{Ran, Start, Answer, Take, Give, Fail, Ended, Lov, Busy, Wait, Idle, Move, End, Clock, Swap}
+use Rattle.kdf_journal.specs.Counts.{answers, calls, clock, exchanged, priorities, priorities_after, ran, slot_numbers}
+use Rattle.kdf_journal.specs.Steps.{Holds, Waits}
+use Rattle.kdf_journal.proofs.Bounds.{ran-le-calls}
+use Rattle.kdf_course.specs.World as course
+use Rattle.kdf_course.specs.World.{can_go}
+use Rattle.kdf_transfer.specs.Slots.{Slot}
+use Rattle.kdf_processor.specs.declared.registers.Registers.{Registers}
+use Rattle.kdf_processor.specs.declared.step.Need.{Need}
+use Rattle.kdf_processor.specs.Lone.{is_live}
+use Rattle.kdf_processor.specs.State.{State}
+use Rattle.kdf_director.specs.declared.machine.Progress.{Progress}
+use Rattle.kdf_director.specs.declared.machine.Progress.TheVariants as progress
+use Rattle.kdf_director.specs.Advance.{Advance, AdvanceWith, HeldUp, Obeyed, Waited}
+use Rattle.kdf_director.specs.Legal.{IsLegal, note_of}
+use Rattle.kdf_director.specs.Next.{dispatched, lives, next}
+use Rattle.kdf_director.specs.Shown.{Shown, ShowsSeen, state_at, state_in, state_of, world_of}
+use Rattle.kdf_director.specs.Slots.{slot_of, start, start_of}
+use Rattle.kdf_director.specs.Told.{own, seen_of}
+use Rattle.kdf_director.specs.True.{truth}
+use Rattle.kdf_director.specs.World.{World, hold_of}
+use Rattle.kdf_director.proofs.Calls.{calls-took, clock-took}
+use Rattle.kdf_director.proofs.LegalFacts.{legal_alive}
+use Rattle.kdf_director.proofs.Living.{found_is}
+use Rattle.kdf_director.proofs.Worlds.{next_slot}
+use Rattle.kdf_watch.specs.declared.call.Called.TheVariants.{Seen, Unseen}
+use Rattle.kdf_watch.specs.declared.look.Look.{Look}
+use Rattle.kdf_watch.specs.Called.{HasCalled}
+use Rattle.kdf_watch.specs.Looks.{look_at}
+use Rattle.kdf_watch.proofs.Placed.{lone_there}
+
+-- ---- a program that is next has one of the four numbers
+
+abbrev AreFour : List ℕ → Type 0
+AreFour [] = Unit {0}
+AreFour (p ∷ ps) = (p < 4) × AreFour ps
+
+exchanged_four : (p q x : ℕ) → p < 4 → q < 4 → x < 4 → exchanged p q x < 4
+exchanged_four p q x a b c = either (eqb x p) (eqb x q)
+  where
+    either : (s t : Bool) → cond s q (cond t p x) < 4
+    either true t = b
+    either false true = a
+    either false false = c
+
+each_exchanged : (p q : ℕ) → p < 4 → q < 4 → (ps : List ℕ) → AreFour ps → AreFour (map (exchanged p q) ps)
+each_exchanged p q a b [] four = tt
+each_exchanged p q a b (x ∷ ps) four = (exchanged_four p q x a b four.0, each_exchanged p q a b ps four.1)
+
+if_exchanged : (p q : ℕ) (ps : List ℕ) (b : Bool) → (ltb p 4 && ltb q 4) ≡ b → AreFour ps → AreFour (cond b (map (exchanged p q) ps) ps)
+if_exchanged p q ps true is four =
+    let both = and_parts (ltb p 4) (ltb q 4) is in
+    each_exchanged p q (ltb-true p 4 both.0) (ltb-true q 4 both.1) ps four
+if_exchanged p q ps false is four = four
+
+four_after : (ps : List ℕ) (e : Entry) → AreFour ps → AreFour (priorities_after ps e)
+four_after ps (Swap p q) four = if_exchanged p q ps (ltb p 4 && ltb q 4) refl four
+four_after ps (Ran p n) four = four
+four_after ps (Start p d k) four = four
+four_after ps (Answer p v) four = four
+four_after ps (Take p d) four = four
+four_after ps (Give p d) four = four
+four_after ps (Fail p kind) four = four
+four_after ps (Ended p) four = four
+four_after ps (Lov p group) four = four
+four_after ps (Busy p d) four = four
+four_after ps (Wait p kind) four = four
+four_after ps (Idle n) four = four
+four_after ps (Move d n) four = four
+four_after ps (End d) four = four
+four_after ps (Clock t) four = four
+
+four_all : (es : List Entry) (ps : List ℕ) → AreFour ps → AreFour (fold priorities_after ps es)
+four_all [] ps four = four
+four_all (e ∷ es) ps four = four_all es (priorities_after ps e) (four_after ps e four)
+
+found_step : (f : ℕ → Bool) (ps : List ℕ) (p k : ℕ) (b : Bool) → p < 4 → (find f ps ≡ Some k → k < 4) → cond b (Some p) (find f ps) ≡ Some k → k < 4
+found_step f ps p k true lt rest is = let same : p ≡ k = cc in subst (λ n. n < 4) same lt
+found_step f ps p k false lt rest is = rest is
+
+found_four : (f : ℕ → Bool) (ps : List ℕ) (k : ℕ) → AreFour ps → find f ps ≡ Some k → k < 4
+found_four f [] k four is = cc
+found_four f (p ∷ ps) k four is = found_step f ps p k (f p) four.0 (found_four f ps k four.1) is
+
+next_four : (w : World) (slots : List Slot) (J : List Entry) (p : ℕ) → next w slots J ≡ Some p → p < 4
+unfolding course.next
+next_four w slots J p n = found_four (can_go (dispatched slots w) J) (priorities J) p (four_all J slot_numbers (omega arith, (omega arith, (omega arith, (omega arith, tt))))) n
+
+-- ---- the place of its next order
+
+begun : (o : Option Slot) → (start_of o).registers.at < 49152
+begun None = omega arith
+begun (Some s) = omega arith
+
+own_there : (slots : List Slot) (J : List Entry) (p : ℕ) → (own slots J p).registers.at < 49152
+unfolding own
+own_there slots J p = lone_there (start slots p) (answers p J) (ran p J) (begun (slot_of slots p))
+
+-- ---- what a machine shows of a program
+
+state_is : (g : ℕ → State) (p : ℕ) (slots : List Slot) → state_in slots (map (λ (x : Slot). g x.p) slots) p ≡ option_map (λ (x : Slot). g p) (slot_of slots p)
+state_is g p [] = refl
+state_is g p (x ∷ slots) =
+    ⊎_elim
+    (λ (same : x.p ≡ p).
+    ap (λ b. cond b (Some (g x.p)) (state_in slots (map (λ (y : Slot). g y.p) slots) p)) (eq-eqb x.p p same)
+    ∙ (ap (λ k. Some (g k)) same ∙ sym (ap (λ b. option_map (λ (y : Slot). g p) (cond b (Some x) (slot_of slots p))) (eq-eqb x.p p same))))
+    (λ (ne : x.p ≢ p).
+    ap (λ b. cond b (Some (g x.p)) (state_in slots (map (λ (y : Slot). g y.p) slots) p)) (ne_eqb x.p p ne)
+    ∙ (state_is g p slots ∙ sym (ap (λ b. option_map (λ (y : Slot). g p) (cond b (Some x) (slot_of slots p))) (ne_eqb x.p p ne))))
+    (cases_eq x.p p)
+
+-- its registers are those of its lone run
+own_registers : (slots : List Slot) (J : List Entry) (p : ℕ) (o : Option Slot) → option_map (λ (s : State). s.registers) (option_map (λ (x : Slot). seen_of slots J p) o) ≡ option_map (λ (x : Slot). (own slots J p).registers) o
+own_registers slots J p None = refl
+own_registers slots J p (Some x) = refl
+
+pub registers_are : (m : Shown) (p : ℕ) → ShowsSeen m → option_map (λ (s : State). s.registers) (state_of m p) ≡ option_map (λ (x : Slot). (own m.slots m.journal p).registers) (slot_of m.slots p)
+registers_are m p seen =
+    ap (λ (xs : List State). option_map (λ (s : State). s.registers) (state_in m.slots xs p)) seen
+    ∙ (ap (option_map (λ (s : State). s.registers)) (state_is (seen_of m.slots m.journal) p m.slots) ∙ own_registers m.slots m.journal p (slot_of m.slots p))
+
+-- where there is a slot
+there_by : (o : Option Slot) (r : Registers) (found : Option Registers) → is_some o ≡ true → found ≡ option_map (λ (x : Slot). r) o → found ≡ Some r
+there_by None r found is same = cc
+there_by (Some x) r found is same = same
+
+pub registers_there : (m : Shown) (p : ℕ) → ShowsSeen m → is_some (slot_of m.slots p) ≡ true → option_map (λ (s : State). s.registers) (state_of m p) ≡ Some (own m.slots m.journal p).registers
+registers_there m p seen is = there_by (slot_of m.slots p) (own m.slots m.journal p).registers (option_map (λ (s : State). s.registers) (state_of m p)) is (registers_are m p seen)
+
+-- ---- whether it is live
+
+abbrev pub is_on : Option Registers → Bool
+is_on None = false
+is_on (Some r) = is_live r.state
+
+on_by : (o : Option Slot) (r : Registers) → is_on (option_map (λ (x : Slot). r) o) ≡ (is_some o && is_live r.state)
+on_by None r = refl
+on_by (Some x) r = refl
+
+pub lives_is : (m : Shown) (p : ℕ) → ShowsSeen m → IsLegal m.slots m.journal → is_on (option_map (λ (s : State). s.registers) (state_of m p)) ≡ lives m.slots m.journal p
+unfolding course.lives
+lives_is m p seen legal =
+    ap is_on (registers_are m p seen)
+    ∙ (on_by (slot_of m.slots p) (own m.slots m.journal p).registers ∙ ap (λ b. is_some (slot_of m.slots p) && b) (legal_alive m.slots m.journal legal p))
+
+-- ---- the look
+
+abbrev at_in : Option Registers → ℕ
+at_in None = 0
+at_in (Some r) = r.at
+
+-- a program of a slot isn't absent
+none_there : (r : Registers) (found : Option Registers) → found ≡ Some r → None ≡ found → ⊥
+none_there r None is absent = cc
+none_there r (Some x) is absent = cc
+
+module _ (m : Shown) (p : ℕ) (seen : ShowsSeen m) (is : is_some (slot_of m.slots p) ≡ true) where
+  pub absent : None ≡ option_map (λ (s : State). s.registers) (state_of m p) → ⊥
+  absent e = none_there (own m.slots m.journal p).registers (option_map (λ (s : State). s.registers) (state_of m p)) (registers_there m p seen is) e
+
+  pub look_is : (r : Registers) (J : List Entry) (n t : ℕ) → Some r ≡ option_map (λ (s : State). s.registers) (state_of m p) → J ≡ m.journal → n ≡ ran p J → t ≡ clock J → record { p = p; ran = n; at = r.at; clock = t } ≡ look_at m.slots m.journal p
+  look_is r J n t found same is_ran is_time =
+      λ i. record { p = p; ran = (is_ran ∙ ap (ran p) same) i; at = ap at_in (found ∙ registers_there m p seen is) i; clock = (is_time ∙ ap clock same) i }
+
+-- ---- a call
+
+module _ (answers : ℕ → ℕ → Type 0) (m w : Shown) (r : Progress) (took : AdvanceWith answers m w r) where
+  obeyed : (p : ℕ) → r ≡ progress.Ran p → Obeyed took.heard m w p
+  obeyed p is = subst (Advance took.heard m w) is took.advance
+
+  pub slot_there : (p : ℕ) → r ≡ progress.Ran p → w.slots ≡ m.slots → is_some (slot_of w.slots p) ≡ true
+  slot_there p is same = ap (λ (S : List Slot). is_some (slot_of S p)) same ∙ next_slot (world_of m) m.slots m.journal p (obeyed p is).was_next
+
+  seen_by : (heard : ℕ) (p : ℕ) → Obeyed heard m w p → w.slots ≡ m.slots → calls m.journal < 20000000 → clock m.journal ≤ 140737488355327 → HasCalled m w (Seen (look_at w.slots w.journal p))
+  seen_by heard p did same few time = (
+    note_of (state_at m p) (truth (world_of m) m.journal p heard),
+    record { live = found_is heard m w (progress.Ran p) did; journal = did.journal },
+    ap (λ (S : List Slot). look_at S w.journal p) same,
+    record {
+      p = next_four (world_of m) m.slots m.journal p did.was_next;
+      ran = omega (arith, ran-le-calls p w.journal, calls-took heard m w (progress.Ran p) did, few);
+      at = own_there w.slots w.journal p;
+      clock = omega (arith, clock-took heard m w (progress.Ran p) did, time);
+    },
+  )
+
+  pub called_seen : (p : ℕ) → r ≡ progress.Ran p → w.slots ≡ m.slots → calls m.journal < 20000000 → clock m.journal ≤ 140737488355327 → (look : Look) → look ≡ look_at w.slots w.journal p → HasCalled m w (Seen look)
+  called_seen p is same few time look look_is = subst (λ (x : Look). HasCalled m w (Seen x)) (sym look_is) (seen_by took.heard p (obeyed p is) same few time)
+
+  held_by : (heard : ℕ) (p : ℕ) (need : Need) → HeldUp m w p need → HasCalled m w Unseen
+  held_by heard p need did = (Holds p (hold_of need), record { live = found_is heard m w (progress.Held p need) did; journal = did.journal }, refl, λ slots J. refl)
+
+  idle_by : Waited m w → HasCalled m w Unseen
+  idle_by did = (Waits, record { live = did.live; journal = did.journal }, refl, λ slots J. refl)
+
+  pub called_unseen : ((p : ℕ) × (need : Need) × (r ≡ progress.Held p need)) ⊎ (r ≡ progress.Idle) → HasCalled m w Unseen
+  called_unseen (inl held) = held_by took.heard held.0 held.1 (subst (Advance took.heard m w) held.2 took.advance)
+  called_unseen (inr idle) = idle_by (subst (Advance took.heard m w) idle took.advance)

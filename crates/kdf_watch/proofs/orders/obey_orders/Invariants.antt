@@ -1,0 +1,20 @@
+use Rattle.std.proofs.Common.{◌≡◌, ◌-◌}
+use Rattle.kdf_schedule.specs.Calls.{orders_in}
+use Rattle.kdf_director.specs.Served.{IsTrueFor}
+use Rattle.kdf_watch.specs.Cursors.{event_at}
+use Rattle.kdf_watch.specs.Onward.{IsAt}
+use Rattle.kdf_watch.specs.Stopped.{HasGone}
+use Rattle.kdf_watch.proofs.orders.obey_orders.Given as goal
+
+abbrev pub invariant-loop-cursor : goal.invariant-loop-cursor
+invariant-loop-cursor g l = record {
+  at : IsAt l.events l.cursor l.machine;
+  gone : HasGone (λ look b. goal.G-post g l.watch look b) l.fn.machine l.machine;
+  truthful : IsTrueFor (λ n a. goal.F-post g l.service n a) l.fn.machine.slots l.fn.machine.journal → IsTrueFor (λ n a. goal.F-post g l.service n a) l.machine.slots l.machine.journal;
+  same_slots : l.machine.slots ≡ l.fn.machine.slots;
+  same_event : l.cursor.event ≡ l.fn.cursor.event;
+  orders : l.n ≡ orders_in (event_at l.events l.cursor.event);
+}
+
+abbrev pub decreases-loop-cursor : goal.decreases-loop-cursor
+decreases-loop-cursor g l = l.n - l.cursor.calls

@@ -1,0 +1,9 @@
+pub mod Rules
+pub mod Looks
+pub mod Cursors
+pub mod Onward
+pub mod Called
+pub mod Entered
+pub mod Stopped
+pub mod Hits
+pub mod Stops

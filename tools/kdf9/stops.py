@@ -1,0 +1,61 @@
+"""When a program comes to a place in its store: the orders after which its next order is there.
+
+The program kdf9 tells their numbers if the place begins a word. If not, the run is cut after each of the first orders, and the report of each cut
+says where the next order is.
+"""
+import os
+from concurrent.futures import ThreadPoolExecutor
+from typing import NamedTuple
+
+from kdf9.deck import WORD
+from kdf9.report import read_report
+from kdf9.timeline import calls_of_orders
+
+# How many orders are searched for a place that doesn't begin a word, and for how many of them the run is cut before it is looked at what was found.
+MOST_SEARCHED = 4000
+AT_ONCE = 50
+
+HEAD_OF_REPORT = "\nKDF9 REPORT 1\n"
+
+
+class Stop(NamedTuple):
+    """The number of an order of a program, and the call that it was obeyed with; 0 and 0 for the start."""
+
+    order: int
+    call: int
+
+
+class Search(NamedTuple):
+    """The first stops at a place, at most as many as were asked for, and whether there are orders that weren't searched."""
+
+    stops: list
+    is_cut: bool = False
+
+
+def stops_at(run, number, place, most):
+    """At most this many of the stops at a place of the program of this slot, the first of them. If it begins there, its start is one."""
+    found = watched(run, number, place // WORD, most) if place % WORD == 0 else searched(run, number, place, most)
+    return found._replace(stops=[Stop(0, 0), *found.stops][:most]) if place == 0 else found
+
+
+def watched(run, number, word, most):
+    """The first stops at the beginning of a word."""
+    text = run.watch(number, word)
+    end = text.index(HEAD_OF_REPORT)
+    orders = [int(line[len("STOP "):]) for line in text[:end].split("\n", most + 1)[1:most + 1]]
+    entries = read_report(text[end + 1:], "the report").entries
+    return Search(list(map(Stop, orders, calls_of_orders(entries, number, orders))))
+
+
+def searched(run, number, place, most):
+    """The first stops at a place that may be any, among the first orders."""
+    entries, orders, found = run.entries(), range(1, MOST_SEARCHED + 1), []
+    stops = list(map(Stop, orders, calls_of_orders(entries, number, orders)))
+    with ThreadPoolExecutor(os.cpu_count()) as pool:
+        for first in range(0, len(stops), AT_ONCE):
+            part = stops[first:first + AT_ONCE]
+            places = pool.map(lambda stop: run.place_after(number, stop.call), part)
+            found += [stop for stop, there in zip(part, places) if there == place]
+            if len(found) >= most:
+                return Search(found[:most])
+    return Search(found, any(calls_of_orders(entries, number, [MOST_SEARCHED + 1])))
