@@ -64,12 +64,7 @@ const REPORTING: [(&[&str], &str); 3] = [
 ];
 
 /// There is room for fewer bytes of a text than it has, and each put of single bytes fails.
-fn puts_fail(
-    rt: &impl Abort,
-    alloc: Global,
-    words: &[&str],
-    due: &[u8],
-) -> Result<(), AllocError> {
+fn puts_fail(rt: &impl Abort, alloc: Global, words: &[&str], due: &[u8]) -> Result<(), AllocError> {
     assert!(rt; due.len() < 1000);
     expect(rt, alloc, &whole(words, JOB.as_bytes()), Status::Done, due)?;
     for room in 0..due.len() {
