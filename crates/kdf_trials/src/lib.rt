@@ -19,6 +19,8 @@ mod io;
 #[cfg(test)]
 mod job;
 #[cfg(test)]
+mod jobs;
+#[cfg(test)]
 mod journal;
 #[cfg(test)]
 mod lockout;

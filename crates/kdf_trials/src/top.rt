@@ -13,7 +13,7 @@ use std::alloc::{AllocError, Global};
 use std::process::Abort;
 
 /// Adds 5 and 7, and shows the sum.
-const JOB: &str = "KDF9 JOB 1\n\
+pub const JOB: &str = "KDF9 JOB 1\n\
     SLOT 0\n\
     STORE 32\n\
     DECK\n\

@@ -1,5 +1,7 @@
 //! Printed reports, each with its verdict.
 
+use crate::jobs::{ASKS, IN_TURN};
+use crate::top::JOB;
 use kdf_check::Verdict;
 
 /// A report that was printed of a job, as far as a checker reads it.
@@ -13,7 +15,7 @@ pub struct Printed {
 pub const PRINTED: [Printed; 11] = [
     Printed {
         name: "the orders of a program that is over",
-        job: SUM,
+        job: JOB,
         report: "KDF9 REPORT 1\n\
             RAN 0 7\n\
             ENDED 0\n\
@@ -22,7 +24,7 @@ pub const PRINTED: [Printed; 11] = [
     },
     Printed {
         name: "a section that is no journal's",
-        job: SUM,
+        job: JOB,
         report: "KDF9 REPORT 1\n\
             RAN 0 7\n\
             ENDED 0\n\
@@ -39,7 +41,7 @@ pub const PRINTED: [Printed; 11] = [
     },
     Printed {
         name: "eight orders for seven",
-        job: SUM,
+        job: JOB,
         report: "KDF9 REPORT 1\n\
             RAN 0 8\n\
             ENDED 0\n\
@@ -48,7 +50,7 @@ pub const PRINTED: [Printed; 11] = [
     },
     Printed {
         name: "a program that is over, and no line of it",
-        job: SUM,
+        job: JOB,
         report: "KDF9 REPORT 1\n\
             RAN 0 7\n\
             SLOT 0\n",
@@ -175,22 +177,11 @@ pub const PRINTED: [Printed; 11] = [
     },
     Printed {
         name: "no report",
-        job: SUM,
+        job: JOB,
         report: "",
         verdict: Verdict::No(0),
     },
 ];
-
-const SUM: &str = "KDF9 JOB 1\n\
-    SLOT 0\n\
-    STORE 32\n\
-    DECK\n\
-    Y0; PROGRAM; SET 5; SET 7; +; =Y0; ZERO; OUT; FINISH;\n\
-    ENDDECK\n\
-    SHOW 3 3\n\
-    SCHEDULE\n\
-    ORDERS 10\n\
-    ENDJOB\n";
 
 const READS_TAPE: &str = "KDF9 JOB 1\n\
     SLOT 0\n\
@@ -204,43 +195,6 @@ const READS_TAPE: &str = "KDF9 JOB 1\n\
     SCHEDULE\n\
     ORDERS 12\n\
     END 3\n\
-    ORDERS 5\n\
-    ENDJOB\n";
-
-const ASKS: &str = "KDF9 JOB 1\n\
-    SLOT 0\n\
-    STORE 64\n\
-    DECK\n\
-    PROGRAM V0; V0=Q0/32/33; SET 2; SET 5; OUT; V0; =Q1; =C1; PRQ1; BUSYQ1; SET 9; OUT; INTQ1; BUSYQ1; SET 9; OUT; ZERO; OUT; FINISH;\n\
-    ENDDECK\n\
-    DEVICE 3 TR\n\
-    +ABCDEFGHIJKLMNOP\n\
-    SHOW 32 33\n\
-    SCHEDULE\n\
-    ORDERS 15\n\
-    CLOCK 50\n\
-    END 3\n\
-    ORDERS 10\n\
-    ENDJOB\n";
-
-const IN_TURN: &str = "KDF9 JOB 1\n\
-    SLOT 0\n\
-    STORE 64\n\
-    DECK\n\
-    PROGRAM V0; V0=Q0/32/32; SET 1; SET 5; OUT; V0; =Q1; =C1; PWQ1; ZERO; OUT; FINISH;\n\
-    ENDDECK\n\
-    SLOT 1\n\
-    STORE 64\n\
-    DECK\n\
-    PROGRAM V0; V0=Q0/32/32; SET 1; SET 5; OUT; V0; =Q1; =C1; PWQ1; ZERO; OUT; FINISH;\n\
-    ENDDECK\n\
-    POOL\n\
-    DEVICE 9 TP\n\
-    SCHEDULE\n\
-    ORDERS 20\n\
-    END 9\n\
-    ORDERS 20\n\
-    END 9\n\
     ORDERS 5\n\
     ENDJOB\n";
 

@@ -1,5 +1,7 @@
 //! The jobs whose runs are watched.
 
+use crate::jobs::{ASKS, IN_TURN};
+
 /// Each job with its name.
 pub const JOBS: [(&str, &str); 10] = [
     ("one that ends in the middle of its orders", SUM),
@@ -59,22 +61,6 @@ const READS_TAPE: &str = "KDF9 JOB 1\n\
     ORDERS 5\n\
     ENDJOB\n";
 
-const ASKS: &str = "KDF9 JOB 1\n\
-    SLOT 0\n\
-    STORE 64\n\
-    DECK\n\
-    PROGRAM V0; V0=Q0/32/33; SET 2; SET 5; OUT; V0; =Q1; =C1; PRQ1; BUSYQ1; SET 9; OUT; INTQ1; BUSYQ1; SET 9; OUT; ZERO; OUT; FINISH;\n\
-    ENDDECK\n\
-    DEVICE 3 TR\n\
-    +ABCDEFGHIJKLMNOP\n\
-    SHOW 32 33\n\
-    SCHEDULE\n\
-    ORDERS 15\n\
-    CLOCK 50\n\
-    END 3\n\
-    ORDERS 10\n\
-    ENDJOB\n";
-
 const SERVED: &str = "KDF9 JOB 1\n\
     SLOT 0\n\
     STORE 32\n\
@@ -129,27 +115,6 @@ const FAILS: &str = "KDF9 JOB 1\n\
     ENDDECK\n\
     SCHEDULE\n\
     ORDERS 20\n\
-    ENDJOB\n";
-
-const IN_TURN: &str = "KDF9 JOB 1\n\
-    SLOT 0\n\
-    STORE 64\n\
-    DECK\n\
-    PROGRAM V0; V0=Q0/32/32; SET 1; SET 5; OUT; V0; =Q1; =C1; PWQ1; ZERO; OUT; FINISH;\n\
-    ENDDECK\n\
-    SLOT 1\n\
-    STORE 64\n\
-    DECK\n\
-    PROGRAM V0; V0=Q0/32/32; SET 1; SET 5; OUT; V0; =Q1; =C1; PWQ1; ZERO; OUT; FINISH;\n\
-    ENDDECK\n\
-    POOL\n\
-    DEVICE 9 TP\n\
-    SCHEDULE\n\
-    ORDERS 20\n\
-    END 9\n\
-    ORDERS 20\n\
-    END 9\n\
-    ORDERS 5\n\
     ENDJOB\n";
 
 const GIVEN_BACK: &str = "KDF9 JOB 1\n\
