@@ -80,6 +80,7 @@ pub mod Taking
 pub mod Calling
 pub mod Calls
 pub mod Living
+pub mod InTurn
 pub mod InOrder
 pub mod Placed
 pub mod Handing

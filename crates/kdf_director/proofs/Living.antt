@@ -89,7 +89,7 @@ slot_at (suc (suc zero)) lt = refl
 slot_at (suc (suc (suc zero))) lt = refl
 slot_at (suc (suc (suc (suc p)))) lt = absurd (omega arith)
 
-next_four : (w : World) (slots : List Slot) (J : List Entry) (p : ℕ) → next w slots J ≡ Some p → p < 4
+pub next_four : (w : World) (slots : List Slot) (J : List Entry) (p : ℕ) → next w slots J ≡ Some p → p < 4
 unfolding course.next
 next_four w slots J p n = found_four (can_go (dispatched slots w) J) (priorities J) p (four_all J slot_numbers at_first) n
 

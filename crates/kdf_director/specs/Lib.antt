@@ -35,6 +35,7 @@ pub mod Viewed
 pub mod Fields
 pub mod Holders
 pub mod Progressed
+pub mod Orders
 pub mod Stints
 pub mod Keeping
 pub mod Settled

@@ -16,6 +16,7 @@ mod moment;
 mod moves;
 mod next;
 mod note;
+mod orders;
 mod place;
 mod places;
 mod program;

@@ -1,20 +1,19 @@
 //! The run of a schedule.
-ghost use Rattle.std.specs.Prelude.{◌≡◌, ◌+◌, ◌≤◌, [], ◌∷◌, OnOk, drop, length, replicate, sum_by, take, true};
+ghost use Rattle.std.specs.Prelude.{◌≡◌, ◌+◌, ◌≤◌, [], ◌∷◌, OnOk, drop, length, sum_by, take, true};
 ghost use Rattle.std.specs.List.{All};
 ghost use Rattle.kdf_journal.specs.Counts.{calls, clock};
 ghost use Rattle.kdf_journal.specs.Steps.{steps};
-ghost use Rattle.kdf_schedule.specs.Calls.{AnOrder, calls_made, calls_of, orders_in, order_count};
+ghost use Rattle.kdf_schedule.specs.Calls.{calls_made, calls_of, orders_in, order_count};
 ghost use Rattle.kdf_schedule.specs.Events.{IsInRange};
 ghost use Rattle.kdf_course.specs.Follows.{Reaches};
 ghost use Rattle.kdf_director.specs.Follows.{IsRising, entries_in, time_behind};
 ghost use Rattle.kdf_director.specs.Legal.{IsLegal};
 ghost use Rattle.kdf_director.specs.Next.{any_live, lone_dispatched};
-ghost use Rattle.kdf_director.specs.Progressed.{found_live};
 ghost use Rattle.kdf_director.specs.Served.{IsJournalFor, IsTrueFor};
 ghost use Rattle.kdf_director.specs.Shown.{ShowsSeen};
 ghost use Rattle.kdf_service.specs.Rules.{IsService};
 
-use crate::{Machine, Progress};
+use crate::Machine;
 use kdf_journal::CALL_LIMIT;
 use kdf_schedule::Event;
 use kdf_service::Service;
@@ -125,53 +124,13 @@ fn make_calls<F: Fn(u64) -> u64>(
     ensures slots { machine.new.slots ≡ machine.old.slots }
 {
     match event {
-        Event::Orders(n) => obey_orders(machine, n, service)?,
+        Event::Orders(n) => {
+            machine.orders_with(n, service)?;
+        }
         Event::Move(d, n) => machine.move_words(d, n),
         Event::End(d) => machine.end(d),
         Event::Clock(t) => machine.clock(t),
         Event::Swap(p, q) => machine.swap(p, q),
-    }
-    Ok(())
-}
-
-/// Whether a call found a program that is live.
-#[inline(always)]
-fn found_live(progress: Progress) -> bool
-    ensures { result ≡ found_live progress }
-{
-    match progress {
-        Progress::Ran(_) => true,
-        Progress::Held(_, _) => true,
-        Progress::Idle => true,
-        Progress::AllEnded => false,
-    }
-}
-
-/// So many orders, or fewer where no program is live any more. Its loop stays apart from its caller, whose values would be moved
-/// out of its way at each order.
-#[inline(never)]
-fn obey_orders<F: Fn(u64) -> u64>(
-    machine: &mut Machine,
-    n: u32,
-    service: &Service<F>,
-) -> Result<(), AllocError>
-    requires service { IsService (F.pre service.now) (F.post service.now) }
-    requires few { calls machine.old.journal + n ≤ CALL_LIMIT }
-    requires truly { IsTrueFor (F.post service.now) machine.old.slots machine.old.journal }
-    ensures steps { OnOk result (Reaches (lone_dispatched machine.old.slots)
-        (steps machine.old.journal) (replicate n AnOrder) (steps machine.new.journal)) }
-    ensures truly { OnOk result (IsTrueFor (F.post service.now) machine.new.slots machine.new.journal) }
-    ensures calls { OnOk result (calls machine.new.journal ≤ calls machine.old.journal + n) }
-    ensures room { machine.new.room ≡ machine.old.room }
-    ensures time { OnOk result (clock machine.new.journal ≡ clock machine.old.journal) }
-    ensures slots { machine.new.slots ≡ machine.old.slots }
-{
-    for _i in 0..n {
-        let _journal = machine.journal();
-        let progress = machine.order_with(service)?;
-        if !found_live(progress) {
-            return Ok(());
-        }
     }
     Ok(())
 }

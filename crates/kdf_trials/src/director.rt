@@ -110,12 +110,37 @@ fn answers_each_call(
     assert!(rt; machine.room() > 0);
     machine.end(3);
     expect(rt, machine, &AFTER)?;
+    tells_what_happened(rt, alloc, machine)
+}
+
+/// Calls in turn answer as the last of them would by itself, and end where no program is live.
+fn answers_calls_in_turn(
+    rt: &impl Abort,
+    alloc: Global,
+    machine: &mut Machine,
+) -> Result<(), AllocError> {
+    let service = Service::new(|word: u64| word);
+    assert!(rt; machine.journal().calls() == 0);
+    assert!(rt; machine.orders_with(12, &service)? == Progress::Idle);
+    assert!(rt; machine.room() > 0 && machine.journal().calls() == 12);
+    machine.end(3);
+    assert!(rt; machine.journal().calls() == 12);
+    assert!(rt; machine.orders_with(CALL_LIMIT - 12, &service)? == Progress::AllEnded);
+    tells_what_happened(rt, alloc, machine)
+}
+
+/// The journal is that of the whole run.
+fn tells_what_happened(
+    rt: &impl Abort,
+    alloc: Global,
+    machine: &Machine,
+) -> Result<(), AllocError> {
     let journal = journal_text(alloc, machine.journal())?;
     assert_eq!(rt; journal.as_slice(), JOURNAL.as_bytes());
     Ok(())
 }
 
-/// The machine of a job goes call by call.
+/// The machine of a job goes call by call, and another one many calls in turn.
 fn check(rt: &impl Abort, alloc: Global, job: &Job, images: &[Image]) -> Result<(), AllocError>
     requires job { IsJob (shown_job job.now) }
     requires images { HaveImages (map shown_slot job.now.slots.items)
@@ -123,6 +148,10 @@ fn check(rt: &impl Abort, alloc: Global, job: &Job, images: &[Image]) -> Result<
 {
     let mut machine = Machine::load(alloc, job, images)?;
     let answered = answers_each_call(rt, alloc, &mut machine);
+    machine.close();
+    answered?;
+    let mut machine = Machine::load(alloc, job, images)?;
+    let answered = answers_calls_in_turn(rt, alloc, &mut machine);
     machine.close();
     answered
 }

@@ -1,15 +1,13 @@
 -- The look after an order, and which programs are live.
-use Rattle.std.specs.Prelude.{find, is_some}
+use Rattle.std.specs.Prelude.{is_some}
 use Rattle.std.specs.Option.{option_map}
-use Rattle.std.proofs.Common.{◌≡◌, ◌≢◌, ℕ, ◌<◌, ◌≤◌, Bool, true, false, cond, ◌&&◌, eqb, ltb, List, [], ◌∷◌, map, fold, Option, Some, None, ◌⊎◌, inl, inr, refl, sym, ◌∙◌, ap, subst, ⊎_elim, arith}
-use Rattle.std.proofs.lemmas.Bool.{and_parts, cases_eq, eq-eqb, ltb-true, ne_eqb}
+use Rattle.std.proofs.Common.{◌≡◌, ◌≢◌, ℕ, zero, suc, ◌<◌, ◌≤◌, Bool, true, false, cond, ◌&&◌, List, [], ◌∷◌, map, Option, Some, None, ◌⊎◌, inl, inr, refl, sym, ◌∙◌, ap, subst, ⊎_elim, arith}
+use Rattle.std.proofs.lemmas.Bool.{cases_eq, eq-eqb, ne_eqb}
 use Rattle.kdf_journal.specs.declared.entry.Entry.{Entry}
-use Rattle.kdf_journal.specs.declared.entry.Entry.TheVariants.{Ran, Start, Answer, Take, Give, Fail, Ended, Lov, Busy, Wait, Idle, Move, End, Clock, Swap}
-use Rattle.kdf_journal.specs.Counts.{answers, calls, clock, exchanged, priorities, priorities_after, ran, slot_numbers}
+use Rattle.kdf_journal.specs.Counts.{answers, calls, clock, ran}
 use Rattle.kdf_journal.specs.Steps.{Holds, Waits}
 use Rattle.kdf_journal.proofs.Bounds.{ran-le-calls}
 use Rattle.kdf_course.specs.World as course
-use Rattle.kdf_course.specs.World.{can_go}
 use Rattle.kdf_transfer.specs.Slots.{Slot}
 use Rattle.kdf_processor.specs.declared.registers.Registers.{Registers}
 use Rattle.kdf_processor.specs.declared.step.Need.{Need}
@@ -19,78 +17,22 @@ use Rattle.kdf_director.specs.declared.machine.Progress.{Progress}
 use Rattle.kdf_director.specs.declared.machine.Progress.TheVariants as progress
 use Rattle.kdf_director.specs.Advance.{Advance, AdvanceWith, HeldUp, Obeyed, Waited}
 use Rattle.kdf_director.specs.Legal.{IsLegal, note_of}
-use Rattle.kdf_director.specs.Next.{dispatched, lives, next}
+use Rattle.kdf_director.specs.Next.{lives}
+use Rattle.kdf_director.specs.Orders.{HasMade, HasMadeAll, HasMadeFewer}
 use Rattle.kdf_director.specs.Shown.{Shown, ShowsSeen, state_at, state_in, state_of, world_of}
 use Rattle.kdf_director.specs.Slots.{slot_of, start, start_of}
 use Rattle.kdf_director.specs.Told.{own, seen_of}
 use Rattle.kdf_director.specs.True.{truth}
-use Rattle.kdf_director.specs.World.{World, hold_of}
+use Rattle.kdf_director.specs.World.{hold_of}
 use Rattle.kdf_director.proofs.Calls.{calls-took, clock-took}
 use Rattle.kdf_director.proofs.LegalFacts.{legal_alive}
-use Rattle.kdf_director.proofs.Living.{found_is}
+use Rattle.kdf_director.proofs.Living.{found_is, next_four}
 use Rattle.kdf_director.proofs.Worlds.{next_slot}
 use Rattle.kdf_watch.specs.declared.call.Called.TheVariants.{Seen, Unseen}
 use Rattle.kdf_watch.specs.declared.look.Look.{Look}
 use Rattle.kdf_watch.specs.Called.{HasCalled}
 use Rattle.kdf_watch.specs.Looks.{look_at}
 use Rattle.kdf_watch.proofs.Placed.{lone_there}
-
--- ---- a program that is next has one of the four numbers
-
-abbrev AreFour : List ℕ → Type 0
-AreFour [] = Unit {0}
-AreFour (p ∷ ps) = (p < 4) × AreFour ps
-
-exchanged_four : (p q x : ℕ) → p < 4 → q < 4 → x < 4 → exchanged p q x < 4
-exchanged_four p q x a b c = either (eqb x p) (eqb x q)
-  where
-    either : (s t : Bool) → cond s q (cond t p x) < 4
-    either true t = b
-    either false true = a
-    either false false = c
-
-each_exchanged : (p q : ℕ) → p < 4 → q < 4 → (ps : List ℕ) → AreFour ps → AreFour (map (exchanged p q) ps)
-each_exchanged p q a b [] four = tt
-each_exchanged p q a b (x ∷ ps) four = (exchanged_four p q x a b four.0, each_exchanged p q a b ps four.1)
-
-if_exchanged : (p q : ℕ) (ps : List ℕ) (b : Bool) → (ltb p 4 && ltb q 4) ≡ b → AreFour ps → AreFour (cond b (map (exchanged p q) ps) ps)
-if_exchanged p q ps true is four =
-    let both = and_parts (ltb p 4) (ltb q 4) is in
-    each_exchanged p q (ltb-true p 4 both.0) (ltb-true q 4 both.1) ps four
-if_exchanged p q ps false is four = four
-
-four_after : (ps : List ℕ) (e : Entry) → AreFour ps → AreFour (priorities_after ps e)
-four_after ps (Swap p q) four = if_exchanged p q ps (ltb p 4 && ltb q 4) refl four
-four_after ps (Ran p n) four = four
-four_after ps (Start p d k) four = four
-four_after ps (Answer p v) four = four
-four_after ps (Take p d) four = four
-four_after ps (Give p d) four = four
-four_after ps (Fail p kind) four = four
-four_after ps (Ended p) four = four
-four_after ps (Lov p group) four = four
-four_after ps (Busy p d) four = four
-four_after ps (Wait p kind) four = four
-four_after ps (Idle n) four = four
-four_after ps (Move d n) four = four
-four_after ps (End d) four = four
-four_after ps (Clock t) four = four
-
-four_all : (es : List Entry) (ps : List ℕ) → AreFour ps → AreFour (fold priorities_after ps es)
-four_all [] ps four = four
-four_all (e ∷ es) ps four = four_all es (priorities_after ps e) (four_after ps e four)
-
-found_step : (f : ℕ → Bool) (ps : List ℕ) (p k : ℕ) (b : Bool) → p < 4 → (find f ps ≡ Some k → k < 4) → cond b (Some p) (find f ps) ≡ Some k → k < 4
-found_step f ps p k true lt rest is = let same : p ≡ k = cc in subst (λ n. n < 4) same lt
-found_step f ps p k false lt rest is = rest is
-
-found_four : (f : ℕ → Bool) (ps : List ℕ) (k : ℕ) → AreFour ps → find f ps ≡ Some k → k < 4
-found_four f [] k four is = cc
-found_four f (p ∷ ps) k four is = found_step f ps p k (f p) four.0 (found_four f ps k four.1) is
-
-next_four : (w : World) (slots : List Slot) (J : List Entry) (p : ℕ) → next w slots J ≡ Some p → p < 4
-unfolding course.next
-next_four w slots J p n = found_four (can_go (dispatched slots w) J) (priorities J) p (four_all J slot_numbers (omega arith, (omega arith, (omega arith, (omega arith, tt))))) n
 
 -- ---- the place of its next order
 
@@ -170,6 +112,19 @@ module _ (m : Shown) (p : ℕ) (seen : ShowsSeen m) (is : is_some (slot_of m.slo
       λ i. record { p = p; ran = (is_ran ∙ ap (ran p) same) i; at = ap at_in (found ∙ registers_there m p seen is) i; clock = (is_time ∙ ap clock same) i }
 
 -- ---- a call
+
+module _ (answers : ℕ → ℕ → Type 0) (old new : Shown) where
+  at_once : (k : ℕ) → k < 1 → (between : Shown) → HasMade answers k old between → between ≡ old
+  at_once zero lt between made = made
+  at_once (suc k) lt between made = absurd (omega (arith, lt))
+
+  -- one call is all of one call
+  pub one_call : (r : Progress) → HasMadeAll answers 1 old new r → AdvanceWith answers old new r
+  one_call r all = subst (λ (m : Shown). AdvanceWith answers m new r) (at_once all.before all.within all.between all.made) all.last
+
+  -- fewer than one are none
+  pub no_call : HasMadeFewer answers 1 old new → new ≡ old
+  no_call fewer = at_once fewer.0 fewer.1 new fewer.2
 
 module _ (answers : ℕ → ℕ → Type 0) (m w : Shown) (r : Progress) (took : AdvanceWith answers m w r) where
   obeyed : (p : ℕ) → r ≡ progress.Ran p → Obeyed took.heard m w p

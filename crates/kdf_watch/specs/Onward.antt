@@ -1,5 +1,5 @@
 -- What the events that are left after a cursor keep.
-use Rattle.std.specs.Prelude.{ℕ, ◌+◌, ◌≤◌, List, length, drop, sum_by}
+use Rattle.std.specs.Prelude.{◌+◌, ◌≤◌, List, length, drop, sum_by}
 use Rattle.kdf_journal.specs.Counts.{calls, clock}
 use Rattle.kdf_schedule.specs.declared.event.Event.{Event}
 use Rattle.kdf_schedule.specs.Calls.{calls_made, orders_in, order_count}

@@ -43,7 +43,7 @@ pub fn call<F: Fn(u64) -> u64>(
     ensures err { OnErr result (machine.new ≡ machine.old) }
 {
     let _journal = machine.journal();
-    match machine.order_with(service)? {
+    match machine.orders_with(1, service)? {
         Progress::Ran(p) => Ok(Called::Seen(look_at(machine, p))),
         Progress::Held(_, _) | Progress::Idle => Ok(Called::Unseen),
         Progress::AllEnded => Ok(Called::Over),

@@ -1,0 +1,67 @@
+//! Calls of a machine in turn.
+ghost use Rattle.std.specs.Prelude.{◌≡◌, ◌+◌, ◌<◌, ◌≤◌, IfOk, OnErr, OnOk, replicate};
+ghost use Rattle.kdf_journal.specs.Counts.{calls, clock};
+ghost use Rattle.kdf_journal.specs.Steps.{steps};
+ghost use Rattle.kdf_schedule.specs.Calls.{AnOrder};
+ghost use Rattle.kdf_course.specs.Follows.{Reaches};
+ghost use Rattle.kdf_director.specs.Next.{lone_dispatched};
+ghost use Rattle.kdf_director.specs.Orders.{HasMadeAll, HasMadeFewer};
+ghost use Rattle.kdf_director.specs.Progressed.{found_live};
+ghost use Rattle.kdf_director.specs.Served.{IsTrueFor};
+ghost use Rattle.kdf_service.specs.Rules.{IsService};
+
+use crate::{Machine, Progress};
+use kdf_journal::CALL_LIMIT;
+use kdf_service::Service;
+use std::alloc::AllocError;
+
+/// Whether a call found a program that is live.
+#[inline(always)]
+fn found_live(progress: Progress) -> bool
+    ensures { result ≡ found_live progress }
+{
+    match progress {
+        Progress::Ran(_) => true,
+        Progress::Held(_, _) => true,
+        Progress::Idle => true,
+        Progress::AllEnded => false,
+    }
+}
+
+impl Machine {
+    /// So many calls in turn, one at least, each as `order_with` makes it, or fewer, where the last found no live program. Answers what the last
+    /// did. At Err some are made, and the one that had no memory has changed nothing.
+    ///
+    /// Everything that runs a schedule makes its calls here, even one by itself: what obeys an order is compiled into this loop, which it would
+    /// not be if it stood in two. The loop stays apart from its caller, whose values would be moved out of its way at each order.
+    #[inline(never)]
+    pub fn orders_with<F: Fn(u64) -> u64>(
+        &mut self,
+        n: u32,
+        service: &Service<F>,
+    ) -> Result<Progress, AllocError>
+        requires service { IsService (F.pre service.now) (F.post service.now) }
+        requires some { 0 < n }
+        requires few { calls self.old.journal + n ≤ CALL_LIMIT }
+        ensures made { IfOk result (HasMadeAll (F.post service.now) n self.old self.new) }
+        ensures steps { OnOk result (Reaches (lone_dispatched self.old.slots)
+            (steps self.old.journal) (replicate n AnOrder) (steps self.new.journal)) }
+        ensures truthful { IsTrueFor (F.post service.now) self.old.slots self.old.journal
+            → IsTrueFor (F.post service.now) self.new.slots self.new.journal }
+        ensures calls { calls self.new.journal ≤ calls self.old.journal + n }
+        ensures time { clock self.new.journal ≡ clock self.old.journal }
+        ensures slots { self.new.slots ≡ self.old.slots }
+        ensures room { self.new.room ≡ self.old.room }
+        ensures err { OnErr result (HasMadeFewer (F.post service.now) n self.old self.new) }
+    {
+        let mut left = n;
+        loop {
+            let _journal = self.journal();
+            let progress = self.order_with(service)?;
+            left -= 1;
+            if left == 0 || !found_live(progress) {
+                return Ok(progress);
+            }
+        }
+    }
+}
