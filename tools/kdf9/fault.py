@@ -5,9 +5,8 @@ from typing import NamedTuple
 from kdf9 import deck as decks
 from kdf9 import job as jobs
 from kdf9 import saved
+from kdf9.job import HEADER
 from kdf9.program import ROOT, BadInput, ask
-
-HEADER = "KDF9 JOB 1"
 
 # The bytes that some editors write first, and how many blank lines before a job count as a slip.
 BYTE_ORDER_MARK = "\xef\xbb\xbf"

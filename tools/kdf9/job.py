@@ -1,6 +1,9 @@
 """The text of a job in which the program found no fault of the job: its lines, its slots with their decks, and its pool."""
 from typing import NamedTuple
 
+# The first line of a job.
+HEADER = "KDF9 JOB 1"
+
 # The line of a slot, directly after its deck, whose program the installation's service answers.
 SERVICE = "SERVICE"
 
@@ -86,7 +89,8 @@ def job_text(slots, schedule, shown=()):
     """
     slots = list(slots)
     pool = ["POOL", *slots[0].pool] if slots[0].pool else []
-    return "KDF9 JOB 1\n" + "".join(text_of_slot(slot, slot.number in shown) for slot in slots) + join_lines([*pool, "SCHEDULE", *schedule, "ENDJOB"])
+    programs = "".join(text_of_slot(slot, slot.number in shown) for slot in slots)
+    return join_lines([HEADER]) + programs + join_lines([*pool, "SCHEDULE", *schedule, "ENDJOB"])
 
 
 def text_of_slot(slot, is_shown):

@@ -18,6 +18,9 @@ LONGEST_ENTRY = 40
 
 SLOTS = ["0", "1", "2", "3"]
 
+# The first line of a report.
+HEADER = "KDF9 REPORT 1"
+
 # The first word of what the program writes instead of a report, and the status that goes with it.
 STATUSES = {"USAGE": 1, "JOB": 2, "DECK": 3, "LARGE": 4, "SNAPSHOT": 8}
 
@@ -122,7 +125,7 @@ class Report(NamedTuple):
 
 def read_report(text, name):
     """The report that this text is. If it isn't one, the message begins with `name`."""
-    return read(text, name, "KDF9 REPORT 1")
+    return read(text, name, HEADER)
 
 
 def read_alone(text, number):

@@ -3,9 +3,9 @@ from typing import NamedTuple
 
 from kdf9.job import join_lines
 from kdf9.program import ask
-from kdf9.report import length_of_journal
+from kdf9.report import HEADER, length_of_journal
 
-JOURNAL, END, REPORT, ENDJOB = "JOURNAL", "ENDSNAPSHOT", "KDF9 REPORT 1", "ENDJOB"
+JOURNAL, END, ENDJOB = "JOURNAL", "ENDSNAPSHOT", "ENDJOB"
 
 # The most bytes of a job that `run` reads.
 MOST_BYTES = 4194304
@@ -57,7 +57,7 @@ def entry_due(front, number):
     and None if the job is larger than `run` takes.
     """
     if number == 0:
-        return REPORT
+        return HEADER
     answer = ask(["run"], join_lines(front))
     own = answer.text.split("\n")
     if answer.status:

@@ -8,14 +8,12 @@ from concurrent.futures import ThreadPoolExecutor
 from typing import NamedTuple
 
 from kdf9.deck import WORD
-from kdf9.report import read_report
+from kdf9.report import HEADER, read_report
 from kdf9.timeline import calls_of_orders
 
 # How many orders are searched for a place that doesn't begin a word, and for how many of them the run is cut before it is looked at what was found.
 MOST_SEARCHED = 4000
 AT_ONCE = 50
-
-HEAD_OF_REPORT = "\nKDF9 REPORT 1\n"
 
 
 class Stop(NamedTuple):
@@ -41,7 +39,7 @@ def stops_at(run, number, place, most):
 def watched(run, number, word, most):
     """The first stops at the beginning of a word."""
     text = run.watch(number, word)
-    end = text.index(HEAD_OF_REPORT)
+    end = text.index(f"\n{HEADER}\n")
     orders = [int(line[len("STOP "):]) for line in text[:end].split("\n", most + 1)[1:most + 1]]
     entries = read_report(text[end + 1:], "the report").entries
     return Search(list(map(Stop, orders, calls_of_orders(entries, number, orders))))
