@@ -1,4 +1,5 @@
 """What comes after a job in one text: a snapshot, with further lines of its schedule, or a report that is to be checked."""
+import functools
 from typing import NamedTuple
 
 from kdf9.job import join_lines
@@ -45,10 +46,16 @@ def joined(lines):
     return Joined([lines[number - 1] for number in numbers], numbers)
 
 
+@functools.lru_cache(1)
+def snapshot_of(job):
+    """The lines of the snapshot of a job; none if the job has a fault."""
+    answer = ask(["save"], job)
+    return answer.text.split("\n")[:-1] if answer.status == 0 else []
+
+
 def due_in(lines, number):
     """The line of this number in the snapshot of the front job; nothing if it has no such line, or no snapshot."""
-    answer = ask(["save"], join_lines(lines[:length_of_front(lines)]))
-    saved = answer.text.split("\n")[:-1] if answer.status == 0 else []
+    saved = snapshot_of(join_lines(lines[:length_of_front(lines)]))
     return saved[number - 1] if number <= len(saved) else ""
 
 
