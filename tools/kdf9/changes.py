@@ -1,7 +1,6 @@
 """What an order changed, in words: what differs between two sections of one program."""
 from itertools import zip_longest
 
-from kdf9.deck import WORD
 from kdf9.words import count
 
 LARGE_NUMBER = 10**9
@@ -62,8 +61,7 @@ def changes_of_device(name, old, new):
 
 def statement_at(section, layout):
     """The statement of the next order of a section's program."""
-    word, syllable = section.at
-    row = layout.row_at(WORD * word + syllable)
+    row = layout.row_at(section.place)
     if row is None:
         return "(no statement)"
     return row.statement.written if row.statement else "(DUMMY)" if row.kind == "filling" else "(to the main part)"

@@ -3,7 +3,7 @@ import re
 from typing import NamedTuple, Optional
 
 from kdf9.changes import number_of
-from kdf9.deck import WORD, Layout, Row
+from kdf9.deck import Layout, Row
 from kdf9.job import Slot
 from kdf9.report import Section
 from kdf9.service import SERVICE
@@ -99,10 +99,10 @@ def fault_of_area(case, first, last):
 
 def reason_of_no_order(case):
     """What the program met instead of an order."""
-    word, syllable = case.section.at
+    word = case.section.at[0]
     if word >= case.slot.store:
         return f"word {word} isn't in the store; {case.words_of_store()}"
-    last = case.layout.order_before(WORD * word + syllable)
+    last = case.layout.order_before(case.section.place)
     if last is not None:
         return f"it ran past {last.written}, the last statement there; is a jump missing, or ZERO; OUT; at the end?"
     constant = case.layout.constant_at(word)

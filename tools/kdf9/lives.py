@@ -164,7 +164,7 @@ def story_of_loop(stopped, case):
     places, earlier = set(), None
     for orders in range(section.orders - 1, max(0, section.orders - LONGEST_LOOP), -1):
         earlier = stopped.after_order(section.number, orders)
-        places.add(WORD * earlier.at[0] + earlier.at[1])
+        places.add(earlier.place)
         if earlier.at == section.at:
             break
     else:

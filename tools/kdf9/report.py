@@ -1,6 +1,7 @@
 """The texts that say what programs came to: the report of a run, and the output for a program that ran alone."""
 from typing import NamedTuple
 
+from kdf9.deck import WORD
 from kdf9.job import read_lines
 from kdf9.program import BadInput
 
@@ -57,6 +58,12 @@ class Section:
     def failure(self):
         """The kind of the program's failure, or None."""
         return self.state[1] if self.state[0] == "FAILED" else None
+
+    @property
+    def place(self):
+        """The place of the program's next order, in syllables from the beginning of the store."""
+        word, syllable = self.at
+        return WORD * word + syllable
 
     def add(self, word, rest):
         """Takes one line, of this first word and with this rest."""

@@ -1,5 +1,4 @@
 """What a program asks the installation's service, by OUT 64."""
-from kdf9.deck import WORD
 from kdf9.timeline import asked_by
 
 SERVICE = 64
@@ -10,7 +9,7 @@ LAST_ASKS = 16
 
 def word_asked(section, layout):
     """The word that the next order of a section's program asks the service to answer, or None if it asks nothing of it."""
-    row = layout.row_at(WORD * section.at[0] + section.at[1])
+    row = layout.row_at(section.place)
     is_out = row is not None and row.statement is not None and row.statement.text == "OUT"
     return section.nest[1] if is_out and len(section.nest) > 1 and section.nest[0] == SERVICE else None
 
