@@ -34,12 +34,22 @@ def job_of_deck(deck, store, orders):
     return job([slot(0, store, deck)], b"ORDERS %d\n" % orders)
 
 
-def programs():
-    """The programs that the command's words name, of which the second is compared with the first; without a word, the one built here."""
+def named_programs(most, usage):
+    """The programs that the command's words name, so many at most; without a word, the one built here."""
     words = sys.argv[1:] or [BUILT]
-    if len(words) > 2 or not all(os.access(word, os.X_OK) for word in words):
-        sys.exit(f"usage: {sys.argv[0]} [PROGRAM [OTHER]]: each a program that is built, and the one of this repository if none is named")
+    if len(words) > most or not all(os.access(word, os.X_OK) for word in words):
+        sys.exit(f"usage: {sys.argv[0]} {usage}: what is named has to be built; without a name, it is the program of this repository")
     return [os.path.abspath(word) for word in words]
+
+
+def programs():
+    """The one or two programs that are named, of which the second is compared with the first."""
+    return named_programs(2, "[PROGRAM [OTHER]]")
+
+
+def the_program():
+    """The one program that is named."""
+    return named_programs(1, "[PROGRAM]")[0]
 
 
 def peak_at_end(number):
