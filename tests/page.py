@@ -323,7 +323,8 @@ def nothing_is_fetched(running, address):
 
 SUITES = (
     runs_are_looked_at, faults_are_shown, faults_stand_at_their_parts, parts_and_text_are_in_step, snapshots_are_resumed_and_reports_checked,
-    schedules_write_themselves, runs_are_stopped, faults_stand_at_their_places, *POOL, *SERVED, *WATCHED, *THEOREM, controls_have_names, orders_are_those_of_the_program, runs_are_those_of_the_program,
+    schedules_write_themselves, runs_are_stopped, faults_stand_at_their_places, *POOL, *SERVED, *WATCHED, *THEOREM, controls_have_names,
+    orders_are_those_of_the_program, runs_are_those_of_the_program,
 )
 
 

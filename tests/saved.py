@@ -36,7 +36,7 @@ REPORTS = [
     ("STORE 32", "STORE 33", "-:3:7: SizeNotGroups: STORE 33", "the store isn't a multiple of 32 (docs/JOB.md)"),
 ]
 
-# The text after a job with a transfer that nothing ends. The device that the further lines name is nobody's.
+# A job with a transfer that nothing ends.
 HELD = """KDF9 JOB 1
 SLOT 0
 STORE 64

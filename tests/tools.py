@@ -434,8 +434,7 @@ def documents_are_true():
 
 SUITES = (
     launcher_starts, faults_are_found, documents_have_no_other_faults, hints_are_given, failures_are_found, bad_input_is_refused,
-    turns_are_told, examples_are_shown, large_texts_take_seconds, documents_are_true, *PICTURES, *RUNS, *SAVED, *SLIPS,
-    *STOPS,
+    turns_are_told, examples_are_shown, large_texts_take_seconds, documents_are_true, *PICTURES, *RUNS, *SAVED, *SLIPS, *STOPS,
 )
 
 
