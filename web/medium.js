@@ -1,5 +1,7 @@
 // What is on a device, and how far it has come.
 
+import { linesOfBlocks } from "./report.js";
+
 // How many characters of a paper tape, and how many cards or blocks, are shown at most on each side of the place.
 const CHARACTERS_AROUND = 300, LINES_AROUND = 30;
 const PLACE = "▸", MORE = "…";
@@ -10,7 +12,7 @@ export function mediumOf({ kind, place, blocks }, media) {
   const at = Number(place);
   if (kind === "TR") return [tape(media.map((line) => line.slice(1)).join(""), at)];
   if (kind === "CR") return around(media.map((line) => line.slice(1)), at);
-  const lines = blocks.map(({ text, isLast }) => `${text}${isLast ? "   (last block mark)" : ""}`);
+  const lines = linesOfBlocks(blocks);
   return kind === "MT" ? around(lines, at) : lines;
 }
 

@@ -94,6 +94,9 @@ export function callsOfOrders(entries, slot, orders) {
 /** What a device of the pool is called, by its kind. */
 export const NAMES_OF_POOL = { TP: "punch", LP: "printer" };
 
+/** The blocks of a device as lines. */
+export const linesOfBlocks = (blocks) => blocks.map(({ text, isLast }) => `${text}${isLast ? "   (last block mark)" : ""}`);
+
 /** Whether a program has a device of the pool after a stint with it, in words. One that is over has none, also if it gave none back. */
 export function stateOfStint({ isClaimed }, { state }) {
   if (!isClaimed) return "given back";

@@ -3,7 +3,7 @@
 import { make, table } from "./dom.js";
 import { Layout, readListing } from "./deck.js";
 import { readJob } from "./job.js";
-import { LONGEST_READ, many, numberOf, readReport, saidOf, stateOfStint, timed } from "./report.js";
+import { LONGEST_READ, linesOfBlocks, many, numberOf, readReport, saidOf, stateOfStint, timed } from "./report.js";
 
 const OUT_OF_SERVICE = 64n;
 const FLAGS = ["V, the overflow flag", "TR, the test register"];
@@ -69,8 +69,8 @@ function sectionOf(section, layout) {
 function deviceOf(name, { kind, place, flag, blocks }, state) {
   const said = make("p", {}, `${name[0].toUpperCase()}${name.slice(1)}, ${kind}: ${state}, place ${place}, flag ${flag}`);
   if (!blocks.length) return said;
-  const lines = blocks.map(({ text, isLast }) => `${text}${isLast ? "   (last block mark)" : ""}`).join("\n");
-  return make("div", {}, said, make("pre", { class: "blocks", tabindex: "0", "aria-label": `The blocks of ${name}` }, lines));
+  const attributes = { class: "blocks", tabindex: "0", "aria-label": `The blocks of ${name}` };
+  return make("div", {}, said, make("pre", attributes, linesOfBlocks(blocks).join("\n")));
 }
 
 function journalOf(entries) {
