@@ -7,12 +7,12 @@ import { hintOf } from "./hints.js";
 import { EMPTY_JOB, frontOf, readJob } from "./job.js";
 import { JobView } from "./jobview.js";
 import { hasJob, jobOfLink, packedJob, saveFile } from "./link.js";
-import { isReadable, layoutsOf, resultsOf, shownText } from "./results.js";
+import { layoutsOf, readResult, resultsOf, shownText } from "./results.js";
 import { Replay } from "./replay.js";
 import { NoSchedule, scheduled } from "./schedule.js";
 import { MOST_SEED, shuffled, withOtherNeighbours } from "./shuffle.js";
 import { Theorem } from "./theorem.js";
-import { NoPlace, drawStops, readWatch, watchable, wordOf } from "./watch.js";
+import { NoPlace, drawStops, readWatch, stopsOf, watchable, wordOf } from "./watch.js";
 
 const DONE = 0, SNAPSHOT_HAS_FAULT = 8, FAULTS = [2, 3, SNAPSHOT_HAS_FAULT];
 
@@ -147,10 +147,10 @@ async function runNow(asked) {
   const answer = await ask(asked, text);
   const fault = await showFault(answer, text);
   const isDone = answer.status === DONE, layouts = isDone && asked[0] !== "make" ? await layoutsOf(ask, jobOf(asked[0], text)) : new Map();
-  const stops = readWatch(answer.text), report = stops ? stops.report : answer.text;
-  const sections = isDone ? [...(stops ? [drawStops(stops, layouts.get(stops.slot), look)] : []), ...resultsOf(report, layouts)] : [];
-  showText(answer.text, sections);
-  lastRun = isDone && RUN.includes(asked[0]) && isReadable(report) ? { text, report, layouts, stops } : null;
+  const written = isDone ? answer.text : "", watch = readWatch(written), report = watch ? watch.report : written;
+  const read = readResult(report), stops = watch && stopsOf(watch, read);
+  showText(answer.text, [...(stops ? [drawStops(stops, layouts.get(stops.slot), look)] : []), ...resultsOf(read, layouts)]);
+  lastRun = RUN.includes(asked[0]) && read ? { text, report, layouts, stops } : null;
   if (lastRun) theorem.take(lastRun);
   byId("look").disabled = byId("see").disabled = lastRun === null;
   byId("stale").hidden = text === view.text;
@@ -297,7 +297,7 @@ function chooseExample() {
 
 /** Shows the report that was recorded of an example, if the machine can't run. */
 function showRecorded({ report }) {
-  showText(report ?? "", report ? resultsOf(readWatch(report)?.report ?? report, new Map()) : []);
+  showText(report ?? "", report ? resultsOf(readResult(readWatch(report)?.report ?? report), new Map()) : []);
 }
 
 async function openFile() {

@@ -28,18 +28,21 @@ export class Replay {
     this.element.addEventListener("keydown", (event) => this.press(event));
   }
 
-  /** Shows the run of a job after a call, from its report, the layouts of its decks, and the stops of a watch, or null. */
-  open({ text, report, layouts, stops }, call) {
-    Object.assign(this, { text, layouts, stops, job: readJob(text), timeline: new Timeline(readReport(report)), wanted: null, isAsking: false, last: null });
-    this.draw();
-    this.element.hidden = false;
+  /** Shows a run after a call, by its job, its report, the layouts of its decks, and the stops of a watch, or null. What is open already isn't drawn again. */
+  open(run, call) {
+    if (run !== this.run) {
+      const { text, report, layouts, stops } = run;
+      Object.assign(this, { run, text, layouts, stops, job: readJob(text), timeline: new Timeline(readReport(report)), wanted: null, isAsking: false, last: null });
+      this.draw();
+      this.element.hidden = false;
+    }
     return this.show(call);
   }
 
   close() {
     this.element.hidden = true;
     this.element.replaceChildren();
-    this.timeline = null;
+    this.run = this.timeline = null;
   }
 
   draw() {

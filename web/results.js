@@ -11,8 +11,8 @@ const FLAGS = ["V, the overflow flag", "TR, the test register"];
 // How many characters of a text, entries of a journal and words of a program are shown at most. The saved file has all of them.
 const MOST_SHOWN = 100000, MOST_ENTRIES = 1000, MOST_WORDS = 1000;
 
-/** Whether a text is a report, or the text of a lone run, and short enough to be read. */
-export const isReadable = (text) => text.length <= LONGEST_READ && /^KDF9 (REPORT|ALONE) /.test(text);
+/** The entries and sections of a report or of the text of a lone run; null for any other text, and for one that is too long to be read. */
+export const readResult = (text) => (text.length <= LONGEST_READ && /^KDF9 (REPORT|ALONE) /.test(text) ? readReport(text) : null);
 
 /** The layouts of the decks of a job by their slots, for the names of words. The machine lists each deck; a slot without a listing has no layout. */
 export async function layoutsOf(ask, text) {
@@ -80,10 +80,10 @@ function journalOf(entries) {
     table("Entries", ["entry", "what it says", "calls before it"], rows), ...rest);
 }
 
-/** What a report or the text of a lone run says, as elements of the page; none for any other text. */
-export function resultsOf(text, layouts) {
-  if (!isReadable(text)) return [];
-  const { entries, sections } = readReport(text);
+/** What was read of a report or of the text of a lone run, as elements of the page; none if it is null. */
+export function resultsOf(read, layouts) {
+  if (read === null) return [];
+  const { entries, sections } = read;
   return [...sections.map((section) => sectionOf(section, layouts.get(section.slot))), ...(entries.length ? [journalOf(entries)] : [])];
 }
 

@@ -3,7 +3,7 @@
 import { button, make } from "./dom.js";
 import { Layout, SYLLABLES, readListing } from "./deck.js";
 import { readJob } from "./job.js";
-import { LONGEST_READ, callsOfOrders, many, readReport } from "./report.js";
+import { LONGEST_READ, callsOfOrders, many } from "./report.js";
 
 const MOST_STOPS = 300;
 const BEGINNING = "KDF9 WATCH ", REPORT = "\nKDF9 REPORT 1\n";
@@ -11,15 +11,18 @@ const BEGINNING = "KDF9 WATCH ", REPORT = "\nKDF9 REPORT 1\n";
 /** Why there is no word to be watched. */
 export class NoPlace extends Error {}
 
-/** What a text of `watch` says: the slot and the word, the numbers of the program's orders after which it came there, the call of each, the report of the run, and
- * whether the job has that slot; null for any other text, and for one that is too long to be read. */
+/** What a text of `watch` says: the slot and the word, the numbers of the program's orders after which it came there, and the text of the report; null for any other
+ * text, and for one that is too long to be read. */
 export function readWatch(text) {
-  const end = text.indexOf(REPORT);
-  if (text.length > LONGEST_READ || !text.startsWith(BEGINNING) || end < 0) return null;
-  const [head, ...lines] = text.slice(0, end).split("\n");
+  if (text.length > LONGEST_READ || !text.startsWith(BEGINNING)) return null;
+  const end = text.indexOf(REPORT), [head, ...lines] = text.slice(0, end).split("\n");
   const [slot, word] = head.slice(BEGINNING.length).split(" ").map(Number);
-  const orders = lines.map((line) => Number(line.slice("STOP ".length))), report = text.slice(end + 1), { entries, sections } = readReport(report);
-  return { slot, word, orders, calls: callsOfOrders(entries, slot, orders), report, isThere: sections.some((section) => section.slot === slot) };
+  return { slot, word, orders: lines.map((line) => Number(line.slice("STOP ".length))), report: text.slice(end + 1) };
+}
+
+/** The stops of a watch: its slot and word, the orders after which the program came there, the call of each, and whether the job has that slot. */
+export function stopsOf({ slot, word, orders }, { entries, sections }) {
+  return { slot, word, orders, calls: callsOfOrders(entries, slot, orders), isThere: sections.some((section) => section.slot === slot) };
 }
 
 /** The places of a deck that jumps can name, as they name them: `P2`, and `1P2` for reference 1 of part 2. Each has its number of syllables from the beginning of
