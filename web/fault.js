@@ -40,8 +40,8 @@ function decksOf(lines) {
   return decks;
 }
 
-/** The fault that the machine answers for a job, or for one with a snapshot after it: its name, its line and column in the job, both counted from 1, what is written there, and the sentence that
- * the documents have for it. A fault of a deck also has the slot, the offset in the deck as `place`, and the deck. */
+/** The fault that the machine answers for a job, or for one with a snapshot after it: its name, its line and column in the text, both counted from 1, what is
+ * written there, and the sentence that the documents have for it. A fault of a deck also has the slot, the offset in the deck as `place`, and the deck. */
 export function faultOf(answer, text, sentences) {
   const [kind, ...words] = answer.trim().split(" ");
   if (kind === "JOB") return faultOfJob(words[0], Number(words[1]), linesOf(text), sentences);

@@ -66,7 +66,8 @@ export class Replay {
     const { timeline, call, stops } = this;
     const to = {
       b: () => call - 1, f: () => call + 1, e: () => timeline.next(timeline.events, call), h: () => timeline.next(timeline.holds, call),
-      o: () => timeline.nextOrder(Number(this.slot.value), call), n: () => stops && timeline.next(stops.calls, call), p: () => stops && timeline.previous(stops.calls, call),
+      o: () => timeline.nextOrder(Number(this.slot.value), call),
+      n: () => stops && timeline.next(stops.calls, call), p: () => stops && timeline.previous(stops.calls, call),
     };
     return to[key]?.() ?? undefined;
   }
