@@ -79,3 +79,9 @@ def measure(programs, text, words=("run",), times=RUNS):
     """Runs each program fifteen times or so often, in turn: for each its least time, its highest peak and its runs."""
     runs = [[run(program, text, words) for program in programs] for _ in range(times)]
     return [Best(min(one.seconds for one in its), max(one.peak for one in its), its) for its in zip(*runs)]
+
+
+def ended(good):
+    """The status with which a bench ends, after it has printed whether all was within the bars."""
+    print("within the bars" if good else "NOT within the bars")
+    return 0 if good else 1
