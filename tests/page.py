@@ -15,7 +15,7 @@ from page_theorem import SUITES as THEOREM, no_run_before
 from page_watch import SUITES as WATCHED
 from page_worker import worker_alone
 from shown import CTRL, Shown, id_of
-from toolkit import HEAD, ROOT, TAIL, job_of_deck, kdf9
+from toolkit import HEAD, ROOT, TAIL, is_more, job_of_deck, kdf9
 from tools import DECK_FAULTS, HINTS, JOB_FAULTS, JOB_HINTS
 
 LOOP = "KDF9 JOB 1\nSLOT 0\nSTORE 32\nDECK\nPROGRAM;\n1; J1;\nFINISH;\nENDDECK\nSCHEDULE\nORDERS 20000000\nENDJOB\n"
@@ -129,7 +129,7 @@ def parts_and_text_are_in_step(shown):
     """A change by parts is a change of the text, and the other way round; and a text without parts is shown whole."""
     for path in sorted((ROOT / "examples").glob("*.job")):
         text = path.read_text(encoding="ascii")
-        if not text or path.with_suffix(".args").read_text(encoding="ascii") in ("resume\n", "check\n"):
+        if not text or is_more(path):
             continue
         shown.write_job(text)
         shown.view("parts")

@@ -40,11 +40,16 @@ def document(name):
     return (ROOT / "docs" / name).read_text(encoding="utf-8")
 
 
+def is_more(path):
+    """Whether the text of an example is more than a job, as what resume and check read is."""
+    return path.with_suffix(".args").read_text(encoding="ascii") in ("resume\n", "check\n")
+
+
 def examples():
-    """The examples, and the cases that have a job of their own: the name of each and its job. What resume and check read is more than a job."""
+    """The examples, and the cases that have a job of their own: the name of each and its job, if it is no more than a job."""
     for folder in ("examples", "tests/cases"):
         for path in sorted((ROOT / folder).glob("*.job")):
-            if path.with_suffix(".args").read_text(encoding="ascii") not in ("resume\n", "check\n"):
+            if not is_more(path):
                 yield path.stem, path.read_text(encoding="latin-1")
     for path in sorted((ROOT / "examples").glob("*.make")):
         yield path.stem, subprocess.run([path], capture_output=True, check=True).stdout.decode("latin-1")
