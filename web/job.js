@@ -153,6 +153,9 @@ export function placedLines(job) {
   return placed;
 }
 
+/** A slot of a job that shows its whole store. */
+export const withStore = (slot) => ({ ...slot, shows: [`0 ${slot.store - 1}`] });
+
 /** The text of a job by parts. Its last line has no end if it had none when it was read. */
 export function writeJob(job) {
   const text = textOf(placedLines(job).map((line) => line.text));

@@ -2,7 +2,7 @@
 // the run itself, and nothing is computed here.
 
 import { button, choice, labelled, make, table } from "./dom.js";
-import { readJob, writeJob } from "./job.js";
+import { readJob, withStore, writeJob } from "./job.js";
 import { mediumOf } from "./medium.js";
 import { NAMES_OF_POOL, callsOf, numberOf, readReport, saidOf, stateOfStint } from "./report.js";
 import { readSchedule, writeSchedule } from "./schedule.js";
@@ -18,8 +18,7 @@ export function cutJob(text, calls) {
   const job = readJob(text);
   const schedule = readSchedule(job.schedule);
   const events = schedule.events.filter((event) => event.calls <= calls);
-  const slots = job.slots.map((slot) => ({ ...slot, shows: [`0 ${slot.store - 1}`] }));
-  return writeJob({ ...job, slots, schedule: writeSchedule({ calls: Math.min(calls, schedule.calls), events }) });
+  return writeJob({ ...job, slots: job.slots.map(withStore), schedule: writeSchedule({ calls: Math.min(calls, schedule.calls), events }) });
 }
 
 export class Replay {

@@ -1,6 +1,6 @@
 // Whether a program comes to the same in two worlds: in two runs, or in a run and alone. Its states are the machine's own reports, with the whole store shown.
 
-import { readJob, writeJob } from "./job.js";
+import { readJob, withStore, writeJob } from "./job.js";
 import { callsOfOrders, readReport } from "./report.js";
 import { readSchedule, writeSchedule } from "./schedule.js";
 
@@ -69,8 +69,6 @@ export function linesOfSections(text) {
   }
   return sections;
 }
-
-const withStore = (slot) => ({ ...slot, shows: [`0 ${slot.store - 1}`] });
 
 /** What a program has from its job, but for the number of its slot. */
 const lifeOf = (job, { store, deck, isServed, devices }) => JSON.stringify([store, deck, isServed, devices, job.pool?.devices ?? []]);
