@@ -1,12 +1,10 @@
 -- What one call of a machine makes of its journal.
 use Rattle.std.specs.Prelude.{replicate}
-use Rattle.std.proofs.Common.{◌≡◌, ℕ, ◌+◌, ◌-◌, ◌≤◌, List, [], ◌∷◌, ◌++◌, true, false, refl, sym, ◌∙◌, ap, arith, subst}
-use Rattle.std.proofs.lemmas.Bool.{true≢false}
-use Rattle.std.proofs.lemmas.Grind.{replicate_next}
+use Rattle.std.proofs.Common.{◌≡◌, ℕ, ◌+◌, ◌-◌, ◌≤◌, List, [], ◌∷◌, ◌++◌, true, false, ◌∙◌, ap, arith, subst}
 use Rattle.std.proofs.lemmas.List.{replicate-append-replicate}
 use Rattle.kdf_journal.specs.declared.entry.Entry.{Entry}
 use Rattle.kdf_journal.specs.Counts.{calls, clock, moves}
-use Rattle.kdf_journal.specs.Steps.{Step, Obeys, Holds, Waits, added, journal_of, steps}
+use Rattle.kdf_journal.specs.Steps.{Step, Obeys, Holds, Waits, journal_of, steps}
 use Rattle.kdf_journal.proofs.Added.{calls_by, calls-added, moves-added, clock_by, clock-added}
 use Rattle.kdf_schedule.specs.Calls.{Call, AnOrder}
 use Rattle.kdf_course.specs.Follows.{call_of, Reaches}
@@ -29,21 +27,6 @@ rested slots slots0 J P i n l same taken dead le =
     let none : any_live slots0 (journal_of (steps J)) ≡ false = rw (l.in_form, ← same) dead in
     subst (λ (cs : List Call). Reaches (lone_dispatched slots0) P cs (steps J)) whole
     (reach-dead (lone_dispatched slots0) P (steps J) (replicate i AnOrder) (replicate (n - i) AnOrder) taken none)
-
--- one order more was called for
-went_on : (slots slots0 : List Slot) (J K : List Entry) (P : List Step) (i : ℕ) (s : Step) → IsLegal slots J → slots ≡ slots0 → Reaches (lone_dispatched slots0) P (replicate i AnOrder) (steps J) → any_live slots J ≡ true → call_of s ≡ AnOrder
-    → K ≡ added J s → Reaches (lone_dispatched slots0) P (replicate (i + 1) AnOrder) (steps K)
-went_on slots slots0 J K P i s l same taken live is k =
-    subst (λ (cs : List Call). Reaches (lone_dispatched slots0) P cs (steps K)) (sym (replicate_next i AnOrder))
-    (reach-added (lone_dispatched slots0) P J K (replicate i AnOrder) AnOrder s l.in_form taken (ap (λ (S : List Slot). any_live S J) (sym same) ∙ live) is k)
-
--- one call more of those that answer these orders
-pub took_on : (slots0 : List Slot) (P : List Step) (i : ℕ) (heard : ℕ) (m n : Shown) (r : Progress) → IsLegal m.slots m.journal → m.slots ≡ slots0 → Reaches (lone_dispatched slots0) P (replicate i AnOrder) (steps m.journal) → any_live m.slots m.journal ≡ true → Advance heard m n r
-    → Reaches (lone_dispatched slots0) P (replicate (i + 1) AnOrder) (steps n.journal)
-took_on slots0 P i heard m n progress.AllEnded l same taken live took = absurd (true≢false (sym live ∙ took.0))
-took_on slots0 P i heard m n (progress.Ran p) l same taken live took = went_on m.slots slots0 m.journal n.journal P i (Obeys p (note_of (state_at m p) (truth (world_of m) m.journal p heard))) l same taken live refl took.journal
-took_on slots0 P i heard m n (progress.Held p need) l same taken live took = went_on m.slots slots0 m.journal n.journal P i (Holds p (hold_of need)) l same taken live refl took.journal
-took_on slots0 P i heard m n progress.Idle l same taken live took = went_on m.slots slots0 m.journal n.journal P i Waits l same taken live refl took.journal
 
 pub calls-took : (heard : ℕ) (m n : Shown) (r : Progress) → Advance heard m n r → calls n.journal ≤ calls m.journal + 1
 calls-took heard m n progress.AllEnded took = omega (arith, ap (λ (x : Shown). calls x.journal) took.1)

@@ -77,6 +77,11 @@ pub mod Firsts
 pub mod NearHolds
 pub mod NextPrograms
 pub mod Taking
+pub mod RanOn
+pub mod StillNext
+pub mod MadeOn
+pub mod GoingOn
+pub mod WaitingOn
 pub mod Calling
 pub mod Calls
 pub mod Living

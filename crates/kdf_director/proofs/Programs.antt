@@ -1,28 +1,22 @@
 -- One program of all, and its slot.
-use Rattle.std.specs.Prelude.{find, unwrap_or}
+use Rattle.std.specs.Prelude.{find}
 use Rattle.std.specs.List.{range_with_len}
 use Rattle.std.proofs.Common.{◌≡◌, ℕ, ◌-◌, ◌<◌, eqb, true, false, List, [], length, map, get_or, set, Option, None, sym, ap, ap₂, ◌∙◌, subst, arith}
 use Rattle.std.proofs.Math.Seq.{map-set_same}
 use Rattle.std.proofs.lemmas.List.{map-set, get_or-map, length-map}
 use Rattle.kdf_relocate.specs.declared.window.Window.{Window}
-use Rattle.kdf_journal.specs.declared.entry.Entry.{Entry}
-use Rattle.kdf_journal.specs.Counts.{clock}
-use Rattle.kdf_journal.specs.Steps.{added}
-use Rattle.kdf_processor.specs.declared.step.Need.{Need}
 use Rattle.kdf_processor.specs.declared.step.Step.{Step}
 use Rattle.kdf_processor.specs.Lone.{is_live}
 use Rattle.kdf_director.specs.declared.moment.Moment.{Moment}
-use Rattle.kdf_director.specs.declared.machine.Progress.{Progress}
 use Rattle.kdf_director.specs.declared.note.Note.{Note}
 use Rattle.kdf_director.specs.declared.program.Program.{Program}
 use Rattle.kdf_director.specs.declared.slot.Loaded.{Loaded}
 use Rattle.kdf_director.specs.Going.{place_of, goes, goes_at, hold_at, AreNearHolds, IsNearHold}
 use Rattle.kdf_director.specs.Parts.{Reach, Seat, Shared, reach_of, seat_of, window_at}
 use Rattle.kdf_director.specs.Running.{no_seat, seat_at, reach_at, reaches_in, seats_in, IsRunning}
-use Rattle.kdf_director.specs.Taken.{HasTaken, hold_left, progress_of, step_told, HasAsked}
+use Rattle.kdf_director.specs.Taken.{HasAsked}
 use Rattle.kdf_director.specs.Turned.{word_over, HasRun, HasTurned}
 use Rattle.kdf_director.proofs.Turned.{turned, turned_running}
-use Rattle.kdf_director.specs.Shared.{moment}
 
 abbrev no_reach : Reach
 no_reach = record { base = 0; size = 0; devices = []; pool = []; served = false }
@@ -92,26 +86,11 @@ module _ (programs : List Program) (i : ℕ) (lt : i < length programs) (program
   pub seats_entered : seats_in (set programs i new) ≡ seats_in programs
   seats_entered = map-set_same seat_of programs i new program (same ∙ ap seat_of at)
 
-  seat_then : seat_at (seats_in (set programs i new)) i ≡ seat_of program
+  pub seat_then : seat_at (seats_in (set programs i new)) i ≡ seat_of program
   seat_then = ap (λ xs. seat_at xs i) seats_entered ∙ get_or-map seat_of programs i program no_seat lt ∙ sym (ap seat_of at)
 
   pub running_entered : (reaches : List Reach) (s : Shared) → IsRunning reaches (seats_in programs) s → IsRunning reaches (seats_in (set programs i new)) s
   running_entered reaches s run = subst (λ xs. IsRunning reaches xs s) (sym seats_entered) run
-
-  -- so its turn was taken
-  pub taken_entered : (reaches : List Reach) (before : List Seat) (s left : Shared) (holds : List (Option Need)) (J K : List Entry) (ended : Step) (noted : Note) (answer : Progress) (answers : ℕ → ℕ → Type 0) (heard : Option ℕ) → HasAsked answers (word_over (seat_at before i) (reach_at reaches i) s) heard → HasTurned reaches (moment (clock J) (unwrap_or heard 0)) i before s (seats_in programs) left ended noted → map (λ (x : Program). x.hold) programs ≡ holds → new.hold ≡ hold_left ended → K ≡ added J (step_told program.p program.registers.ran ended noted) → answer ≡ progress_of program.p ended
-      → HasTaken answers reaches i before s holds J (seats_in (set programs i new)) left (map (λ (x : Program). x.hold) (set programs i new)) K answer
-  taken_entered reaches before s left holds J K ended noted answer answers heard asked turned kept hold journal told =
-      record {
-        heard = heard;
-        asked = asked;
-        ended = ended;
-        noted = noted;
-        turned = subst (λ xs. HasTurned reaches (moment (clock J) (unwrap_or heard 0)) i before s xs left ended noted) (sym seats_entered) turned;
-        left_held = map-set (λ (x : Program). x.hold) programs i new ∙ ap₂ (λ xs h. set xs i h) kept hold;
-        entered = journal ∙ ap (λ (x : Seat). added J (step_told x.p x.registers.ran ended noted)) (sym seat_then);
-        answered = told ∙ ap (λ (x : Seat). progress_of x.p ended) (sym seat_then);
-      }
 
 -- the number of a program
 pub number_at : (programs : List Program) (i : ℕ) → i < length programs → (program : Program) → program ≡ get_or programs i program → (seat_at (seats_in programs) i).p ≡ program.p

@@ -57,7 +57,7 @@ use Rattle.kdf_director.proofs.ForService.{heard_note}
 
 -- ---- an order that was obeyed isn't held
 
-abbrev IsNotHeld : Ending → Type 0
+abbrev pub IsNotHeld : Ending → Type 0
 IsNotHeld (ending.Held need) = ⊥
 IsNotHeld ended = Unit {0}
 
@@ -66,15 +66,15 @@ done_free answer (Failing kind) s = tt
 done_free answer (Finishing after) s = tt
 done_free answer e s = tt
 
-step_free : (p k : ℕ) (ended : Ending) (beside : Noted) → IsNotHeld ended → step_told p k ended beside ≡ Obeys p (note_told k ended beside)
+pub step_free : (p k : ℕ) (ended : Ending) (beside : Noted) → IsNotHeld ended → step_told p k ended beside ≡ Obeys p (note_told k ended beside)
 step_free p k (ending.Held need) beside free = absurd free
 step_free p k ended beside free = refl
 
-progress_free : (p : ℕ) (ended : Ending) → IsNotHeld ended → progress_of p ended ≡ progress.Ran p
+pub progress_free : (p : ℕ) (ended : Ending) → IsNotHeld ended → progress_of p ended ≡ progress.Ran p
 progress_free p (ending.Held need) free = absurd free
 progress_free p ended free = refl
 
-hold_free : (ended : Ending) → IsNotHeld ended → hold_left ended ≡ None
+pub hold_free : (ended : Ending) → IsNotHeld ended → hold_left ended ≡ None
 hold_free (ending.Held need) free = absurd free
 hold_free ended free = refl
 

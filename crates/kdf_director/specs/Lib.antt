@@ -36,6 +36,7 @@ pub mod Fields
 pub mod Holders
 pub mod Progressed
 pub mod Orders
+pub mod Runs
 pub mod Stints
 pub mod Keeping
 pub mod Settled

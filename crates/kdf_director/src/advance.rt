@@ -1,47 +1,47 @@
-//! One call of a machine.
-ghost use Rattle.std.specs.Prelude.{◌≡◌, ◌+◌, ◌<◌, ◌≤◌, if◌then◌else◌, length, map, Some, IfOk, OnErr};
-ghost use Rattle.kdf_journal.specs.Counts.{calls, moves};
-ghost use Rattle.kdf_journal.specs.Steps.{added, Waits};
-ghost use Rattle.kdf_processor.specs.Lone.{is_live};
+//! Calls of a machine that are made at once: the orders of one program, or idle calls.
+ghost use Rattle.std.specs.Prelude.{◌≡◌, ◌+◌, ◌<◌, ◌≤◌, if◌then◌else◌, length, map, true, Ok, Some, IfOk, OnErr};
+ghost use Rattle.kdf_journal.specs.declared.entry.Entry.TheVariants.{Idle as Idled};
+ghost use Rattle.kdf_journal.specs.Counts.{calls, moves, priorities};
+ghost use Rattle.kdf_journal.specs.Joined.{pushed};
+ghost use Rattle.kdf_processor.specs.declared.step.Step.TheVariants.{Done};
 ghost use Rattle.kdf_service.specs.Rules.{IsService};
 ghost use Rattle.kdf_director.specs.declared.machine.Progress.TheVariants.{AllEnded, Idle};
+ghost use Rattle.kdf_director.specs.declared.note.Note.TheVariants.{Quiet};
 ghost use Rattle.kdf_director.specs.declared.program.Program.{Program};
-ghost use Rattle.kdf_director.specs.Advance.{AdvanceWith};
 ghost use Rattle.kdf_director.specs.Agrees.{IsReady};
-ghost use Rattle.kdf_director.specs.Going.{any_on};
-ghost use Rattle.kdf_director.specs.Parts.{shared_in};
+ghost use Rattle.kdf_director.specs.Going.{any_on, first_going};
+ghost use Rattle.kdf_director.specs.Parts.{seat_of, shared_in};
 ghost use Rattle.kdf_director.specs.Running.{reaches_in, seat_at, seats_in, IsRunning};
-ghost use Rattle.kdf_director.specs.Served.{IsAnswered};
-ghost use Rattle.kdf_director.specs.Viewed.{slot_loaded, viewed};
+ghost use Rattle.kdf_director.specs.Runs.{HasEntered, HasMadeButFewer, HasMadeSome, HasTriedAt};
+ghost use Rattle.kdf_director.specs.Viewed.{viewed};
 ghost use Rattle.kdf_director.specs.Spots.{AreDry};
-ghost use Rattle.kdf_director.specs.Taken.{HasTaken};
 
 use crate::dispatch::turn;
-use crate::entries::enter;
+use crate::entries::{enter, enter_quiet};
 use crate::hearing::heard;
 use crate::next::{is_any_on, next_of};
-use crate::{Loaded, Moment, Place, Program, Progress};
+use crate::{Loaded, Moment, Note, Place, Program, Progress};
 use kdf_journal::{CALL_LIMIT, Entry, Journal, MOVE_LIMIT};
 use kdf_lockout::Store;
-use kdf_processor::Life;
+use kdf_processor::{Life, Step};
 use kdf_relocate::Window;
 use kdf_service::Service;
 use kdf_word::Word;
 use std::alloc::{AllocError, Global};
 
-/// Tries the next order of program `i`, whose turn it is, and enters how that ended. If its order asks the service, the answer is drawn before it.
-/// At Err all is unchanged.
-fn take_turn<F: Fn(u64) -> u64>(
+/// Tries the next order of program `i` at this time. If that asks the service, the answer is drawn before it. At Err all is unchanged.
+#[inline(always)]
+fn try_at<F: Fn(u64) -> u64>(
     alloc: Global,
     windows: &[Window; 4],
     slots: &[Loaded],
     programs: &mut Vec<Program>,
     store: &mut Store,
     places: &mut Vec<Place>,
-    journal: &mut Journal,
+    time: u64,
     i: usize,
     service: &Service<F>,
-) -> Result<Progress, AllocError>
+) -> Result<(Step, Note), AllocError>
     requires service { IsService (F.pre service.now) (F.post service.now) }
     requires there { i < length programs.old.items }
     requires slots { length slots.now ≡ length programs.old.items }
@@ -50,54 +50,134 @@ fn take_turn<F: Fn(u64) -> u64>(
     requires running { IsRunning (reaches_in windows.now slots.now) (seats_in programs.old.items)
         (shared_in store.old places.old.items) }
     requires dry { AreDry places.old.items }
-    requires room { 2 ≤ journal.old.spare }
-    requires few_calls { calls journal.old.entries < CALL_LIMIT }
-    requires few_moves { moves journal.old.entries ≤ MOVE_LIMIT }
-    ensures taken { IfOk result (HasTaken (F.post service.now) (reaches_in windows.now slots.now) i
+    ensures tried { IfOk result (λ x. HasTriedAt (F.post service.now) (reaches_in windows.now slots.now) time i
         (seats_in programs.old.items) (shared_in store.old places.old.items)
-        (map (λ (x : Program). x.hold) programs.old.items) journal.old.entries
-        (seats_in programs.new.items) (shared_in store.new places.new.items)
-        (map (λ (x : Program). x.hold) programs.new.items) journal.new.entries) }
+        (seats_in programs.new.items) (shared_in store.new places.new.items) x.0 x.1) }
     ensures running { IsRunning (reaches_in windows.now slots.now) (seats_in programs.new.items)
         (shared_in store.new places.new.items) }
     ensures dry { AreDry places.new.items }
     ensures many { length programs.new.items ≡ length programs.old.items }
-    ensures spare { journal.old.spare ≤ journal.new.spare + 2 }
-    ensures seats_err { OnErr result (seats_in programs.new.items ≡ seats_in programs.old.items) }
-    ensures shared_err { OnErr result (shared_in store.new places.new.items
-        ≡ shared_in store.old places.old.items) }
-    ensures holds_err { OnErr result (map (λ (x : Program). x.hold) programs.new.items
-        ≡ map (λ (x : Program). x.hold) programs.old.items) }
-    ensures journal_err { OnErr result (journal.new ≡ journal.old) }
+    ensures holds { map (λ (x : Program). x.hold) programs.new.items
+        ≡ map (λ (x : Program). x.hold) programs.old.items }
+    ensures err { OnErr result ((seats_in programs.new.items ≡ seats_in programs.old.items)
+        × (shared_in store.new places.new.items ≡ shared_in store.old places.old.items)) }
 {
     let answer = heard(alloc, windows, slots, programs, store, places, i, service);
     let moment = Moment {
-        time: journal.clock(),
+        time,
         heard: answer.unwrap_or(Word::default()),
     };
-    let (step, note) = turn(alloc, windows, slots, programs, store, places, moment, i)?;
-    Ok(enter(journal, &mut programs[i], step, note))
+    turn(alloc, windows, slots, programs, store, places, moment, i)
 }
 
-/// Enters that no program can go on, where one is live.
-fn wait(programs: &[Program], journal: &mut Journal) -> Progress
-    requires room { 1 ≤ journal.old.spare }
-    requires few_calls { calls journal.old.entries < CALL_LIMIT }
-    requires few_moves { moves journal.old.entries ≤ MOVE_LIMIT }
-    ensures answer { result ≡ (if any_on programs.now then Idle else AllEnded) }
-    ensures entries { journal.new.entries ≡ (if any_on programs.now
-        then added journal.old.entries Waits else journal.old.entries) }
-    ensures spare { journal.old.spare ≤ journal.new.spare + 1 }
+/// Whether an order was obeyed of which nothing is noted, so that the same program is next.
+#[inline(always)]
+fn is_quiet(tried: &Result<(Step, Note), AllocError>) -> bool
+    ensures { result ≡ true → tried.now ≡ Ok (Done, Quiet) }
 {
-    if is_any_on(programs) {
-        journal.push(Entry::Idle { n: 1 });
-        Progress::Idle
-    } else {
-        Progress::AllEnded
+    matches!(tried, Ok((Step::Done, Note::Quiet)))
+}
+
+/// Obeys orders of program `i`, which is next, up to one of which something is noted, that is held or that ends it, and at most so many. They are
+/// entered at once: while nothing is noted, no other program's turn comes. Answers how many calls that were, and what the last did. At Err those
+/// that were obeyed are entered, and the one that had no memory has changed nothing.
+fn take_turns<F: Fn(u64) -> u64>(
+    alloc: Global,
+    windows: &[Window; 4],
+    slots: &[Loaded],
+    programs: &mut Vec<Program>,
+    store: &mut Store,
+    places: &mut Vec<Place>,
+    journal: &mut Journal,
+    room: u32,
+    i: usize,
+    most: u32,
+    service: &Service<F>,
+) -> Result<(u32, Progress), AllocError>
+    requires service { IsService (F.pre service.now) (F.post service.now) }
+    requires ready { IsReady slots.now windows.now store.old programs.old.items places.old.items
+        journal.old.entries journal.old.spare room }
+    requires next { first_going (reaches_in windows.now slots.now) (seats_in programs.old.items)
+        (map (λ (x : Program). x.hold) programs.old.items) (shared_in store.old places.old.items)
+        (priorities journal.old.entries) ≡ Some i }
+    requires some { 0 < most }
+    requires few { calls journal.old.entries + most ≤ CALL_LIMIT }
+    ensures ready { IsReady slots.now windows.now store.new programs.new.items places.new.items
+        journal.new.entries journal.new.spare room }
+    ensures made { IfOk result (λ x. HasMadeSome (F.post service.now) x.0
+        (viewed slots.now windows.now store.old programs.old.items places.old.items
+        journal.old.entries room)
+        (viewed slots.now windows.now store.new programs.new.items places.new.items
+        journal.new.entries room) x.1) }
+    ensures within { IfOk result (λ x. x.0 ≤ most) }
+    ensures err { OnErr result (HasMadeButFewer (F.post service.now) most
+        (viewed slots.now windows.now store.old programs.old.items places.old.items
+        journal.old.entries room)
+        (viewed slots.now windows.now store.new programs.new.items places.new.items
+        journal.new.entries room)) }
+{
+    journal.reserve(room + 2)?;
+    let time = journal.clock();
+    let mut quiet = 0;
+    loop {
+        let tried = try_at(
+            alloc, windows, slots, programs, store, places, time, i, service,
+        );
+        if quiet + 1 < most && is_quiet(&tried) {
+            quiet += 1;
+        } else {
+            return enter_tried(journal, &mut programs[i], quiet, tried);
+        }
     }
 }
 
-/// One call with a service, over the fields of a machine. At Err they show what they showed.
+/// Enters so many orders of a program of which nothing is noted, and how the turn after them ended, where it had memory. Answers how many calls that
+/// were, and what the last did. It is inlined, so that what each order of a run came to goes through no memory.
+#[inline(always)]
+fn enter_tried(
+    journal: &mut Journal,
+    program: &mut Program,
+    quiet: u32,
+    tried: Result<(Step, Note), AllocError>,
+) -> Result<(u32, Progress), AllocError>
+    requires room { 2 ≤ journal.old.spare }
+    requires few_calls { calls journal.old.entries + quiet < CALL_LIMIT }
+    requires few_moves { moves journal.old.entries ≤ MOVE_LIMIT }
+    ensures entered { HasEntered journal.old.entries program.old.p quiet program.old.registers.ran program.old.hold tried
+        journal.new.entries program.new.hold result }
+    ensures spare { journal.old.spare ≤ journal.new.spare + 2 }
+    ensures seat { seat_of program.new ≡ seat_of program.old }
+{
+    match tried {
+        Ok((step, note)) => Ok((quiet + 1, enter(journal, program, quiet, step, note))),
+        Err(error) => {
+            enter_quiet(journal, program, quiet);
+            Err(error)
+        }
+    }
+}
+
+/// Enters that no program can go on, where one is live: so it is with all the calls that are left.
+fn wait(programs: &[Program], journal: &mut Journal, most: u32) -> (u32, Progress)
+    requires room { 1 ≤ journal.old.spare }
+    requires few_calls { calls journal.old.entries + most ≤ CALL_LIMIT }
+    requires few_moves { moves journal.old.entries ≤ MOVE_LIMIT }
+    ensures answer { result ≡ (if any_on programs.now then (most, Idle) else (1, AllEnded)) }
+    ensures entries { journal.new.entries ≡ (if any_on programs.now
+        then pushed journal.old.entries (Idled most) else journal.old.entries) }
+    ensures spare { journal.old.spare ≤ journal.new.spare + 1 }
+{
+    if is_any_on(programs) {
+        journal.push(Entry::Idle { n: most });
+        (most, Progress::Idle)
+    } else {
+        (1, Progress::AllEnded)
+    }
+}
+
+/// Some of so many calls with a service, one at least, over the fields of a machine: the orders of the program that is next, as far as it stays
+/// next, or all, where none can go on. Answers how many, and what the last did. At Err some are made, and the one that had no memory has changed
+/// nothing.
 pub(crate) fn advance<F: Fn(u64) -> u64>(
     alloc: Global,
     windows: &[Window; 4],
@@ -107,31 +187,36 @@ pub(crate) fn advance<F: Fn(u64) -> u64>(
     places: &mut Vec<Place>,
     journal: &mut Journal,
     room: u32,
+    most: u32,
     service: &Service<F>,
-) -> Result<Progress, AllocError>
+) -> Result<(u32, Progress), AllocError>
     requires service { IsService (F.pre service.now) (F.post service.now) }
     requires ready { IsReady slots.now windows.now store.old programs.old.items places.old.items
         journal.old.entries journal.old.spare room }
-    requires few_calls { calls journal.old.entries < CALL_LIMIT }
+    requires some { 0 < most }
+    requires few { calls journal.old.entries + most ≤ CALL_LIMIT }
     ensures ready { IsReady slots.now windows.now store.new programs.new.items places.new.items
         journal.new.entries journal.new.spare room }
-    ensures took { IfOk result (AdvanceWith (F.post service.now)
+    ensures made { IfOk result (λ x. HasMadeSome (F.post service.now) x.0
+        (viewed slots.now windows.now store.old programs.old.items places.old.items
+        journal.old.entries room)
+        (viewed slots.now windows.now store.new programs.new.items places.new.items
+        journal.new.entries room) x.1) }
+    ensures within { IfOk result (λ x. x.0 ≤ most) }
+    ensures err { OnErr result (HasMadeButFewer (F.post service.now) most
         (viewed slots.now windows.now store.old programs.old.items places.old.items
         journal.old.entries room)
         (viewed slots.now windows.now store.new programs.new.items places.new.items
         journal.new.entries room)) }
-    ensures answered { IsAnswered (F.post service.now) (map slot_loaded slots.now) journal.old.entries journal.new.entries }
-    ensures err { OnErr result (viewed slots.now windows.now store.new programs.new.items
-        places.new.items journal.new.entries room
-        ≡ viewed slots.now windows.now store.old programs.old.items places.old.items
-        journal.old.entries room) }
 {
-    journal.reserve(room + 2)?;
     let priorities = journal.priorities();
     match next_of(windows, slots, programs, store, places, &priorities) {
-        Some(i) => take_turn(
-            alloc, windows, slots, programs, store, places, journal, i, service,
+        Some(i) => take_turns(
+            alloc, windows, slots, programs, store, places, journal, room, i, most, service,
         ),
-        None => Ok(wait(programs, journal)),
+        None => {
+            journal.reserve(room + 2)?;
+            Ok(wait(programs, journal, most))
+        }
     }
 }

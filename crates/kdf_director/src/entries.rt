@@ -1,9 +1,12 @@
 //! What is entered of the turn of a program.
 ghost use Rattle.std.specs.Prelude.{◌≡◌, ◌+◌, ◌<◌, ◌≤◌};
+ghost use Rattle.kdf_journal.specs.declared.entry.Entry.TheVariants.{Ran};
 ghost use Rattle.kdf_journal.specs.Counts.{calls, moves};
-ghost use Rattle.kdf_journal.specs.Steps.{added, noted, Holds, Obeys};
+ghost use Rattle.kdf_journal.specs.Joined.{pushed};
+ghost use Rattle.kdf_journal.specs.Steps.{added, noted, Holds};
 ghost use Rattle.kdf_director.specs.Advance.{note_beside, note_told};
 ghost use Rattle.kdf_director.specs.Parts.{seat_of};
+ghost use Rattle.kdf_director.specs.Runs.{held_after, ran_on};
 ghost use Rattle.kdf_director.specs.Taken.{hold_left, progress_of, step_told};
 ghost use Rattle.kdf_director.specs.World.{hold_of};
 
@@ -11,18 +14,20 @@ use crate::{Note, Program, Progress};
 use kdf_journal::{CALL_LIMIT, Entry, Journal, MOVE_LIMIT};
 use kdf_processor::{Need, Step};
 
-/// Enters how the turn of a program ended, and tells it. From now on the program is held by what held its order, or by nothing.
+/// Enters that a program obeyed so many orders of which nothing is noted, and how the turn after them ended, and tells that. From now on the program
+/// is held by what held its last order, or by nothing.
 #[inline(always)]
 pub(crate) fn enter(
     journal: &mut Journal,
     program: &mut Program,
+    quiet: u32,
     step: Step,
     note: Note,
 ) -> Progress
     requires room { 2 ≤ journal.old.spare }
-    requires few_calls { calls journal.old.entries < CALL_LIMIT }
+    requires few_calls { calls journal.old.entries + quiet < CALL_LIMIT }
     requires few_moves { moves journal.old.entries ≤ MOVE_LIMIT }
-    ensures entries { journal.new.entries ≡ added journal.old.entries
+    ensures entries { journal.new.entries ≡ added (ran_on journal.old.entries program.old.p quiet)
         (step_told program.old.p program.old.registers.ran step note) }
     ensures spare { journal.old.spare ≤ journal.new.spare + 2 }
     ensures seat { seat_of program.new ≡ seat_of program.old }
@@ -32,28 +37,48 @@ pub(crate) fn enter(
     let p = program.p;
     match step {
         Step::Held(need) => {
+            enter_quiet(journal, program, quiet);
             write_hold(journal, p, need);
             program.hold = Some(need);
             Progress::Held(p, need)
         }
         Step::Done | Step::Fails(_) | Step::Ends => {
-            write(journal, p, program.registers.ran, step, note);
+            write(journal, p, quiet + 1, program.registers.ran, step, note);
             program.hold = None;
             Progress::Ran(p)
         }
     }
 }
 
-/// Counts an order of program `p`, its own order `k`, which ended so, with its note.
-fn write(journal: &mut Journal, p: u8, k: u32, step: Step, note: Note)
+/// Enters that a program obeyed so many orders of which nothing is noted. Where it obeyed one, nothing holds it from now on.
+pub(crate) fn enter_quiet(journal: &mut Journal, program: &mut Program, quiet: u32)
+    requires room { 1 ≤ journal.old.spare }
+    requires few_calls { calls journal.old.entries + quiet ≤ CALL_LIMIT }
+    requires few_moves { moves journal.old.entries ≤ MOVE_LIMIT }
+    ensures entries { journal.new.entries ≡ ran_on journal.old.entries program.old.p quiet }
+    ensures spare { journal.old.spare ≤ journal.new.spare + 1 }
+    ensures seat { seat_of program.new ≡ seat_of program.old }
+    ensures hold { program.new.hold ≡ held_after quiet program.old.hold }
+{
+    if quiet > 0 {
+        journal.push(Entry::Ran {
+            p: program.p,
+            n: quiet,
+        });
+        program.hold = None;
+    }
+}
+
+/// Counts so many orders of program `p`, the last of which is its own order `k` and ended so, with its note.
+fn write(journal: &mut Journal, p: u8, n: u32, k: u32, step: Step, note: Note)
     requires room { 2 ≤ journal.old.spare }
-    requires few_calls { calls journal.old.entries < CALL_LIMIT }
+    requires few_calls { calls journal.old.entries + n ≤ CALL_LIMIT }
     requires few_moves { moves journal.old.entries ≤ MOVE_LIMIT }
     ensures entries { journal.new.entries
-        ≡ added journal.old.entries (Obeys p (note_told k step note)) }
+        ≡ noted (pushed journal.old.entries (Ran p n)) p (note_told k step note) }
     ensures spare { journal.old.spare ≤ journal.new.spare + 2 }
 {
-    journal.push(Entry::Ran { p, n: 1 });
+    journal.push(Entry::Ran { p, n });
     match step {
         Step::Fails(kind) => journal.push(Entry::Fail { p, kind }),
         Step::Ends => journal.push(Entry::Ended { p }),

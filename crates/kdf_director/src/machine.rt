@@ -17,6 +17,7 @@ ghost use Rattle.kdf_director.specs.Lends.{IsLent, IsStored, window_in};
 ghost use Rattle.kdf_director.specs.Loading.{HaveImages, slots_of};
 ghost use Rattle.kdf_director.specs.Fields.{IsLoaded, loaded};
 ghost use Rattle.kdf_director.specs.Next.{any_live};
+ghost use Rattle.kdf_director.specs.Runs.{HasMadeButFewer, HasMadeSome};
 ghost use Rattle.kdf_director.specs.Served.{unasked, IsAnswered, IsTrueFor};
 ghost use Rattle.kdf_director.specs.Shown.{IsDeviceAt, ShowsSeen, state_of};
 ghost use Rattle.kdf_director.specs.Slots.{NoneServed};
@@ -143,6 +144,26 @@ impl Machine {
         ensures room { self.new.room ≡ self.old.room }
         ensures err { OnErr result (self.new ≡ self.old) }
     {
+        let (_, progress) = self.calls_with(1, service)?;
+        Ok(progress)
+    }
+
+    /// Some of so many calls, one at least, each as `order_with` makes it: as many as can be made at once. Answers how many, and what the last did. At
+    /// Err some are made, and the one that had no memory has changed nothing.
+    pub(crate) fn calls_with<F: Fn(u64) -> u64>(
+        &mut self,
+        most: u32,
+        service: &Service<F>,
+    ) -> Result<(u32, Progress), AllocError>
+        requires service { IsService (F.pre service.now) (F.post service.now) }
+        requires some { 0 < most }
+        requires few { calls self.old.journal + most ≤ CALL_LIMIT }
+        ensures made { IfOk result (λ x. HasMadeSome (F.post service.now) x.0 self.old self.new x.1) }
+        ensures within { IfOk result (λ x. x.0 ≤ most) }
+        ensures slots { self.new.slots ≡ self.old.slots }
+        ensures room { self.new.room ≡ self.old.room }
+        ensures err { OnErr result (HasMadeButFewer (F.post service.now) most self.old self.new) }
+    {
         advance(
             self.alloc,
             &self.windows,
@@ -152,6 +173,7 @@ impl Machine {
             &mut self.devices,
             &mut self.journal,
             self.room,
+            most,
             service,
         )
     }

@@ -54,11 +54,11 @@ impl Machine {
         ensures room { self.new.room ≡ self.old.room }
         ensures err { OnErr result (HasMadeFewer (F.post service.now) n self.old self.new) }
     {
+        let _journal = self.journal();
         let mut left = n;
         loop {
-            let _journal = self.journal();
-            let progress = self.order_with(service)?;
-            left -= 1;
+            let (made, progress) = self.calls_with(left, service)?;
+            left -= made;
             if left == 0 || !found_live(progress) {
                 return Ok(progress);
             }

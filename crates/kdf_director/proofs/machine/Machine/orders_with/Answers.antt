@@ -1,52 +1,51 @@
-use Rattle.std.proofs.Common.{arith, sym, ◌∙◌}
-use Rattle.kdf_journal.specs.Steps.{steps}
-use Rattle.kdf_director.proofs.Calls.{calls-took, clock-took}
-use Rattle.kdf_director.proofs.InTurn.{all_made, at_err, fewer, one_more, over, taken_all, taken_on, taken_over}
+use Rattle.std.proofs.Common.{◌≡◌, ◌+◌, ◌-◌, ◌≤◌, inl, inr, sym, subst, arith}
+use Rattle.kdf_director.specs.Runs.{HasMadeOn}
+use Rattle.kdf_director.proofs.Calling.{all_err}
+use Rattle.kdf_director.proofs.InTurn.{fewer_more, lived, made_all, only_made, reached_all, some_more}
 use Rattle.kdf_director.proofs.machine.Machine.orders_with.Goals as goal
 use Rattle.kdf_director.proofs.machine.Machine.orders_with.Goals.{then-left-eq0-via-then-left-eq0, then-left-eq0-via-else-left-eq0+then-not-found_live}
 
-pub returns-in_err-progress-clause-err : goal.returns-in_err-progress-clause-err
-returns-in_err-progress-clause-err g c =
-    rw c.in_err-progress.ensures.err (at_err c.from_residual.result _ (fewer (λ n a. goal.F-post g c.args.service.now n a) c.args.n c.loop-progress.left c.args.self.now c.loop-progress.self c.loop-progress.invariant.within c.loop-progress.invariant.some c.loop-progress.invariant.made))
+pub returns-in_err-made-clause-err : goal.returns-in_err-made-clause-err
+returns-in_err-made-clause-err g c =
+    let i = c.loop-made.invariant in
+    let all : c.args.n - c.loop-made.left + c.loop-made.left ≡ c.args.n = omega (arith, i.within) in
+    all_err c.from_residual.result _
+    (only_made (λ n a. goal.F-post g c.args.service.now n a) c.args.self.now c.args.n c.calls_with.new.self
+    (fewer_more (λ n a. goal.F-post g c.args.service.now n a) c.args.self.now (c.args.n - c.loop-made.left) c.loop-made.self i.made c.args.n c.loop-made.left c.calls_with.new.self all c.in_err-made.ensures.err))
 
 pub returns-then-left-eq0-clause-made : goal.returns-then-left-eq0-clause-made
 returns-then-left-eq0-clause-made g c =
-    let i = c.loop-progress.invariant in
-    elim c.then-left-eq0.branch [
-      | then-left-eq0-via-then-left-eq0 w ↦ all_made (λ n a. goal.F-post g c.args.service.now n a) c.args.n c.loop-progress.left c.args.self.now c.loop-progress.self i.within i.some i.made c.order_with.new.self c.in_ok-progress.progress c.in_ok-progress.ensures.took (omega (arith, w.if-left-eq0.true))
-      | then-left-eq0-via-else-left-eq0+then-not-found_live w ↦ over (λ n a. goal.F-post g c.args.service.now n a) c.args.n c.loop-progress.left c.args.self.now c.loop-progress.self i.within i.some i.made c.order_with.new.self c.in_ok-progress.progress c.in_ok-progress.ensures.took (sym w.if-not-found_live.ensures)
-    ]
+    let i = c.loop-made.invariant in
+    let x = some_more (λ n a. goal.F-post g c.args.service.now n a) c.args.self.now (c.args.n - c.loop-made.left) c.loop-made.self c.loop-made.invariant.made c.in_ok-made.made c.calls_with.new.self c.in_ok-made.progress c.in_ok-made.ensures.made in
+    let within : c.in_ok-made.made + (c.args.n - c.loop-made.left) ≤ c.args.n = omega (arith, i.within, c.in_ok-made.ensures.within) in
+    made_all (λ n a. goal.F-post g c.args.service.now n a) c.args.self.now (c.in_ok-made.made + (c.args.n - c.loop-made.left)) c.calls_with.new.self c.args.n c.in_ok-made.progress x within
+    (elim c.then-left-eq0.branch [
+      | then-left-eq0-via-then-left-eq0 w ↦ inl (omega (arith, w.if-left-eq0.true, i.within, c.in_ok-made.ensures.within))
+      | then-left-eq0-via-else-left-eq0+then-not-found_live w ↦ inr (sym w.if-not-found_live.ensures)
+    ])
 
 pub returns-then-left-eq0-clause-steps : goal.returns-then-left-eq0-clause-steps
 returns-then-left-eq0-clause-steps g c =
-    let i = c.loop-progress.invariant in
-    elim c.then-left-eq0.branch [
-      | then-left-eq0-via-then-left-eq0 w ↦ taken_all (λ n a. goal.F-post g c.args.service.now n a) c.args.n c.loop-progress.left c.args.self.now c.loop-progress.self i.within i.some i.made c.order_with.new.self c.in_ok-progress.progress c.in_ok-progress.ensures.took c.args.self.now.slots (steps c.args.self.now.journal) c.journal-journal.ensures.legal i.same_slots i.taken (omega (arith, w.if-left-eq0.true))
-      | then-left-eq0-via-else-left-eq0+then-not-found_live w ↦ taken_over (λ n a. goal.F-post g c.args.service.now n a) c.args.n c.loop-progress.left c.args.self.now c.loop-progress.self i.within i.some i.made c.order_with.new.self c.in_ok-progress.progress c.in_ok-progress.ensures.took c.args.self.now.slots (steps c.args.self.now.journal) c.journal-journal.ensures.legal i.same_slots i.taken (sym w.if-not-found_live.ensures)
-    ]
+    let i = c.loop-made.invariant in
+    let x = some_more (λ n a. goal.F-post g c.args.service.now n a) c.args.self.now (c.args.n - c.loop-made.left) c.loop-made.self c.loop-made.invariant.made c.in_ok-made.made c.calls_with.new.self c.in_ok-made.progress c.in_ok-made.ensures.made in
+    let within : c.in_ok-made.made + (c.args.n - c.loop-made.left) ≤ c.args.n = omega (arith, i.within, c.in_ok-made.ensures.within) in
+    reached_all (λ n a. goal.F-post g c.args.service.now n a) c.args.self.now (c.in_ok-made.made + (c.args.n - c.loop-made.left)) c.calls_with.new.self c.args.n c.in_ok-made.progress x within
+    (elim c.then-left-eq0.branch [
+      | then-left-eq0-via-then-left-eq0 w ↦ inl (omega (arith, w.if-left-eq0.true, i.within, c.in_ok-made.ensures.within))
+      | then-left-eq0-via-else-left-eq0+then-not-found_live w ↦ inr (sym w.if-not-found_live.ensures)
+    ])
 
-pub returns-then-left-eq0-clause-calls : goal.returns-then-left-eq0-clause-calls
-returns-then-left-eq0-clause-calls g c =
-    let took = c.in_ok-progress.ensures.took in
-    omega (arith, c.loop-progress.invariant.few, c.loop-progress.invariant.some, calls-took took.heard c.loop-progress.self c.order_with.new.self c.in_ok-progress.progress took.advance)
+pub returns-then-left-eq0-clause-truthful : goal.returns-then-left-eq0-clause-truthful
+returns-then-left-eq0-clause-truthful g c = (lived (λ n a. goal.F-post g c.args.service.now n a) c.args.self.now (c.in_ok-made.made + (c.args.n - c.loop-made.left)) c.calls_with.new.self c.in_ok-made.progress (some_more (λ n a. goal.F-post g c.args.service.now n a) c.args.self.now (c.args.n - c.loop-made.left) c.loop-made.self c.loop-made.invariant.made c.in_ok-made.made c.calls_with.new.self c.in_ok-made.progress c.in_ok-made.ensures.made)).2.truthful
 
-pub returns-then-left-eq0-clause-time : goal.returns-then-left-eq0-clause-time
-returns-then-left-eq0-clause-time g c =
-    let took = c.in_ok-progress.ensures.took in
-    clock-took took.heard c.loop-progress.self c.order_with.new.self c.in_ok-progress.progress took.advance ∙ c.loop-progress.invariant.time
-
-pub loop-progress-preserved : goal.loop-progress-preserved
-loop-progress-preserved g c =
-    let i = c.loop-progress.invariant in
-    let took = c.in_ok-progress.ensures.took in
+pub loop-made-preserved : goal.loop-made-preserved
+loop-made-preserved g c =
+    let i = c.loop-made.invariant in
+    let count : c.in_ok-made.made + (c.args.n - c.loop-made.left) ≡ c.args.n - (c.loop-made.left - c.in_ok-made.made) = omega (arith, i.within, c.in_ok-made.ensures.within) in
     record {
-      some = omega (arith, i.some, c.if-left-eq0.false);
+      some = omega (arith, c.if-left-eq0.false);
       within = omega (arith, i.within);
-      made = one_more (λ n a. goal.F-post g c.args.service.now n a) c.args.n c.loop-progress.left c.args.self.now c.loop-progress.self i.within i.some i.made c.order_with.new.self c.in_ok-progress.progress took (sym c.if-not-found_live.ensures);
-      taken = taken_on (λ n a. goal.F-post g c.args.service.now n a) c.args.n c.loop-progress.left c.args.self.now c.loop-progress.self i.within i.some i.made c.order_with.new.self c.in_ok-progress.progress took c.args.self.now.slots (steps c.args.self.now.journal) c.journal-journal.ensures.legal i.same_slots i.taken (sym c.if-not-found_live.ensures);
-      few = omega (arith, i.few, i.some, calls-took took.heard c.loop-progress.self c.order_with.new.self c.in_ok-progress.progress took.advance);
-      room = c.order_with.ensures.room ∙ i.room;
-      time = clock-took took.heard c.loop-progress.self c.order_with.new.self c.in_ok-progress.progress took.advance ∙ i.time;
-      same_slots = c.order_with.ensures.slots ∙ i.same_slots;
-      truthful = λ truly. c.order_with.ensures.truthful (i.truthful truly);
+      made =
+          subst (λ k. HasMadeOn (λ n a. goal.F-post g c.args.service.now n a) k c.args.self.now c.calls_with.new.self) count
+          ((some_more (λ n a. goal.F-post g c.args.service.now n a) c.args.self.now (c.args.n - c.loop-made.left) c.loop-made.self c.loop-made.invariant.made c.in_ok-made.made c.calls_with.new.self c.in_ok-made.progress c.in_ok-made.ensures.made).all_on (sym c.if-not-found_live.ensures));
     }
