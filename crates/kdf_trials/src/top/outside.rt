@@ -1,5 +1,5 @@
 //! A source and a sink that fail, at every call, and a job of too many bytes.
-use super::{JOB, READING, REPORT, USAGE, expect, whole};
+use super::{Call, JOB, READING, REPORT, USAGE, expect, whole};
 use kdf_job::JobFault;
 use kdf_top::Status;
 use kdf_usercode::DeckFault;
@@ -73,9 +73,11 @@ fn puts_fail(rt: &impl Abort, alloc: Global, words: &[&str], due: &[u8]) -> Resu
         call.put_most = 7;
         expect(rt, alloc, &call, Status::WriteFault, &due[..room])?;
         let fails = [room as u32 + 1];
-        let mut call = whole(words, JOB.as_bytes());
-        call.put_most = 1;
-        call.put_fail = &fails;
+        let call = Call {
+            put_most: 1,
+            put_fail: &fails,
+            ..whole(words, JOB.as_bytes())
+        };
         expect(rt, alloc, &call, Status::WriteFault, &due[..room])?;
     }
     Ok(())
