@@ -75,7 +75,8 @@ class Checkout:
         """A start of ./kdf9 by these words."""
         pipes = {"stdin": subprocess.DEVNULL, "stdout": subprocess.PIPE, "stderr": subprocess.PIPE, **streams}
         variables = {"PATH": str(self.folder / "commands"), "KDF9_JOBS": "2"}
-        return subprocess.Popen([self.folder / "kdf9", *words], env=variables, text=True, **pipes)
+        # Named as a program, the copy can't be started while a process that another thread begins has it open still.
+        return subprocess.Popen([shutil.which("bash"), self.folder / "kdf9", *words], env=variables, text=True, **pipes)
 
     def start(self, *words, text=""):
         """What a start by these words over this text wrote, and its status."""
