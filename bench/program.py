@@ -9,6 +9,12 @@ from collections import namedtuple
 BUILT = os.path.join(os.path.dirname(os.path.abspath(__file__)), "..", "crates", "kdf9", "out", "kdf9")
 RUNS = 15
 
+# The loops whose orders are timed.
+LOOPS = {
+    "one jump": b"PROGRAM; 1; J1; FINISH;\n",
+    "fetch, add, store, JCqNZS": b"Y0; PROGRAM V0; V0 = 1; SET 1; =C1; *; 1; Y0; V0; +; =Y0; J1C1NZS; FINISH;\n",
+}
+
 # What wait4 tells of a child's peak begins with that of this script, some 14 MB. So each run is stopped at its end, where the system still
 # tells the peak of its own memory. The job is written once the system knows that, so no run ends before.
 trace = ctypes.CDLL(None, use_errno=True).ptrace
