@@ -68,6 +68,14 @@ impl Reader {
         })
     }
 
+    /// The characters that are left, each below 64.
+    pub fn codes_left(&self) -> &[u8]
+        ensures value { result.now ≡ drop self.now.place self.now.codes }
+        ensures below { All (λ c. c < 64) result.now }
+    {
+        &self.codes[self.place..]
+    }
+
     /// Word `i` of those that a transfer gives from a place on: eight characters a word, the last one filled up with code 0.
     pub fn take_word(&self, from: u32, i: u16) -> Option<Word>
         ensures { result ≡ slice_get (words_of (drop from self.now.codes)) i }

@@ -56,6 +56,7 @@ impl TapeBlock {
     #[tactic(auto, using(crate::proofs::Codes::block_codes))]
     pub fn codes(&self) -> &[u8]
         ensures value { result.now ≡ codes_of_all self.now.words }
+        ensures words { words_of result.now ≡ self.now.words }
         ensures below { All (λ c. c < 64) result.now }
     {
         &self.codes

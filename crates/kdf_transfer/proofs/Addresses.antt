@@ -4,14 +4,14 @@ use Rattle.std.proofs.lemmas.Bool.{cases_Bool}
 use Rattle.kdf_transfer.specs.declared.order.TransferOrder.{TransferOrder}
 use Rattle.kdf_transfer.specs.AtOnce.{is_backward, place_of, addressed, at_addresses, down_addresses}
 
-at-drop : (a i : ℕ) (ws : List ℕ) → i < length ws → drop i (at_addresses a ws) ≡ (a + i, get_or ws i 0) ∷ drop (suc i) (at_addresses a ws)
+pub at-drop : (a i : ℕ) (ws : List ℕ) → i < length ws → drop i (at_addresses a ws) ≡ (a + i, get_or ws i 0) ∷ drop (suc i) (at_addresses a ws)
 at-drop a i [] lt = absurd (omega arith)
 at-drop a zero (w ∷ ws) lt = ap (λ b. (b, w) ∷ at_addresses (a + 1) ws) (omega arith)
 at-drop a (suc i) (w ∷ ws) lt =
     let e : a + 1 + i ≡ a + suc i = omega arith in
     at-drop (a + 1) i ws (omega arith) ∙ ap (λ b. (b, get_or ws i 0) ∷ drop (suc i) (at_addresses (a + 1) ws)) e
 
-down-drop : (a i : ℕ) (ws : List ℕ) → i < length ws → drop i (down_addresses a ws) ≡ (a - i, get_or ws i 0) ∷ drop (suc i) (down_addresses a ws)
+pub down-drop : (a i : ℕ) (ws : List ℕ) → i < length ws → drop i (down_addresses a ws) ≡ (a - i, get_or ws i 0) ∷ drop (suc i) (down_addresses a ws)
 down-drop a i [] lt = absurd (omega arith)
 down-drop a zero (w ∷ ws) lt = ap (λ b. (b, w) ∷ down_addresses (a - 1) ws) (omega arith)
 down-drop a (suc i) (w ∷ ws) lt =
@@ -32,11 +32,11 @@ addressed-drop o first last i ws lt =
     ∙ sym (ap (λ b. (cond b (last - i) (first + i), get_or ws i 0) ∷ drop (suc i) (cond b (down_addresses last ws) (at_addresses first ws))) not))
     (cases_Bool (is_backward o))
 
-length-at : (a : ℕ) (ws : List ℕ) → length (at_addresses a ws) ≡ length ws
+pub length-at : (a : ℕ) (ws : List ℕ) → length (at_addresses a ws) ≡ length ws
 length-at a [] = refl
 length-at a (w ∷ ws) = ap suc (length-at (a + 1) ws)
 
-length-down : (a : ℕ) (ws : List ℕ) → length (down_addresses a ws) ≡ length ws
+pub length-down : (a : ℕ) (ws : List ℕ) → length (down_addresses a ws) ≡ length ws
 length-down a [] = refl
 length-down a (w ∷ ws) = ap suc (length-down (a - 1) ws)
 

@@ -7,5 +7,6 @@ pub mod Stopping
 pub mod OneStep
 pub mod Moving
 pub mod Words
+pub mod Runs
 pub mod OfKind
 pub mod Numbers

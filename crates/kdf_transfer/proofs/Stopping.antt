@@ -103,7 +103,7 @@ pub count_end : (o : TransferOrder) (ws : List ℕ) (i : ℕ) → length ws ≤ 
 count_end o ws i past so = omega (arith, so, stopped-le o (drop i ws), length-drop i ws)
 
 -- an output order moves its words as they are
-fill-output : (o : TransferOrder) (w : ℕ) → is_input o ≡ false → fill o w ≡ w
+pub fill-output : (o : TransferOrder) (w : ℕ) → is_input o ≡ false → fill o w ≡ w
 fill-output o w not = at (stops_at_end o)
   where
     at : (b : Bool) → cond b (filled o w) w ≡ w

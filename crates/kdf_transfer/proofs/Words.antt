@@ -29,11 +29,11 @@ module _ (o : TransferOrder) (first last : ℕ) (l : Option Lent) (f : Fixture) 
   unfolding all_words
   words_are = refl
 
-  input_offer : is_input o ≡ true → offer ≡ take (last + 1 - first) (given o f p)
+  pub input_offer : is_input o ≡ true → offer ≡ take (last + 1 - first) (given o f p)
   unfolding offered
   input_offer is = ap (λ b. cond b (take (last + 1 - first) (given o f p)) (cond (is_output o) (area_words o first last l) [])) is
 
-  output_offer : is_input o ≡ false → is_output o ≡ true → offer ≡ map (lent_at l) (range_with_len first (last + 1 - first))
+  pub output_offer : is_input o ≡ false → is_output o ≡ true → offer ≡ map (lent_at l) (range_with_len first (last + 1 - first))
   unfolding offered
   output_offer not is =
       ap (λ b. cond b (take (last + 1 - first) (given o f p)) (cond (is_output o) (area_words o first last l) [])) not

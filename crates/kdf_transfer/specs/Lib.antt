@@ -6,3 +6,4 @@ pub mod Flying
 pub mod Spare
 pub mod ByNumber
 pub mod Slots
+pub mod Runs

@@ -1,9 +1,11 @@
 //! Devices of any kind.
-ghost use Rattle.std.specs.Prelude.{◌≡◌, ◌+◌, ◌%◌, ◌^◌, ◌<◌, ◌≤◌, true, All, length, reverse, slice_get, IfOk, OnOk, Some};
+ghost use Rattle.std.specs.Prelude.{◌≡◌, ◌+◌, ◌%◌, ◌^◌, ◌<◌, ◌≤◌, true, All, length, reverse, slice_get, IfOk, IfSome, OnOk, Some};
 ghost use Rattle.std.specs.Option.{option_copied};
 ghost use Rattle.kdf_transfer.specs.AtOnce.{blocks_out, finished, given, is_input, kind_of, words_in};
 ghost use Rattle.kdf_transfer.specs.Devices.{blank_fixture, fixture_of, has_label, is_wanted, new_progress, progress_of, room_of, test_of};
+ghost use Rattle.kdf_transfer.specs.Runs.{IsRun};
 ghost use Rattle.kdf_transfer.specs.Spare.{HasSpare};
+ghost use Rattle.kdf_word.specs.Characters.{words_of};
 
 use crate::finished::{finish_cards, finish_printer, finish_punch, finish_reader, finish_tape};
 use crate::{Test, TransferOrder, Wanted};
@@ -186,6 +188,27 @@ impl Device {
         }
     }
 
+    /// The characters of all the words that an input order gives, which stops at no End Message and reads no card.
+    #[tactic(auto, unfolding(crate::specs::AtOnce::given))]
+    pub(crate) fn run_of_codes(&self, order: TransferOrder) -> Option<&[u8]>
+        requires { (fixture_of self.now).kind ≡ kind_of order }
+        ensures { IfSome result (λ codes. IsRun order codes.now
+            (given order (fixture_of self.now) (progress_of self.now))) }
+    {
+        match self {
+            Device::Tr(reader) => match order {
+                TransferOrder::Prq => Some(reader.codes_left()),
+                _ => None,
+            },
+            Device::Mt(tape) => match order {
+                TransferOrder::Mfrq => codes_in(tape.forward()),
+                TransferOrder::Mbrq => codes_in(tape.backward()),
+                _ => None,
+            },
+            Device::Tp(_) | Device::Cr(_) | Device::Lp(_) => None,
+        }
+    }
+
     /// Its state after an order with an area of so many words, which moved these characters to it. It takes no memory.
     pub(crate) fn finish(&mut self, order: TransferOrder, words: u16, block: Vec<u8>)
         requires kind { (fixture_of self.old).kind ≡ kind_of order }
@@ -204,6 +227,17 @@ impl Device {
             Device::Lp(printer) => finish_printer(printer, order, words, block),
             Device::Mt(tape) => finish_tape(tape, order, words, block),
         }
+    }
+}
+
+/// The characters of a block, where there is one.
+fn codes_in(block: Option<&TapeBlock>) -> Option<&[u8]>
+    ensures words { IfSome result (λ codes. words_of codes.now ≡ words_in (option_copied block.entry)) }
+    ensures below { IfSome result (λ codes. All (λ c. c < 64) codes.now) }
+{
+    match block {
+        Some(block) => Some(block.codes()),
+        None => None,
     }
 }
 

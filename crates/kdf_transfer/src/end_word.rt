@@ -12,28 +12,11 @@ use kdf_word::Word;
 /// The code of End Message.
 const END_MESSAGE: u8 = 0o75;
 
-/// The eight characters of a word.
-fn codes(word: Word) -> [u8; 8]
-    ensures value { result ≡ codes_of word }
-    ensures small { All (λ c. c < 64) result }
-{
-    [
-        word.character(0),
-        word.character(1),
-        word.character(2),
-        word.character(3),
-        word.character(4),
-        word.character(5),
-        word.character(6),
-        word.character(7),
-    ]
-}
-
 /// Whether an End Message is among the characters of a word.
 fn has_end(word: Word) -> bool
     ensures { result ≡ has_end (codes_of word) }
 {
-    codes(word).contains(&END_MESSAGE)
+    word.codes().contains(&END_MESSAGE)
 }
 
 /// The word with code 00 in place of what stands after its End Message.
@@ -41,7 +24,7 @@ fn has_end(word: Word) -> bool
 fn filled(word: Word) -> Word
     ensures { result ≡ first_word (through_end (codes_of word)) }
 {
-    Word::of_codes(through_end(&codes(word)))
+    Word::of_codes(through_end(&word.codes()))
 }
 
 /// Whether an order stops after a word.

@@ -3,7 +3,7 @@ ghost use Rattle.std.specs.Prelude.{◌≡◌, ◌+◌, ◌-◌, ◌*◌, ◌^�
 ghost use Rattle.std.specs.Prelude.{if◌then◌else◌, slice_index, slice_get, vec_len};
 ghost use Rattle.std.specs.Vec.{vec_capacity};
 ghost use Rattle.std.specs.Option.{option_map};
-ghost use Rattle.kdf_word.specs.Characters.{codes_of};
+ghost use Rattle.kdf_word.specs.Characters.{codes_of, words_of};
 ghost use Rattle.kdf_lockout.specs.Groups.{with_lent_word};
 ghost use Rattle.kdf_transfer.specs.AtOnce.{kind_of, is_input, has_area, offered, place_of};
 ghost use Rattle.kdf_transfer.specs.Devices.{fixture_of, progress_of};
@@ -11,6 +11,7 @@ ghost use Rattle.kdf_transfer.specs.InFlight.{area_words, all_words, Covers};
 
 use crate::area::{place_at, words_in};
 use crate::end_word::{fill_up, is_last, push_codes};
+use crate::run::{push_run, put_run};
 use crate::{Area, Device, Ring, TransferOrder};
 use kdf_lockout::Lease;
 use kdf_word::Word;
@@ -62,6 +63,32 @@ pub(crate) fn count_words(
     area: Area,
     lease: &Option<Lease>,
 ) -> u16
+    requires kind { (fixture_of device.now).kind ≡ kind_of order }
+    requires lease { is_some lease.now ≡ has_area order }
+    requires area { has_area order ≡ true → Covers lease.now area.first area.last }
+    ensures value { result ≡ length (all_words order area.first area.last lease.now
+        (fixture_of device.now) (progress_of device.now)) }
+    ensures few { result ≤ 4096 }
+{
+    if !order.is_input() && !order.stops_at_end() {
+        return words_in(order, area);
+    }
+    match device.run_of_codes(order) {
+        Some(codes) => count_within(codes, words_in(order, area)),
+        None => count_up(device, order, area, lease),
+    }
+}
+
+/// How many words these characters make, but at most so many.
+fn count_within(codes: &[u8], words: u16) -> u16
+    ensures value { result ≡ min words (length (words_of codes.now)) }
+    ensures within { result ≤ words }
+{
+    codes.len().div_ceil(8).min(usize::from(words)) as u16
+}
+
+/// How many words an order moves, one after the other.
+fn count_up(device: &Device, order: TransferOrder, area: Area, lease: &Option<Lease>) -> u16
     requires kind { (fixture_of device.now).kind ≡ kind_of order }
     requires lease { is_some lease.now ≡ has_area order }
     requires area { has_area order ≡ true → Covers lease.now area.first area.last }
@@ -205,6 +232,63 @@ impl Flight {
     {
         for _i in 0..n.min(self.total - self.moved) {
             self.step();
+        }
+    }
+
+    /// Moves the words that remain.
+    pub(crate) fn run_out(&mut self)
+        requires { IsFlying self.old }
+        ensures flying { IsFlying self.new }
+        ensures motion { motion_of self.new ≡ moved_by self.old.total (motion_of self.old) }
+        ensures total { self.new.total ≡ self.old.total }
+    {
+        if self.order.is_input() {
+            self.read_out();
+        } else {
+            self.write_out();
+        }
+    }
+
+    /// Moves the words that remain of an input order.
+    fn read_out(&mut self)
+        requires flying { IsFlying self.old }
+        requires input { is_input self.old.order ≡ true }
+        ensures flying { IsFlying self.new }
+        ensures motion { motion_of self.new ≡ moved_by self.old.total (motion_of self.old) }
+        ensures total { self.new.total ≡ self.old.total }
+    {
+        match self.device.run_of_codes(self.order) {
+            Some(codes) => {
+                put_run(
+                    codes,
+                    self.order,
+                    self.area,
+                    &mut self.lease,
+                    self.moved,
+                    self.total,
+                );
+                self.moved = self.total;
+                self.ring.clear();
+            }
+            None => self.run(self.total),
+        }
+    }
+
+    /// Moves the words that remain of another order.
+    fn write_out(&mut self)
+        requires flying { IsFlying self.old }
+        requires output { is_input self.old.order ≡ false }
+        ensures flying { IsFlying self.new }
+        ensures motion { motion_of self.new ≡ moved_by self.old.total (motion_of self.old) }
+        ensures total { self.new.total ≡ self.old.total }
+    {
+        match &self.lease {
+            Some(lease) => {
+                push_run(lease, self.area, &mut self.block, self.moved, self.total);
+                self.moved = self.total;
+                self.ring.clear();
+            }
+            None => {}
         }
     }
 

@@ -12,6 +12,7 @@ pub mod laws;
 mod one_step;
 mod order;
 mod ring;
+mod run;
 mod test;
 mod text;
 mod transfer;

@@ -140,8 +140,7 @@ impl Transfer {
         ensures ring { result.2 ≡ [] }
     {
         let Transfer { mut flight } = self;
-        let total = flight.total;
-        flight.run(total);
+        flight.run_out();
         flight.finish()
     }
 

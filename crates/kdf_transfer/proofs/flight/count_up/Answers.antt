@@ -4,7 +4,7 @@ use Rattle.kdf_transfer.specs.Devices.{fixture_of, progress_of}
 use Rattle.kdf_transfer.specs.InFlight.{area_words}
 use Rattle.kdf_transfer.proofs.Stopping.{count_none, count_last, count_more, count_end}
 use Rattle.kdf_transfer.proofs.Words.{words_are, few_area}
-use Rattle.kdf_transfer.proofs.flight.count_words.Goals as goal
+use Rattle.kdf_transfer.proofs.flight.count_up.Goals as goal
 
 pub words_in-requires : goal.words_in-requires
 words_in-requires c = λ has. let h = c.requires.area has in (h.rising, h.few)

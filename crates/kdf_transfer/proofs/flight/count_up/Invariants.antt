@@ -2,7 +2,7 @@ use Rattle.std.proofs.Common.{◌≡◌, ◌+◌, length, drop}
 use Rattle.kdf_transfer.specs.AtOnce.{offered, stopped}
 use Rattle.kdf_transfer.specs.Devices.{fixture_of, progress_of}
 use Rattle.kdf_transfer.specs.InFlight.{area_words}
-use Rattle.kdf_transfer.proofs.flight.count_words.Given as goal
+use Rattle.kdf_transfer.proofs.flight.count_up.Given as goal
 
 abbrev pub invariant-loop-i : goal.invariant-loop-i
 invariant-loop-i l =

@@ -1,0 +1,13 @@
+use Rattle.std.proofs.Common.{◌≡◌, ◌-◌, Some, drop, take}
+use Rattle.std.specs.Prelude.{reverse}
+use Rattle.kdf_word.specs.Characters.{words_of}
+use Rattle.kdf_transfer.specs.AtOnce.{down_addresses}
+use Rattle.kdf_transfer.specs.InFlight.{Covers, put_words}
+use Rattle.kdf_transfer.proofs.run.put_down.Given as goal
+
+abbrev pub invariant-loop-i : goal.invariant-loop-i
+invariant-loop-i l =
+    record {
+      lease : l.lease ≡ put_words (take (l.i - l.from) (drop l.from (down_addresses l.area.last (take l.total (reverse (words_of l.codes)))))) l.initial.lease;
+      covers : Covers (Some l.lease) l.area.first l.area.last;
+    }
