@@ -75,10 +75,10 @@ abbrev pub from_eight : ℕ → ℕ
 from_eight w = w / 2 ^ 24 * 2 ^ 32 % 2 ^ 64 + w % 2 ^ 24
 
 abbrev pub from_fours : ℕ → ℕ
-from_fours n = bit_and (n / 2 ^ 12) 0x00000FFF00000FFF * 2 ^ 16 % 2 ^ 64 + bit_and n 0x00000FFF00000FFF
+from_fours n = n + bit_and (n / 2 ^ 12) 0x00000FFF00000FFF * 61440
 
 abbrev pub from_twos : ℕ → ℕ
-from_twos n = bit_and (n / 2 ^ 6) 0x003F003F003F003F * 2 ^ 8 % 2 ^ 64 + bit_and n 0x003F003F003F003F
+from_twos n = n + bit_and (n / 2 ^ 6) 0x003F003F003F003F * 192
 
 module _ (a b c d e f g h : ℕ) (a' : a < 64) (b' : b < 64) (c' : c < 64) (d' : d < 64) (e' : e < 64) (f' : f < 64) (g' : g < 64) (h' : h < 64) where
   -- brought together
@@ -108,15 +108,13 @@ module _ (a b c d e f g h : ℕ) (a' : a < 64) (b' : b < 64) (c' : c < 64) (d' :
   twos_again n is =
       let even : n / 2 ^ 12 ≡ (a * 64 + b) * 2 ^ 32 + ((c * 64 + d) * 2 ^ 20 + (e * 64 + f)) = omega (arith, is) in
       let one = twelves (a * 64 + b) ((c * 64 + d) * 2 ^ 20 + (e * 64 + f)) (a * 64 + b) (e * 64 + f) (n / 2 ^ 12) (omega arith) (omega arith) (omega arith) even in
-      let two = twelves (((a * 64 + b) * 64 + c) * 64 + d) (((e * 64 + f) * 64 + g) * 64 + h) (c * 64 + d) (g * 64 + h) n (omega arith) (omega arith) (omega arith) is in
-      omega (arith, one, two)
+      omega (arith, one, is)
 
   bytes_again : (n : ℕ) → n ≡ in_twos a b c d e f g h → from_twos n ≡ in_bytes a b c d e f g h
   bytes_again n is =
       let even : n / 2 ^ 6 ≡ ((a * 2 ^ 16 + (b * 2 ^ 10 + c)) * 2 ^ 16 + (d * 2 ^ 10 + e)) * 2 ^ 16 + (f * 2 ^ 10 + g) = omega (arith, is) in
       let one = sixes a (b * 2 ^ 10 + c) (d * 2 ^ 10 + e) (f * 2 ^ 10 + g) a c e g (n / 2 ^ 6) (omega arith) (omega arith) (omega arith) (omega arith) (omega arith) (omega arith) (omega arith) even in
-      let two = sixes (a * 64 + b) (c * 64 + d) (e * 64 + f) (g * 64 + h) b d f h n (omega arith) (omega arith) (omega arith) (omega arith) (omega arith) (omega arith) (omega arith) is in
-      omega (arith, one, two)
+      omega (arith, one, is)
 
   pub unpacked : (w : ℕ) → w ≡ a * 2 ^ 42 + b * 2 ^ 36 + c * 2 ^ 30 + d * 2 ^ 24 + e * 2 ^ 18 + f * 2 ^ 12 + g * 2 ^ 6 + h → from_twos (from_fours (from_eight w)) ≡ a * 256 ^ 7 + b * 256 ^ 6 + c * 256 ^ 5 + d * 256 ^ 4 + e * 256 ^ 3 + f * 256 ^ 2 + g * 256 + h
   unpacked w is =
