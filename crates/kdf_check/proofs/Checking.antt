@@ -13,9 +13,9 @@ use Rattle.kdf_job.specs.WellFormed as job
 use Rattle.kdf_director.specs.Follows.{IsRising}
 use Rattle.kdf_director.specs.Loading.{HaveImages, loads, slots_of}
 use Rattle.kdf_director.specs.Served.{IsJournalFor}
-use Rattle.kdf_director.proofs.ForService.{true_for_nil}
-use Rattle.kdf_director.proofs.Judged.{legal_nil}
-use Rattle.kdf_director.proofs.Loadable.{are_loads, are_slots}
+use Rattle.kdf_director.proofs.Course.OneJournal.{true_for_nil}
+use Rattle.kdf_director.proofs.Course.WorldsJudged.{legal_nil}
+use Rattle.kdf_director.proofs.Loading.JobsLoaded.{are_loads, are_slots}
 use Rattle.kdf_check.specs.declared.table.Pending.{Pending}
 use Rattle.kdf_check.specs.declared.program.Program.{Program}
 use Rattle.kdf_check.specs.declared.verdict.Verdict.{Verdict}

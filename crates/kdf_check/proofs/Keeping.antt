@@ -21,12 +21,12 @@ use Rattle.kdf_director.specs.Legal.{IsLegal, Meets}
 use Rattle.kdf_director.specs.Next.{next}
 use Rattle.kdf_director.specs.Served.{is_true_for, IsTrueFor}
 use Rattle.kdf_director.specs.Slots.{slot_of, start}
-use Rattle.kdf_director.specs.Told.{lone_world, own}
+use Rattle.kdf_director.specs.ByJournal.{lone_world, own}
 use Rattle.kdf_director.specs.World.{need_of}
-use Rattle.kdf_director.proofs.ForService.{true_for_added, true_of_for}
-use Rattle.kdf_director.proofs.Judged.{legal_added}
-use Rattle.kdf_director.proofs.Owns.{asked-start, own-ran, own-same}
-use Rattle.kdf_director.proofs.Worlds.{next_on, next_slot}
+use Rattle.kdf_director.proofs.Course.OneJournal.{true_for_added, true_of_for}
+use Rattle.kdf_director.proofs.Course.WorldsJudged.{legal_added}
+use Rattle.kdf_director.proofs.Course.OwnSteps.{asked-start, own-ran, own-same}
+use Rattle.kdf_director.proofs.Course.Worlds.{next_on, next_slot}
 use Rattle.kdf_check.specs.Around.{Around}
 use Rattle.kdf_check.specs.declared.table.Pending.{Pending}
 use Rattle.kdf_check.specs.declared.program.Program.{Program}

@@ -23,10 +23,10 @@ use Rattle.kdf_director.specs.Flights.{Flight, touches}
 use Rattle.kdf_director.specs.Legal.{IsLegal, IsTrue}
 use Rattle.kdf_director.specs.Seen.{touched_below}
 use Rattle.kdf_director.specs.Slots.{AreSlots, start}
-use Rattle.kdf_director.specs.Told.{flight_of, flights_of, free_after, is_free_after, is_pending_after, lone_world, mine_after, own}
-use Rattle.kdf_director.specs.Told as journal
+use Rattle.kdf_director.specs.ByJournal.{flight_of, flights_of, free_after, is_free_after, is_pending_after, lone_world, mine_after, own}
+use Rattle.kdf_director.specs.ByJournal as journal
 use Rattle.kdf_director.specs.True.{one_if, truth}
-use Rattle.kdf_director.proofs.Holding.{legal_taken}
+use Rattle.kdf_director.proofs.Course.DevicesHeld.{legal_taken}
 use Rattle.kdf_check.specs.Around.{Around, covers, free_in, is_among, is_busy_in, is_free_in, is_of, is_out_in, mine_in}
 use Rattle.kdf_check.specs.declared.table.Pending.{Pending}
 use Rattle.kdf_check.specs.Desk.{answer_in, shown_by, taken_in}

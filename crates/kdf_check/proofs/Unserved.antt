@@ -13,9 +13,9 @@ use Rattle.kdf_text.specs.Lines.{is_text, line, lines as lines_in}
 use Rattle.kdf_director.specs.Legal.{IsAnswer}
 use Rattle.kdf_director.specs.Served.{is_served, is_true_for, IsJournalFor}
 use Rattle.kdf_director.specs.Slots.{NoneServed}
-use Rattle.kdf_director.specs.Told.{own}
-use Rattle.kdf_director.proofs.ForService.{own_unserved}
-use Rattle.kdf_director.proofs.HeardWords.{none_asked}
+use Rattle.kdf_director.specs.ByJournal.{own}
+use Rattle.kdf_director.proofs.Course.OneJournal.{own_unserved}
+use Rattle.kdf_director.proofs.Turns.HeardWords.{none_asked}
 use Rattle.kdf_check.specs.declared.verdict.Verdict.{Verdict}
 use Rattle.kdf_check.specs.declared.verdict.Verdict.TheVariants.{Yes, No}
 use Rattle.kdf_check.specs.Report.{head_line, told_lines, IsCheck, IsJudged}

@@ -16,7 +16,7 @@ use Rattle.kdf_alone.specs.Bench.{state_with, stock_of}
 use Rattle.kdf_director.specs.Legal.{IsLegal, Meets}
 use Rattle.kdf_director.specs.Served.{is_true_for, IsTrueFor}
 use Rattle.kdf_director.specs.Slots.{AreSlots, slot_of}
-use Rattle.kdf_director.specs.Told.{lone_world, own}
+use Rattle.kdf_director.specs.ByJournal.{lone_world, own}
 use Rattle.kdf_director.specs.World.{need_of}
 use Rattle.kdf_check.specs.Around.{Around}
 use Rattle.kdf_check.specs.declared.table.Pending.{Pending}

@@ -5,7 +5,7 @@ use Rattle.kdf_journal.specs.Counts.{clock, holder, pending}
 use Rattle.kdf_transfer.specs.Slots.{Slot}
 use Rattle.kdf_processor.specs.State.{device_limit}
 use Rattle.kdf_director.specs.Flights.{touches}
-use Rattle.kdf_director.specs.Told.{flights_of}
+use Rattle.kdf_director.specs.ByJournal.{flights_of}
 use Rattle.kdf_check.specs.Around.{Around, is_among}
 use Rattle.kdf_check.specs.declared.table.Pending.{Pending}
 

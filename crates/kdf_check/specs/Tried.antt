@@ -14,7 +14,7 @@ use Rattle.kdf_alone.specs.declared.bench.Bench.{Bench}
 use Rattle.kdf_alone.specs.Bench.{state_with}
 use Rattle.kdf_director.specs.Legal.{note_of, IsLegal, IsTrue}
 use Rattle.kdf_director.specs.Slots.{AreSlots}
-use Rattle.kdf_director.specs.Told.{lone_world, own}
+use Rattle.kdf_director.specs.ByJournal.{lone_world, own}
 use Rattle.kdf_director.specs.True.{truth}
 use Rattle.kdf_director.specs.World.{first_need, hold_of}
 use Rattle.kdf_check.specs.Around.{Around}

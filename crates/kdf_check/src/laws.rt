@@ -14,7 +14,7 @@ ghost use Rattle.kdf_processor.specs.Row.{next_of};
 ghost use Rattle.kdf_director.specs.Legal.{IsLegal, IsTrue, Meets};
 ghost use Rattle.kdf_director.specs.Served.{IsJournalFor};
 ghost use Rattle.kdf_director.specs.Slots.{AreSlots};
-ghost use Rattle.kdf_director.specs.Told.{lone_world, own};
+ghost use Rattle.kdf_director.specs.ByJournal.{lone_world, own};
 ghost use Rattle.kdf_director.specs.World.{World, first_need};
 ghost use Rattle.kdf_check.specs.Around.{Around};
 ghost use Rattle.kdf_check.specs.declared.table.Pending.{Pending};

@@ -18,7 +18,7 @@ use Rattle.kdf_director.specs.Legal.{note_of}
 use Rattle.kdf_director.specs.Next.{any_live, next}
 use Rattle.kdf_director.specs.Seen.{begun_row}
 use Rattle.kdf_director.specs.Shown.{Shown, entered, state_at, state_of, world_of}
-use Rattle.kdf_director.specs.Told.{is_of}
+use Rattle.kdf_director.specs.ByJournal.{is_of}
 use Rattle.kdf_director.specs.True.{truth}
 use Rattle.kdf_director.specs.World.{first_need, hold_of}
 

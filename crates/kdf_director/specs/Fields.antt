@@ -1,163 +1,21 @@
--- How what is loaded fills the fields of a machine: the store, the programs and the places of the devices.
-use Rattle.std.specs.Prelude.{◌≡◌, ℕ, Bool, true, false, sum_by, ◌+◌, ◌%◌, ◌/◌, ◌<◌, ◌≤◌, ◌==◌, List, [], ◌∷◌, length, map, replicate, Option, Some, None, is_some, if◌then◌else◌, slice_index_or}
-use Rattle.std.specs.List.{All, AllPairs}
-use Rattle.kdf_lockout.specs.Groups.{Cells, is_out, with_word}
-use Rattle.kdf_relocate.specs.Windows.{windows_from}
-use Rattle.kdf_relocate.specs.declared.window.Window.{Window}
-use Rattle.kdf_journal.specs.declared.kind.Kind.{Kind}
-use Rattle.kdf_transfer.specs.Devices.{blank_fixture, new_progress}
-use Rattle.kdf_transfer.specs.declared.device.Device.{Device}
-use Rattle.kdf_job.specs.Job.{JobDevice}
-use Rattle.kdf_job.specs.Shows.{shown_device}
-use Rattle.kdf_processor.specs.State.{begin, new_registers, unclaimed}
-use Rattle.kdf_director.specs.declared.load.Parts.{Parts}
-use Rattle.kdf_director.specs.declared.place.Place.{Place}
-use Rattle.kdf_director.specs.declared.place.Place.TheVariants.{Absent, Idle}
-use Rattle.kdf_director.specs.declared.program.Program.{Program}
-use Rattle.kdf_director.specs.declared.slot.Loaded.{Loaded}
-use Rattle.kdf_director.specs.Parts.{Seat, Reach, Shared, in_pool, owns, shared_in, window_at}
-use Rattle.kdf_director.specs.Running.{IsRunning, own_state, part_at, reaches_in, seats_in}
-use Rattle.kdf_director.specs.Slots.{AreSlots}
-use Rattle.kdf_director.specs.Spots.{AreDry, Spot, no_spot, spot_at}
-use Rattle.kdf_job.specs.Slots.{lent_kind, numbered}
-use Rattle.kdf_director.specs.Loading.{SlotLoad, slot_of}
-
--- the numbers of a slot's devices, and whether one of them has this number
-abbrev pub numbers_in : List JobDevice → List ℕ
-numbers_in devices = map (λ (x : JobDevice). x.d) devices
-
-abbrev pub has : SlotLoad → ℕ → Bool
-has l d = owns (numbers_in l.devices) d
-
--- no device number is in both
-abbrev pub AreApart : SlotLoad → SlotLoad → Type 0
-AreApart a b = (d : ℕ) → has a d ≡ true → has b d ≡ false
-
--- each slot's number is below those of the later ones
-abbrev pub IsBelow : SlotLoad → SlotLoad → Type 0
-IsBelow a b = a.p < b.p
-
--- a device of the pool has this number
-abbrev pub lends : SlotLoad → ℕ → Bool
-lends l d = is_some (lent_kind l.pool d)
-
--- one of four slots: whole groups, which the words fit, and devices of sixteen, of which none is the pool's
-pub record IsLoad (l : SlotLoad) : Type 0 where
-  pub number : l.p < 4
-  pub groups : l.size % 32 ≡ 0
-  pub fits : length l.words ≤ l.size
-  pub below : All (λ n. n < 16) (numbers_in l.devices)
-  pub few : (d : ℕ) → lends l d ≡ true → d < 16
-  pub owned : (d : ℕ) → has l d ≡ true → lends l d ≡ false
-
--- the numbers of the slots rise, their stores fit together, no device's number is of two slots, and the pool is common
-pub record AreLoads (slots : List SlotLoad) : Type 0 where
-  pub each : All IsLoad slots
-  pub rising : AllPairs IsBelow slots
-  pub total : sum_by (λ (l : SlotLoad). l.size) slots ≤ 31744
-  pub apart : AllPairs AreApart slots
-  pub common : AllPairs (λ (a b : SlotLoad). a.pool ≡ b.pool) slots
-
--- what was loaded
-abbrev pub loaded : Loaded → SlotLoad
-loaded l =
-    record {
-      p = l.p;
-      size = l.size;
-      words = l.words.items;
-      devices = map shown_device l.devices.items;
-      pool = l.pool.items;
-      served = l.served;
-    }
-
--- the size of the slot with a number, 0 where it is absent
-abbrev pub size_at : List SlotLoad → ℕ → ℕ
-size_at [] p = 0
-size_at (l ∷ slots) p = if l.p == p then l.size else size_at slots p
-
-abbrev pub sizes_of : List SlotLoad → List ℕ
-sizes_of slots = size_at slots 0 ∷ size_at slots 1 ∷ size_at slots 2 ∷ size_at slots 3 ∷ []
-
--- the store with a word at a place, unless the place's group is out
-abbrev pub kept_word : Cells → ℕ → ℕ → Cells
-kept_word cells place w = if is_out cells (place / 32) then cells else with_word cells place w
-
--- the store with these words from a place on
-abbrev pub with_words : Cells → ℕ → List ℕ → Cells
-with_words cells place [] = cells
-with_words cells place (w ∷ words) = with_words (kept_word cells place w) (place + 1) words
-
--- the store with the words of each slot from the begin of its window on
-abbrev pub with_images : List Window → Cells → List SlotLoad → Cells
-with_images windows cells [] = cells
-with_images windows cells (l ∷ slots) =
-    with_images windows (with_words cells (window_at windows l.p).base l.words) slots
-
--- a store of 1,024 groups, all words zero
-unfoldable pub zero_cells : Cells
-zero_cells = replicate 1024 (Some (replicate 32 0))
-
--- a program before its first order
-abbrev pub first_seat : SlotLoad → Seat
-first_seat l = record { p = l.p; registers = new_registers; claimed = unclaimed; spooled = []; stints = [] }
-
--- a place without a transfer, with a device of a slot's, with a blank one of the pool, or with none
-abbrev pub own_spot : ℕ → JobDevice → Spot
-own_spot p x = record { fixture = Some x.fixture; progress = x.progress; flight = None; holder = Some p }
-
-abbrev pub pool_spot : Option Kind → Spot
-pool_spot None = no_spot
-pool_spot (Some kind) =
-    record { fixture = Some (blank_fixture kind); progress = new_progress; flight = None; holder = None }
-
-abbrev pub spot_or : ℕ → Option JobDevice → Spot → Spot
-spot_or p None other = other
-spot_or p (Some x) other = own_spot p x
-
--- the place of a number: the device of the first slot that has one, or else that of the pool, which is the first slot's
-abbrev pub first_own : List SlotLoad → ℕ → Spot → Spot
-first_own [] d other = other
-first_own (l ∷ slots) d other = spot_or l.p (numbered l.devices d) (first_own slots d other)
-
-abbrev pub pool_in : List SlotLoad → List (ℕ × Kind)
-pool_in [] = []
-pool_in (l ∷ slots) = l.pool
-
-abbrev pub idle_spot : List SlotLoad → ℕ → Spot
-idle_spot slots d = first_own slots d (pool_spot (lent_kind (pool_in slots) d))
-
--- what is put into a place: a device, its ring, and the program whose device it is
-abbrev pub idle_place : Option (Device × List ℕ × Option ℕ) → Place
-idle_place None = Absent
-idle_place (Some x) = Idle x.0 x.1 x.2
-
--- the words in the ring of a device
-abbrev pub idle_ring : Option (Device × List ℕ × Option ℕ) → List ℕ
-idle_ring None = []
-idle_ring (Some x) = x.1
-
--- what the programs of a machine have and share
-abbrev pub reaches : Parts → List Reach
-reaches m = reaches_in m.windows m.slots.items
-
-abbrev pub seats : Parts → List Seat
-seats m = seats_in m.programs.items
-
-abbrev pub shared : Parts → Shared
-shared m = shared_in m.store m.devices.items
-
--- a machine with these slots, before the first order: each program is at its start, no device has a transfer, and none of the pool is lent
-pub record IsLoaded (slots : List SlotLoad) (m : Parts) : Type 0 where
-  pub slots_are : map loaded m.slots.items ≡ slots
-  pub loads_are : AreLoads slots
-  pub can_be_loaded : AreSlots (map slot_of slots)
-  pub windows_are : m.windows ≡ windows_from 1024 (sizes_of slots)
-  pub programs_are : seats m ≡ map first_seat slots
-  pub no_hold : map (λ (x : Program). x.hold) m.programs.items ≡ map (λ _. None) slots
-  pub running : IsRunning (reaches m) (seats m) (shared m)
-  pub starts : (i : ℕ) (l : SlotLoad) → i < length slots
-      → own_state (reaches m) (seats m) (shared m) 0 i ≡ begin (slot_of (slice_index_or slots i l))
-  pub idle : (d : ℕ) → (spot_at (shared m).spots d).flight ≡ None
-  pub unlent : (i d : ℕ) → i < length (seats m) → in_pool (part_at (reaches m) (seats m) i) d ≡ true
-      → (spot_at (shared m).spots d).holder ≡ None
-  pub dry : AreDry m.devices.items
+-- The fields of a machine: its store, places, slots and programs, and what an order, a call and an event make of them.
+pub mod Agrees
+pub mod Closing
+pub mod Filled
+pub mod Following
+pub mod Going
+pub mod Keeping
+pub mod Notes
+pub mod Owners
+pub mod Parts
+pub mod Physical
+pub mod Running
+pub mod Settled
+pub mod Shared
+pub mod Sound
+pub mod Spots
+pub mod Stints
+pub mod Turn
+pub mod TurnTaken
+pub mod Turned
+pub mod Viewed

@@ -12,7 +12,7 @@ use Rattle.kdf_journal.specs.declared.entry.Entry.{Entry}
 use Rattle.kdf_journal.specs.Steps.{Note, Quiet, Began, Answered, Took, Gave, Failed, Finished, Step, steps}
 use Rattle.kdf_course.specs.Legal as course
 use Rattle.kdf_director.specs.Next.{dispatched, lone_dispatched}
-use Rattle.kdf_director.specs.Told.{lone_world, own}
+use Rattle.kdf_director.specs.ByJournal.{lone_world, own}
 use Rattle.kdf_director.specs.True.{truth}
 use Rattle.kdf_director.specs.World.{World}
 

@@ -5,7 +5,7 @@ use Rattle.kdf_journal.specs.declared.entry.Entry.{Entry}
 use Rattle.kdf_transfer.specs.Slots.{Slot}
 use Rattle.kdf_course.specs.World as course
 use Rattle.kdf_director.specs.Slots.{slot_of}
-use Rattle.kdf_director.specs.Told.{lone_world}
+use Rattle.kdf_director.specs.ByJournal.{lone_world}
 use Rattle.kdf_director.specs.World.{World, first_need, hold_of, need_of}
 
 -- the programs that there are

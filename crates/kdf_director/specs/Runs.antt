@@ -13,14 +13,14 @@ use Rattle.kdf_director.specs.Advance.{AdvanceWith}
 use Rattle.kdf_director.specs.Legal.{IsLegal}
 use Rattle.kdf_director.specs.Next.{lone_dispatched}
 use Rattle.kdf_director.specs.Orders.{HasMade}
-use Rattle.kdf_director.specs.Parts.{Reach, Seat, Shared}
-use Rattle.kdf_director.specs.Running.{reach_at, seat_at}
+use Rattle.kdf_director.specs.Fields.Parts.{Reach, Seat, Shared}
+use Rattle.kdf_director.specs.Fields.Running.{reach_at, seat_at}
 use Rattle.kdf_director.specs.Progressed.{found_live}
 use Rattle.kdf_director.specs.Served.{IsAnswered, IsTrueFor}
-use Rattle.kdf_director.specs.Shared.{moment}
+use Rattle.kdf_director.specs.Fields.Shared.{moment}
 use Rattle.kdf_director.specs.Shown.{Shown}
-use Rattle.kdf_director.specs.Taken.{HasAsked, hold_left, progress_of, step_told}
-use Rattle.kdf_director.specs.Turned.{word_over, HasTurned}
+use Rattle.kdf_director.specs.Fields.TurnTaken.{HasAsked, hold_left, progress_of, step_told}
+use Rattle.kdf_director.specs.Fields.Turned.{word_over, HasTurned}
 
 -- the journal after program p obeyed so many orders of which nothing is noted
 abbrev pub ran_on : List Entry → (p : ℕ) → ℕ → List Entry

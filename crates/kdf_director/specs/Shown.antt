@@ -7,7 +7,7 @@ use Rattle.kdf_transfer.specs.declared.device.Device.{Device}
 use Rattle.kdf_transfer.specs.Slots.{Slot}
 use Rattle.kdf_processor.specs.State.{State, device_at, own_fixture_at}
 use Rattle.kdf_director.specs.Slots.{start_of}
-use Rattle.kdf_director.specs.Told.{seen_of, world_after}
+use Rattle.kdf_director.specs.ByJournal.{seen_of, world_after}
 use Rattle.kdf_director.specs.World.{World}
 
 -- the slots as they were loaded, each program's own state, in the order of the slots, the journal, and how many events more

@@ -4,11 +4,11 @@ ghost use Rattle.std.specs.List.{list_any};
 ghost use Rattle.kdf_transfer.specs.declared.device.Device.{Device};
 ghost use Rattle.kdf_job.specs.Slots.{lent_kind};
 ghost use Rattle.kdf_processor.specs.State.{device_limit, pooled_or};
-ghost use Rattle.kdf_director.specs.Parts.{fixture_owned, numbers, owns};
+ghost use Rattle.kdf_director.specs.Fields.Parts.{fixture_owned, numbers, owns};
 ghost use Rattle.kdf_transfer.specs.Devices.{is_kind, is_wanted, kind_in};
 ghost use Rattle.kdf_transfer.specs.ByNumber.{by_number};
-ghost use Rattle.kdf_director.specs.Shared.{free_in, is_free_in};
-ghost use Rattle.kdf_director.specs.Spots.{spot_of, spot_at};
+ghost use Rattle.kdf_director.specs.Fields.Shared.{free_in, is_free_in};
+ghost use Rattle.kdf_director.specs.Fields.Spots.{spot_of, spot_at};
 
 use crate::Place;
 use crate::places::holder_in;

@@ -1,15 +1,15 @@
 //! One order of one program.
 ghost use Rattle.std.specs.Prelude.{◌≡◌, ◌+◌, ◌*◌, ◌%◌, ◌<◌, ◌≤◌, length, map, IfOk, OnOk, OnErr, []};
 ghost use Rattle.kdf_lockout.specs.Groups.{Cells};
-ghost use Rattle.kdf_director.specs.Keeping.{IsActive, IsKept};
-ghost use Rattle.kdf_director.specs.Parts.{part_in, reach, reach_of, seat, seat_of, shared_in};
-ghost use Rattle.kdf_director.specs.Settled.{both_of, retired, settled};
-ghost use Rattle.kdf_director.specs.Stints.{keeping_of};
-ghost use Rattle.kdf_director.specs.Running.{reaches_in, seat_at, seats_in, IsRunning};
-ghost use Rattle.kdf_director.specs.Spots.{AreDry};
-ghost use Rattle.kdf_director.specs.Turn.{HasObeyed, SameTurn, Stays};
-ghost use Rattle.kdf_director.specs.Turned.{HasRun, HasTried, HasTurned};
-ghost use Rattle.kdf_director.specs.Parts.{window_at};
+ghost use Rattle.kdf_director.specs.Fields.Keeping.{IsActive, IsKept};
+ghost use Rattle.kdf_director.specs.Fields.Parts.{part_in, reach, reach_of, seat, seat_of, shared_in};
+ghost use Rattle.kdf_director.specs.Fields.Settled.{both_of, retired, settled};
+ghost use Rattle.kdf_director.specs.Fields.Stints.{keeping_of};
+ghost use Rattle.kdf_director.specs.Fields.Running.{reaches_in, seat_at, seats_in, IsRunning};
+ghost use Rattle.kdf_director.specs.Fields.Spots.{AreDry};
+ghost use Rattle.kdf_director.specs.Fields.Turn.{HasObeyed, SameTurn, Stays};
+ghost use Rattle.kdf_director.specs.Fields.Turned.{HasRun, HasTried, HasTurned};
+ghost use Rattle.kdf_director.specs.Fields.Parts.{window_at};
 
 use crate::stint::retire;
 use crate::turn::Turn;

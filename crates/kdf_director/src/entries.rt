@@ -5,9 +5,9 @@ ghost use Rattle.kdf_journal.specs.Counts.{calls, moves};
 ghost use Rattle.kdf_journal.specs.Joined.{pushed};
 ghost use Rattle.kdf_journal.specs.Steps.{added, noted, Holds};
 ghost use Rattle.kdf_director.specs.Advance.{note_beside, note_told};
-ghost use Rattle.kdf_director.specs.Parts.{seat_of};
+ghost use Rattle.kdf_director.specs.Fields.Parts.{seat_of};
 ghost use Rattle.kdf_director.specs.Runs.{held_after, ran_on};
-ghost use Rattle.kdf_director.specs.Taken.{hold_left, progress_of, step_told};
+ghost use Rattle.kdf_director.specs.Fields.TurnTaken.{hold_left, progress_of, step_told};
 ghost use Rattle.kdf_director.specs.World.{hold_of};
 
 use crate::{Note, Program, Progress};

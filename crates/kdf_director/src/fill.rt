@@ -1,8 +1,8 @@
 //! The store as it is loaded.
 ghost use Rattle.std.specs.Prelude.{◌≡◌, ◌+◌, ◌<◌, ◌≤◌, length, map, All, IfOk};
 ghost use Rattle.kdf_director.specs.declared.slot.Loaded.{Loaded};
-ghost use Rattle.kdf_director.specs.Fields.{kept_word, loaded, with_images, with_words, zero_cells};
-ghost use Rattle.kdf_director.specs.Parts.{window_at};
+ghost use Rattle.kdf_director.specs.Fields.Filled.{kept_word, loaded, with_images, with_words, zero_cells};
+ghost use Rattle.kdf_director.specs.Fields.Parts.{window_at};
 
 use crate::Loaded;
 use crate::dispatch::window_of;
@@ -29,7 +29,7 @@ pub(crate) fn filled_store(
 }
 
 /// A store of zeros.
-#[tactic(auto, using(crate::proofs::Filling::zero_count))]
+#[tactic(auto, using(crate::proofs::Loading::StoreFilled::zero_count))]
 fn zero_store(alloc: Global) -> Result<Store, AllocError>
     ensures cells { IfOk result (λ s. s ≡ zero_cells) }
     ensures size { IfOk result (λ s. length s ≡ 1024) }

@@ -1,13 +1,13 @@
 //! What is heard of the service before an order that asks it.
 ghost use Rattle.std.specs.Prelude.{◌≡◌, ◌+◌, ◌*◌, ◌%◌, ◌<◌, ◌≤◌, length, map};
 ghost use Rattle.kdf_service.specs.Rules.{IsService};
-ghost use Rattle.kdf_director.specs.Keeping.{IsActive, IsKept};
-ghost use Rattle.kdf_director.specs.Parts.{part_in, reach, reach_of, seat, seat_of, shared_in, window_at};
-ghost use Rattle.kdf_director.specs.Running.{reach_at, reaches_in, seat_at, seats_in, IsRunning};
-ghost use Rattle.kdf_director.specs.Spots.{AreDry};
-ghost use Rattle.kdf_director.specs.Stints.{keeping_of};
-ghost use Rattle.kdf_director.specs.Taken.{HasAsked};
-ghost use Rattle.kdf_director.specs.Turned.{word_over};
+ghost use Rattle.kdf_director.specs.Fields.Keeping.{IsActive, IsKept};
+ghost use Rattle.kdf_director.specs.Fields.Parts.{part_in, reach, reach_of, seat, seat_of, shared_in, window_at};
+ghost use Rattle.kdf_director.specs.Fields.Running.{reach_at, reaches_in, seat_at, seats_in, IsRunning};
+ghost use Rattle.kdf_director.specs.Fields.Spots.{AreDry};
+ghost use Rattle.kdf_director.specs.Fields.Stints.{keeping_of};
+ghost use Rattle.kdf_director.specs.Fields.TurnTaken.{HasAsked};
+ghost use Rattle.kdf_director.specs.Fields.Turned.{word_over};
 
 use crate::dispatch::window_of;
 use crate::turn::Turn;

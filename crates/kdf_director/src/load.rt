@@ -10,11 +10,11 @@ ghost use Rattle.kdf_relocate.specs.Windows.{have_windows, windows_from, IsBefor
 ghost use Rattle.kdf_director.specs.declared.program.Program.{Program};
 ghost use Rattle.kdf_director.specs.declared.slot.Loaded.{Loaded};
 ghost use Rattle.kdf_director.specs.Loading.{HaveImages, load_of, loads};
-ghost use Rattle.kdf_director.specs.Fields.{AreLoads, IsLoaded, first_seat, idle_place, idle_ring, idle_spot, loaded, pool_in, pool_spot, size_at, sizes_of};
-ghost use Rattle.kdf_director.specs.Parts.{seat_of};
+ghost use Rattle.kdf_director.specs.Fields.Filled.{AreLoads, IsLoaded, first_seat, idle_place, idle_ring, idle_spot, loaded, pool_in, pool_spot, size_at, sizes_of};
+ghost use Rattle.kdf_director.specs.Fields.Parts.{seat_of};
 ghost use Rattle.kdf_transfer.specs.ByNumber.{by_number};
-ghost use Rattle.kdf_director.specs.Running.{seats_in};
-ghost use Rattle.kdf_director.specs.Spots.{AreDry, spot_of};
+ghost use Rattle.kdf_director.specs.Fields.Running.{seats_in};
+ghost use Rattle.kdf_director.specs.Fields.Spots.{AreDry, spot_of};
 
 use crate::fill::filled_store;
 use crate::{Loaded, Place, Program};

@@ -15,13 +15,13 @@ ghost use Rattle.kdf_director.specs.Advance.{AdvanceWith, Enters, OthersStay};
 ghost use Rattle.kdf_director.specs.Legal.{IsLegal, IsTrue};
 ghost use Rattle.kdf_director.specs.Lends.{IsLent, IsStored, window_in};
 ghost use Rattle.kdf_director.specs.Loading.{HaveImages, slots_of};
-ghost use Rattle.kdf_director.specs.Fields.{IsLoaded, loaded};
+ghost use Rattle.kdf_director.specs.Fields.Filled.{IsLoaded, loaded};
 ghost use Rattle.kdf_director.specs.Next.{any_live};
 ghost use Rattle.kdf_director.specs.Runs.{HasMadeButFewer, HasMadeSome};
 ghost use Rattle.kdf_director.specs.Served.{unasked, IsAnswered, IsTrueFor};
 ghost use Rattle.kdf_director.specs.Shown.{IsDeviceAt, ShowsSeen, state_of};
 ghost use Rattle.kdf_director.specs.Slots.{NoneServed};
-ghost use Rattle.kdf_director.specs.Viewed.{slot_loaded};
+ghost use Rattle.kdf_director.specs.Fields.Viewed.{slot_loaded};
 
 use crate::advance::advance;
 use crate::dispatch::window_of;
@@ -77,11 +77,11 @@ pub struct Machine {
 
 impl Model for Machine {
     ghost use Rattle.kdf_director.specs.Shown.{Shown};
-    ghost use Rattle.kdf_director.specs.Viewed.{viewed};
+    ghost use Rattle.kdf_director.specs.Fields.Viewed.{viewed};
 
     ghost Value = { Shown };
 
-    ghost use Rattle.kdf_director.specs.Agrees.{IsReady};
+    ghost use Rattle.kdf_director.specs.Fields.Agrees.{IsReady};
 
     ghost view = { λ m. viewed m.slots.items m.windows m.store m.programs.items m.devices.items
         m.journal.entries m.room };

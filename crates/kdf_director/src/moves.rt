@@ -1,10 +1,10 @@
 //! Words of transfers that move, transfers that end, and the words of a program.
 ghost use Rattle.std.specs.Prelude.{◌≡◌, ◌+◌, ◌*◌, ◌<◌, ◌≤◌, length, map, ℕ};
-ghost use Rattle.kdf_director.specs.Parts.{shared_in};
-ghost use Rattle.kdf_director.specs.Physical.{word_at_place};
-ghost use Rattle.kdf_director.specs.Running.{part_at, own_state, moved_own, ended_own, reaches_in, seats_in, IsRunning};
-ghost use Rattle.kdf_director.specs.Shared.{after_move, after_end};
-ghost use Rattle.kdf_director.specs.Spots.{spot_of, spot_at, leases_of, AreDry};
+ghost use Rattle.kdf_director.specs.Fields.Parts.{shared_in};
+ghost use Rattle.kdf_director.specs.Fields.Physical.{word_at_place};
+ghost use Rattle.kdf_director.specs.Fields.Running.{part_at, own_state, moved_own, ended_own, reaches_in, seats_in, IsRunning};
+ghost use Rattle.kdf_director.specs.Fields.Shared.{after_move, after_end};
+ghost use Rattle.kdf_director.specs.Fields.Spots.{spot_of, spot_at, leases_of, AreDry};
 
 use crate::places::word_lent;
 use crate::starting::{end_at, move_at};

@@ -3,7 +3,7 @@ ghost use Rattle.std.specs.Prelude.{◌≡◌, ◌+◌, ◌/◌, None, Some, Opt
 ghost use Rattle.std.specs.Option.{option_map};
 ghost use Rattle.kdf_transfer.specs.Devices.{is_wanted, test_of};
 ghost use Rattle.kdf_transfer.specs.InFlight.{lent_at};
-ghost use Rattle.kdf_director.specs.Physical.{has_group};
+ghost use Rattle.kdf_director.specs.Fields.Physical.{has_group};
 
 use kdf_journal::Kind;
 use kdf_lockout::Lease;
@@ -32,9 +32,9 @@ pub enum Place {
 
 impl Place {
     ghost use Rattle.std.specs.Option.{option_copied};
-    ghost use Rattle.kdf_director.specs.Owners.{IsDeviceOf};
-    ghost use Rattle.kdf_director.specs.Shared.{moved_spot};
-    ghost use Rattle.kdf_director.specs.Spots.{Held, can_leave, left_spot, lent_spot, spot_of, spot_kind, is_flying, is_of, lease_held, ring_in, IsReady};
+    ghost use Rattle.kdf_director.specs.Fields.Owners.{IsDeviceOf};
+    ghost use Rattle.kdf_director.specs.Fields.Shared.{moved_spot};
+    ghost use Rattle.kdf_director.specs.Fields.Spots.{Held, can_leave, left_spot, lent_spot, spot_of, spot_kind, is_flying, is_of, lease_held, ring_in, IsReady};
     ghost use Rattle.kdf_transfer.specs.Devices.{fixture_of, progress_of};
 
     /// The kind of the device, if there is one.

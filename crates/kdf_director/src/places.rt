@@ -4,9 +4,9 @@ ghost use Rattle.std.specs.Option.{option_map};
 ghost use Rattle.kdf_transfer.specs.Devices.{test_of};
 ghost use Rattle.kdf_processor.specs.View.{head};
 ghost use Rattle.kdf_transfer.specs.ByNumber.{device_count};
-ghost use Rattle.kdf_director.specs.Physical.{word_out};
+ghost use Rattle.kdf_director.specs.Fields.Physical.{word_out};
 ghost use Rattle.kdf_transfer.specs.Devices.{fixture_of, progress_of};
-ghost use Rattle.kdf_director.specs.Spots.{Held, can_leave, left_spot, lent_spot, own_from, spot_of, spot_at, spot_kind, is_flying, leases_of, AreDry, IsReady};
+ghost use Rattle.kdf_director.specs.Fields.Spots.{Held, can_leave, left_spot, lent_spot, own_from, spot_of, spot_at, spot_kind, is_flying, leases_of, AreDry, IsReady};
 ghost use Rattle.kdf_director.specs.declared.place.Place.TheVariants.{Absent};
 
 use crate::Place;

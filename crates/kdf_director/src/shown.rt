@@ -1,12 +1,12 @@
 //! What a machine shows of its programs and of their devices.
 ghost use Rattle.std.specs.Prelude.{◌≡◌, ◌==◌, ◌<◌, find, is_some, length, map, slice_index_or, true, IfSome, IsSomeAnd};
-ghost use Rattle.kdf_director.specs.Stints.{is_lent, keeping_of, loan_of, no_keeping};
+ghost use Rattle.kdf_director.specs.Fields.Stints.{is_lent, keeping_of, loan_of, no_keeping};
 ghost use Rattle.std.specs.Option.{option_copied, option_map};
-ghost use Rattle.kdf_director.specs.Fields.{loaded, pool_in};
-ghost use Rattle.kdf_director.specs.Owners.{HasLent, IsDeviceOf, IsDeviceOwned, IsTold, is_claimed_by, owner_in};
-ghost use Rattle.kdf_director.specs.Parts.{window_at};
-ghost use Rattle.kdf_director.specs.Running.{seats_in};
-ghost use Rattle.kdf_director.specs.Spots.{spot_at, spot_of};
+ghost use Rattle.kdf_director.specs.Fields.Filled.{loaded, pool_in};
+ghost use Rattle.kdf_director.specs.Fields.Owners.{HasLent, IsDeviceOf, IsDeviceOwned, IsTold, is_claimed_by, owner_in};
+ghost use Rattle.kdf_director.specs.Fields.Parts.{window_at};
+ghost use Rattle.kdf_director.specs.Fields.Running.{seats_in};
+ghost use Rattle.kdf_director.specs.Fields.Spots.{spot_at, spot_of};
 
 use crate::devices::owns;
 use crate::dispatch::window_of;

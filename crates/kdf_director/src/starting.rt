@@ -4,10 +4,10 @@ ghost use Rattle.std.specs.Vec.{vec_capacity};
 ghost use Rattle.kdf_transfer.specs.AtOnce.{kind_of, has_area, is_output};
 ghost use Rattle.kdf_transfer.specs.Devices.{is_kind};
 ghost use Rattle.kdf_lockout.specs.Groups.{is_out};
-ghost use Rattle.kdf_director.specs.Parts.{shared_in};
-ghost use Rattle.kdf_director.specs.Shared.{start_lease, start_cells, start_spot, IsFreeArea, IsBack, back_cells, last_lease, ended_spot, moved_spot};
-ghost use Rattle.kdf_director.specs.Sound.{IsSound};
-ghost use Rattle.kdf_director.specs.Spots.{spot_of, spot_at, spot_kind, is_flying, lease_held, ring_in, AreDry, IsReady};
+ghost use Rattle.kdf_director.specs.Fields.Parts.{shared_in};
+ghost use Rattle.kdf_director.specs.Fields.Shared.{start_lease, start_cells, start_spot, IsFreeArea, IsBack, back_cells, last_lease, ended_spot, moved_spot};
+ghost use Rattle.kdf_director.specs.Fields.Sound.{IsSound};
+ghost use Rattle.kdf_director.specs.Fields.Spots.{spot_of, spot_at, spot_kind, is_flying, lease_held, ring_in, AreDry, IsReady};
 ghost use Rattle.kdf_director.specs.declared.place.Place.TheVariants.{Absent, Busy};
 ghost use Rattle.std.specs.Prelude.{ℕ};
 

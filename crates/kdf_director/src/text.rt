@@ -5,7 +5,7 @@ ghost use Rattle.std.specs.Vec.{vec_capacity};
 ghost use Rattle.kdf_word.specs.Characters.{codes_of_all};
 ghost use Rattle.kdf_media.specs.Media.{through_end};
 ghost use Rattle.kdf_lockout.specs.Groups.{is_out, word_here};
-ghost use Rattle.kdf_director.specs.Shared.{IsFreeArea};
+ghost use Rattle.kdf_director.specs.Fields.Shared.{IsFreeArea};
 
 use kdf_lockout::Store;
 use kdf_media::Block;

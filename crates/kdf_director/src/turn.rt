@@ -1,9 +1,9 @@
 //! The port of one program of the machine for one order: a window of the store, the devices of its slot, and those that the pool lends.
 ghost use Rattle.std.specs.Prelude.{◌≡◌, ◌+◌, ◌*◌, ◌%◌, ◌<◌, ◌≤◌, length};
 ghost use Rattle.kdf_director.specs.True.{one_if};
-ghost use Rattle.kdf_director.specs.Keeping.{IsActive, IsActiveBy, IsKept, IsKeptBy};
-ghost use Rattle.kdf_director.specs.Parts.{part_with, shared_in};
-ghost use Rattle.kdf_director.specs.Spots.{AreDry};
+ghost use Rattle.kdf_director.specs.Fields.Keeping.{IsActive, IsActiveBy, IsKept, IsKeptBy};
+ghost use Rattle.kdf_director.specs.Fields.Parts.{part_with, shared_in};
+ghost use Rattle.kdf_director.specs.Fields.Spots.{AreDry};
 
 use crate::devices::{first_free, is_free, kind_claimed, may_be_taken};
 use crate::places::{first_of, lend_at, make_ready_at, take_back_at, test_in};
@@ -53,11 +53,11 @@ impl<'a> Turn<'a> {
     ghost use Rattle.kdf_processor.specs.Claims.{can_take, free_for, is_free};
     ghost use Rattle.kdf_processor.specs.Effect.{Acquires, Asks, Question, Releases};
     ghost use Rattle.kdf_processor.specs.View.{groups_of};
-    ghost use Rattle.kdf_director.specs.Parts.{in_pool, own_claims};
-    ghost use Rattle.kdf_director.specs.Shared.{free_in, is_busy_in, is_out_of, is_pool_taken};
-    ghost use Rattle.kdf_director.specs.Turn.{part_of, shared, Acts};
+    ghost use Rattle.kdf_director.specs.Fields.Parts.{in_pool, own_claims};
+    ghost use Rattle.kdf_director.specs.Fields.Shared.{free_in, is_busy_in, is_out_of, is_pool_taken};
+    ghost use Rattle.kdf_director.specs.Fields.Turn.{part_of, shared, Acts};
     ghost use Rattle.kdf_director.specs.declared.note.Note.TheVariants.{Quiet};
-    ghost use Rattle.kdf_director.specs.Notes.{IsPlain};
+    ghost use Rattle.kdf_director.specs.Fields.Notes.{IsPlain};
 
     /// The view of program `p` over this window, in this slot.
     pub fn new(
@@ -232,7 +232,7 @@ fn answer_of(is: bool) -> u64
 
 impl Port for Turn<'_> {
     ghost use Rattle.std.specs.Prelude.{refl};
-    ghost use Rattle.kdf_director.specs.Turn.{shown, Acts, HasRoom};
+    ghost use Rattle.kdf_director.specs.Fields.Turn.{shown, Acts, HasRoom};
 
     ghost shows = { shown };
 
@@ -389,7 +389,7 @@ impl Port for Turn<'_> {
 impl Reserve for Turn<'_> {
     ghost use Rattle.std.specs.Prelude.{refl};
     ghost use Rattle.kdf_processor.proofs.Rooms.{little_room};
-    ghost use Rattle.kdf_director.specs.Turn.{CanSpool, CanStart, CanTake, IsBlank, Stays};
+    ghost use Rattle.kdf_director.specs.Fields.Turn.{CanSpool, CanStart, CanTake, IsBlank, Stays};
 
     ghost keeps = { Stays };
 

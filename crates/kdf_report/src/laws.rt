@@ -13,7 +13,7 @@ ghost use Rattle.kdf_director.specs.Legal.{IsLegal};
 ghost use Rattle.kdf_director.specs.Loading as loading;
 ghost use Rattle.kdf_director.specs.Loading.{HaveImages};
 ghost use Rattle.kdf_director.specs.Shown.{Shown, ShowsSeen, state_at};
-ghost use Rattle.kdf_director.specs.Told.{own, seen_of};
+ghost use Rattle.kdf_director.specs.ByJournal.{own, seen_of};
 ghost use Rattle.kdf_report.specs.Loaded.{slot_numbered, slots_of};
 ghost use Rattle.kdf_report.specs.MadeFrom.{HasProgram, IsProgramOf};
 ghost use Rattle.kdf_report.specs.Summary.{summary_text};

@@ -7,8 +7,8 @@ use Rattle.kdf_processor.specs.State.{State}
 use Rattle.kdf_job.specs.Job.{SlotJob}
 use Rattle.kdf_director.specs.Shown.{Shown, ShowsSeen, state_at, state_in, state_of}
 use Rattle.kdf_director.specs.Slots.{slot_of, start_of}
-use Rattle.kdf_director.specs.Told.{seen_of}
-use Rattle.kdf_director.proofs.Advancing.{state_there}
+use Rattle.kdf_director.specs.ByJournal.{seen_of}
+use Rattle.kdf_director.proofs.Linking.OrdersEntered.{state_there}
 use Rattle.kdf_snapshot.specs.Stores.{HasStore, slot_lines}
 
 -- a program is one of a slot

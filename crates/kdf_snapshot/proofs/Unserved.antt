@@ -10,7 +10,7 @@ use Rattle.kdf_director.specs.Loading.{slots_of}
 use Rattle.kdf_director.specs.Served.{unasked, IsJournalFor}
 use Rattle.kdf_director.specs.Shown.{Shown}
 use Rattle.kdf_director.specs.Slots.{NoneServed}
-use Rattle.kdf_director.proofs.ForService.{a_journal_for, one_for, true_for_more}
+use Rattle.kdf_director.proofs.Course.OneJournal.{a_journal_for, one_for, true_for_more}
 use Rattle.kdf_snapshot.specs.Rebuilt.{IsRefused}
 use Rattle.kdf_snapshot.specs.declared.rebuilt.RebuildError.{RebuildError}
 use Rattle.kdf_snapshot.specs.declared.rebuilt.RebuildError.TheVariants.{Differs, Memory}

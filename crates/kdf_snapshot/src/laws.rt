@@ -8,7 +8,7 @@ ghost use Rattle.kdf_schedule.specs.declared.event.Event.{Event};
 ghost use Rattle.kdf_service.specs.Rules.{IsService};
 ghost use Rattle.kdf_job.specs.Job.{Job};
 ghost use Rattle.kdf_director.specs.Shown.{Shown, ShowsSeen, state_at};
-ghost use Rattle.kdf_director.specs.Told.{seen_of};
+ghost use Rattle.kdf_director.specs.ByJournal.{seen_of};
 ghost use Rattle.kdf_snapshot.specs.Joined.{IsJournalOf, joined};
 ghost use Rattle.kdf_snapshot.specs.Snapshot.{offset};
 ghost use Rattle.kdf_snapshot.specs.Stores.{HasStore, store_lines};

@@ -20,10 +20,10 @@ use Rattle.kdf_director.specs.Legal.{EachMeets, IsLegal}
 use Rattle.kdf_director.specs.Next.{lone_dispatched}
 use Rattle.kdf_director.specs.Served.{IsTrueFor}
 use Rattle.kdf_director.specs.Shown.{Shown}
-use Rattle.kdf_director.proofs.ForService.{true_for_nil}
+use Rattle.kdf_director.proofs.Course.OneJournal.{true_for_nil}
 use Rattle.kdf_director.specs.Slots.{start}
-use Rattle.kdf_director.specs.Told.{own, own_after}
-use Rattle.kdf_director.proofs.LegalFacts.{legal_asked}
+use Rattle.kdf_director.specs.ByJournal.{own, own_after}
+use Rattle.kdf_director.proofs.Course.LegalFacts.{legal_asked}
 use Rattle.kdf_watch.specs.declared.cursor.Cursor.{Cursor}
 use Rattle.kdf_watch.specs.declared.look.Look.{Look}
 use Rattle.kdf_watch.specs.declared.stop.Stop.{Stop}

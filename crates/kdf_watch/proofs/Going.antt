@@ -19,7 +19,7 @@ use Rattle.kdf_director.specs.Follows.{Follows, IsRising, IsWhole, entries_in, t
 use Rattle.kdf_director.specs.Legal.{IsLegal}
 use Rattle.kdf_director.specs.Next.{any_live, lone_dispatched}
 use Rattle.kdf_director.specs.Shown.{Shown}
-use Rattle.kdf_director.proofs.Schedules.{rises-first, rises-from, rises-rest}
+use Rattle.kdf_director.proofs.Course.EventsInTurn.{rises-first, rises-from, rises-rest}
 use Rattle.kdf_watch.specs.declared.cursor.Cursor.{Cursor}
 use Rattle.kdf_watch.specs.Called.{Tells}
 use Rattle.kdf_watch.specs.Cursors.{event_at, calls_left}

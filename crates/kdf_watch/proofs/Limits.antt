@@ -13,8 +13,8 @@ use Rattle.kdf_course.specs.Follows.{answered}
 use Rattle.kdf_director.specs.Follows.{IsRising, IsWhole}
 use Rattle.kdf_director.specs.Legal.{IsLegal}
 use Rattle.kdf_director.specs.Shown.{Shown}
-use Rattle.kdf_director.proofs.Counted.{few-calls, rising-on}
-use Rattle.kdf_director.proofs.Schedules.{order_count-append}
+use Rattle.kdf_director.proofs.Course.CountsBounded.{few-calls, rising-on}
+use Rattle.kdf_director.proofs.Course.EventsInTurn.{order_count-append}
 use Rattle.kdf_watch.specs.declared.cursor.Cursor.{Cursor}
 use Rattle.kdf_watch.specs.Cursors.{IsUpTo, KeepsLimits, calls_left}
 use Rattle.kdf_watch.specs.Onward.{IsAt}

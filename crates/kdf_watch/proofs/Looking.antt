@@ -21,13 +21,13 @@ use Rattle.kdf_director.specs.Next.{lives}
 use Rattle.kdf_director.specs.Orders.{HasMade, HasMadeAll, HasMadeFewer}
 use Rattle.kdf_director.specs.Shown.{Shown, ShowsSeen, state_at, state_in, state_of, world_of}
 use Rattle.kdf_director.specs.Slots.{slot_of, start, start_of}
-use Rattle.kdf_director.specs.Told.{own, seen_of}
+use Rattle.kdf_director.specs.ByJournal.{own, seen_of}
 use Rattle.kdf_director.specs.True.{truth}
 use Rattle.kdf_director.specs.World.{hold_of}
-use Rattle.kdf_director.proofs.Calls.{calls-took, clock-took}
-use Rattle.kdf_director.proofs.LegalFacts.{legal_alive}
-use Rattle.kdf_director.proofs.Living.{found_is, next_four}
-use Rattle.kdf_director.proofs.Worlds.{next_slot}
+use Rattle.kdf_director.proofs.Calls.OneCall.{calls-took, clock-took}
+use Rattle.kdf_director.proofs.Course.LegalFacts.{legal_alive}
+use Rattle.kdf_director.proofs.Calls.FoundLive.{found_is, next_four}
+use Rattle.kdf_director.proofs.Course.Worlds.{next_slot}
 use Rattle.kdf_watch.specs.declared.call.Called.TheVariants.{Seen, Unseen}
 use Rattle.kdf_watch.specs.declared.look.Look.{Look}
 use Rattle.kdf_watch.specs.Called.{HasCalled}

@@ -28,8 +28,8 @@ ghost use Rattle.kdf_director.specs.Next.{next};
 ghost use Rattle.kdf_director.specs.Seen.{begun_row, with_both, with_store};
 ghost use Rattle.kdf_director.specs.Served.{unasked, IsJournalFor};
 ghost use Rattle.kdf_director.specs.Slots.{AreSlots, NoneServed, start};
-ghost use Rattle.kdf_director.specs.Told.{flights_of, further, is_of, is_pending_after, lone_world, mine_after, own};
-ghost use Rattle.kdf_director.specs.Told.{own_after, seen_of, seen_world};
+ghost use Rattle.kdf_director.specs.ByJournal.{flights_of, further, is_of, is_pending_after, lone_world, mine_after, own};
+ghost use Rattle.kdf_director.specs.ByJournal.{own_after, seen_of, seen_world};
 ghost use Rattle.kdf_director.specs.True.{truth};
 ghost use Rattle.kdf_director.specs.World.{first_need};
 

@@ -4,7 +4,7 @@ use Rattle.kdf_journal.specs.Steps.{steps}
 use Rattle.kdf_schedule.specs.declared.event.Event.TheVariants.{Orders}
 use Rattle.kdf_schedule.specs.Calls.{orders_in}
 use Rattle.kdf_schedule.proofs.Schedules.{order_count-drop}
-use Rattle.kdf_director.proofs.Schedules.{ended_early, no_calls, one_more, rises-first, rises-from, rises-rest}
+use Rattle.kdf_director.proofs.Course.EventsInTurn.{ended_early, no_calls, one_more, rises-first, rises-from, rises-rest}
 use Rattle.kdf_check.proofs.Nexts.{live-so}
 use Rattle.kdf_check.proofs.Pairs.{pair}
 use Rattle.kdf_check.proofs.schedule.follow_each.Goals as goal

@@ -1,5 +1,5 @@
 use Rattle.std.proofs.Common.{ap, sym, ◌∙◌}
-use Rattle.kdf_director.proofs.Turned.{if_ok, on_err}
+use Rattle.kdf_director.proofs.Turns.AfterTheTry.{if_ok, on_err}
 use Rattle.kdf_check.specs.Around.{around_by}
 use Rattle.kdf_check.proofs.Tries.{left_so, tried_so}
 use Rattle.kdf_check.proofs.trying.try_next.Goals as goal

@@ -5,12 +5,12 @@ use Rattle.kdf_journal.specs.declared.entry.Entry.TheVariants.{Idle as Idled}
 use Rattle.kdf_journal.specs.Joined.{pushed}
 use Rattle.kdf_director.specs.declared.machine.Progress.TheVariants.{AllEnded, Idle}
 use Rattle.kdf_director.specs.declared.program.Program.{Program}
-use Rattle.kdf_director.specs.Going.{any_on, AreNearHolds}
-use Rattle.kdf_director.specs.Running.{reaches_in, seat_at, seats_in}
+use Rattle.kdf_director.specs.Fields.Going.{any_on, AreNearHolds}
+use Rattle.kdf_director.specs.Fields.Running.{reaches_in, seat_at, seats_in}
 use Rattle.kdf_director.specs.Runs.{HasMadeButFewer}
-use Rattle.kdf_director.specs.Viewed.{viewed}
-use Rattle.kdf_director.proofs.Calling.{all_err, found, fours, holds_of, near, waits}
-use Rattle.kdf_director.proofs.MadeOn.{made_none}
+use Rattle.kdf_director.specs.Fields.Viewed.{viewed}
+use Rattle.kdf_director.proofs.Calls.CallsAtOnce.{all_err, found, fours, holds_of, near, waits}
+use Rattle.kdf_director.proofs.Calls.CallsAfterCalls.{made_none}
 use Rattle.kdf_director.proofs.advance.advance.Goals as goal
 
 pub next_of-requires-clause-near : goal.next_of-requires-clause-near

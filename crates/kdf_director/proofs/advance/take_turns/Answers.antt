@@ -2,13 +2,13 @@ use Rattle.std.specs.Prelude.{IfOk, OnErr}
 use Rattle.std.proofs.Common.{List, set, sym, ap, ◌∙◌, refl, subst, arith}
 use Rattle.kdf_journal.specs.declared.entry.Entry.{Entry}
 use Rattle.kdf_journal.specs.Counts.{clock}
-use Rattle.kdf_director.specs.Parts.{shared_in}
-use Rattle.kdf_director.specs.Running.{reaches_in, seats_in}
+use Rattle.kdf_director.specs.Fields.Parts.{shared_in}
+use Rattle.kdf_director.specs.Fields.Running.{reaches_in, seats_in}
 use Rattle.kdf_director.specs.Runs.{HasEntered, HasMadeButFewer, HasMadeOn, HasTriedAt}
-use Rattle.kdf_director.specs.Viewed.{viewed}
-use Rattle.kdf_director.proofs.Calling.{all_err, begun, ends, going_more, live, ran}
-use Rattle.kdf_director.proofs.MadeOn.{made_none}
-use Rattle.kdf_director.proofs.Turned.{on_err}
+use Rattle.kdf_director.specs.Fields.Viewed.{viewed}
+use Rattle.kdf_director.proofs.Calls.CallsAtOnce.{all_err, begun, ends, going_more, live, ran}
+use Rattle.kdf_director.proofs.Calls.CallsAfterCalls.{made_none}
+use Rattle.kdf_director.proofs.Turns.AfterTheTry.{on_err}
 use Rattle.kdf_director.proofs.advance.take_turns.Goals as goal
 
 pub loop-quiet-init : goal.loop-quiet-init

@@ -1,11 +1,11 @@
 use Rattle.std.proofs.Common.{◌≡◌, ◌+◌, ◌-◌, ◌<◌, ◌≤◌, length, map}
 use Rattle.kdf_journal.specs.Counts.{clock}
-use Rattle.kdf_director.specs.Parts.{shared_in}
-use Rattle.kdf_director.specs.Running.{reaches_in, seat_at, seats_in}
-use Rattle.kdf_director.specs.Spots.{AreDry}
-use Rattle.kdf_director.specs.Viewed.{slot_loaded, viewed}
-use Rattle.kdf_director.proofs.Calling.{holds_of}
-use Rattle.kdf_director.proofs.GoingOn.{IsGoingOn}
+use Rattle.kdf_director.specs.Fields.Parts.{shared_in}
+use Rattle.kdf_director.specs.Fields.Running.{reaches_in, seat_at, seats_in}
+use Rattle.kdf_director.specs.Fields.Spots.{AreDry}
+use Rattle.kdf_director.specs.Fields.Viewed.{slot_loaded, viewed}
+use Rattle.kdf_director.proofs.Calls.CallsAtOnce.{holds_of}
+use Rattle.kdf_director.proofs.Calls.ProgramGoesOn.{IsGoingOn}
 use Rattle.kdf_director.proofs.advance.take_turns.Given as goal
 
 abbrev pub invariant-loop-quiet : goal.invariant-loop-quiet

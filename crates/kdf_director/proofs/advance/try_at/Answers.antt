@@ -1,11 +1,11 @@
 use Rattle.std.proofs.Common.{ap₂, subst}
-use Rattle.kdf_director.specs.Parts.{Shared, shared_in}
-use Rattle.kdf_director.specs.Running.{reaches_in, seats_in}
+use Rattle.kdf_director.specs.Fields.Parts.{Shared, shared_in}
+use Rattle.kdf_director.specs.Fields.Running.{reaches_in, seats_in}
 use Rattle.kdf_director.specs.Runs.{HasTriedAt}
-use Rattle.kdf_director.specs.Shared.{moment}
-use Rattle.kdf_director.specs.Turned.{HasTurned}
-use Rattle.kdf_director.proofs.HeardWords.{heard_then}
-use Rattle.kdf_director.proofs.Turned.{if_ok}
+use Rattle.kdf_director.specs.Fields.Shared.{moment}
+use Rattle.kdf_director.specs.Fields.Turned.{HasTurned}
+use Rattle.kdf_director.proofs.Turns.HeardWords.{heard_then}
+use Rattle.kdf_director.proofs.Turns.AfterTheTry.{if_ok}
 use Rattle.kdf_director.proofs.advance.try_at.Goals as goal
 
 pub returns-clause-tried : goal.returns-clause-tried

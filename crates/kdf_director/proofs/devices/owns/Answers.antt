@@ -1,5 +1,5 @@
 use Rattle.std.proofs.Common.{◌∙◌}
-use Rattle.kdf_director.proofs.Numbers.{any_number}
+use Rattle.kdf_director.proofs.Physical.DeviceNumbers.{any_number}
 use Rattle.kdf_director.proofs.devices.owns.Goals as goal
 
 pub returns : goal.returns

@@ -1,4 +1,4 @@
-use Rattle.kdf_director.proofs.Turns.{obeyed_by, same_same}
+use Rattle.kdf_director.proofs.Turns.TurnsShow.{obeyed_by, same_same}
 use Rattle.kdf_director.proofs.dispatch.obey_next.Goals as goal
 
 pub returns-clause-obeyed : goal.returns-clause-obeyed

@@ -1,9 +1,9 @@
 use Rattle.std.proofs.Common.{map, ◌∙◌, arith}
 use Rattle.std.proofs.lemmas.List.{length-set}
-use Rattle.kdf_director.specs.Parts.{seat_of, shared_in}
-use Rattle.kdf_director.specs.Settled.{both_of}
-use Rattle.kdf_director.specs.Spots.{spot_of}
-use Rattle.kdf_director.proofs.Retired.{retired_more, retired_one}
+use Rattle.kdf_director.specs.Fields.Parts.{seat_of, shared_in}
+use Rattle.kdf_director.specs.Fields.Settled.{both_of}
+use Rattle.kdf_director.specs.Fields.Spots.{spot_of}
+use Rattle.kdf_director.proofs.Turns.DevicesLeave.{retired_more, retired_one}
 use Rattle.kdf_director.proofs.dispatch.retire_all.Goals as goal
 
 pub loop-i-preserved : goal.loop-i-preserved

@@ -1,8 +1,8 @@
 use Rattle.std.proofs.Common.{◌≡◌, map, ap, subst}
-use Rattle.kdf_director.specs.Parts.{Reach, Seat, Shared, reach, reach_of, seat, seat_of, shared_in}
-use Rattle.kdf_director.specs.Stints.{keeping_of}
-use Rattle.kdf_director.specs.Turned.{HasTried}
-use Rattle.kdf_director.proofs.Retired.{run_by}
+use Rattle.kdf_director.specs.Fields.Parts.{Reach, Seat, Shared, reach, reach_of, seat, seat_of, shared_in}
+use Rattle.kdf_director.specs.Fields.Stints.{keeping_of}
+use Rattle.kdf_director.specs.Fields.Turned.{HasTried}
+use Rattle.kdf_director.proofs.Turns.DevicesLeave.{run_by}
 use Rattle.kdf_director.proofs.dispatch.run.Goals as goal
 use Rattle.kdf_director.proofs.dispatch.run.Goals.{After-try_next}
 

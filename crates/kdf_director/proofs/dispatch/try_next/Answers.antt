@@ -1,9 +1,9 @@
 use Rattle.std.proofs.Common.{◌≡◌, map, ap, ap₂, ◌∙◌, sym}
-use Rattle.kdf_director.specs.Parts.{reach, shared_in}
-use Rattle.kdf_director.specs.Spots.{spot_of}
-use Rattle.kdf_director.specs.Turn.{shared}
-use Rattle.kdf_director.proofs.Turned.{if_ok, on_err}
-use Rattle.kdf_director.proofs.Turns.{share, ran_back, left_back}
+use Rattle.kdf_director.specs.Fields.Parts.{reach, shared_in}
+use Rattle.kdf_director.specs.Fields.Spots.{spot_of}
+use Rattle.kdf_director.specs.Fields.Turn.{shared}
+use Rattle.kdf_director.proofs.Turns.AfterTheTry.{if_ok, on_err}
+use Rattle.kdf_director.proofs.Turns.TurnsShow.{share, ran_back, left_back}
 use Rattle.kdf_director.proofs.dispatch.try_next.Goals as goal
 use Rattle.kdf_director.proofs.dispatch.try_next.Goals.{After-new-turn}
 

@@ -1,13 +1,13 @@
 use Rattle.std.proofs.Common.{◌≡◌, ◌+◌, ◌*◌, ◌%◌, ◌<◌, ◌≤◌, true, length, sym, ap, ◌∙◌, subst, arith}
 use Rattle.std.proofs.lemmas.List.{length-map}
 use Rattle.kdf_processor.specs.Lone.{is_live}
-use Rattle.kdf_director.specs.Keeping.{IsActive, IsKept}
-use Rattle.kdf_director.specs.Parts.{Reach, Seat, Shared, part_in, reach_of, seat_of, shared_in}
-use Rattle.kdf_director.specs.Running.{reach_at, reaches_in, seat_at, seats_in, IsRunning}
-use Rattle.kdf_director.specs.Spots.{spot_of}
-use Rattle.kdf_director.proofs.Programs.{reach_is, seat_is, within, turned_all, running_all, unturned_all, holds_all}
+use Rattle.kdf_director.specs.Fields.Keeping.{IsActive, IsKept}
+use Rattle.kdf_director.specs.Fields.Parts.{Reach, Seat, Shared, part_in, reach_of, seat_of, shared_in}
+use Rattle.kdf_director.specs.Fields.Running.{reach_at, reaches_in, seat_at, seats_in, IsRunning}
+use Rattle.kdf_director.specs.Fields.Spots.{spot_of}
+use Rattle.kdf_director.proofs.Turns.OneProgram.{reach_is, seat_is, within, turned_all, running_all, unturned_all, holds_all}
 use Rattle.kdf_transfer.proofs.Numbers.{limit_is}
-use Rattle.kdf_director.proofs.Turned.{if_ok, on_err, on_either}
+use Rattle.kdf_director.proofs.Turns.AfterTheTry.{if_ok, on_err, on_either}
 use Rattle.kdf_director.proofs.dispatch.turn.Goals as goal
 use Rattle.kdf_director.proofs.dispatch.turn.Goals.{After-index_mut}
 

@@ -5,8 +5,8 @@ use Rattle.kdf_processor.specs.declared.step.Step.{Step}
 use Rattle.kdf_processor.specs.declared.step.Step.TheVariants.{Done, Ends, Fails}
 use Rattle.kdf_director.specs.Advance.{note_told}
 use Rattle.kdf_director.specs.Runs.{ran_on}
-use Rattle.kdf_director.proofs.RanOn.{calls-ran_on, last-ran_on, moves-ran_on}
-use Rattle.kdf_director.proofs.Taking.{IsNotHeld, hold_free, progress_free, step_free}
+use Rattle.kdf_director.proofs.Calls.OrdersInARow.{calls-ran_on, last-ran_on, moves-ran_on}
+use Rattle.kdf_director.proofs.Linking.TurnTaken.{IsNotHeld, hold_free, progress_free, step_free}
 use Rattle.kdf_director.proofs.entries.enter.Goals as goal
 
 pub write_hold-requires-clause-few_calls : goal.write_hold-requires-clause-few_calls

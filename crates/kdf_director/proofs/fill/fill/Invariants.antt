@@ -1,5 +1,5 @@
 use Rattle.std.proofs.Common.{◌≡◌, ◌+◌, drop, length}
-use Rattle.kdf_director.specs.Fields.{with_words}
+use Rattle.kdf_director.specs.Fields.Filled.{with_words}
 use Rattle.kdf_director.proofs.fill.fill.Given as goal
 
 abbrev pub invariant-loop-i : goal.invariant-loop-i

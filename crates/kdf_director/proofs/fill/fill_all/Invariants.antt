@@ -1,5 +1,5 @@
 use Rattle.std.proofs.Common.{◌≡◌, drop, length, map}
-use Rattle.kdf_director.specs.Fields.{loaded, with_images}
+use Rattle.kdf_director.specs.Fields.Filled.{loaded, with_images}
 use Rattle.kdf_director.proofs.fill.fill_all.Given as goal
 
 abbrev pub invariant-loop-slot : goal.invariant-loop-slot

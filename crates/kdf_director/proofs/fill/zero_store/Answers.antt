@@ -1,5 +1,5 @@
 use Rattle.std.proofs.Common.{refl}
-use Rattle.kdf_director.proofs.Filling.{ok_zero}
+use Rattle.kdf_director.proofs.Loading.StoreFilled.{ok_zero}
 use Rattle.kdf_director.proofs.fill.zero_store.Goals as goal
 
 pub returns-clause-cells : goal.returns-clause-cells

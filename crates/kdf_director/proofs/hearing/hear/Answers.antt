@@ -1,8 +1,8 @@
 use Rattle.std.specs.Prelude.{not}
 use Rattle.std.proofs.Common.{sym, ap, ◌∙◌}
-use Rattle.kdf_director.specs.Parts.{reach_of, seat_of, shared_in}
-use Rattle.kdf_director.specs.Turned.{word_over}
-use Rattle.kdf_director.proofs.HeardWords.{has_none, none_if, none_told}
+use Rattle.kdf_director.specs.Fields.Parts.{reach_of, seat_of, shared_in}
+use Rattle.kdf_director.specs.Fields.Turned.{word_over}
+use Rattle.kdf_director.proofs.Turns.HeardWords.{has_none, none_if, none_told}
 use Rattle.kdf_director.proofs.hearing.hear.Goals as goal
 
 pub returns-then-is_none-clause-asked : goal.returns-then-is_none-clause-asked

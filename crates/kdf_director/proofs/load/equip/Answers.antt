@@ -3,11 +3,11 @@ use Rattle.std.specs.List.{All}
 use Rattle.kdf_relocate.specs.Windows.{have_windows, windows_from}
 use Rattle.kdf_processor.specs.declared.step.Need.{Need}
 use Rattle.kdf_director.specs.declared.slot.Loaded.{Loaded}
-use Rattle.kdf_director.specs.Fields.{first_seat, idle_spot, loaded, sizes_of, with_images, zero_cells}
-use Rattle.kdf_director.specs.Parts.{window_at}
+use Rattle.kdf_director.specs.Fields.Filled.{first_seat, idle_spot, loaded, sizes_of, with_images, zero_cells}
+use Rattle.kdf_director.specs.Fields.Parts.{window_at}
 use Rattle.kdf_transfer.specs.ByNumber.{by_number}
-use Rattle.kdf_director.proofs.LoadedMachine.{all_within, is_loaded}
-use Rattle.kdf_director.proofs.Sizes.{sizes_fit}
+use Rattle.kdf_director.proofs.Loading.LoadedMachine.{all_within, is_loaded}
+use Rattle.kdf_director.proofs.Loading.SizesLoaded.{sizes_fit}
 use Rattle.kdf_director.proofs.load.equip.Goals as goal
 
 pub windows_of-windows-requires : goal.windows_of-windows-requires

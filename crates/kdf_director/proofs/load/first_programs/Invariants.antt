@@ -1,8 +1,8 @@
 use Rattle.std.proofs.Common.{◌≡◌, map, take, None}
 use Rattle.kdf_director.specs.declared.program.Program.{Program}
 use Rattle.kdf_director.specs.declared.slot.Loaded.{Loaded}
-use Rattle.kdf_director.specs.Fields.{first_seat, loaded}
-use Rattle.kdf_director.specs.Running.{seats_in}
+use Rattle.kdf_director.specs.Fields.Filled.{first_seat, loaded}
+use Rattle.kdf_director.specs.Fields.Running.{seats_in}
 use Rattle.kdf_director.proofs.load.first_programs.Given as goal
 
 abbrev pub invariant-loop-slot : goal.invariant-loop-slot

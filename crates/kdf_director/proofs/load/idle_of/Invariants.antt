@@ -1,6 +1,6 @@
 use Rattle.std.proofs.Common.{◌≡◌, drop, map}
 use Rattle.kdf_job.specs.Slots.{lent_kind}
-use Rattle.kdf_director.specs.Fields.{first_own, idle_spot, loaded, pool_in, pool_spot}
+use Rattle.kdf_director.specs.Fields.Filled.{first_own, idle_spot, loaded, pool_in, pool_spot}
 use Rattle.kdf_director.proofs.load.idle_of.Given as goal
 
 abbrev pub invariant-loop-slot : goal.invariant-loop-slot

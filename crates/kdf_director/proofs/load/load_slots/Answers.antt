@@ -1,5 +1,5 @@
 use Rattle.std.proofs.Common.{arith}
-use Rattle.kdf_director.proofs.LoadSteps.{loads_more}
+use Rattle.kdf_director.proofs.Loading.OneMoreLoaded.{loads_more}
 use Rattle.kdf_director.proofs.load.load_slots.Goals as goal
 
 pub loop-i-preserved : goal.loop-i-preserved

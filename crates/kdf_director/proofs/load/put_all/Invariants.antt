@@ -1,7 +1,7 @@
 use Rattle.std.proofs.Common.{◌≡◌, map, ◌+◌, ◌++◌, ◌≤◌, length}
 use Rattle.std.specs.Vec.{vec_len, vec_capacity}
 use Rattle.std.specs.Vec.Iter.{into_iter_items}
-use Rattle.kdf_director.specs.Fields.{idle_place}
+use Rattle.kdf_director.specs.Fields.Filled.{idle_place}
 use Rattle.kdf_director.proofs.load.put_all.Given as goal
 
 abbrev pub invariant-loop-found : goal.invariant-loop-found

@@ -1,5 +1,5 @@
 use Rattle.std.proofs.Common.{◌≡◌, map, drop}
-use Rattle.kdf_director.specs.Fields.{loaded, size_at}
+use Rattle.kdf_director.specs.Fields.Filled.{loaded, size_at}
 use Rattle.kdf_director.proofs.load.size_at.Given as goal
 
 abbrev pub invariant-loop-slot : goal.invariant-loop-slot

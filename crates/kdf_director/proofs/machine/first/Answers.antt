@@ -1,8 +1,8 @@
 use Rattle.std.proofs.Common.{sym, ap, ◌∙◌, subst}
-use Rattle.kdf_director.specs.Agrees.{IsReady}
-use Rattle.kdf_director.specs.Fields.{reaches, seats, shared}
-use Rattle.kdf_director.specs.Viewed.{states_in}
-use Rattle.kdf_director.proofs.Begun.{is_ready, states_start}
+use Rattle.kdf_director.specs.Fields.Agrees.{IsReady}
+use Rattle.kdf_director.specs.Fields.Filled.{reaches, seats, shared}
+use Rattle.kdf_director.specs.Fields.Viewed.{states_in}
+use Rattle.kdf_director.proofs.Loading.BeforeOrders.{is_ready, states_start}
 use Rattle.kdf_director.proofs.machine.first.Goals as goal
 
 pub invariant_of-result : goal.invariant_of-result

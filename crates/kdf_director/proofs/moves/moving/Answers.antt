@@ -1,13 +1,13 @@
 use Rattle.std.proofs.Common.{◌≡◌, ◌<◌, List, map, set, ap, ◌∙◌, sym, subst, arith}
 use Rattle.std.proofs.lemmas.List.{length-map}
 use Rattle.kdf_transfer.specs.ByNumber.{device_count}
-use Rattle.kdf_director.specs.Spots.{spot_at, spot_of}
-use Rattle.kdf_director.specs.Shared.{after_move, moved_spot}
-use Rattle.kdf_director.specs.Parts.{Reach, Seat, Shared, seat_of, shared_in}
-use Rattle.kdf_director.specs.Running.{own_state, reaches_in, seats_in, IsRunning}
+use Rattle.kdf_director.specs.Fields.Spots.{spot_at, spot_of}
+use Rattle.kdf_director.specs.Fields.Shared.{after_move, moved_spot}
+use Rattle.kdf_director.specs.Fields.Parts.{Reach, Seat, Shared, seat_of, shared_in}
+use Rattle.kdf_director.specs.Fields.Running.{own_state, reaches_in, seats_in, IsRunning}
 use Rattle.kdf_transfer.proofs.Numbers.{limit_is}
-use Rattle.kdf_director.proofs.Turns.{share}
-use Rattle.kdf_director.proofs.Flown.{flown_own, flown_running}
+use Rattle.kdf_director.proofs.Turns.TurnsShow.{share}
+use Rattle.kdf_director.proofs.Turns.FlightsMove.{flown_own, flown_running}
 use Rattle.kdf_director.proofs.moves.moving.Goals as goal
 use Rattle.kdf_director.proofs.moves.moving.Goals.{After-from, After-move_at}
 

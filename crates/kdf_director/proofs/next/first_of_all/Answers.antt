@@ -1,10 +1,10 @@
 use Rattle.std.proofs.Common.{length, map, sym, ◌∙◌}
 use Rattle.kdf_processor.proofs.Finding.{found_behind, found_here}
-use Rattle.kdf_director.specs.Going.{goes_at}
-use Rattle.kdf_director.specs.Parts.{shared_in}
-use Rattle.kdf_director.specs.Running.{reaches_in, seats_in}
+use Rattle.kdf_director.specs.Fields.Going.{goes_at}
+use Rattle.kdf_director.specs.Fields.Parts.{shared_in}
+use Rattle.kdf_director.specs.Fields.Running.{reaches_in, seats_in}
 use Rattle.kdf_director.specs.declared.program.Program.{Program}
-use Rattle.kdf_director.proofs.InOrder.{in_order}
+use Rattle.kdf_director.proofs.Turns.FirstGoesOn.{in_order}
 use Rattle.kdf_director.proofs.next.first_of_all.Goals as goal
 
 pub loop-i-init : goal.loop-i-init

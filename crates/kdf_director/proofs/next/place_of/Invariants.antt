@@ -1,8 +1,8 @@
 use Rattle.std.proofs.Common.{◌≡◌, ◌-◌, eqb, length}
 use Rattle.std.specs.Prelude.{find}
 use Rattle.std.specs.List.{range_with_len}
-use Rattle.kdf_director.specs.Going.{place_of}
-use Rattle.kdf_director.specs.Running.{seat_at, seats_in}
+use Rattle.kdf_director.specs.Fields.Going.{place_of}
+use Rattle.kdf_director.specs.Fields.Running.{seat_at, seats_in}
 use Rattle.kdf_director.proofs.next.place_of.Given as goal
 
 abbrev pub invariant-loop-i : goal.invariant-loop-i

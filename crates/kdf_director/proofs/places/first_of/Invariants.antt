@@ -1,5 +1,5 @@
 use Rattle.std.proofs.Common.{◌≡◌, drop, map}
-use Rattle.kdf_director.specs.Spots.{own_from, spot_of}
+use Rattle.kdf_director.specs.Fields.Spots.{own_from, spot_of}
 use Rattle.kdf_director.proofs.places.first_of.Given as goal
 
 abbrev pub invariant-loop-d : goal.invariant-loop-d

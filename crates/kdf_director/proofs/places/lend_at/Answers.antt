@@ -1,8 +1,8 @@
 use Rattle.std.proofs.Common.{◌∙◌}
 use Rattle.std.proofs.lemmas.List.{get_or_default}
 use Rattle.kdf_director.specs.declared.place.Place.TheVariants.{Absent}
-use Rattle.kdf_director.specs.Spots.{lent_spot}
-use Rattle.kdf_director.proofs.Placed.{set_spot}
+use Rattle.kdf_director.specs.Fields.Spots.{lent_spot}
+use Rattle.kdf_director.proofs.Physical.OnePlaceChanges.{set_spot}
 use Rattle.kdf_director.proofs.places.lend_at.Goals as goal
 
 pub returns-clause-spots : goal.returns-clause-spots

@@ -1,7 +1,7 @@
 use Rattle.std.proofs.Common.{◌∙◌, arith}
 use Rattle.std.proofs.lemmas.List.{get_or_default}
 use Rattle.kdf_director.specs.declared.place.Place.TheVariants.{Absent}
-use Rattle.kdf_director.proofs.Placed.{same_spots}
+use Rattle.kdf_director.proofs.Physical.OnePlaceChanges.{same_spots}
 use Rattle.kdf_director.proofs.places.make_ready_at.Goals as goal
 
 pub returns-then-d-len-clause-spots : goal.returns-then-d-len-clause-spots

@@ -1,8 +1,8 @@
 use Rattle.std.proofs.Common.{◌∙◌, arith}
 use Rattle.std.proofs.lemmas.List.{get_or_default}
 use Rattle.kdf_director.specs.declared.place.Place.TheVariants.{Absent}
-use Rattle.kdf_director.specs.Spots.{left_spot}
-use Rattle.kdf_director.proofs.Placed.{set_spot}
+use Rattle.kdf_director.specs.Fields.Spots.{left_spot}
+use Rattle.kdf_director.proofs.Physical.OnePlaceChanges.{set_spot}
 use Rattle.kdf_director.proofs.places.take_back_at.Goals as goal
 
 pub returns-then-d-len-clause-spots : goal.returns-then-d-len-clause-spots

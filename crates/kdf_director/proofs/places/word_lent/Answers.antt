@@ -1,10 +1,10 @@
 use Rattle.std.proofs.Common.{◌≡◌, ◌-◌, ◌<◌, suc, length, map, ap, sym, ◌∙◌, arith}
 use Rattle.std.proofs.lemmas.List.{get_or_default}
 use Rattle.kdf_director.specs.declared.place.Place.TheVariants.{Absent}
-use Rattle.kdf_director.specs.Physical.{word_out}
-use Rattle.kdf_director.specs.Spots.{spot_of, leases_of}
+use Rattle.kdf_director.specs.Fields.Physical.{word_out}
+use Rattle.kdf_director.specs.Fields.Spots.{spot_of, leases_of}
 use Rattle.kdf_transfer.proofs.Numbers.{limit_is}
-use Rattle.kdf_director.proofs.Closing.{lent_is, out_here, out_below}
+use Rattle.kdf_director.proofs.Physical.PlacesGivenUp.{lent_is, out_here, out_below}
 use Rattle.kdf_director.proofs.places.word_lent.Goals as goal
 
 pub loop-d-init : goal.loop-d-init

@@ -1,7 +1,7 @@
 use Rattle.std.proofs.Common.{◌≡◌, ◌≤◌, map}
-use Rattle.kdf_director.specs.Physical.{word_out}
+use Rattle.kdf_director.specs.Fields.Physical.{word_out}
 use Rattle.kdf_transfer.specs.ByNumber.{device_count}
-use Rattle.kdf_director.specs.Spots.{spot_of, leases_of}
+use Rattle.kdf_director.specs.Fields.Spots.{spot_of, leases_of}
 use Rattle.kdf_director.proofs.places.word_lent.Given as goal
 
 abbrev pub invariant-loop-d : goal.invariant-loop-d

@@ -10,8 +10,8 @@ use Rattle.kdf_course.specs.Follows.{Reaches}
 use Rattle.kdf_director.specs.Follows.{IsRising, entries_in}
 use Rattle.kdf_director.specs.Legal.{IsLegal}
 use Rattle.kdf_director.specs.Next.{lone_dispatched}
-use Rattle.kdf_director.proofs.Counted.{few-calls, rising-on}
-use Rattle.kdf_director.proofs.Schedules.{order_count-append, rest-is, went-on}
+use Rattle.kdf_director.proofs.Course.CountsBounded.{few-calls, rising-on}
+use Rattle.kdf_director.proofs.Course.EventsInTurn.{order_count-append, rest-is, went-on}
 use Rattle.kdf_director.proofs.schedule.follow_on.Goals as goal
 use Rattle.kdf_director.specs.Served.{IsJournalFor, IsTrueFor}
 

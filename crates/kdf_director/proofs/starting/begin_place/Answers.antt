@@ -1,6 +1,6 @@
 use Rattle.std.proofs.Common.{subst, sym}
 use Rattle.kdf_transfer.specs.InFlight.{Covers}
-use Rattle.kdf_director.proofs.TurnBeginning.{start_covers}
+use Rattle.kdf_director.proofs.Physical.TransfersBegin.{start_covers}
 use Rattle.kdf_director.proofs.starting.begin_place.Goals as goal
 
 pub begin-transfer-requires-clause-area : goal.begin-transfer-requires-clause-area

@@ -1,9 +1,9 @@
 use Rattle.std.proofs.Common.{sym, subst, arith}
 use Rattle.std.proofs.lemmas.List.{length-map}
-use Rattle.kdf_director.specs.Spots.{spot_of}
-use Rattle.kdf_director.specs.Sound.{IsSound}
-use Rattle.kdf_director.specs.Closing.{left_in}
-use Rattle.kdf_director.proofs.Closing.{none_of, back_last, sound_left, sound_first, all_back}
+use Rattle.kdf_director.specs.Fields.Spots.{spot_of}
+use Rattle.kdf_director.specs.Fields.Sound.{IsSound}
+use Rattle.kdf_director.specs.Fields.Closing.{left_in}
+use Rattle.kdf_director.proofs.Physical.PlacesGivenUp.{none_of, back_last, sound_left, sound_first, all_back}
 use Rattle.kdf_director.proofs.starting.cancel_all.Goals as goal
 
 pub loop-place-init : goal.loop-place-init

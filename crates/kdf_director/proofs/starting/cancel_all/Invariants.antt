@@ -1,8 +1,8 @@
 use Rattle.std.proofs.Common.{◌≤◌, length}
 use Rattle.std.specs.Vec.{vec_len}
 use Rattle.kdf_transfer.specs.ByNumber.{device_count}
-use Rattle.kdf_director.specs.Sound.{IsSound}
-use Rattle.kdf_director.specs.Closing.{left_in}
+use Rattle.kdf_director.specs.Fields.Sound.{IsSound}
+use Rattle.kdf_director.specs.Fields.Closing.{left_in}
 use Rattle.kdf_director.proofs.starting.cancel_all.Given as goal
 
 abbrev pub invariant-loop-place : goal.invariant-loop-place

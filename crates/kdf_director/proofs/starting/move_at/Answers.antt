@@ -1,9 +1,9 @@
 use Rattle.std.proofs.Common.{map, set, ap, ◌∙◌, sym}
 use Rattle.std.proofs.lemmas.List.{map-set, get_or_default}
 use Rattle.kdf_director.specs.declared.place.Place.TheVariants.{Absent}
-use Rattle.kdf_director.specs.Spots.{spot_of}
-use Rattle.kdf_director.specs.Shared.{moved_spot}
-use Rattle.kdf_director.proofs.Showing.{spot_there}
+use Rattle.kdf_director.specs.Fields.Spots.{spot_of}
+use Rattle.kdf_director.specs.Fields.Shared.{moved_spot}
+use Rattle.kdf_director.proofs.Physical.PartsShow.{spot_there}
 use Rattle.kdf_director.proofs.starting.move_at.Goals as goal
 
 pub returns-clause-spots : goal.returns-clause-spots

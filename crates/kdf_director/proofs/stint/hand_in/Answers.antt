@@ -1,8 +1,8 @@
 use Rattle.std.proofs.Common.{◌≡◌, ◌<◌, true, false, ℕ, length, get_or, map, subst}
 use Rattle.kdf_transfer.specs.Devices.{fixture_of, progress_of}
-use Rattle.kdf_director.specs.Stints.{Back, is_open_of, keeping_of, no_keeping}
+use Rattle.kdf_director.specs.Fields.Stints.{Back, is_open_of, keeping_of, no_keeping}
 use Rattle.kdf_director.specs.declared.stint.Loan.TheVariants as loan
-use Rattle.kdf_director.proofs.Handing.{handed_in, none_handed}
+use Rattle.kdf_director.proofs.Physical.DevicesGivenBack.{handed_in, none_handed}
 use Rattle.kdf_director.proofs.stint.hand_in.Goals as goal
 
 pub returns-in-Some : goal.returns-in-Some

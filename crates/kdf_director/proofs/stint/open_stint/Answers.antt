@@ -1,5 +1,5 @@
 use Rattle.std.proofs.Common.{sym, ◌∙◌, arith}
-use Rattle.kdf_director.proofs.Handing.{shut_more}
+use Rattle.kdf_director.proofs.Physical.DevicesGivenBack.{shut_more}
 use Rattle.kdf_director.proofs.stint.open_stint.Goals as goal
 
 pub loop-i-preserved : goal.loop-i-preserved

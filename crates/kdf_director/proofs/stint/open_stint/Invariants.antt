@@ -1,5 +1,5 @@
 use Rattle.std.proofs.Common.{◌≡◌, ℕ, ◌<◌, ◌≤◌, false, length, get_or, map}
-use Rattle.kdf_director.specs.Stints.{is_open_of, keeping_of, no_keeping}
+use Rattle.kdf_director.specs.Fields.Stints.{is_open_of, keeping_of, no_keeping}
 use Rattle.kdf_director.proofs.stint.open_stint.Given as goal
 
 abbrev pub invariant-loop-i : goal.invariant-loop-i

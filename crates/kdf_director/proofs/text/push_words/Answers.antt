@@ -2,7 +2,7 @@ use Rattle.std.proofs.Common.{◌≡◌, ◌+◌, ◌-◌, ◌*◌, ◌++◌, �
 use Rattle.std.specs.List.{range_with_len}
 use Rattle.kdf_word.specs.Characters.{codes_of, codes_of_all}
 use Rattle.kdf_lockout.specs.Groups.{word_here}
-use Rattle.kdf_director.proofs.Texts.{here_at, length-text, text_more}
+use Rattle.kdf_director.proofs.Physical.AreaTexts.{here_at, length-text, text_more}
 use Rattle.kdf_director.proofs.text.push_words.Goals as goal
 
 pub word_there-word-requires : goal.word_there-word-requires

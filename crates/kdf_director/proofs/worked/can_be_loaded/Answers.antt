@@ -1,4 +1,4 @@
-use Rattle.kdf_director.proofs.WorkedSlots.{worked_slots}
+use Rattle.kdf_director.proofs.Course.WorkedSlots.{worked_slots}
 use Rattle.kdf_director.proofs.worked.can_be_loaded.Goals as goal
 
 pub returns : goal.returns

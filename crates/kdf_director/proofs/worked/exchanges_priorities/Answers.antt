@@ -1,4 +1,4 @@
-use Rattle.kdf_director.proofs.WorkedSwaps.{swap_journal}
+use Rattle.kdf_director.proofs.Course.WorkedSwaps.{swap_journal}
 use Rattle.kdf_director.proofs.worked.exchanges_priorities.Goals as goal
 
 pub returns : goal.returns

@@ -1,4 +1,4 @@
-use Rattle.kdf_director.proofs.WorkedLemmas.{fail_device, fail_journal}
+use Rattle.kdf_director.proofs.Course.WorkedFlights.{fail_device, fail_journal}
 use Rattle.kdf_director.proofs.worked.fails_behind_its_transfer.Goals as goal
 
 pub returns-clause-journal : goal.returns-clause-journal

@@ -1,4 +1,4 @@
-use Rattle.kdf_director.proofs.WorkedLemmas.{asks_journal}
+use Rattle.kdf_director.proofs.Course.WorkedFlights.{asks_journal}
 use Rattle.kdf_director.proofs.worked.is_answered.Goals as goal
 
 pub returns : goal.returns

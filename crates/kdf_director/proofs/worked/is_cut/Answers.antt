@@ -1,4 +1,4 @@
-use Rattle.kdf_director.proofs.WorkedLemmas.{cut_all, cut_before, cut_idle, cut_note, cut_orders}
+use Rattle.kdf_director.proofs.Course.WorkedFlights.{cut_all, cut_before, cut_idle, cut_note, cut_orders}
 use Rattle.kdf_director.proofs.worked.is_cut.Goals as goal
 
 pub returns-clause-idle : goal.returns-clause-idle

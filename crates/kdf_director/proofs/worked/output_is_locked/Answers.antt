@@ -1,4 +1,4 @@
-use Rattle.kdf_director.proofs.WorkedLemmas.{print_device, print_journal, print_words}
+use Rattle.kdf_director.proofs.Course.WorkedFlights.{print_device, print_journal, print_words}
 use Rattle.kdf_director.proofs.worked.output_is_locked.Goals as goal
 
 pub returns-clause-journal : goal.returns-clause-journal

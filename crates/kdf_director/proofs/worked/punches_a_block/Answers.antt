@@ -1,4 +1,4 @@
-use Rattle.kdf_director.proofs.WorkedLemmas.{punch_before, punch_behind, punch_journal}
+use Rattle.kdf_director.proofs.Course.WorkedFlights.{punch_before, punch_behind, punch_journal}
 use Rattle.kdf_director.proofs.worked.punches_a_block.Goals as goal
 
 pub returns-clause-journal : goal.returns-clause-journal

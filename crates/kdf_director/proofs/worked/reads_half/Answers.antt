@@ -1,4 +1,4 @@
-use Rattle.kdf_director.proofs.WorkedLemmas.{half_both, half_device, half_journal, half_none, half_one}
+use Rattle.kdf_director.proofs.Course.WorkedFlights.{half_both, half_device, half_journal, half_none, half_one}
 use Rattle.kdf_director.proofs.worked.reads_half.Goals as goal
 
 pub returns-clause-none : goal.returns-clause-none

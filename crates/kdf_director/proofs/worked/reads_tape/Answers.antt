@@ -1,4 +1,4 @@
-use Rattle.kdf_director.proofs.WorkedLemmas.{tape_device, tape_journal, tape_words}
+use Rattle.kdf_director.proofs.Course.WorkedFlights.{tape_device, tape_journal, tape_words}
 use Rattle.kdf_director.proofs.worked.reads_tape.Goals as goal
 
 pub returns-clause-journal : goal.returns-clause-journal

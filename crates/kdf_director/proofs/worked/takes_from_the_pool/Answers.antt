@@ -1,4 +1,4 @@
-use Rattle.kdf_director.proofs.WorkedPools.{pool_first, pool_journal, pool_second}
+use Rattle.kdf_director.proofs.Course.WorkedPools.{pool_first, pool_journal, pool_second}
 use Rattle.kdf_director.proofs.worked.takes_from_the_pool.Goals as goal
 
 pub returns-clause-journal : goal.returns-clause-journal

@@ -1,4 +1,4 @@
-use Rattle.kdf_director.proofs.Holding.{legal_held, legal_taken}
+use Rattle.kdf_director.proofs.Course.DevicesHeld.{legal_held, legal_taken}
 use Rattle.kdf_director.proofs.laws.journals.holders.Goals as goal
 
 pub returns-clause-held : goal.returns-clause-held

@@ -1,6 +1,6 @@
-use Rattle.kdf_director.specs.Told.{own, seen_of}
-use Rattle.kdf_director.proofs.SeenJournals.{judged, same-need, same-note, same-step}
-use Rattle.kdf_director.proofs.Worlds.{next-world}
+use Rattle.kdf_director.specs.ByJournal.{own, seen_of}
+use Rattle.kdf_director.proofs.Course.SeenJournals.{judged, same-need, same-note, same-step}
+use Rattle.kdf_director.proofs.Course.Worlds.{next-world}
 use Rattle.kdf_director.proofs.laws.journals.judged_alike.Goals as goal
 
 pub returns-clause-held : goal.returns-clause-held

@@ -3,7 +3,7 @@ use Rattle.std.proofs.Common.{List, subst}
 use Rattle.kdf_director.specs.declared.slot.Loaded.{Loaded}
 use Rattle.kdf_director.specs.Runs.{HasMadeButFewer, HasMadeSome}
 use Rattle.kdf_director.specs.Shown.{Shown}
-use Rattle.kdf_director.specs.Viewed.{viewed}
+use Rattle.kdf_director.specs.Fields.Viewed.{viewed}
 use Rattle.kdf_director.proofs.machine.Machine.calls_with.Goals as goal
 
 pub returns-clause-made : goal.returns-clause-made

@@ -2,7 +2,7 @@ use Rattle.std.proofs.Common.{◌<◌, ◌≤◌, sym, ap, ◌∙◌, subst}
 use Rattle.kdf_journal.specs.Counts.{clock}
 use Rattle.kdf_journal.specs.Steps.{Sets}
 use Rattle.kdf_director.specs.Shown.{Shown, entered}
-use Rattle.kdf_director.proofs.Entered.{ready_timed, shown_timed, states_timed}
+use Rattle.kdf_director.proofs.Linking.AfterEvents.{ready_timed, shown_timed, states_timed}
 use Rattle.kdf_director.proofs.machine.Machine.clock.Goals as goal
 
 pub invariant_of-self : goal.invariant_of-self

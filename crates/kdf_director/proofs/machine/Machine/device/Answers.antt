@@ -4,7 +4,7 @@ use Rattle.std.specs.Prelude.{IfSome, is_some}
 use Rattle.std.proofs.Common.{◌≡◌, true, None, sym, subst}
 use Rattle.kdf_processor.specs.State.{State, own_fixture_at}
 use Rattle.kdf_director.specs.Shown.{IsDeviceAt, Shown, state_of}
-use Rattle.kdf_director.proofs.Shows.{device_absent, device_shown, none_copied}
+use Rattle.kdf_director.proofs.Linking.FieldsShow.{device_absent, device_shown, none_copied}
 use Rattle.kdf_director.proofs.machine.Machine.device.Goals as goal
 
 pub returns-clause-own : goal.returns-clause-own

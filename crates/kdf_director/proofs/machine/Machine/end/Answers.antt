@@ -2,8 +2,8 @@ use Rattle.std.proofs.Common.{◌<◌, sym, ap, ◌∙◌, subst}
 use Rattle.kdf_journal.specs.Counts.{pending}
 use Rattle.kdf_journal.specs.Steps.{Ends}
 use Rattle.kdf_director.specs.Shown.{Shown, entered, state_of}
-use Rattle.kdf_director.specs.Told.{is_of}
-use Rattle.kdf_director.proofs.Entered.{others_ended, ready_ended, shown_ended}
+use Rattle.kdf_director.specs.ByJournal.{is_of}
+use Rattle.kdf_director.proofs.Linking.AfterEvents.{others_ended, ready_ended, shown_ended}
 use Rattle.kdf_director.proofs.machine.Machine.end.Goals as goal
 
 pub ending-requires-clause-running : goal.ending-requires-clause-running

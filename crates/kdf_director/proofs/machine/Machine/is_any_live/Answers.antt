@@ -1,9 +1,9 @@
 use Rattle.std.proofs.Common.{ap, ◌∙◌, subst}
-use Rattle.kdf_director.specs.Going.{any_on}
+use Rattle.kdf_director.specs.Fields.Going.{any_on}
 use Rattle.kdf_director.specs.Next.{any_live}
 use Rattle.kdf_director.specs.Shown.{Shown, ShowsSeen}
-use Rattle.kdf_director.proofs.Entering.{shown_seen}
-use Rattle.kdf_director.proofs.Shows.{live_shown}
+use Rattle.kdf_director.proofs.Linking.EventsEntered.{shown_seen}
+use Rattle.kdf_director.proofs.Linking.FieldsShow.{live_shown}
 use Rattle.kdf_director.proofs.machine.Machine.is_any_live.Goals as goal
 
 pub returns-clause-live : goal.returns-clause-live

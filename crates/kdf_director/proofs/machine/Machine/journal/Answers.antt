@@ -1,6 +1,6 @@
 use Rattle.std.proofs.Common.{subst}
 use Rattle.kdf_director.specs.Shown.{ShowsSeen}
-use Rattle.kdf_director.proofs.Entering.{shown_seen}
+use Rattle.kdf_director.proofs.Linking.EventsEntered.{shown_seen}
 use Rattle.kdf_director.proofs.machine.Machine.journal.Goals as goal
 
 pub returns-clause-seen : goal.returns-clause-seen

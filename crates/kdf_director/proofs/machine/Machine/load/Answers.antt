@@ -2,8 +2,8 @@ use Rattle.std.proofs.Common.{map, sym, ap, ◌∙◌}
 use Rattle.kdf_job.specs.Shows.{shown_slot}
 use Rattle.kdf_place.specs.declared.image.Image.{Image}
 use Rattle.kdf_director.specs.Loading.{slot_of, slots_of}
-use Rattle.kdf_director.specs.Fields.{loaded}
-use Rattle.kdf_director.proofs.Entering.{map_twice}
+use Rattle.kdf_director.specs.Fields.Filled.{loaded}
+use Rattle.kdf_director.proofs.Linking.EventsEntered.{map_twice}
 use Rattle.kdf_director.proofs.machine.Machine.load.Goals as goal
 
 pub returns-clause-slots : goal.returns-clause-slots

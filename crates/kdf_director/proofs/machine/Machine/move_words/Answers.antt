@@ -2,8 +2,8 @@ use Rattle.std.proofs.Common.{◌<◌, sym, ap, ◌∙◌, subst}
 use Rattle.kdf_journal.specs.Counts.{pending}
 use Rattle.kdf_journal.specs.Steps.{Moves}
 use Rattle.kdf_director.specs.Shown.{Shown, entered, state_of}
-use Rattle.kdf_director.specs.Told.{is_of}
-use Rattle.kdf_director.proofs.Entered.{others_moved, ready_moved, shown_moved}
+use Rattle.kdf_director.specs.ByJournal.{is_of}
+use Rattle.kdf_director.proofs.Linking.AfterEvents.{others_moved, ready_moved, shown_moved}
 use Rattle.kdf_director.proofs.machine.Machine.move_words.Goals as goal
 
 pub moving-requires-clause-running : goal.moving-requires-clause-running

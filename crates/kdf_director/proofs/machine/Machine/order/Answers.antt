@@ -1,6 +1,6 @@
 use Rattle.kdf_director.specs.Served.{unasked}
-use Rattle.kdf_director.proofs.ForService.{advance_unserved, answered_unserved}
-use Rattle.kdf_director.proofs.Turned.{if_ok}
+use Rattle.kdf_director.proofs.Course.OneJournal.{advance_unserved, answered_unserved}
+use Rattle.kdf_director.proofs.Turns.AfterTheTry.{if_ok}
 use Rattle.kdf_director.proofs.machine.Machine.order.Goals as goal
 
 pub returns-clause-took : goal.returns-clause-took

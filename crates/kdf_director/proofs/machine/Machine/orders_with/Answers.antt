@@ -1,7 +1,7 @@
 use Rattle.std.proofs.Common.{◌≡◌, ◌+◌, ◌-◌, ◌≤◌, inl, inr, sym, subst, arith}
 use Rattle.kdf_director.specs.Runs.{HasMadeOn}
-use Rattle.kdf_director.proofs.Calling.{all_err}
-use Rattle.kdf_director.proofs.InTurn.{fewer_more, lived, made_all, only_made, reached_all, some_more}
+use Rattle.kdf_director.proofs.Calls.CallsAtOnce.{all_err}
+use Rattle.kdf_director.proofs.Calls.CallsInTurn.{fewer_more, lived, made_all, only_made, reached_all, some_more}
 use Rattle.kdf_director.proofs.machine.Machine.orders_with.Goals as goal
 use Rattle.kdf_director.proofs.machine.Machine.orders_with.Goals.{then-left-eq0-via-then-left-eq0, then-left-eq0-via-else-left-eq0+then-not-found_live}
 

@@ -4,8 +4,8 @@ use Rattle.std.proofs.Common.{eqb, ap, ◌∙◌, subst}
 use Rattle.kdf_processor.specs.State.{State}
 use Rattle.kdf_director.specs.Shown.{Shown, ShowsSeen, state_of}
 use Rattle.kdf_director.specs.declared.program.Program.{Program}
-use Rattle.kdf_director.proofs.Entering.{shown_seen}
-use Rattle.kdf_director.proofs.Shows.{registers_shown}
+use Rattle.kdf_director.proofs.Linking.EventsEntered.{shown_seen}
+use Rattle.kdf_director.proofs.Linking.FieldsShow.{registers_shown}
 use Rattle.kdf_director.proofs.machine.Machine.seen.Goals as goal
 
 pub returns-clause-registers : goal.returns-clause-registers

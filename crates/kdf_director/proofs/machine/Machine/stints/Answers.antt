@@ -3,7 +3,7 @@ use Rattle.std.proofs.Common.{◌≡◌, eqb, length, ap, ◌∙◌, subst}
 use Rattle.kdf_processor.specs.State.{State, lendings}
 use Rattle.kdf_director.specs.Shown.{Shown, state_of}
 use Rattle.kdf_director.specs.declared.program.Program.{Program}
-use Rattle.kdf_director.proofs.Shows.{stints_shown}
+use Rattle.kdf_director.proofs.Linking.FieldsShow.{stints_shown}
 use Rattle.kdf_director.proofs.machine.Machine.stints.Goals as goal
 
 pub returns : goal.returns

@@ -3,7 +3,7 @@ use Rattle.std.proofs.Common.{◌<◌, subst}
 use Rattle.kdf_processor.specs.State.{State}
 use Rattle.kdf_director.specs.Lends.{IsStored}
 use Rattle.kdf_director.specs.Shown.{Shown, state_of}
-use Rattle.kdf_director.proofs.Shows.{store_shown}
+use Rattle.kdf_director.proofs.Linking.FieldsShow.{store_shown}
 use Rattle.kdf_director.proofs.machine.Machine.store.Goals as goal
 
 pub returns : goal.returns

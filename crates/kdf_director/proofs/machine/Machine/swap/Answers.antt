@@ -1,7 +1,7 @@
 use Rattle.std.proofs.Common.{◌<◌, sym, ap, ◌∙◌, subst}
 use Rattle.kdf_journal.specs.Steps.{Swaps}
 use Rattle.kdf_director.specs.Shown.{Shown, entered}
-use Rattle.kdf_director.proofs.Entered.{ready_exchanged, shown_exchanged, states_exchanged}
+use Rattle.kdf_director.proofs.Linking.AfterEvents.{ready_exchanged, shown_exchanged, states_exchanged}
 use Rattle.kdf_director.proofs.machine.Machine.swap.Goals as goal
 
 pub invariant_of-self : goal.invariant_of-self

@@ -3,8 +3,8 @@ use Rattle.std.proofs.Common.{map, ap₂, ◌∙◌, subst}
 use Rattle.kdf_journal.specs.Counts.{pending}
 use Rattle.kdf_director.specs.Lends.{IsLent}
 use Rattle.kdf_director.specs.Shown.{Shown}
-use Rattle.kdf_director.specs.Spots.{Held, spot_at, spot_of}
-use Rattle.kdf_director.proofs.Shows.{transfer_shown}
+use Rattle.kdf_director.specs.Fields.Spots.{Held, spot_at, spot_of}
+use Rattle.kdf_director.proofs.Linking.FieldsShow.{transfer_shown}
 use Rattle.kdf_director.proofs.machine.Machine.transfer.Goals as goal
 
 pub returns : goal.returns

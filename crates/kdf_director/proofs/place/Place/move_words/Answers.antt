@@ -1,7 +1,7 @@
 use Rattle.std.proofs.Common.{ap, ◌∙◌, sym}
-use Rattle.kdf_director.specs.Spots.{spot_of}
-use Rattle.kdf_director.specs.Shared.{moved_spot}
-use Rattle.kdf_director.proofs.Placed.{spot_moved}
+use Rattle.kdf_director.specs.Fields.Spots.{spot_of}
+use Rattle.kdf_director.specs.Fields.Shared.{moved_spot}
+use Rattle.kdf_director.proofs.Physical.OnePlaceChanges.{spot_moved}
 use Rattle.kdf_director.proofs.place.Place.move_words.Goals as goal
 
 pub returns-in-Busy-clause-spot : goal.returns-in-Busy-clause-spot

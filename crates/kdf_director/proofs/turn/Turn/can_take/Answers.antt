@@ -2,8 +2,8 @@ use Rattle.std.proofs.Common.{get_or, false, refl, ap, ◌∙◌}
 use Rattle.std.specs.Prelude.{◌&&◌, not}
 use Rattle.kdf_job.specs.Slots.{lent_kind}
 use Rattle.kdf_transfer.specs.Devices.{is_kind}
-use Rattle.kdf_director.specs.Turn.{part_of, shared}
-use Rattle.kdf_director.proofs.Pools.{take_by}
+use Rattle.kdf_director.specs.Fields.Turn.{part_of, shared}
+use Rattle.kdf_director.proofs.Physical.FreeDevices.{take_by}
 use Rattle.kdf_director.proofs.turn.Turn.can_take.Goals as goal
 
 pub returns : goal.returns

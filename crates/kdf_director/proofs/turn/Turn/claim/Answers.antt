@@ -1,9 +1,9 @@
 use Rattle.std.proofs.Common.{true, ap, ◌∙◌, sym}
-use Rattle.kdf_director.specs.Parts.{in_pool}
-use Rattle.kdf_director.specs.Turn.{part_of, shared}
-use Rattle.kdf_director.proofs.Pooling.{active-marked}
-use Rattle.kdf_director.proofs.Showing.{free_owned}
-use Rattle.kdf_director.proofs.TurnKeeping.{kept_in, marked, places_of}
+use Rattle.kdf_director.specs.Fields.Parts.{in_pool}
+use Rattle.kdf_director.specs.Fields.Turn.{part_of, shared}
+use Rattle.kdf_director.proofs.Physical.PoolDevices.{active-marked}
+use Rattle.kdf_director.proofs.Physical.PartsShow.{free_owned}
+use Rattle.kdf_director.proofs.Turns.TurnsKeep.{kept_in, marked, places_of}
 use Rattle.kdf_director.proofs.turn.Turn.claim.Goals as goal
 
 -- what is claimed is none of the pool

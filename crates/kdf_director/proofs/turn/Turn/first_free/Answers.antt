@@ -1,7 +1,7 @@
 use Rattle.std.proofs.Common.{rules}
 use Rattle.kdf_processor.specs.Claims.{free_for, is_free}
-use Rattle.kdf_director.specs.Parts.{own_claims}
-use Rattle.kdf_director.specs.Turn.{part_of, shared}
+use Rattle.kdf_director.specs.Fields.Parts.{own_claims}
+use Rattle.kdf_director.specs.Fields.Turn.{part_of, shared}
 use Rattle.kdf_director.proofs.turn.Turn.first_free.Goals as goal
 
 pub returns-clause-least : goal.returns-clause-least

@@ -3,7 +3,7 @@ use Rattle.std.specs.Option.{option_map}
 use Rattle.std.specs.List.{range_with_len}
 use Rattle.std.proofs.Common.{◌≡◌, ◌+◌, ◌-◌, ◌/◌, ap₂, ◌∙◌, sym, arith}
 use Rattle.kdf_lockout.specs.Groups.{is_out, first_out_of}
-use Rattle.kdf_director.proofs.Tables.{find_shift, found_shift, found_low, none_shift}
+use Rattle.kdf_director.proofs.Physical.ShiftedRanges.{find_shift, found_shift, found_low, none_shift}
 use Rattle.kdf_director.proofs.turn.Turn.locked.Goals as goal
 use Rattle.kdf_director.proofs.turn.Turn.locked.Goals.{After-first_out}
 

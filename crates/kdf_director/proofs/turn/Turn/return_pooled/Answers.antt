@@ -1,15 +1,15 @@
 use Rattle.std.proofs.Common.{◌≡◌, ◌<◌, true, false, length, map, set, cond, None, refl, sym, ap, ap₂, ◌∙◌, subst, arith}
 use Rattle.std.proofs.lemmas.List.{length-map}
 use Rattle.kdf_transfer.specs.Devices.{fixture_of, progress_of}
-use Rattle.kdf_director.specs.Keeping.{IsActiveBy}
-use Rattle.kdf_director.specs.Parts.{Part, Shared, back_from}
-use Rattle.kdf_director.specs.Spots.{Spot, blank_spot, can_leave, left_spot, spot_at, spot_of}
-use Rattle.kdf_director.specs.Stints.{Loan, keeping_of, with_loan}
-use Rattle.kdf_director.specs.Turn.{part_of, shared}
-use Rattle.kdf_director.proofs.Pooling.{IsIts}
-use Rattle.kdf_director.proofs.Pools.{back_is, left_is, leaves_there, not_busy}
-use Rattle.kdf_director.proofs.Showing.{holder_is}
-use Rattle.kdf_director.proofs.TurnKeeping.{active_in, give_active, give_kept, kept_in}
+use Rattle.kdf_director.specs.Fields.Keeping.{IsActiveBy}
+use Rattle.kdf_director.specs.Fields.Parts.{Part, Shared, back_from}
+use Rattle.kdf_director.specs.Fields.Spots.{Spot, blank_spot, can_leave, left_spot, spot_at, spot_of}
+use Rattle.kdf_director.specs.Fields.Stints.{Loan, keeping_of, with_loan}
+use Rattle.kdf_director.specs.Fields.Turn.{part_of, shared}
+use Rattle.kdf_director.proofs.Physical.PoolDevices.{IsIts}
+use Rattle.kdf_director.proofs.Physical.FreeDevices.{back_is, left_is, leaves_there, not_busy}
+use Rattle.kdf_director.proofs.Physical.PartsShow.{holder_is}
+use Rattle.kdf_director.proofs.Turns.TurnsKeep.{active_in, give_active, give_kept, kept_in}
 use Rattle.kdf_director.proofs.turn.Turn.return_pooled.Goals as goal
 use Rattle.kdf_director.proofs.turn.Turn.return_pooled.Goals.{After-take_back_at, After-hand_in}
 

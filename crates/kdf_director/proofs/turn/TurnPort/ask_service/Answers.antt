@@ -1,6 +1,6 @@
 use Rattle.std.proofs.Common.{subst}
 use Rattle.kdf_processor.specs.Effect.{Asks, OfService}
-use Rattle.kdf_director.specs.Turn.{Acts}
+use Rattle.kdf_director.specs.Fields.Turn.{Acts}
 use Rattle.kdf_director.proofs.turn.TurnPort.ask_service.Goals as goal
 
 pub returns-clause-recorded : goal.returns-clause-recorded

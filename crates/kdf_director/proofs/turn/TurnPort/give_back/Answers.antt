@@ -2,13 +2,13 @@ use Rattle.std.proofs.Common.{◌≡◌, false, is_some, set, None, refl, sym, a
 use Rattle.kdf_job.specs.Slots.{lent_kind}
 use Rattle.kdf_transfer.proofs.Numbers.{number_at}
 use Rattle.kdf_processor.specs.Effect.{Releases}
-use Rattle.kdf_director.specs.Notes.{note_after}
-use Rattle.kdf_director.specs.Parts.{Part, in_pool, part_after}
-use Rattle.kdf_director.specs.Shared.{after_act}
-use Rattle.kdf_director.specs.Turn.{Acts, part_of, shared}
-use Rattle.kdf_director.proofs.Pooling.{active-marked}
-use Rattle.kdf_director.proofs.Showing.{claimed_small}
-use Rattle.kdf_director.proofs.TurnKeeping.{marked, places_of}
+use Rattle.kdf_director.specs.Fields.Notes.{note_after}
+use Rattle.kdf_director.specs.Fields.Parts.{Part, in_pool, part_after}
+use Rattle.kdf_director.specs.Fields.Shared.{after_act}
+use Rattle.kdf_director.specs.Fields.Turn.{Acts, part_of, shared}
+use Rattle.kdf_director.proofs.Physical.PoolDevices.{active-marked}
+use Rattle.kdf_director.proofs.Physical.PartsShow.{claimed_small}
+use Rattle.kdf_director.proofs.Turns.TurnsKeep.{marked, places_of}
 use Rattle.kdf_director.proofs.turn.TurnPort.give_back.Goals as goal
 use Rattle.kdf_director.proofs.turn.TurnPort.give_back.Goals.{After-is_some}
 

@@ -2,11 +2,11 @@ use Rattle.std.proofs.Common.{ltb, get_or, map, cond, false, None, refl, ap, ap�
 use Rattle.std.specs.Prelude.{◌&&◌}
 use Rattle.kdf_job.specs.Slots.{lent_kind}
 use Rattle.kdf_processor.specs.State.{pooled_or}
-use Rattle.kdf_director.specs.Parts.{fixture_owned, numbers}
+use Rattle.kdf_director.specs.Fields.Parts.{fixture_owned, numbers}
 use Rattle.kdf_transfer.specs.Devices.{kind_in}
-use Rattle.kdf_director.specs.Spots.{spot_of}
-use Rattle.kdf_director.specs.Turn.{part_of, shared}
-use Rattle.kdf_director.proofs.Showing.{claim_lent}
+use Rattle.kdf_director.specs.Fields.Spots.{spot_of}
+use Rattle.kdf_director.specs.Fields.Turn.{part_of, shared}
+use Rattle.kdf_director.proofs.Physical.PartsShow.{claim_lent}
 use Rattle.kdf_director.proofs.turn.TurnPort.held.Goals as goal
 
 pub returns-clause-kind : goal.returns-clause-kind

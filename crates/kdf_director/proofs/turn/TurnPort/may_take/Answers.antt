@@ -1,7 +1,7 @@
 use Rattle.std.proofs.Common.{is_some, rules, ap, ◌∙◌}
 use Rattle.kdf_processor.specs.Claims.{can_take, least_pooled}
-use Rattle.kdf_director.specs.Parts.{own_claims}
-use Rattle.kdf_director.specs.Turn.{part_of, shared}
+use Rattle.kdf_director.specs.Fields.Parts.{own_claims}
+use Rattle.kdf_director.specs.Fields.Turn.{part_of, shared}
 use Rattle.kdf_director.proofs.turn.TurnPort.may_take.Goals as goal
 
 pub returns : goal.returns

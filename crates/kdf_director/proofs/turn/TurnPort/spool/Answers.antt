@@ -4,11 +4,11 @@ use Rattle.kdf_word.specs.Characters.{codes_of_all}
 use Rattle.kdf_lockout.specs.Groups.{word_here}
 use Rattle.kdf_media.specs.Media.{through_end}
 use Rattle.kdf_processor.specs.declared.spooled.Spooled.{Spooled}
-use Rattle.kdf_director.specs.Parts.{Part, own_text}
-use Rattle.kdf_director.specs.Shared.{IsFreeArea}
-use Rattle.kdf_director.specs.Turn.{part_of, shared}
-use Rattle.kdf_director.proofs.TurnBeginning.{free_area}
-use Rattle.kdf_director.proofs.Texts.{area_here}
+use Rattle.kdf_director.specs.Fields.Parts.{Part, own_text}
+use Rattle.kdf_director.specs.Fields.Shared.{IsFreeArea}
+use Rattle.kdf_director.specs.Fields.Turn.{part_of, shared}
+use Rattle.kdf_director.proofs.Physical.TransfersBegin.{free_area}
+use Rattle.kdf_director.proofs.Physical.AreaTexts.{area_here}
 use Rattle.kdf_director.proofs.turn.TurnPort.spool.Goals as goal
 use Rattle.kdf_director.proofs.turn.TurnPort.spool.Goals.{After-place-to, After-text_of-text}
 

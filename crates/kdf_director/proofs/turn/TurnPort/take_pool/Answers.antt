@@ -1,17 +1,17 @@
 use Rattle.std.specs.Prelude.{unwrap_or}
 use Rattle.std.proofs.Common.{◌≡◌, ◌<◌, ◌∷◌, ◌++◌, [], true, length, map, set, is_some, refl, sym, ap, ◌∙◌, subst, arith}
 use Rattle.std.proofs.lemmas.List.{length-map, map_push}
-use Rattle.kdf_director.specs.Keeping.{IsActiveBy}
-use Rattle.kdf_director.specs.Parts.{Part}
-use Rattle.kdf_director.specs.Shared.{free_in}
-use Rattle.kdf_director.specs.Spots.{can_leave, lent_spot, spot_at, spot_of}
-use Rattle.kdf_director.specs.Stints.{Lent, keeping_of}
-use Rattle.kdf_director.specs.Turn.{part_of, shared}
+use Rattle.kdf_director.specs.Fields.Keeping.{IsActiveBy}
+use Rattle.kdf_director.specs.Fields.Parts.{Part}
+use Rattle.kdf_director.specs.Fields.Shared.{free_in}
+use Rattle.kdf_director.specs.Fields.Spots.{can_leave, lent_spot, spot_at, spot_of}
+use Rattle.kdf_director.specs.Fields.Stints.{Lent, keeping_of}
+use Rattle.kdf_director.specs.Fields.Turn.{part_of, shared}
 use Rattle.kdf_director.specs.declared.note.Note.TheVariants.{Took}
 use Rattle.kdf_director.specs.declared.stint.Loan.TheVariants as kept
-use Rattle.kdf_director.proofs.Pooling.{IsFree}
-use Rattle.kdf_director.proofs.Pools.{can_take_free, free_idle, free_one, leaves_there, lent_is}
-use Rattle.kdf_director.proofs.TurnKeeping.{active_in, kept_in, take_active, take_kept, take_part, take_shared}
+use Rattle.kdf_director.proofs.Physical.PoolDevices.{IsFree}
+use Rattle.kdf_director.proofs.Physical.FreeDevices.{can_take_free, free_idle, free_one, leaves_there, lent_is}
+use Rattle.kdf_director.proofs.Turns.TurnsKeep.{active_in, kept_in, take_active, take_kept, take_part, take_shared}
 use Rattle.kdf_director.proofs.turn.TurnPort.take_pool.Goals as goal
 use Rattle.kdf_director.proofs.turn.TurnPort.take_pool.Goals.{After-from, After-push_reserved}
 

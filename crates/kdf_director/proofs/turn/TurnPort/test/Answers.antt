@@ -1,10 +1,10 @@
 use Rattle.std.proofs.Common.{map, ap, ◌∙◌, sym, arith}
 use Rattle.kdf_transfer.specs.Devices.{test_of}
-use Rattle.kdf_director.specs.Spots.{spot_at, spot_of}
-use Rattle.kdf_director.specs.Turn.{part_of, shared}
+use Rattle.kdf_director.specs.Fields.Spots.{spot_at, spot_of}
+use Rattle.kdf_director.specs.Fields.Turn.{part_of, shared}
 use Rattle.kdf_transfer.proofs.Numbers.{limit_is}
-use Rattle.kdf_director.proofs.Showing.{claimed_has, claimed_small, own_device}
-use Rattle.kdf_director.proofs.TurnKeeping.{active_in, kept_in}
+use Rattle.kdf_director.proofs.Physical.PartsShow.{claimed_has, claimed_small, own_device}
+use Rattle.kdf_director.proofs.Turns.TurnsKeep.{active_in, kept_in}
 use Rattle.kdf_director.proofs.turn.TurnPort.test.Goals as goal
 
 pub test_in-requires : goal.test_in-requires

@@ -1,7 +1,7 @@
 use Rattle.std.proofs.Common.{ap}
-use Rattle.kdf_director.specs.Shared.{view}
-use Rattle.kdf_director.specs.Turn.{part_of}
-use Rattle.kdf_director.proofs.Turns.{share}
+use Rattle.kdf_director.specs.Fields.Shared.{view}
+use Rattle.kdf_director.specs.Fields.Turn.{part_of}
+use Rattle.kdf_director.proofs.Turns.TurnsShow.{share}
 use Rattle.kdf_director.proofs.turn.TurnReserve.reserve_transfer.Goals as goal
 
 pub returns-clause-shows : goal.returns-clause-shows

@@ -1,0 +1,72 @@
+-- What calls in turn come to.
+use Rattle.std.specs.Prelude.{replicate}
+use Rattle.std.proofs.Common.{◌≡◌, ℕ, ◌+◌, ◌≤◌, Bool, true, false, ◌⊎◌, inl, inr, refl, sym, subst, arith}
+use Rattle.kdf_journal.specs.Steps.{steps}
+use Rattle.kdf_schedule.specs.Calls.{AnOrder}
+use Rattle.kdf_course.specs.Follows.{Reaches}
+use Rattle.kdf_director.specs.declared.machine.Progress.{Progress}
+use Rattle.kdf_director.specs.declared.machine.Progress.TheVariants as progress
+use Rattle.kdf_director.specs.Next.{lone_dispatched}
+use Rattle.kdf_director.specs.Orders.{HasMadeAll, HasMadeFewer}
+use Rattle.kdf_director.specs.Progressed.{found_live}
+use Rattle.kdf_director.specs.Runs.{HasMadeButFewer, HasMadeOn, HasMadeSome}
+use Rattle.kdf_director.specs.Shown.{Shown}
+use Rattle.kdf_director.proofs.Calls.FoundLive.{rested_at}
+use Rattle.kdf_director.proofs.Calls.CallsAfterCalls.{made_reaches, made_then}
+
+module _ (answers : ℕ → ℕ → Type 0) (old : Shown) where
+  -- after i calls
+  module _ (i : ℕ) (m : Shown) (h : HasMadeOn answers i old m) where
+    -- some more were made
+    pub some_more : (k : ℕ) (new : Shown) (r : Progress) → HasMadeSome answers k m new r → HasMadeSome answers (k + i) old new r
+    some_more k new r x =
+        let before = x.before in
+        let count = x.count in
+        record {
+          before = before + i;
+          between = x.between;
+          earlier = made_then answers i before old m x.between h x.earlier;
+          last = x.last;
+          answered = x.answered;
+          count = omega arith;
+          all_on = λ found. made_then answers i k old m new h (x.all_on found);
+        }
+
+    -- or the next one, or one behind it, had no memory
+    pub fewer_more : (n left : ℕ) (new : Shown) → i + left ≡ n → HasMadeButFewer answers left m new → HasMadeButFewer answers n old new
+    fewer_more n left new all x = let lt = x.1 in (x.0 + i, omega (arith, all), made_then answers i x.0 old m new h x.2)
+
+  pub only_made : (n : ℕ) (new : Shown) → HasMadeButFewer answers n old new → HasMadeFewer answers n old new
+  only_made n new x = (x.0, x.1, x.2.made)
+
+  -- after the last of them
+  module _ (k : ℕ) (new : Shown) where
+    -- as many found a live program
+    pub lived : (r : Progress) → HasMadeSome answers k old new r → (j : ℕ) × (j ≤ k) × HasMadeOn answers j old new
+    lived (progress.Ran p) x = (k, omega arith, x.all_on refl)
+    lived (progress.Held p need) x = (k, omega arith, x.all_on refl)
+    lived progress.Idle x = (k, omega arith, x.all_on refl)
+    lived progress.AllEnded x = let count = x.count in (x.before, omega arith, subst (HasMadeOn answers x.before old) (sym x.last.advance.1) x.earlier)
+
+    module _ (n : ℕ) (r : Progress) (x : HasMadeSome answers k old new r) (within : k ≤ n) (whole : (k ≡ n) ⊎ (found_live r ≡ false)) where
+      ends : (k ≡ n) ⊎ (found_live r ≡ false) → (x.before + 1 ≡ n) ⊎ (found_live r ≡ false)
+      ends (inl all) = inl (omega (arith, all, x.count))
+      ends (inr dead) = inr dead
+
+      pub made_all : HasMadeAll answers n old new r
+      made_all =
+          let count = x.count in
+          record { before = x.before; between = x.between; made = x.earlier.made; last = x.last; within = omega (arith, within); whole = ends whole }
+
+      pub reached_all : Reaches (lone_dispatched old.slots) (steps old.journal) (replicate n AnOrder) (steps new.journal)
+      reached_all = by whole (found_live r) refl
+        where
+          over : found_live r ≡ false → Reaches (lone_dispatched old.slots) (steps old.journal) (replicate n AnOrder) (steps new.journal)
+          over dead =
+              let count = x.count in
+              rested_at old.slots (steps old.journal) x.before n x.last.heard x.between new r x.earlier.legal x.earlier.slots (made_reaches answers x.before old x.between x.earlier) x.last.advance dead (omega (arith, within))
+
+          by : (k ≡ n) ⊎ (found_live r ≡ false) → (b : Bool) → found_live r ≡ b → Reaches (lone_dispatched old.slots) (steps old.journal) (replicate n AnOrder) (steps new.journal)
+          by (inr dead) b is = over dead
+          by (inl all) false dead = over dead
+          by (inl all) true live = subst (λ i. Reaches (lone_dispatched old.slots) (steps old.journal) (replicate i AnOrder) (steps new.journal)) all (made_reaches answers k old new (x.all_on live))

@@ -1,0 +1,66 @@
+-- Calls that find no program that can go on.
+use Rattle.std.proofs.Common.{◌≡◌, ℕ, zero, suc, ◌+◌, ◌<◌, ◌≤◌, true, List, Option, None, refl, sym, ap, ◌∙◌, arith}
+use Rattle.kdf_journal.specs.declared.entry.Entry.{Entry}
+use Rattle.kdf_journal.specs.declared.journal.TheConstants.{CALL_LIMIT}
+use Rattle.kdf_journal.specs.Counts.{calls, priorities}
+use Rattle.kdf_processor.specs.declared.step.Need.{Need}
+use Rattle.kdf_transfer.specs.Slots.{Slot}
+use Rattle.kdf_director.specs.declared.machine.Progress.TheVariants as progress
+use Rattle.kdf_director.specs.Fields.Agrees.{Agrees}
+use Rattle.kdf_director.specs.Fields.Going.{first_going}
+use Rattle.kdf_director.specs.Next.{any_live, next}
+use Rattle.kdf_director.specs.Fields.Parts.{Reach, Seat, Shared}
+use Rattle.kdf_director.specs.Runs.{HasMadeOn, HasMadeSome, waited_on}
+use Rattle.kdf_director.specs.Shown.{Shown, state_at, world_of}
+use Rattle.kdf_director.proofs.Calls.CallsAfterCalls.{made_more, made_none}
+use Rattle.kdf_director.proofs.Linking.NextPrograms.{any_same, none_next}
+use Rattle.kdf_director.proofs.Calls.OrdersInARow.{calls-waited_on, priorities-waited_on}
+use Rattle.kdf_director.proofs.Linking.TurnTaken.{HasAdvanced, holds_in, shown, waited}
+
+module _ (service : ℕ → ℕ → Type 0) (slots : List Slot) (reaches : List Reach) (seats : List Seat) (s : Shared) (J : List Entry) (room : ℕ) (a : Agrees slots reaches seats s J) (holds : List (Option Need)) (have : holds ≡ holds_in seats J) (live : any_live slots J ≡ true) (none : first_going reaches seats holds s (priorities J) ≡ None) where
+  abbrev m : ℕ → Shown
+  m n = shown slots reaches seats s (waited_on J n) room
+
+  -- after n such calls
+  pub record IsWaiting (n : ℕ) : Type 0 where
+    pub agrees : Agrees slots reaches seats s (waited_on J n)
+    pub holds_are : holds ≡ holds_in seats (waited_on J n)
+    pub made : HasMadeOn service n (m 0) (m n)
+
+  module _ (n : ℕ) (w : IsWaiting n) (few : calls (waited_on J n) < CALL_LIMIT) where
+    live_still : any_live slots (waited_on J n) ≡ true
+    live_still = sym (any_same slots reaches seats s (waited_on J n) w.agrees) ∙ any_same slots reaches seats s J a ∙ live
+
+    none_still : next (world_of (m n)) slots (waited_on J n) ≡ None
+    none_still =
+        none_next slots reaches seats s (waited_on J n) w.agrees holds w.holds_are (state_at (m n)) (ap (first_going reaches seats holds s) (priorities-waited_on J n) ∙ none)
+
+    advanced : HasAdvanced service (m n) slots reaches seats s holds (waited_on J (suc n)) room progress.Idle
+    advanced = waited service slots reaches seats s (waited_on J n) room w.agrees holds w.holds_are few live_still none_still
+
+    one_more : IsWaiting (suc n)
+    one_more =
+        record {
+          agrees = advanced.agrees;
+          holds_are = advanced.holds_are;
+          made = made_more service n (m 0) (m n) (m (suc n)) progress.Idle w.made advanced.advance refl advanced.answered advanced.agrees.legal refl refl;
+        }
+
+    waited_some : HasMadeSome service (suc n) (m 0) (m (suc n)) progress.Idle
+    waited_some =
+        record {
+          before = n;
+          between = m n;
+          earlier = w.made;
+          last = advanced.advance;
+          answered = advanced.answered;
+          count = omega arith;
+          all_on = λ found. one_more.made;
+        }
+
+  pub waiting : (n : ℕ) → calls J + n ≤ CALL_LIMIT → IsWaiting n
+  waiting zero few = record { agrees = a; holds_are = have; made = made_none service (m 0) a.legal }
+  waiting (suc n) few = one_more n (waiting n (omega arith)) (omega (arith, calls-waited_on J n))
+
+  pub waiting_some : (n : ℕ) → calls J + suc n ≤ CALL_LIMIT → HasMadeSome service (suc n) (m 0) (m (suc n)) progress.Idle
+  waiting_some n few = waited_some n (waiting n (omega arith)) (omega (arith, calls-waited_on J n))

@@ -1,0 +1,10 @@
+-- What is loaded, and the machine before its first order.
+pub mod BeforeOrders
+pub mod DevicesByNumber
+pub mod ImagesLoaded
+pub mod JobsLoaded
+pub mod LoadedMachine
+pub mod OneMoreLoaded
+pub mod PlacesLoaded
+pub mod SizesLoaded
+pub mod StoreFilled

@@ -1,0 +1,130 @@
+-- The devices of the slots that are loaded, by number.
+use Rattle.std.proofs.Common.{◌≡◌, ◌≢◌, ℕ, zero, suc, ◌<◌, ◌≤◌, Bool, true, false, cond, eqb, ◌||◌, ◌⊎◌, inl, inr, List, [], ◌∷◌, length, get_or, Option, Some, None, is_some, refl, sym, ap, ◌∙◌, subst, ⊎_elim, arith}
+use Rattle.std.proofs.lemmas.Bool.{cases_eq, cases_lt, ne_eqb}
+use Rattle.std.proofs.lemmas.List.{ext_get_or}
+use Rattle.kdf_journal.specs.declared.kind.Kind.{Kind}
+use Rattle.kdf_transfer.specs.ByNumber.{by_number, device_count}
+use Rattle.kdf_transfer.proofs.Numbers.{length-numbers, limit_is, number_at}
+use Rattle.std.specs.List.{AllPairs}
+use Rattle.kdf_job.specs.Job.{JobDevice}
+use Rattle.kdf_job.specs.Slots.{fixture_on, numbered, progress_on}
+use Rattle.kdf_director.specs.Loading.{SlotLoad}
+use Rattle.kdf_director.specs.Fields.Filled.{AreApart, first_own, has, numbers_in, pool_spot, spot_or}
+use Rattle.kdf_director.specs.Fields.Parts.{owns}
+use Rattle.kdf_director.specs.Fields.Spots.{Spot}
+
+-- the place of a slot's device
+pub record IsOwnSpot (p : ℕ) (o : Option JobDevice) (x : Spot) : Type 0 where
+  pub fixture : x.fixture ≡ fixture_on o
+  pub progress : x.progress ≡ progress_on o
+  pub holder : x.holder ≡ Some p
+
+some_or : (b : Bool) (x : JobDevice) (o : Option JobDevice) → is_some (cond b (Some x) o) ≡ (b || is_some o)
+some_or true x o = refl
+some_or false x o = refl
+
+-- the device of a number is there where the slot has one
+pub found : (devices : List JobDevice) (d : ℕ) → is_some (numbered devices d) ≡ owns (numbers_in devices) d
+found [] d = refl
+found (x ∷ devices) d = some_or (eqb x.d d) x (numbered devices d) ∙ ap (λ b. eqb x.d d || b) (found devices d)
+
+pub missing : (devices : List JobDevice) (d : ℕ) → owns (numbers_in devices) d ≡ false → numbered devices d ≡ None
+missing devices d not = none (numbered devices d) (found devices d ∙ not)
+  where
+    none : (o : Option JobDevice) → is_some o ≡ false → o ≡ None
+    none None is = refl
+    none (Some x) is = cc
+
+-- the place of a number of a slot's, with one of them or with something else
+pub own_one : (p : ℕ) (o : Option JobDevice) (other : Spot) → is_some o ≡ true → IsOwnSpot p o (spot_or p o other)
+own_one p None other is = cc
+own_one p (Some x) other is = record { fixture = refl; progress = refl; holder = refl }
+
+none_one : (p : ℕ) (o : Option JobDevice) (other : Spot) → o ≡ None → spot_or p o other ≡ other
+none_one p o other is = ap (λ z. spot_or p z other) is
+
+-- a number is of the one slot that has it
+pub picked : (xs : List SlotLoad) (i d : ℕ) (e : SlotLoad) (other : Spot) → AllPairs AreApart xs → i < length xs → has (get_or xs i e) d ≡ true → IsOwnSpot (get_or xs i e).p (numbered (get_or xs i e).devices d) (first_own xs d other)
+picked [] i d e other apart lt is = absurd (omega arith)
+picked (x ∷ xs) zero d e other apart lt is = own_one x.p (numbered x.devices d) (first_own xs d other) (found x.devices d ∙ is)
+picked (x ∷ xs) (suc i) d e other apart lt is =
+    subst (IsOwnSpot (get_or xs i e).p (numbered (get_or xs i e).devices d)) (sym (none_one x.p (numbered x.devices d) (first_own xs d other) (missing x.devices d (not (has x d) refl))))
+    (picked xs i d e other (λ j k f less inside. apart (suc j) (suc k) f (omega arith) (omega arith)) (omega arith) is)
+  where
+    not : (b : Bool) → has x d ≡ b → has x d ≡ false
+    not false h = h
+    not true h = cc (sym is ∙ apart 0 (suc i) e (omega arith) lt d h)
+
+-- one that no slot has is of no slot
+pub unpicked : (xs : List SlotLoad) (d : ℕ) (e : SlotLoad) (other : Spot) → ((i : ℕ) → i < length xs → has (get_or xs i e) d ≡ false) → first_own xs d other ≡ other
+unpicked [] d e other none = refl
+unpicked (x ∷ xs) d e other none =
+    none_one x.p (numbered x.devices d) (first_own xs d other) (missing x.devices d (none 0 (omega arith)))
+    ∙ unpicked xs d e other (λ i lt. none (suc i) (omega arith))
+
+-- whose device stands there
+pub record Stands (xs : List SlotLoad) (d : ℕ) (e : SlotLoad) : Type 0 where
+  pub by : ℕ
+  pub there : by < length xs
+  pub has_it : has (get_or xs by e) d ≡ true
+
+pub owner : (xs : List SlotLoad) (d : ℕ) (e : SlotLoad) → Stands xs d e ⊎ ((i : ℕ) → i < length xs → has (get_or xs i e) d ≡ false)
+owner [] d e = inr (λ i lt. absurd (omega arith))
+owner (x ∷ xs) d e = by_first (has x d) refl (owner xs d e)
+  where
+    at : has x d ≡ false → ((i : ℕ) → i < length xs → has (get_or xs i e) d ≡ false) → (i : ℕ) → i < suc (length xs) → has (get_or (x ∷ xs) i e) d ≡ false
+    at not none zero lt = not
+    at not none (suc i) lt = none i (omega arith)
+
+    by_first : (b : Bool) → has x d ≡ b → (Stands xs d e ⊎ ((i : ℕ) → i < length xs → has (get_or xs i e) d ≡ false)) → Stands (x ∷ xs) d e ⊎ ((i : ℕ) → i < length (x ∷ xs) → has (get_or (x ∷ xs) i e) d ≡ false)
+    by_first true is later = inl (record { by = 0; there = omega arith; has_it = is })
+    by_first false not later =
+        ⊎_elim
+        (λ (s : Stands xs d e). inl (record { by = suc s.by; there = let h = s.there in omega arith; has_it = s.has_it }))
+        (λ (none : (i : ℕ) → i < length xs → has (get_or xs i e) d ≡ false). inr (at not none))
+        later
+
+-- each two slots, in either order
+pub apart_both : (xs : List SlotLoad) (i j d : ℕ) (e : SlotLoad) → AllPairs AreApart xs → i < length xs → j < length xs → i ≢ j → has (get_or xs i e) d ≡ true → has (get_or xs j e) d ≡ false
+apart_both xs i j d e apart li lj ne is =
+    ⊎_elim
+    (λ (less : i < j). apart i j e less lj d is)
+    (λ (more : j ≤ i). back (has (get_or xs j e) d) refl (omega arith))
+    (cases_lt i j)
+  where
+    back : (b : Bool) → has (get_or xs j e) d ≡ b → j < i → has (get_or xs j e) d ≡ false
+    back false h less = h
+    back true h less = cc (sym is ∙ apart j i e less li d h)
+
+-- what stands at each number
+pub numbers_same : {X : Type 0} (f g : ℕ → X) (x : X) → ((d : ℕ) → d < 16 → f d ≡ g d) → by_number f ≡ by_number g
+numbers_same f g x same =
+    ext_get_or x (by_number f) (by_number g) (length-numbers f ∙ sym (length-numbers g))
+    (λ d lt.
+    let low : d < device_count = let e = length-numbers f in omega arith in
+    number_at f d x low ∙ same d (let e = limit_is in omega arith) ∙ sym (number_at g d x low))
+
+pub small_of : (ns : List ℕ) (d : ℕ) → ((i : ℕ) → i < length ns → get_or ns i 0 < 16) → owns ns d ≡ true → d < 16
+small_of [] d below is = cc
+small_of (n ∷ ns) d below is =
+    ⊎_elim
+    (λ (same : n ≡ d). let lt : n < 16 = below 0 (omega arith) in omega arith)
+    (λ (other : n ≢ d). small_of ns d (λ i lt. below (suc i) (omega arith)) (rest (eqb n d) is (ne_eqb n d other)))
+    (cases_eq n d)
+  where
+    rest : (b : Bool) → (b || owns ns d) ≡ true → b ≡ false → owns ns d ≡ true
+    rest false is not = is
+    rest true is not = cc
+
+-- none of the places has a transfer
+pub idle_flight : (xs : List SlotLoad) (d : ℕ) (other : Spot) → other.flight ≡ None → (first_own xs d other).flight ≡ None
+idle_flight [] d other none = none
+idle_flight (x ∷ xs) d other none = of_one (numbered x.devices d) (idle_flight xs d other none)
+  where
+    of_one : (o : Option JobDevice) → (first_own xs d other).flight ≡ None → (spot_or x.p o (first_own xs d other)).flight ≡ None
+    of_one None later = later
+    of_one (Some y) later = refl
+
+pub pool_flight : (o : Option Kind) → (pool_spot o).flight ≡ None
+pool_flight None = refl
+pool_flight (Some k) = refl

@@ -1,0 +1,50 @@
+-- One slot or word more is loaded.
+use Rattle.std.proofs.Common.{◌≡◌, ℕ, suc, ◌+◌, ◌<◌, List, [], ◌∷◌, ◌++◌, length, get_or, map, take, drop, sym, ap, ap₂, ◌∙◌, append_assoc, arith}
+use Rattle.std.proofs.Math.Seq.{drop-cons}
+use Rattle.std.proofs.lemmas.List.{map_more, map_push}
+use Rattle.kdf_lockout.specs.Groups.{Cells}
+use Rattle.kdf_relocate.specs.declared.window.Window.{Window}
+use Rattle.kdf_job.specs.declared.job.SlotJob.{SlotJob}
+use Rattle.kdf_job.specs.Shows.{shown_slot}
+use Rattle.kdf_place.specs.declared.image.Image.{Image}
+use Rattle.kdf_director.specs.declared.slot.Loaded.{Loaded}
+use Rattle.kdf_director.specs.Loading.{SlotLoad, load_of, loads}
+use Rattle.kdf_director.specs.Fields.Filled.{kept_word, loaded, with_images, with_words}
+use Rattle.kdf_director.specs.Fields.Parts.{window_at}
+
+-- what is left begins with the element that is next
+drop_at : {X : Type 0} (xs : List X) (i : ℕ) (x : X) → i < length xs → x ≡ get_or xs i x → drop i xs ≡ x ∷ drop (i + 1) xs
+drop_at xs i x lt here =
+    drop-cons xs i x lt
+    ∙ ap₂ (λ y n. y ∷ drop n xs) (sym here) (let e : suc i ≡ i + 1 = omega arith in e)
+
+-- one more of a list that is made element by element
+pub take_more : {X Y Z : Type 0} (f : X → Z) (g : Y → Z) (xs ys : List X) (x : X) (all : List Y) (i : ℕ) (y : Y) → i < length all → y ≡ get_or all i y → ys ≡ xs ++ x ∷ [] → f x ≡ g y → map f xs ≡ map g (take i all) → map f ys ≡ map g (take (i + 1) all)
+take_more f g xs ys x all i y lt here push is before =
+    ap (map f) push ∙ map_push f xs x ∙ ap₂ (λ a b. a ++ b ∷ []) before (is ∙ ap g here) ∙ sym (map_more g all i y lt)
+
+-- the slots from the i-th on
+abbrev rest : List SlotJob → List Image → ℕ → List SlotLoad
+rest jobs images i = loads (map shown_slot (drop i jobs)) (map (λ (x : Image). x.words.items) (drop i images))
+
+pub loads_more : (jobs : List SlotJob) (images : List Image) (i : ℕ) (s : SlotJob) (image : Image) (before after : List Loaded) (x : Loaded) (all : List SlotLoad) → i < length jobs → i < length images → s ≡ get_or jobs i s → image ≡ get_or images i image → after ≡ before ++ x ∷ [] → loaded x ≡ load_of (shown_slot s) image.words.items → map loaded before ++ rest jobs images i ≡ all → map loaded after ++ rest jobs images (i + 1) ≡ all
+loads_more jobs images i s image before after x all lt lt' here there push is so =
+    ap (λ ys. map loaded ys ++ rest jobs images (i + 1)) push
+    ∙ ap (λ ys. ys ++ rest jobs images (i + 1)) (map_push loaded before x)
+    ∙ append_assoc (map loaded before) (loaded x ∷ []) (rest jobs images (i + 1))
+    ∙ ap (λ ys. map loaded before ++ ys)
+    (ap (λ l. l ∷ rest jobs images (i + 1)) is
+    ∙ sym (ap₂ (λ js ms. loads (map shown_slot js) (map (λ (m : Image). m.words.items) ms)) (drop_at jobs i s lt here) (drop_at images i image lt' there)))
+    ∙ so
+
+-- one word more is written
+pub words_step : (cells after : Cells) (place i w : ℕ) (words : List ℕ) → i < length words → w ≡ get_or words i w → after ≡ kept_word cells (place + i) w → with_words after (place + (i + 1)) (drop (i + 1) words) ≡ with_words cells (place + i) (drop i words)
+words_step cells after place i w words lt here is =
+    ap₂ (λ k n. with_words k n (drop (i + 1) words)) is (let e : place + (i + 1) ≡ place + i + 1 = omega arith in e)
+    ∙ sym (ap (with_words cells (place + i)) (drop_at words i w lt here))
+
+-- and those of one slot more
+pub images_step : (windows : List Window) (cells after : Cells) (ls : List Loaded) (k : ℕ) (l : Loaded) (base : ℕ) (words : List ℕ) → k < length ls → l ≡ get_or ls k l → base ≡ (window_at windows l.p).base → words ≡ l.words.items → after ≡ with_words cells base words → with_images windows after (map loaded (drop (k + 1) ls)) ≡ with_images windows cells (map loaded (drop k ls))
+images_step windows cells after ls k l base words lt here at same is =
+    ap (λ c. with_images windows c (map loaded (drop (k + 1) ls))) (is ∙ ap₂ (with_words cells) at same)
+    ∙ sym (ap (λ xs. with_images windows cells (map loaded xs)) (drop_at ls k l lt here))

@@ -1,0 +1,191 @@
+-- What holds at each moment is kept.
+use Rattle.std.specs.Option.{option_map}
+use Rattle.std.proofs.Common.{◌≡◌, ◌≢◌, ℕ, ◌+◌, ◌/◌, ◌<◌, Bool, true, false, List, length, set, Option, Some, None, is_some, cond, refl, sym, ap, ◌∙◌, subst, ⊎_elim, arith}
+use Rattle.std.proofs.lemmas.Bool.{cases_eq}
+use Rattle.std.proofs.lemmas.List.{get_or-set_same, get_or-set_other, length-set}
+use Rattle.kdf_lockout.specs.Groups.{lent_groups, touched}
+use Rattle.kdf_transfer.specs.AtOnce.{has_area}
+use Rattle.kdf_processor.specs.declared.step.Need.{Need}
+use Rattle.kdf_processor.specs.declared.registers.Registers.{Registers}
+use Rattle.kdf_processor.specs.Effect.{Effect, Asking, FreeOf, Keeping, Returning, Starting}
+use Rattle.kdf_processor.specs.Lone.{is_live}
+use Rattle.kdf_processor.specs.Needs.{effect_needs}
+use Rattle.kdf_processor.specs.Outcome.{done}
+use Rattle.kdf_processor.specs.View.{first_pending}
+use Rattle.kdf_transfer.specs.ByNumber.{device_count}
+use Rattle.kdf_transfer.specs.Devices.{Fixture, blank_fixture}
+use Rattle.kdf_director.specs.declared.moment.Moment.{Moment}
+use Rattle.kdf_director.specs.Fields.Keeping.{IsActive, IsKept}
+use Rattle.kdf_director.specs.Fields.Spots.{Held, Spot, blank_spot, lent_spot, no_spot, spot_at, fixture_or}
+use Rattle.kdf_director.specs.Fields.Parts.{Part, Shared, Seat, Reach, lent_to, own_claims}
+use Rattle.kdf_director.specs.Fields.Shared.{view, after_act, start_lease, start_spot}
+use Rattle.kdf_director.specs.Fields.Running.{seat_at, part_at, hold_of, IsHeld, IsRunning}
+use Rattle.kdf_director.specs.Fields.Sound.{IsSound, IsFlightOf}
+use Rattle.kdf_director.proofs.Seen.EffectsChecked.{IsLawful}
+use Rattle.kdf_director.proofs.Physical.PartsAlike.{SamePart, flight_same}
+use Rattle.kdf_director.proofs.Physical.TransfersBegin.{length-start, start_covers}
+use Rattle.kdf_director.proofs.Turns.OrdersTried.{IsPart, give_its, start_small, start_free, take_free}
+use Rattle.kdf_director.proofs.Physical.PoolDevices.{at_spot, with_spot}
+use Rattle.kdf_director.proofs.Turns.OneOrder as turn
+
+-- the flights of what is shared are flights of the programs
+abbrev pub AreFlights : List Reach → List Seat → Shared → Type 0
+AreFlights reaches seats s = (d : ℕ) (h : Held) → (spot_at s.spots d).flight ≡ Some h → IsHeld reaches seats d (spot_at s.spots d) h
+
+abbrev pub KeepsFixtures : Shared → Shared → Type 0
+KeepsFixtures s s' = (d : ℕ) → is_some (spot_at s.spots d).fixture ≡ true → is_some (spot_at s'.spots d).fixture ≡ true
+
+abbrev pub AreKept : List Reach → List Seat → Shared → Type 0
+AreKept reaches seats s = (i : ℕ) → i < length seats → IsKept (part_at reaches seats i) s
+
+abbrev pub AreActive : List Reach → List Seat → Shared → Type 0
+AreActive reaches seats s = (i : ℕ) → i < length seats → is_live (seat_at seats i).registers.state ≡ true → IsActive (part_at reaches seats i) s
+
+-- the programs keep their parts, the flights are theirs, and each has what it had, or what it took
+pub running_by : (reaches : List Reach) (seats seats' : List Seat) (s s' : Shared) → IsRunning reaches seats s → length seats' ≡ length seats → ((i : ℕ) → SamePart (part_at reaches seats i) (part_at reaches seats' i)) → length s'.cells ≡ length s.cells → IsSound s' → KeepsFixtures s s' → AreFlights reaches seats s' → AreKept reaches seats' s' → AreActive reaches seats' s' → IsRunning reaches seats' s'
+running_by reaches seats seats' s s' run count parts cells sound fixtures flights kept active =
+    record {
+      sound = sound;
+      numbered = λ i j low lt. (let a = (parts i).p in let b = (parts j).p in let c = run.numbered i j low (omega arith) in omega arith);
+      at_group = λ i lt. run.at_group i (omega arith);
+      in_store = λ i lt. omega (arith, run.in_store i (omega arith));
+      apart = λ i j low lt. run.apart i j low (omega arith);
+      common = λ i j lt lt'. run.common i j (omega arith) (omega arith);
+      kept = kept;
+      active = active;
+      fixtures = λ i d lt has. fixtures d (run.fixtures i d (omega arith) has);
+      flights = λ d h flies. held d h (flights d h flies);
+    }
+  where
+    held : (d : ℕ) (h : Held) → IsHeld reaches seats d (spot_at s'.spots d) h → IsHeld reaches seats' d (spot_at s'.spots d) h
+    held d h is =
+        record {
+          by = is.by;
+          there = (let a = is.there in omega arith);
+          flight = flight_same (part_at reaches seats is.by) (part_at reaches seats' is.by) d (spot_at s'.spots d) h (parts is.by) is.flight;
+        }
+
+-- an effect none of whose needs is pending
+module _ (reaches : List Reach) (seats : List Seat) (t : Moment) (s : Shared) (p : ℕ) (r : Registers) (own : List ℕ) (run : IsRunning reaches seats s) (lt : p < length seats) (live : is_live (seat_at seats p).registers.state ≡ true) where
+  abbrev q : Part
+  q = part_at reaches seats p
+
+  part : IsPart q s
+  part = turn.is_part reaches seats s p run lt live
+
+  -- a place without a transfer, where none was, and a device where one was
+  flights_idle : (d : ℕ) (y : Spot) → d < length s.spots → y.flight ≡ None → AreFlights reaches seats (with_spot d y s)
+  flights_idle d y inside none x h =
+      at_spot s.spots d y inside (λ e z. z.flight ≡ Some h → IsHeld reaches seats e z h)
+      (λ flies. cc (sym none ∙ flies)) (λ e ne. run.flights e h) x
+
+  fixtures_idle : (d : ℕ) (y : Spot) → d < length s.spots → (is_some (spot_at s.spots d).fixture ≡ true → is_some y.fixture ≡ true) → KeepsFixtures s (with_spot d y s)
+  fixtures_idle d y inside same =
+      at_spot s.spots d y inside (λ e z. is_some (spot_at s.spots e).fixture ≡ true → is_some z.fixture ≡ true) same (λ e ne some. some)
+
+  small_inside : (d : ℕ) → d < device_count → d < length s.spots
+  small_inside d small = let e = run.sound.spots in omega arith
+
+  some_blank : (o : Option Fixture) → is_some o ≡ true → is_some (option_map (λ (f : Fixture). blank_fixture f.kind) o) ≡ true
+  some_blank None is = cc
+  some_blank (Some f) is = refl
+
+  pub flights_by : (e : Effect) → IsLawful (own_claims q s) e → first_pending (view q t s) (effect_needs own e) ≡ None → AreFlights reaches seats (after_act q s (done (view q t s) r e).act)
+  flights_by (Starting d o first last after) lawful free x h flies =
+      ⊎_elim
+      (λ (same : x ≡ d).
+      let here : spot_at (set s.spots d new) x ≡ new = ap (spot_at (set s.spots d new)) same ∙ get_or-set_same s.spots d new no_spot inside in
+      let is : held ≡ h = cc (sym (ap (λ (y : Spot). y.flight) here) ∙ flies) in
+      record {
+        by = p;
+        there = lt;
+        flight = subst (λ y. IsFlightOf q x y h) (sym here) (subst (IsFlightOf q x new) is (subst (λ y. IsFlightOf q y new held) (sym same) begun));
+      })
+      (λ (ne : x ≢ d).
+      let there = get_or-set_other s.spots d x new no_spot ne in
+      subst (λ y. IsHeld reaches seats x y h) (sym there) (run.flights x h (ap (λ (y : Spot). y.flight) (sym there) ∙ flies)))
+      (cases_eq x d)
+    where
+      new : Spot
+      new = start_spot q.p o (q.base + first) (q.base + last) s.cells (spot_at s.spots d)
+
+      held : Held
+      held = record { p = q.p; motion = record { order = o; first = q.base + first; last = q.base + last; fixture = fixture_or (spot_at s.spots d).fixture; progress = (spot_at s.spots d).progress; lease = start_lease o (q.base + first) (q.base + last) s.cells; moved = 0 } }
+
+      inside : d < length s.spots
+      inside = let e = run.sound.spots in let small = start_small q t s d o first last after own part lawful free in omega arith
+
+      some_lease : (b : Bool) → is_some (cond b (Some (lent_groups s.cells ((q.base + first) / 32) (touched (q.base + first) (q.base + last)))) None) ≡ b
+      some_lease true = refl
+      some_lease false = refl
+
+      begun : IsFlightOf q d new held
+      begun =
+          record {
+            owner = refl;
+            holder = refl;
+            fixture = refl;
+            progress = refl;
+            lease = some_lease (has_area o);
+            covers = λ has. start_covers o (q.base + first) (q.base + last) s.cells has (start_free q t s d o first last after own part lawful free has);
+            low = λ has. omega arith;
+            high = λ has. (let area = (lawful.1 has).inside in omega arith);
+            moved = omega arith;
+          }
+  flights_by (Asking (FreeOf kind) after) lawful free x h flies =
+      let untaken = take_free q t s kind part free in
+      let d = lent_to q s kind ((view q t s).answer (FreeOf kind)) in
+      flights_idle d (lent_spot q.p (spot_at s.spots d)) (small_inside d (part.kept.few d untaken.pooled)) untaken.idle x h flies
+  flights_by (Returning true d after) lawful free x h flies =
+      let its = give_its q t s d after part lawful free in
+      flights_idle d (blank_spot (spot_at s.spots d)) (small_inside d (part.kept.few d its.pooled)) refl x h flies
+  flights_by (Returning false d after) lawful free x h flies = run.flights x h flies
+  flights_by e lawful free x h flies = run.flights x h flies
+
+  pub fixtures_by : (e : Effect) → IsLawful (own_claims q s) e → first_pending (view q t s) (effect_needs own e) ≡ None → KeepsFixtures s (after_act q s (done (view q t s) r e).act)
+  fixtures_by (Starting d o first last after) lawful free x some =
+      ⊎_elim
+      (λ (same : x ≡ d).
+      let inside : d < length s.spots = (let e = run.sound.spots in let small = start_small q t s d o first last after own part lawful free in omega arith) in
+      ap (λ y. is_some (spot_at (set s.spots d (start_spot q.p o (q.base + first) (q.base + last) s.cells (spot_at s.spots d))) y).fixture) same
+      ∙ ap (λ (y : Spot). is_some y.fixture) (get_or-set_same s.spots d (start_spot q.p o (q.base + first) (q.base + last) s.cells (spot_at s.spots d)) no_spot inside))
+      (λ (ne : x ≢ d). ap (λ (y : Spot). is_some y.fixture) (get_or-set_other s.spots d x _ no_spot ne) ∙ some)
+      (cases_eq x d)
+  fixtures_by (Asking (FreeOf kind) after) lawful free x some =
+      let untaken = take_free q t s kind part free in
+      let d = lent_to q s kind ((view q t s).answer (FreeOf kind)) in
+      fixtures_idle d (lent_spot q.p (spot_at s.spots d)) (small_inside d (part.kept.few d untaken.pooled)) (λ is. is) x some
+  fixtures_by (Returning true d after) lawful free x some =
+      let its = give_its q t s d after part lawful free in
+      fixtures_idle d (blank_spot (spot_at s.spots d)) (small_inside d (part.kept.few d its.pooled)) (some_blank (spot_at s.spots d).fixture) x some
+  fixtures_by (Returning false d after) lawful free x some = some
+  fixtures_by e lawful free x some = some
+
+  pub cells_by : (e : Effect) → IsLawful (own_claims q s) e → first_pending (view q t s) (effect_needs own e) ≡ None → length (after_act q s (done (view q t s) r e).act).cells ≡ length s.cells
+  cells_by (Keeping a w after) lawful free = length-set s.cells ((q.base + a) / 32) _
+  cells_by (Starting d o first last after) lawful free = length-start o (q.base + first) (q.base + last) s.cells (start_free q t s d o first last after own part lawful free)
+  cells_by (Asking (FreeOf kind) after) lawful free = refl
+  cells_by (Returning true d after) lawful free = refl
+  cells_by (Returning false d after) lawful free = refl
+  cells_by e lawful free = refl
+
+-- one order more of a live program
+pub running_tried : (reaches : List Reach) (seats : List Seat) (t : Moment) (s : Shared) (p : ℕ) (run : IsRunning reaches seats s) (lt : p < length seats) → is_live (seat_at seats p).registers.state ≡ true → (o : Option Need) → hold_of reaches seats s p ≡ o → IsRunning reaches (turn.later reaches seats t s p run lt o) (turn.shared reaches seats t s p run lt o)
+running_tried reaches seats t s p run lt live (Some need) is =
+    running_by reaches seats (turn.later reaches seats t s p run lt (Some need)) s s run (length-set seats p _) (turn.same_part reaches seats t s p run lt (Some need)) refl run.sound (λ d some. some) run.flights
+    (λ i within. turn.tried_kept reaches seats t s p run lt live (Some need) is i (omega (arith, length-set seats p (turn.new reaches seats t s p run lt (Some need)))))
+    (λ i within. turn.tried_active reaches seats t s p run lt live (Some need) is i (omega (arith, length-set seats p (turn.new reaches seats t s p run lt (Some need)))))
+running_tried reaches seats t s p run lt live None is =
+    let q = part_at reaches seats p in
+    let r = (seat_at seats p).registers in
+    let lawful = turn.lawful reaches seats t s p run lt in
+    let free = turn.free reaches seats t s p run lt is in
+    let own = turn.own reaches seats t s p run lt in
+    let e = turn.e reaches seats t s p run lt in
+    running_by reaches seats (turn.later reaches seats t s p run lt None) s (turn.shared reaches seats t s p run lt None) run (length-set seats p _) (turn.same_part reaches seats t s p run lt None)
+    (cells_by reaches seats t s p r own run lt live e lawful free)
+    (turn.tried_sound reaches seats t s p run lt live None is)
+    (fixtures_by reaches seats t s p r own run lt live e lawful free)
+    (flights_by reaches seats t s p r own run lt live e lawful free)
+    (λ i within. turn.tried_kept reaches seats t s p run lt live None is i (omega (arith, length-set seats p (turn.new reaches seats t s p run lt None))))
+    (λ i within. turn.tried_active reaches seats t s p run lt live None is i (omega (arith, length-set seats p (turn.new reaches seats t s p run lt None))))

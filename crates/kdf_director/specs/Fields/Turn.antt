@@ -1,0 +1,85 @@
+-- What a turn shows, and what an acting call does to it.
+use Rattle.std.specs.Prelude.{◌≡◌, ◌+◌, ◌-◌, ◌*◌, ◌<◌, ◌≤◌, [], true, ℕ, slice_index_or, vec_len}
+use Rattle.std.specs.Vec.{vec_capacity}
+use Rattle.kdf_transfer.specs.AtOnce.{is_output}
+use Rattle.kdf_transfer.specs.declared.order.TransferOrder.{TransferOrder}
+use Rattle.kdf_processor.specs.declared.registers.Registers.{Registers}
+use Rattle.kdf_processor.specs.declared.step.Step.{Step}
+use Rattle.kdf_processor.specs.Outcome.{outcome}
+use Rattle.kdf_director.specs.declared.note.Note.{Note}
+use Rattle.kdf_processor.specs.Effect.{Act}
+use Rattle.kdf_processor.specs.Room.{RoomFor}
+use Rattle.kdf_processor.specs.View.{View}
+use Rattle.kdf_director.specs.declared.place.Place.TheVariants.{Absent}
+use Rattle.kdf_director.specs.declared.turn.Turn.{Turn}
+use Rattle.kdf_director.specs.Fields.Notes.{note_after}
+use Rattle.kdf_director.specs.Fields.Parts.{Part, Shared, part_after, part_with, shared_in}
+use Rattle.kdf_director.specs.Fields.Shared.{view, after_act}
+use Rattle.kdf_director.specs.Fields.Spots.{IsReady}
+
+abbrev pub part_of : Turn → Part
+part_of t =
+    part_with t.p t.window t.slot.now t.claimed.now t.spooled.now.items t.stints.now.items
+
+-- what a turn shares
+abbrev pub shared : Turn → Shared
+shared t = shared_in t.store.now t.places.now.items
+
+abbrev pub shown : Turn → View
+shown t = view (part_of t) t.moment (shared t)
+
+-- it is a turn over the same machine, at the same moment
+pub record SameTurn (old new : Turn) : Type 0 where
+  pub moment : new.moment ≡ old.moment
+  pub claimed : new.claimed.ghost_name ≡ old.claimed.ghost_name
+  pub spooled : new.spooled.ghost_name ≡ old.spooled.ghost_name
+  pub stints : new.stints.ghost_name ≡ old.stints.ghost_name
+  pub store : new.store.ghost_name ≡ old.store.ghost_name
+  pub places : new.places.ghost_name ≡ old.places.ghost_name
+  pub block : new.block.ghost_name ≡ old.block.ghost_name
+
+-- an acting call does what it does to the program's part and to what is shared, and is noted
+pub record Acts (old : Turn) (act : Act) (new : Turn) : Type 0 where
+  pub same : SameTurn old new
+  pub part : part_of new ≡ part_after (part_of old) (shared old) act
+  pub shared : shared new ≡ after_act (part_of old) (shared old) act
+  pub note : new.note ≡ note_after act old.note
+
+-- nothing but its spare memory changes
+pub record Stays (old new : Turn) : Type 0 where
+  pub same : SameTurn old new
+  pub part : part_of new ≡ part_of old
+  pub shared : shared new ≡ shared old
+  pub note : new.note ≡ old.note
+
+-- its next order was obeyed
+pub record HasObeyed (old : Turn) (r : Registers) (new : Turn) (left : Registers) (ended : Step)
+    (noted : Note) : Type 0 where
+  pub step : ended ≡ (outcome (shown old) r).step
+  pub note : noted ≡ note_after (outcome (shown old) r).act old.note
+  pub registers : left ≡ (outcome (shown old) r).registers
+  pub acted : Acts old (outcome (shown old) r).act new
+
+-- there is memory for a transfer: for the blocks that its device gains, and for the characters of its area
+pub record CanStart (t : Turn) (d : ℕ) (order : TransferOrder) (first last : ℕ) : Type 0 where
+  pub empty : t.block.now.items ≡ []
+  pub block : is_output order ≡ true → 8 * (last + 1 - first) ≤ vec_capacity t.block.now
+  pub device : IsReady order (slice_index_or t.places.now.items d Absent)
+
+-- there is memory for one text more
+pub record CanSpool (t : Turn) (first last : ℕ) : Type 0 where
+  pub empty : t.block.now.items ≡ []
+  pub block : 8 * (last + 1 - first) ≤ vec_capacity t.block.now
+  pub text : vec_len t.spooled.now < vec_capacity t.spooled.now
+
+-- there is memory for one stint more
+abbrev pub CanTake : Turn → Type 0
+CanTake t = vec_len t.stints.now < vec_capacity t.stints.now
+
+-- for what an acting call keeps; another answer needs none
+abbrev pub HasRoom : Turn → Act → Type 0
+HasRoom t act = RoomFor (CanStart t) (CanSpool t) (CanTake t) (Unit {0}) act
+
+-- no characters are left from an order before
+abbrev pub IsBlank : Turn → Type 0
+IsBlank t = t.block.now.items ≡ []
