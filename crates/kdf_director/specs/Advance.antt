@@ -22,7 +22,8 @@ use Rattle.kdf_director.specs.ByJournal.{is_of}
 use Rattle.kdf_director.specs.True.{truth}
 use Rattle.kdf_director.specs.World.{first_need, hold_of}
 
--- the states after program p obeyed its next order, by which a transfer only begins, and which was answered so, if it asked
+-- the states after program p obeyed its next order, by which a transfer only begins, and which was answered so, if it
+-- asked
 abbrev pub states_after : List Slot → List State → ℕ → (Question → ℕ) → List State
 states_after (slot ∷ slots) (state ∷ states) p answer =
     if slot.p == p
@@ -30,8 +31,8 @@ states_after (slot ∷ slots) (state ∷ states) p answer =
     else state ∷ states_after slots states p answer
 states_after _ states p answer = states
 
--- program p, which is next and which nothing holds up, obeyed its next order, truly answered where this was heard of the service, and
--- the journal tells how that came out
+-- program p, which is next and which nothing holds up, obeyed its next order, truly answered where this was heard of
+-- the service, and the journal tells how that came out
 pub record Obeyed (heard : ℕ) (old new : Shown) (p : ℕ) : Type 0 where
   pub was_next : next (world_of old) old.slots old.journal ≡ Some p
   pub free : first_need (world_of old) p ≡ None

@@ -74,8 +74,8 @@ is_free_after slots J p kind d =
 unfoldable pub free_after : List Slot → List Entry → ℕ → Kind → Option ℕ
 free_after slots J p kind = find (is_free_after slots J p kind) (range_with_len 0 device_count)
 
--- what of program p is pending: a group that its transfers touch, a device that has a transfer, whosever it is, or a kind of which
--- each device in the pool has a holder
+-- what of program p is pending: a group that its transfers touch, a device that has a transfer, whosever it is, or a
+-- kind of which each device in the pool has a holder
 abbrev pub is_pending_after : List Slot → List Entry → ℕ → Need → Bool
 is_pending_after slots J p (Group g) = touched_below device_count (flights_of slots J p) g
 is_pending_after slots J p (Device d) = is_some (pending d J)

@@ -1,5 +1,5 @@
--- The one course that the programs in the slots take under a schedule where they are truly answered, as a function of what is heard
--- of the service each time.
+-- The one course that the programs in the slots take under a schedule where they are truly answered, as a function of
+-- what is heard of the service each time.
 use Rattle.std.specs.Prelude.{ℕ, List}
 use Rattle.kdf_transfer.specs.Slots.{Slot}
 use Rattle.kdf_journal.specs.declared.entry.Entry.{Entry}
@@ -10,7 +10,8 @@ use Rattle.kdf_director.specs.Legal.{lone_note, true_note}
 use Rattle.kdf_director.specs.Next.{dispatched, lone_dispatched}
 use Rattle.kdf_director.specs.World.{World}
 
--- the step that a call makes in this world, after the journal J, where a program is live and this is heard of the service
+-- the step that a call makes in this world, after the journal J, where a program is live and this is heard of the
+-- service
 abbrev pub step_at : World → List Slot → List Entry → (heard : ℕ) → Call → Step
 step_at w slots J heard c = any.step_at (dispatched slots w) (true_note w J heard) J c
 

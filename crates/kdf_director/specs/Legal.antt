@@ -70,7 +70,8 @@ answers_by slots fits J p (Answered v) = IsAnswer (next_effect (own slots J p)) 
 answers_by slots fits J p (Took d) = IsAnswer (next_effect (own slots J p)) (fits J p) d
 answers_by slots fits J p note = Unit {0}
 
--- v is what is truly answered, where v is what was heard of the service: the true answer, and any answer to what the service is asked
+-- v is what is truly answered, where v is what was heard of the service: the true answer, and any answer to what the
+-- service is asked
 abbrev pub is_truth : List Slot → List Entry → ℕ → Question → ℕ → Type 0
 is_truth slots J p question v = v ≡ truth (lone_world slots J) J p v question
 
@@ -83,7 +84,8 @@ IsTrue slots J = course.EachNoted (is_true slots) (steps J)
 
 -- ---- legal and true
 
--- the note with which the next order of program p comes out where it is truly answered, and this was heard of the service
+-- the note with which the next order of program p comes out where it is truly answered, and this was heard of the
+-- service
 abbrev pub true_note : World → List Entry → (heard : ℕ) → ℕ → Note
 true_note w J heard p = note_of (w.state p) (truth w J p heard)
 

@@ -39,8 +39,8 @@ place_of slots p a = (window_at (windows_in slots) p).base + a
 
 -- ---- the store
 
--- the group of address a of program p is out of the store exactly where it is pending for the program; where it is here, the store
--- has the program's word at its place
+-- the group of address a of program p is out of the store exactly where it is pending for the program; where it is
+-- here, the store has the program's word at its place
 pub record IsStored (m : Shown) (cells : Cells) (p a : ℕ) (own : State) : Type 0 where
   pub out : is_out cells (place_of m.slots p a / 32)
       ≡ is_pending_after m.slots m.journal p (Group (group_of a))
@@ -49,9 +49,9 @@ pub record IsStored (m : Shown) (cells : Cells) (p a : ℕ) (own : State) : Type
 
 -- ---- transfers
 
--- The transfer on device d of program p, which has claimed the device, is this flight: its device is as at the begin, it moves as many
--- words and has moved as many, its lease has exactly the groups that the area touches in the program's window, and these have the
--- program's words.
+-- The transfer on device d of program p, which has claimed the device, is this flight: its device is as at the begin,
+-- it moves as many words and has moved as many, its lease has exactly the groups that the area touches in the program's
+-- window, and these have the program's words.
 pub record IsFlight (m : Shown) (p d : ℕ) (own : State) (t : Motion) (f : Flight) : Type 0 where
   pub claimed : is_claimed own.stock.claims d ≡ true
   pub order : t.order ≡ f.order

@@ -1,12 +1,13 @@
--- What is loaded: the slots of a job with the words of their images, the store, the programs and the places of the devices.
+-- What is loaded: the slots of a job with the words of their images, the store, the programs and the places of the
+-- devices.
 use Rattle.std.specs.Prelude.{ℕ, ◌≤◌, Bool, List, [], ◌∷◌, length, map}
 use Rattle.kdf_journal.specs.declared.kind.Kind.{Kind}
 use Rattle.kdf_transfer.specs.Slots.{Slot}
 use Rattle.kdf_job.specs.Job.{JobDevice, SlotJob}
 use Rattle.kdf_job.specs.Slots.{slot_with}
 
--- what is loaded as a slot: its number, the size of its store, the words of its image, its devices, and those of the pool, in the order
--- of the job; and whether it is served
+-- what is loaded as a slot: its number, the size of its store, the words of its image, its devices, and those of the
+-- pool, in the order of the job; and whether it is served
 pub record SlotLoad : Type 0 where
   pub p : ℕ
   pub size : ℕ

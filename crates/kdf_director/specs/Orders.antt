@@ -12,7 +12,8 @@ HasMade answers (suc n) old new =
     (between : Shown) × (progress : Progress) × HasMade answers n old between
     × AdvanceWith answers between new progress × (found_live progress ≡ true)
 
--- the machine after n calls with a service, of which the last answers so; or after fewer, where the last found no live program
+-- the machine after n calls with a service, of which the last answers so; or after fewer, where the last found no live
+-- program
 pub record HasMadeAll (answers : ℕ → ℕ → Type 0) (n : ℕ) (old new : Shown) (progress : Progress) : Type 0 where
   pub before : ℕ
   pub between : Shown

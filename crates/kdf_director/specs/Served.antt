@@ -23,7 +23,8 @@ abbrev pub IsTrueFor : (answers : ℕ → ℕ → Type 0) → List Slot → List
 IsTrueFor answers slots J = course.EachNoted (is_true_for answers slots) (steps J)
 
 -- the journal is that of the slots under the schedule, with this service
-pub record IsJournalFor (answers : ℕ → ℕ → Type 0) (slots : List Slot) (events : List Event) (J : List Entry) : Type 0 where
+pub record IsJournalFor (answers : ℕ → ℕ → Type 0) (slots : List Slot) (events : List Event) (J : List Entry)
+    : Type 0 where
   pub legal : IsLegal slots J
   pub truly : IsTrueFor answers slots J
   pub whole : IsWhole slots (calls_made events) J

@@ -10,8 +10,8 @@ use Rattle.kdf_director.specs.Slots.{start_of}
 use Rattle.kdf_director.specs.ByJournal.{seen_of, world_after}
 use Rattle.kdf_director.specs.World.{World}
 
--- the slots as they were loaded, each program's own state, in the order of the slots, the journal, and how many events more
--- can be entered in it
+-- the slots as they were loaded, each program's own state, in the order of the slots, the journal, and how many events
+-- more can be entered in it
 pub record Shown : Type 0 where
   pub slots : List Slot
   pub states : List State

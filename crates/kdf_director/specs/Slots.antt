@@ -27,7 +27,8 @@ start slots p = start_of (slot_of slots p)
 abbrev pub device_of : Slot → ℕ → Option Fixture
 device_of s d = slice_index_or s.fixtures d None
 
--- a slot: its image fits its store, it has a place for a device of each number, and the numbers of the pool are such and none of its own
+-- a slot: its image fits its store, it has a place for a device of each number, and the numbers of the pool are such
+-- and none of its own
 pub record IsSlot (s : Slot) : Type 0 where
   pub fits : length s.words ≤ s.size
   pub fixtures : length s.fixtures ≡ device_count

@@ -14,8 +14,8 @@ use Rattle.kdf_director.specs.World.{World}
 abbrev pub one_if : Bool → ℕ
 one_if is = if is then 1 else 0
 
--- whether the device has a transfer, whether a group of the area is locked out, the time, the least device of the kind in
--- the pool that is free, and what was heard of the service
+-- whether the device has a transfer, whether a group of the area is locked out, the time, the least device of the kind
+-- in the pool that is free, and what was heard of the service
 abbrev pub known : (pending : Need → Bool) (time : ℕ) (free : Kind → Option ℕ) (heard : ℕ) → Question → ℕ
 known pending time free heard (IsBusy d) = one_if (pending (Device d))
 known pending time free heard (IsOut first last) = one_if (list_any (λ g. pending (Group g)) (groups_of first last))
@@ -23,7 +23,7 @@ known pending time free heard Time = time
 known pending time free heard (FreeOf kind) = unwrap_or (free kind) 0
 known pending time free heard (OfService word) = heard
 
--- what program p is truly answered in this world, after the journal J: what of it is pending, the time that was set last, what is
--- free of the pool, and what was heard of the service, if the order asks it
+-- what program p is truly answered in this world, after the journal J: what of it is pending, the time that was set
+-- last, what is free of the pool, and what was heard of the service, if the order asks it
 abbrev pub truth : World → List Entry → ℕ → (heard : ℕ) → Question → ℕ
 truth w J p heard = known (w.pending p) (clock J) (w.free p) heard

@@ -7,8 +7,8 @@ use Rattle.kdf_processor.specs.declared.step.Need.TheVariants.{Group, Device, Po
 use Rattle.kdf_processor.specs.Needs.{needs}
 use Rattle.kdf_processor.specs.State.{State}
 
--- the state of each program, what of it is pending, the devices on which it has a transfer, rising, and the least device of a kind in
--- the pool that no program has
+-- the state of each program, what of it is pending, the devices on which it has a transfer, rising, and the least
+-- device of a kind in the pool that no program has
 pub record World : Type 0 where
   pub state : ℕ → State
   pub pending : ℕ → Need → Bool

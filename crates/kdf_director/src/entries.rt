@@ -14,8 +14,8 @@ use crate::{Note, Program, Progress};
 use kdf_journal::{CALL_LIMIT, Entry, Journal, MOVE_LIMIT};
 use kdf_processor::{Need, Step};
 
-/// Enters that a program obeyed so many orders of which nothing is noted, and how the turn after them ended, and tells that. From now on the program
-/// is held by what held its last order, or by nothing.
+/// Enters that a program obeyed so many orders of which nothing is noted, and how the turn after them ended, and tells
+/// that. From now on the program is held by what held its last order, or by nothing.
 #[inline(always)]
 pub(crate) fn enter(
     journal: &mut Journal,
@@ -50,7 +50,8 @@ pub(crate) fn enter(
     }
 }
 
-/// Enters that a program obeyed so many orders of which nothing is noted. Where it obeyed one, nothing holds it from now on.
+/// Enters that a program obeyed so many orders of which nothing is noted. Where it obeyed one, nothing holds it from
+/// now on.
 pub(crate) fn enter_quiet(journal: &mut Journal, program: &mut Program, quiet: u32)
     requires room { 1 ≤ journal.old.spare }
     requires few_calls { calls journal.old.entries + quiet ≤ CALL_LIMIT }

@@ -1,6 +1,6 @@
-//! Laws of what is seen, each the contract of a function that does nothing; those of journals stand in `journals` and `served`. In each
-//! of them `flights` are a program's transfers by the number of their device, `mine` are devices on which it has one, and
-//! `s` is its lone state.
+//! Laws of what is seen, each the contract of a function that does nothing; those of journals stand in `journals` and
+//! `served`. In each of them `flights` are a program's transfers by the number of their device, `mine` are devices on
+//! which it has one, and `s` is its lone state.
 ghost use Rattle.std.specs.Prelude.{◌≡◌, ℕ, ◌+◌, List, Option, Some, None, true, false, find, length, min, slice_set, take};
 ghost use Rattle.kdf_transfer.specs.AtOnce.{written};
 ghost use Rattle.kdf_transfer.specs.declared.order.TransferOrder.{TransferOrder};
@@ -19,8 +19,8 @@ ghost use Rattle.kdf_director.specs.Seen.{begun_row, pending, seen, with_both, w
 pub mod journals;
 pub mod served;
 
-/// An order of a program none of whose needs is pending does to what is seen what it does to the lone state. The transfers
-/// stay in flight; one that it begins is in flight then, and shows nothing yet.
+/// An order of a program none of whose needs is pending does to what is seen what it does to the lone state. The
+/// transfers stay in flight; one that it begins is in flight then, and shows nothing yet.
 pub fn commute()
     ensures begun { (flights : ℕ → Option Flight) (mine : List ℕ) (answer : Question → ℕ)
         (s : State) → HidesNone (pending flights) (needs s mine) → begun_row (seen flights s) answer
@@ -72,8 +72,8 @@ pub fn ends()
         AreFlying flights s → AreFlying (with_flight d None flights) s }
 {}
 
-/// What is seen has the needs of the lone state, as long as none of these is pending; and in any case the same first one
-/// of those that are pending.
+/// What is seen has the needs of the lone state, as long as none of these is pending; and in any case the same first
+/// one of those that are pending.
 pub fn same_needs()
     ensures all { (flights : ℕ → Option Flight) (mine : List ℕ) (s : State) →
         HidesNone (pending flights) (needs s mine) → needs (seen flights s) mine ≡ needs s mine }
@@ -90,8 +90,8 @@ pub fn none_at_the_end()
         (d : ℕ) → flights d ≡ None }
 {}
 
-/// With no transfer in flight all of the lone state is seen. So it is at the start of a program, and when it has failed or
-/// ended.
+/// With no transfer in flight all of the lone state is seen. So it is at the start of a program, and when it has failed
+/// or ended.
 pub fn nothing_in_flight()
     ensures seen { (flights : ℕ → Option Flight) (s : State) →
         ((d : ℕ) → flights d ≡ None) → seen flights s ≡ s }

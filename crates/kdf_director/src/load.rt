@@ -1,4 +1,5 @@
-//! Loading: all memory is taken first, in values that may be dropped; the places come last, into room that was reserved.
+//! Loading: all memory is taken first, in values that may be dropped; the places come last, into room that was
+//! reserved.
 ghost use Rattle.std.specs.Prelude.{◌≡◌, ◌≤◌, length, map, All, AllPairs, IfOk, true, None, [], vec_len};
 ghost use Rattle.std.specs.List.{range_with_len};
 ghost use Rattle.std.specs.Vec.{vec_capacity};
@@ -36,8 +37,9 @@ pub struct Parts {
     pub devices: Vec<Place>,
 }
 
-/// Loads the slots of a job, each with its image, which fits its store. The image's words are at the front of the slot's window, each program
-/// is before its first order, and the places have copies of the devices. At Err nothing is left.
+/// Loads the slots of a job, each with its image, which fits its store. The image's words are at the front of the
+/// slot's window, each program is before its first order, and the places have copies of the devices. At Err nothing is
+/// left.
 pub(crate) fn load_parts(
     alloc: Global,
     slots: &[SlotJob],
@@ -197,7 +199,8 @@ fn places(alloc: Global, slots: &[Loaded]) -> Result<Vec<Place>, AllocError>
 /// What stands in a place that has no transfer: a device, its ring, and the program whose device it is, if it is one's.
 type Standing = (Device, Ring, Option<u8>);
 
-/// What stands in the place of a number: a copy of the first slot's device of that number, or else a blank one of the pool.
+/// What stands in the place of a number: a copy of the first slot's device of that number, or else a blank one of the
+/// pool.
 fn idle_of(alloc: Global, slots: &[Loaded], d: u8) -> Result<Option<Standing>, AllocError>
     ensures spot { IfOk result (λ o. spot_of (idle_place o) ≡ idle_spot (map loaded slots.now) d) }
     ensures ring { IfOk result (λ o. idle_ring o ≡ []) }

@@ -62,8 +62,8 @@ pub enum Progress {
 /// A schedule has so many events at most.
 pub const EVENT_LIMIT: u32 = 500_000;
 
-/// The programs of a job over the store and the devices that they share. Contracts see the slots as they were loaded, each
-/// program's own state, the journal, and how many events more can be entered in it.
+/// The programs of a job over the store and the devices that they share. Contracts see the slots as they were loaded,
+/// each program's own state, the journal, and how many events more can be entered in it.
 pub struct Machine {
     alloc: Global,
     slots: Vec<Loaded>,
@@ -91,8 +91,8 @@ impl Model for Machine {
 }
 
 impl Machine {
-    /// A machine before its first order: the slots of a well-formed job, each with its image, which fits it, and with copies
-    /// of its devices, an empty journal, and room for the job's events. At Err nothing is left.
+    /// A machine before its first order: the slots of a well-formed job, each with its image, which fits it, and with
+    /// copies of its devices, an empty journal, and room for the job's events. At Err nothing is left.
     pub fn load(alloc: Global, job: &Job, images: &[Image]) -> Result<Machine, AllocError>
         requires slots { AreSlots (map shown_slot job.now.slots.items) }
         requires images { HaveImages (map shown_slot job.now.slots.items)
@@ -111,10 +111,10 @@ impl Machine {
         Ok(first(alloc, parts, journal, room))
     }
 
-    /// One call: the program of the highest priority that is live and has no standing hold obeys its next order, or is held by
-    /// the first of its needs that is pending; where each live program has one, that is entered, and where none is live, nothing
-    /// is. All memory is taken first; at Err the machine is unchanged.
-    /// No program may be served: an order of one that is takes `order_with`.
+    /// One call: the program of the highest priority that is live and has no standing hold obeys its next order, or is
+    /// held by the first of its needs that is pending; where each live program has one, that is entered, and where none
+    /// is live, nothing is. All memory is taken first; at Err the machine is unchanged. No program may be served: an
+    /// order of one that is takes `order_with`.
     pub fn order(&mut self) -> Result<Progress, AllocError>
         requires few { calls self.old.journal < CALL_LIMIT }
         requires unserved { NoneServed self.old.slots }
@@ -128,8 +128,9 @@ impl Machine {
         self.order_with(&Service::new(|word| word))
     }
 
-    /// One call, as `order` makes it, also for programs that are served: the order that is next may ask the service, and its answer is drawn before
-    /// the order, from the word on which the order would ask. It records no other answer. A journal that was true for the service stays so.
+    /// One call, as `order` makes it, also for programs that are served: the order that is next may ask the service,
+    /// and its answer is drawn before the order, from the word on which the order would ask. It records no other
+    /// answer. A journal that was true for the service stays so.
     pub fn order_with<F: Fn(u64) -> u64>(
         &mut self,
         service: &Service<F>,
@@ -148,8 +149,8 @@ impl Machine {
         Ok(progress)
     }
 
-    /// Some of so many calls, one at least, each as `order_with` makes it: as many as can be made at once. Answers how many, and what the last did. At
-    /// Err some are made, and the one that had no memory has changed nothing.
+    /// Some of so many calls, one at least, each as `order_with` makes it: as many as can be made at once. Answers how
+    /// many, and what the last did. At Err some are made, and the one that had no memory has changed nothing.
     pub(crate) fn calls_with<F: Fn(u64) -> u64>(
         &mut self,
         most: u32,
@@ -185,16 +186,16 @@ impl Machine {
         self.room
     }
 
-    /// Takes memory for so many entries more of the journal, which then need not grow for them, and changes nothing that is seen. At Err
-    /// there is none.
+    /// Takes memory for so many entries more of the journal, which then need not grow for them, and changes nothing
+    /// that is seen. At Err there is none.
     pub fn reserve_entries(&mut self, more: u32) -> Result<(), AllocError>
         ensures { self.new ≡ self.old }
     {
         self.journal.reserve(more.saturating_add(self.room + 2))
     }
 
-    /// Moves the next `n` words, 1 to 4,096, of the transfer on device `d`, or those that are left; where it has none, that
-    /// they were called for is entered all the same. Every other program stays as it is.
+    /// Moves the next `n` words, 1 to 4,096, of the transfer on device `d`, or those that are left; where it has none,
+    /// that they were called for is entered all the same. Every other program stays as it is.
     pub fn move_words(&mut self, d: u8, n: u16)
         requires device { d < 16 }
         requires room { 0 < self.old.room }
@@ -216,8 +217,8 @@ impl Machine {
         self.room -= 1;
     }
 
-    /// Moves the rest of the transfer on device `d` and ends it; where it has none, its end is entered all the same. Every other
-    /// program stays as it is.
+    /// Moves the rest of the transfer on device `d` and ends it; where it has none, its end is entered all the same.
+    /// Every other program stays as it is.
     pub fn end(&mut self, d: u8)
         requires device { d < 16 }
         requires room { 0 < self.old.room }
@@ -307,7 +308,8 @@ impl Machine {
         device_in(&self.slots, &self.devices, d)
     }
 
-    /// Whether the device of this number is claimed, by the program that has it; for one of the pool, whether it has a holder.
+    /// Whether the device of this number is claimed, by the program that has it; for one of the pool, whether it has a
+    /// holder.
     pub fn claimed(&self, d: u8) -> bool
         ensures own { (p : ℕ) → IfSome (state_of self.now p) (λ state.
             is_some (own_fixture_at state.stock.claims d) ≡ true → result ≡ is_claimed state.stock.claims d) }
@@ -327,8 +329,8 @@ impl Machine {
         stints_of(&self.programs, p).len()
     }
 
-    /// The stint of program `p` that began after `i` others: the number of its device, whether that was given back, and the device, as it is
-    /// seen.
+    /// The stint of program `p` that began after `i` others: the number of its device, whether that was given back, and
+    /// the device, as it is seen.
     pub fn stint(&self, p: u8, i: usize) -> (u8, bool, &Device)
         requires { IsSomeAnd (state_of self.now p) (λ state. i < length (lendings state.stock)) }
         ensures { IsSomeAnd (state_of self.now p) (λ state.
@@ -347,8 +349,8 @@ impl Machine {
         &self.journal
     }
 
-    /// The store. The group of an address is out of it exactly where it is pending for the program; where it is here, the program's word
-    /// is at its place.
+    /// The store. The group of an address is out of it exactly where it is pending for the program; where it is here,
+    /// the program's word is at its place.
     pub fn store(&self) -> &Store
         ensures { (p a : ℕ) → IfSome (state_of self.now p) (λ state.
             a < state.stock.claims.size → IsStored self.now result.now p a state) }

@@ -134,7 +134,8 @@ fn goes_at(
 /// The priorities that the slots have before any exchange, 0 to 3, as the bytes of one number.
 const FIRST_PRIORITIES: u32 = 0x0302_0100;
 
-/// Whether the slots have the priorities that they have before any exchange. Each call asks, so all four are compared at once.
+/// Whether the slots have the priorities that they have before any exchange. Each call asks, so all four are compared
+/// at once.
 #[inline(always)]
 fn are_first(priorities: &[u8; 4]) -> bool
     ensures { result ≡ true → priorities.now ≡ slot_numbers }
@@ -142,7 +143,8 @@ fn are_first(priorities: &[u8; 4]) -> bool
     u32::from_le_bytes(*priorities) == FIRST_PRIORITIES
 }
 
-/// The program that is next, if one is, before any exchange of priorities: the programs stand in the order of their slots.
+/// The program that is next, if one is, before any exchange of priorities: the programs stand in the order of their
+/// slots.
 #[inline(always)]
 fn first_of_all(
     windows: &[Window; 4],

@@ -29,11 +29,12 @@ fn found_live(progress: Progress) -> bool
 }
 
 impl Machine {
-    /// So many calls in turn, one at least, each as `order_with` makes it, or fewer, where the last found no live program. Answers what the last
-    /// did. At Err some are made, and the one that had no memory has changed nothing.
+    /// So many calls in turn, one at least, each as `order_with` makes it, or fewer, where the last found no live
+    /// program. Answers what the last did. At Err some are made, and the one that had no memory has changed nothing.
     ///
-    /// Everything that runs a schedule makes its calls here, even one by itself: what obeys an order is compiled into this loop, which it would
-    /// not be if it stood in two. The loop stays apart from its caller, whose values would be moved out of its way at each order.
+    /// Everything that runs a schedule makes its calls here, even one by itself: what obeys an order is compiled into
+    /// this loop, which it would not be if it stood in two. The loop stays apart from its caller, whose values would be
+    /// moved out of its way at each order.
     #[inline(never)]
     pub fn orders_with<F: Fn(u64) -> u64>(
         &mut self,

@@ -16,8 +16,8 @@ use std::mem;
 pub enum Place {
     /// Neither a slot nor the pool has a device of this number.
     Absent,
-    /// A device without a transfer, the ring of its next one, which is empty, and the program whose device it is: that of its slot, or the one
-    /// to which the pool lent it.
+    /// A device without a transfer, the ring of its next one, which is empty, and the program whose device it is: that
+    /// of its slot, or the one to which the pool lent it.
     Idle {
         device: Device,
         ring: Ring,
@@ -113,7 +113,8 @@ impl Place {
         }
     }
 
-    /// Takes the device out, if there is one and it has no transfer. A blank one of the same kind takes its place, which is nobody's.
+    /// Takes the device out, if there is one and it has no transfer. A blank one of the same kind takes its place,
+    /// which is nobody's.
     pub fn take_back(&mut self, alloc: Global) -> Option<Device>
         ensures spot { spot_of self.new ≡ left_spot (spot_of self.old) }
         ensures ring { ring_in self.new ≡ ring_in self.old }
@@ -164,7 +165,8 @@ impl Place {
         }
     }
 
-    /// Takes the memory for the blocks that an order adds to its device, where that has no transfer. One that has 2^32 - 1 blocks gets no more.
+    /// Takes the memory for the blocks that an order adds to its device, where that has no transfer. One that has
+    /// 2^32 - 1 blocks gets no more.
     pub fn make_ready(&mut self, order: TransferOrder) -> Result<(), AllocError>
         ensures spot { spot_of self.new ≡ spot_of self.old }
         ensures ring { ring_in self.new ≡ ring_in self.old }

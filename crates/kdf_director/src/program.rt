@@ -2,7 +2,8 @@
 use crate::Stint;
 use kdf_processor::{Need, Registers, Spooled};
 
-/// A program of the machine. Its words are in the store and in the leases of its transfers; its devices, and those that the pool lent to it, are in their places.
+/// A program of the machine. Its words are in the store and in the leases of its transfers; its devices, and those that
+/// the pool lent to it, are in their places.
 #[derive(Drop)]
 pub struct Program {
     /// The number of its slot.

@@ -19,11 +19,12 @@ use kdf_schedule::Event;
 use kdf_service::Service;
 use std::alloc::AllocError;
 
-/// Makes the calls of the schedule, with the service that the programs may ask, and stops as soon as no program is live.
+/// Makes the calls of the schedule, with the service that the programs may ask, and stops as soon as no program is
+/// live.
 ///
-/// The schedule has at most 20,000,000 orders, and the machine room for its other events; each of its moves is of 1 to 4,096
-/// words, it names devices below 16 and slots below 4 alone, and doesn't set the clock back. Where there is no memory, it stops
-/// early.
+/// The schedule has at most 20,000,000 orders, and the machine room for its other events; each of its moves is of 1 to
+/// 4,096 words, it names devices below 16 and slots below 4 alone, and doesn't set the clock back. Where there is no
+/// memory, it stops early.
 pub fn follow<F: Fn(u64) -> u64>(
     machine: &mut Machine,
     events: &[Event],
@@ -44,8 +45,8 @@ pub fn follow<F: Fn(u64) -> u64>(
     follow_on(machine, events, 0, service)
 }
 
-/// Goes on with a schedule whose first events the machine has followed with this service, as `follow` would have. The machine has room for the
-/// other events after them.
+/// Goes on with a schedule whose first events the machine has followed with this service, as `follow` would have. The
+/// machine has room for the other events after them.
 pub fn follow_on<F: Fn(u64) -> u64>(
     machine: &mut Machine,
     events: &[Event],

@@ -47,7 +47,8 @@ pub(crate) fn texts_of(programs: &[Program], p: u8) -> &[Spooled]
     }
 }
 
-/// The stints of the program of slot `p`, in the order in which the devices were taken; none where there is no such slot.
+/// The stints of the program of slot `p`, in the order in which the devices were taken; none where there is no such
+/// slot.
 pub(crate) fn stints_of(programs: &[Program], p: u8) -> &[Stint]
     ensures { IfSome (find (λ (x : Program). x.p == p) programs.now)
         (λ program. result.now ≡ program.stints.items) }
@@ -58,7 +59,8 @@ pub(crate) fn stints_of(programs: &[Program], p: u8) -> &[Stint]
     }
 }
 
-/// The number of a stint's device, whether it was given back, and the device, as its transfer found it where it has one.
+/// The number of a stint's device, whether it was given back, and the device, as its transfer found it where it has
+/// one.
 fn stint_told<'a>(stint: &'a Stint, places: &'a [Place]) -> (u8, bool, &'a Device)
     requires { is_lent (loan_of stint.now.loan) ≡ true
         → is_some (spot_at (map spot_of places.now) stint.now.d).fixture ≡ true }
@@ -122,7 +124,8 @@ fn device_at(places: &[Place], d: u8) -> Option<&Device>
     }
 }
 
-/// Whether the program that has the device of this number has claimed it; where no slot has one, whether the pool has lent it.
+/// Whether the program that has the device of this number has claimed it; where no slot has one, whether the pool has
+/// lent it.
 pub(crate) fn is_claimed_in(slots: &[Loaded], programs: &[Program], places: &[Place], d: u8) -> bool
     requires { length slots.now ≡ length programs.now }
     ensures { result ≡ is_claimed_by (owner_in slots.now d) (seats_in programs.now)

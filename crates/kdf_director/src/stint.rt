@@ -59,7 +59,8 @@ pub(crate) fn hand_in(stints: &mut Vec<Stint>, d: u8, device: Device)
     }
 }
 
-/// The last stint of a device that wasn't given back. Those that are open are mostly the last ones, so the search begins there.
+/// The last stint of a device that wasn't given back. Those that are open are mostly the last ones, so the search
+/// begins there.
 fn open_stint(stints: &[Stint], d: u8) -> Option<usize>
     ensures there { IfSome result (λ i. i < length stints.now) }
     ensures open { IfSome result (λ i. is_open_of d (slice_index_or (map keeping_of stints.now) i no_keeping) ≡ true) }

@@ -12,8 +12,8 @@ use kdf_media::Block;
 use kdf_transfer::{push_codes, up_to_end};
 use kdf_word::Word;
 
-/// The characters of the places from one to another, none of whose groups is out, up to and with the first End Message, or
-/// all, in a block that has room for all.
+/// The characters of the places from one to another, none of whose groups is out, up to and with the first End Message,
+/// or all, in a block that has room for all.
 pub(crate) fn text_of(mut block: Vec<u8>, store: &Store, first: usize, last: usize) -> Block
     requires area { IsFreeArea store.now first last }
     requires empty { block.items ≡ [] }

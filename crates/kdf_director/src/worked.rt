@@ -1,5 +1,5 @@
-//! Programs with transfers in flight under schedules, worked out from the definitions, each as the contract of a function
-//! that does nothing.
+//! Programs with transfers in flight under schedules, worked out from the definitions, each as the contract of a
+//! function that does nothing.
 ghost use Rattle.std.specs.Prelude.{◌≡◌, [], ◌∷◌, false, replicate};
 ghost use Rattle.kdf_journal.specs.declared.entry.Entry.TheVariants.{Ran, Start, Answer, Take, Fail, Ended, Lov, Busy, Wait, Idle};
 ghost use Rattle.kdf_journal.specs.declared.entry.Entry.TheVariants as entry;
@@ -23,8 +23,8 @@ pub fn reads_tape()
         ≡ placed 16 false }
 {}
 
-/// Its journal, cut after so many calls: an entry of orders or of idle calls has those before the cut, and a note stays with
-/// its order.
+/// Its journal, cut after so many calls: an entry of orders or of idle calls has those before the cut, and a note stays
+/// with its order.
 pub fn is_cut()
     ensures idle { cut 10 reads_journal ≡ Ran 0 8 ∷ Start 0 3 8 ∷ Lov 0 1 ∷ Idle 1 ∷ [] }
     ensures before { cut 7 reads_journal ≡ Ran 0 7 ∷ [] }
@@ -102,8 +102,8 @@ pub fn is_locked_out()
         ≡ Ran 0 8 ∷ Start 0 3 8 ∷ Ran 0 1 ∷ Answer 0 1 ∷ Ran 0 1 ∷ Busy 0 3 ∷ Idle 1 ∷ [] }
 {}
 
-/// Two programs take the one punch of the pool in turn: the second waits until the first, which doesn't give it back, has ended. Each
-/// keeps its own block.
+/// Two programs take the one punch of the pool in turn: the second waits until the first, which doesn't give it back,
+/// has ended. Each keeps its own block.
 pub fn takes_from_the_pool()
     ensures journal { journal_under borrowers borrowing
         ≡ Ran 0 4 ∷ Take 0 9 ∷ Ran 0 4 ∷ Start 0 9 8 ∷ Ran 0 1 ∷ Busy 0 9 ∷ Ran 1 3 ∷ Wait 1 Tp ∷ Idle 6

@@ -1,5 +1,5 @@
--- A live program has claimed just those devices of the pool that it took and hasn't given back, and one that takes a device takes the one
--- that it is answered.
+-- A live program has claimed just those devices of the pool that it took and hasn't given back, and one that takes a
+-- device takes the one that it is answered.
 use Rattle.std.specs.Prelude.{replicate, unwrap_or}
 use Rattle.std.specs.List.{range_with_len}
 use Rattle.std.proofs.Common.{◌≡◌, ◌≢◌, ℕ, zero, suc, ◌<◌, ◌≤◌, Bool, true, false, cond, eqb, ltb, not, ◌&&◌, ◌||◌, List, [], ◌∷◌, length, get_or, set, Option, Some, None, is_some, refl, sym, ap, ◌∙◌, subst, ⊎_elim, arith}

@@ -1,4 +1,5 @@
--- For one service, the slots have one journal under a schedule; and one that is cut. Slots of which none is served have one for each.
+-- For one service, the slots have one journal under a schedule; and one that is cut. Slots of which none is served have
+-- one for each.
 use Rattle.std.specs.Prelude.{IfSome, unwrap_or}
 use Rattle.std.proofs.Common.{◌≡◌, ℕ, ◌<◌, ◌^◌, inl, inr, Bool, true, false, cond, eqb, List, [], ◌∷◌, ◌++◌, length, map, Option, Some, None, refl, sym, ap, ◌∙◌, subst}
 use Rattle.std.proofs.lemmas.List.Elements.{All-head, All-tail}

@@ -1,4 +1,5 @@
--- What is seen of the programs, by a journal: it is judged as their lone states are, and what one step more makes of it.
+-- What is seen of the programs, by a journal: it is judged as their lone states are, and what one step more makes of
+-- it.
 use Rattle.std.proofs.Common.{◌≡◌, ℕ, List, Option, Some, None, false, refl, sym, ◌∙◌, ap, ap₂, take, set, length}
 use Rattle.kdf_transfer.specs.AtOnce.{written}
 use Rattle.kdf_processor.specs.declared.step.Need.{Need}

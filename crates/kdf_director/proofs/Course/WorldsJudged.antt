@@ -131,7 +131,8 @@ true_noted : (slots : List Slot) (J : List Entry) (p : ℕ) (e : Effect) (s : St
 true_noted slots J p (Asking question after) s v is = ap (λ (x : ℕ). note_of_act (s.registers.ran + 1) (Asks question x)) (is v (told (s.registers.ran + 1) question v))
 true_noted slots J p e s v is = refl
 
--- a step that meets the rules, and whose answer is the true one, truly meets them where some number was heard of the service
+-- a step that meets the rules, and whose answer is the true one, truly meets them where some number was heard of the
+-- service
 pub meets_truly : (slots : List Slot) (J : List Entry) (s : Step) → course.Meets (lone_dispatched slots J) (any_answer slots J) J s → course.Noted (is_true slots J) s → (heard : ℕ) × Meets (lone_world slots J) slots J heard s
 meets_truly slots J (Obeys p n) m truly =
     let v = m.2.0 in

@@ -1,5 +1,5 @@
--- A program that follows the journal is judged by the machine as by the journal: what of it is pending, on which devices it
--- has transfers, what holds it up, and what it is answered.
+-- A program that follows the journal is judged by the machine as by the journal: what of it is pending, on which
+-- devices it has transfers, what holds it up, and what it is answered.
 use Rattle.std.specs.Prelude.{find, map, unwrap_or}
 use Rattle.std.specs.List.{filter, range_with_len}
 use Rattle.std.proofs.Common.{◌≡◌, ◌≢◌, ℕ, zero, suc, ◌+◌, ◌*◌, ◌/◌, ◌<◌, ◌≤◌, Bool, true, false, ◌||◌, ◌&&◌, List, [], ◌∷◌, length, get_or, Option, Some, None, is_some, is_none, cond, refl, sym, ap, ◌∙◌, subst, ⊎_elim, arith, not}

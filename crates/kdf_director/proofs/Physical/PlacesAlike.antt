@@ -24,7 +24,8 @@ same_at f spots d e y same =
     (λ (ne : e ≢ d). ap f (get_or-set_other spots d e y no_spot ne))
     (cases_eq e d)
 
--- a program keeps what it has where each place has the device and the holder that it had, and moved nothing while it is nobody's
+-- a program keeps what it has where each place has the device and the holder that it had, and moved nothing while it is
+-- nobody's
 pub kept_by : (q : Part) (s s' : Shared) → IsKept q s → ((d : ℕ) → (spot_at s'.spots d).holder ≡ (spot_at s.spots d).holder) → ((d : ℕ) → (spot_at s'.spots d).fixture ≡ (spot_at s.spots d).fixture) → ((d : ℕ) → (spot_at s.spots d).holder ≡ None → (spot_at s'.spots d).progress ≡ (spot_at s.spots d).progress) → IsKept q s'
 kept_by q s s' kept holders fixtures fresh =
     record {

@@ -20,8 +20,9 @@ use Rattle.kdf_processor.specs.View.{View, first_pending, is_pending}
 use Rattle.kdf_processor.proofs.EachEffect.{each_effect}
 use Rattle.kdf_processor.proofs.Fit.{IsFit, top_fit, out_fit, indirect_fit, direct_fit, starts_fit, query_fit}
 
--- its address is in the store; its device is claimed and of the order's kind, and its area is in the store; a device of the kind may be
--- taken; the device is the slot's own; it is claimed, and is given back to the pool where it is of the pool
+-- its address is in the store; its device is claimed and of the order's kind, and its area is in the store; a device of
+-- the kind may be taken; the device is the slot's own; it is claimed, and is given back to the pool where it is of the
+-- pool
 abbrev pub IsLawful : Claims → Effect → Type 0
 IsLawful c (Keeping a w after) = a < c.size
 IsLawful c (Starting d o first last after) =

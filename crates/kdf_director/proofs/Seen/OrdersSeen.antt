@@ -1,4 +1,5 @@
--- An order whose needs are not pending does the same to what is seen as to the lone state, also where it begins a transfer.
+-- An order whose needs are not pending does the same to what is seen as to the lone state, also where it begins a
+-- transfer.
 use Rattle.std.proofs.Common.{◌≡◌, ◌≢◌, ◌⊎◌, inl, inr, ℕ, zero, suc, ◌<◌, ◌≤◌, Bool, true, false, List, [], length, get_or, map, Option, Some, None, is_some, cond, refl, sym, ap, ap₂, ◌∙◌, subst, ⊎_elim, arith}
 use Rattle.std.specs.List.{list_any}
 use Rattle.std.proofs.lemmas.Bool.{or_parts, cases_Bool, cases_eq, false_from_ne_true, false≢true, eq-eqb, ne_eqb}

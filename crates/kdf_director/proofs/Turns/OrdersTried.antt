@@ -35,8 +35,8 @@ use Rattle.kdf_director.proofs.Physical.PoolDevices.{IsFree, IsIts, active-cells
 use Rattle.kdf_director.proofs.Physical.PartsShow.{claim_fixture, claim_has, claim_holder, claim_small, claimed_holder, none_kind, own_is, owned_some}
 use Rattle.kdf_director.proofs.Physical.TransfersBegin.{free_start, free_area, free_groups}
 
--- what is known of the part of a live program: its window lies in the store, it keeps what it has, and no device that is nobody's has a
--- transfer
+-- what is known of the part of a live program: its window lies in the store, it keeps what it has, and no device that
+-- is nobody's has a transfer
 pub record IsPart (q : Part) (s : Shared) : Type 0 where
   pub at_group : q.base % 32 ≡ 0
   pub in_store : q.base + q.size ≤ 32 * length s.cells

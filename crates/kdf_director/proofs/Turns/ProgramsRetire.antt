@@ -25,8 +25,8 @@ use Rattle.kdf_director.proofs.Physical.PartsAlike.{SamePart}
 use Rattle.kdf_director.proofs.Physical.PartsShow.{holder_is}
 use Rattle.kdf_director.proofs.Turns.OneOrder.{numbers_apart, state}
 
--- Program i gave up devices that it had from the pool: no program's own state is another for that, no transfer either, and a device is
--- where it was, or it was the program's and is nobody's.
+-- Program i gave up devices that it had from the pool: no program's own state is another for that, no transfer either,
+-- and a device is where it was, or it was the program's and is nobody's.
 pub record HasRetired (reaches : List Reach) (seats : List Seat) (i : ℕ) (s : Shared) (b : Both) : Type 0 where
   pub running : IsRunning reaches (set seats i b.seat) b.shared
   pub own : (asked j : ℕ) → j < length seats → own_state reaches (set seats i b.seat) b.shared asked j ≡ own_state reaches seats s asked j

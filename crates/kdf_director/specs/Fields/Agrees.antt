@@ -28,8 +28,8 @@ abbrev pub AreLent : List Entry → List Reach → List Seat → Shared → Type
 AreLent J reaches seats s =
     (i d : ℕ) → i < length seats → in_pool (part_at reaches seats i) d ≡ true → (spot_at s.spots d).holder ≡ holder d J
 
--- the slots are of four numbers, the programs are theirs and follow the journal over what they share, the pool lends as the journal tells, and
--- the journal is legal and true
+-- the slots are of four numbers, the programs are theirs and follow the journal over what they share, the pool lends as
+-- the journal tells, and the journal is legal and true
 pub record Agrees (slots : List Slot) (reaches : List Reach) (seats : List Seat) (s : Shared)
     (J : List Entry) : Type 0 where
   pub are : AreSlots slots

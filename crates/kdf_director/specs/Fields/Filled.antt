@@ -146,7 +146,8 @@ seats m = seats_in m.programs.items
 abbrev pub shared : Parts → Shared
 shared m = shared_in m.store m.devices.items
 
--- a machine with these slots, before the first order: each program is at its start, no device has a transfer, and none of the pool is lent
+-- a machine with these slots, before the first order: each program is at its start, no device has a transfer, and none
+-- of the pool is lent
 pub record IsLoaded (slots : List SlotLoad) (m : Parts) : Type 0 where
   pub slots_are : map loaded m.slots.items ≡ slots
   pub loads_are : AreLoads slots

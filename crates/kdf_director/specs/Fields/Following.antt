@@ -13,8 +13,8 @@ use Rattle.kdf_director.specs.Fields.Spots.{Held, spot_at}
 use Rattle.kdf_director.specs.Fields.Parts.{Part, Seat, Reach, Shared}
 use Rattle.kdf_director.specs.Fields.Running.{seat_at, part_at, own_state}
 
--- A transfer of the machine is the flight that the journal tells: its order, its area placed by the window, the device as
--- it was at the begin, how many words have moved, and the words that go out.
+-- A transfer of the machine is the flight that the journal tells: its order, its area placed by the window, the device
+-- as it was at the begin, how many words have moved, and the words that go out.
 pub record IsLink (q : Part) (d : ℕ) (h : Held) (f : Flight) : Type 0 where
   pub owner : h.p ≡ q.p
   pub order : h.motion.order ≡ f.order

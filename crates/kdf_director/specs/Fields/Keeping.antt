@@ -13,9 +13,10 @@ use Rattle.kdf_director.specs.Fields.Parts.{Part, Shared, in_pool, owns, part_wi
 use Rattle.kdf_director.specs.Fields.Spots.{is_holder, spot_at}
 use Rattle.kdf_director.specs.Fields.Stints.{IsOfKind, Keeping, is_left, is_open, lends}
 
--- The devices of the slot are the program's, and no number of theirs is the pool's. In the place of each number of the pool stands a device of
--- its kind, which has moved nothing while it is nobody's. Each stint is of a device of the pool; the program has such a device exactly where one
--- of its stints has it in its place; and no two stints that weren't given back are of one device.
+-- The devices of the slot are the program's, and no number of theirs is the pool's. In the place of each number of the
+-- pool stands a device of its kind, which has moved nothing while it is nobody's. Each stint is of a device of the
+-- pool; the program has such a device exactly where one of its stints has it in its place; and no two stints that
+-- weren't given back are of one device.
 pub record IsKept (q : Part) (s : Shared) : Type 0 where
   pub few : (d : ℕ) → in_pool q d ≡ true → d < device_count
   pub apart : (d : ℕ) → owns q.devices d ≡ true → in_pool q d ≡ false
@@ -28,7 +29,8 @@ pub record IsKept (q : Part) (s : Shared) : Type 0 where
   pub has : (d : ℕ) → in_pool q d ≡ true → is_holder q.p (spot_at s.spots d).holder ≡ lends q.stints d
   pub one : AllPairs (λ (x y : Keeping). is_open x.loan ≡ true → is_open y.loan ≡ true → x.device ≢ y.device) q.stints
 
--- A live program has a mark for each number of a device. Of the pool's devices it has claimed just those that it has, and it has kept none.
+-- A live program has a mark for each number of a device. Of the pool's devices it has claimed just those that it has,
+-- and it has kept none.
 pub record IsActive (q : Part) (s : Shared) : Type 0 where
   pub sized : length q.claimed ≡ device_limit
   pub marks : (d : ℕ) → in_pool q d ≡ true → slice_index_or q.claimed d false ≡ is_holder q.p (spot_at s.spots d).holder

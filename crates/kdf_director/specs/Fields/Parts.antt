@@ -48,8 +48,8 @@ abbrev pub seat_of : Program → Seat
 seat_of program =
     seat program.p program.registers program.claimed program.spooled.items (map keeping_of program.stints.items)
 
--- what a slot reaches of the machine: its window, the devices of these numbers, by number the kinds of those in the pool, and the service
--- where it is served
+-- what a slot reaches of the machine: its window, the devices of these numbers, by number the kinds of those in the
+-- pool, and the service where it is served
 pub record Reach : Type 0 where
   pub base : ℕ
   pub size : ℕ
@@ -140,7 +140,8 @@ has_device q x = is_holder q.p x.holder
 abbrev pub own_fixture : Part → List Spot → ℕ → Option Fixture
 own_fixture q spots d = fixture_owned q.devices spots d
 
--- how far a device has come: as its place has it where it is the program's, and else as the program, which is over, has kept it
+-- how far a device has come: as its place has it where it is the program's, and else as the program, which is over, has
+-- kept it
 abbrev pub own_progress : Part → List Spot → ℕ → Progress
 own_progress q spots d =
     if has_device q (spot_at spots d) then (spot_at spots d).progress else left_in q.stints d
@@ -148,7 +149,13 @@ own_progress q spots d =
 -- what a program's orders are checked against
 abbrev pub own_claims : Part → Shared → Claims
 own_claims q s =
-    record { size = q.size; claimed = q.claimed; fixtures = by_number (own_fixture q s.spots); pool = q.pool; served = q.served }
+    record {
+      size = q.size;
+      claimed = q.claimed;
+      fixtures = by_number (own_fixture q s.spots);
+      pool = q.pool;
+      served = q.served;
+    }
 
 -- what a program has beside its registers, after so many answers
 abbrev pub own_stock : Part → ℕ → Shared → Stock

@@ -73,8 +73,8 @@ pub record IsHeld (reaches : List Reach) (seats : List Seat) (d : ℕ) (x : Spot
 abbrev pub AreNumbered : List Seat → Type 0
 AreNumbered seats = (i j : ℕ) → i < j → j < length seats → (seat_at seats i).p < (seat_at seats j).p
 
--- the programs stand by their slots, the windows lie one after the other, the pool is common, each program keeps what it has, and each
--- transfer is of a program
+-- the programs stand by their slots, the windows lie one after the other, the pool is common, each program keeps what
+-- it has, and each transfer is of a program
 pub record IsRunning (reaches : List Reach) (seats : List Seat) (s : Shared) : Type 0 where
   pub sound : IsSound s
   pub numbered : AreNumbered seats

@@ -36,7 +36,8 @@ abbrev pub retired_at : ℕ → Both → Both
 retired_at n b =
     record {
       seat = record b.seat {
-        stints = slice_set b.seat.stints n (kept_from (keeping_at b.seat n) (spot_at b.shared.spots (keeping_at b.seat n).device));
+        stints = slice_set b.seat.stints n
+            (kept_from (keeping_at b.seat n) (spot_at b.shared.spots (keeping_at b.seat n).device));
       };
       shared = record b.shared {
         spots = slice_set b.shared.spots (keeping_at b.seat n).device

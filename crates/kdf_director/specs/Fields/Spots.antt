@@ -16,8 +16,8 @@ pub record Held : Type 0 where
   pub p : ℕ
   pub motion : Motion
 
--- a place: the device, as it was at the begin where it has a transfer, and the program whose device it is: that of its slot, or the
--- one to which the pool lent it
+-- a place: the device, as it was at the begin where it has a transfer, and the program whose device it is: that of its
+-- slot, or the one to which the pool lent it
 pub record Spot : Type 0 where
   pub fixture : Option Fixture
   pub progress : Progress
@@ -105,7 +105,8 @@ ring_in (Busy p t) = []
 abbrev pub AreDry : List Place → Type 0
 AreDry places = (d : ℕ) → ring_in (slice_index_or places d Absent) ≡ []
 
--- the device of a place that has no transfer has memory for the blocks that an order adds, and fewer than 2^32 - 1 blocks yet
+-- the device of a place that has no transfer has memory for the blocks that an order adds, and fewer than 2^32 - 1
+-- blocks yet
 abbrev pub IsReady : TransferOrder → Place → Type 0
 IsReady order Absent = Unit {0}
 IsReady order (Idle device ring holder) = HasSpare order device

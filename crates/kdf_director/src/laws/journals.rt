@@ -1,5 +1,6 @@
 //! Laws of journals of programs whose transfers take their time, each the contract of a function that does nothing. In
-//! each of them `slots` are those that are loaded, `J` is a journal, and `heard` is what a program heard of the service, if it asked it.
+//! each of them `slots` are those that are loaded, `J` is a journal, and `heard` is what a program heard of the
+//! service, if it asked it.
 ghost use Rattle.std.specs.Prelude.{◌≡◌, ◌≢◌, ℕ, ◌-◌, ◌≤◌, List, [], ◌∷◌, ◌++◌, Some, None, false, true, is_some, length, min, not, slice_set, take};
 ghost use Rattle.kdf_journal.specs.declared.entry.Entry.{Entry};
 ghost use Rattle.kdf_journal.specs.declared.kind.Kind.{Kind};
@@ -33,15 +34,16 @@ ghost use Rattle.kdf_director.specs.ByJournal.{own_after, seen_of, seen_world};
 ghost use Rattle.kdf_director.specs.True.{truth};
 ghost use Rattle.kdf_director.specs.World.{first_need};
 
-/// Slots of which none is served have a journal under each schedule that doesn't set the clock back and exchanges slots alone.
+/// Slots of which none is served have a journal under each schedule that doesn't set the clock back and exchanges slots
+/// alone.
 pub fn a_journal()
     ensures { (slots : List Slot) (events : List Event) → NoneServed slots → IsRising 0 events
         → (J : List Entry) × IsJournalFor unasked slots events J }
 {}
 
-/// A journal without entries is legal and true, and each program is then at its start, with no transfer. A legal and true
-/// journal stays so with a step that meets the rules and is true, whatever is heard of the service, and a legal one was legal at each
-/// moment before.
+/// A journal without entries is legal and true, and each program is then at its start, with no transfer. A legal and
+/// true journal stays so with a step that meets the rules and is true, whatever is heard of the service, and a legal
+/// one was legal at each moment before.
 pub fn legal_step()
     ensures empty { (slots : List Slot) → IsLegal slots [] × IsTrue slots [] }
     ensures start { (slots : List Slot) (p : ℕ) → own slots [] p ≡ start slots p }
@@ -61,8 +63,8 @@ pub fn earlier_stays()
 {}
 
 /// By a legal journal each program's transfers are in flight, on the devices that the journal tells. A transfer is over
-/// the lone state that its order met, and has moved as many words as were called for, at most all. A program is live until
-/// the journal says that it has failed or ended, and then it has no transfer.
+/// the lone state that its order met, and has moved as many words as were called for, at most all. A program is live
+/// until the journal says that it has failed or ended, and then it has no transfer.
 pub fn in_flight()
     ensures flying { (slots : List Slot) (J : List Entry) (p : ℕ) → AreSlots slots →
         IsLegal slots J → AreFlying (flights_of slots J p) (own slots J p) }
@@ -82,8 +84,8 @@ pub fn in_flight()
         is_live (own slots J p).registers.state ≡ false → (d : ℕ) → flights_of slots J p d ≡ None }
 {}
 
-/// By what is seen of the programs they are judged as by their lone states: what holds one up, which is next, and the note
-/// of an order that nothing holds up; and so each step, and the step that a call makes.
+/// By what is seen of the programs they are judged as by their lone states: what holds one up, which is next, and the
+/// note of an order that nothing holds up; and so each step, and the step that a call makes.
 pub fn judged_alike()
     ensures held { (slots : List Slot) (J : List Entry) (p : ℕ) →
         first_need (seen_world slots J) p ≡ first_need (lone_world slots J) p }
@@ -98,8 +100,8 @@ pub fn judged_alike()
         step_at (seen_world slots J) slots J heard c ≡ lone_step_at slots J heard c }
 {}
 
-/// A program that obeys makes a row of its next order, where a transfer only begins: of its lone state, of its transfers
-/// in flight, and of what is seen. Of every other program nothing changes.
+/// A program that obeys makes a row of its next order, where a transfer only begins: of its lone state, of its
+/// transfers in flight, and of what is seen. Of every other program nothing changes.
 pub fn order_obeyed()
     ensures own { (slots : List Slot) (J : List Entry) (p heard : ℕ) (note : Note) → IsLegal slots J →
         Meets (lone_world slots J) slots J heard (Obeys p note) →
@@ -154,8 +156,8 @@ pub fn transfer_ended()
         flights_of slots (added J (Ends d)) p ≡ flights_of slots J p }
 {}
 
-/// A hold, a call that finds no program to go on, the time that is set and an exchange of priorities change no program's
-/// state and no transfer.
+/// A hold, a call that finds no program to go on, the time that is set and an exchange of priorities change no
+/// program's state and no transfer.
 pub fn nothing_changed()
     ensures held { (slots : List Slot) (J : List Entry) (p q : ℕ) (by : Hold) → AreSlots slots →
         IsLegal slots J → (own slots (added J (Holds q by)) p ≡ own slots J p)
@@ -179,8 +181,8 @@ pub fn two_ends()
         → seen_of slots J p ≡ seen_of others K p }
 {}
 
-/// By a legal and true journal a live program has claimed a device of the pool exactly where it took it and hasn't given it
-/// back; and where it takes one, it takes the one that it is truly answered.
+/// By a legal and true journal a live program has claimed a device of the pool exactly where it took it and hasn't
+/// given it back; and where it takes one, it takes the one that it is truly answered.
 pub fn holders()
     ensures held { (slots : List Slot) (J : List Entry) (p d : ℕ) → AreSlots slots → IsLegal slots J →
         IsTrue slots J → is_pooled (own slots J p).stock.claims d ≡ true → not (over p J) ≡ true

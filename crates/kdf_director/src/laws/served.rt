@@ -20,8 +20,8 @@ pub fn one_journal<F: Fn(u64) -> u64>()
         IsJournalFor (F.post rule) slots events K → J ≡ K }
 {}
 
-/// A schedule may be cut anywhere, also in the middle of an event of orders: of the journal of the slots with a service, what
-/// answers the calls before the cut is their journal under those calls.
+/// A schedule may be cut anywhere, also in the middle of an event of orders: of the journal of the slots with a
+/// service, what answers the calls before the cut is their journal under those calls.
 pub fn cut<F: Fn(u64) -> u64>()
     ensures legal { (slots : List Slot) (n : ℕ) (J : List Entry) → IsLegal slots J → IsLegal slots (cut n J) }
     ensures truly { (rule : F) (slots : List Slot) (n : ℕ) (J : List Entry) →
@@ -43,7 +43,8 @@ pub fn resumed<F: Fn(u64) -> u64>()
         (Q : List Step) × (steps K ≡ Q ++ steps J) }
 {}
 
-/// And so is each legal journal that is true for the service and follows a schedule up to somewhere, of the schedule's whole one.
+/// And so is each legal journal that is true for the service and follows a schedule up to somewhere, of the schedule's
+/// whole one.
 pub fn stopped_run<F: Fn(u64) -> u64>()
     ensures { (rule : F) → IsService (F.pre rule) (F.post rule) → (slots : List Slot)
         (events : List Event) (left : List Call) (J K : List Entry) → IsLegal slots J →
@@ -51,9 +52,10 @@ pub fn stopped_run<F: Fn(u64) -> u64>()
         IsJournalFor (F.post rule) slots events K → (Q : List Step) × (steps K ≡ Q ++ steps J) }
 {}
 
-/// A journal without entries is true for every service. One that is true for a service stays so with a step that no order makes, and
-/// with an order whose answer, if it asks, is one of the service's or the true one; and so with each call of a machine. It is true also as
-/// far as no service counts. Where no order asked the service, it is true for every service.
+/// A journal without entries is true for every service. One that is true for a service stays so with a step that no
+/// order makes, and with an order whose answer, if it asks, is one of the service's or the true one; and so with each
+/// call of a machine. It is true also as far as no service counts. Where no order asked the service, it is true for
+/// every service.
 pub fn true_step<F: Fn(u64) -> u64>()
     ensures empty { (rule : F) (slots : List Slot) → IsTrueFor (F.post rule) slots [] }
     ensures longer { (rule : F) (slots : List Slot) (J : List Entry) (s : Step) → IsLegal slots J →
