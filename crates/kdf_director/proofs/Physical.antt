@@ -6,17 +6,13 @@ pub mod FirstFound
 pub mod FreeDevices
 pub mod GroupsComeBack
 pub mod GroupsKept
-pub mod OnePlaceChanges
 pub mod OrdersAct
 pub mod PartsAlike
 pub mod PartsShow
 pub mod PlacesAlike
-pub mod PlacesGivenUp
 pub mod PoolDevices
 pub mod ShiftedRanges
 pub mod StintsChange
 pub mod StintsShown
 pub mod TransfersBegin
-pub mod WordsHereAndOut
 pub mod WordsLand
-pub mod WordsPut

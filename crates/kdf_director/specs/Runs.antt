@@ -13,7 +13,8 @@ use Rattle.kdf_director.specs.Advance.{AdvanceWith}
 use Rattle.kdf_director.specs.Legal.{IsLegal}
 use Rattle.kdf_director.specs.Next.{lone_dispatched}
 use Rattle.kdf_director.specs.Orders.{HasMade}
-use Rattle.kdf_director.specs.Fields.Parts.{Reach, Seat, Shared}
+use Rattle.kdf_director.specs.Fields.Parts.{Reach, Seat}
+use Rattle.kdf_places.specs.Shared.{Shared}
 use Rattle.kdf_director.specs.Fields.Running.{reach_at, seat_at}
 use Rattle.kdf_director.specs.Progressed.{found_live}
 use Rattle.kdf_director.specs.Served.{IsAnswered, IsTrueFor}

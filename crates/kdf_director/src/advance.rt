@@ -10,11 +10,12 @@ ghost use Rattle.kdf_director.specs.declared.note.Note.TheVariants.{Quiet};
 ghost use Rattle.kdf_director.specs.declared.program.Program.{Program};
 ghost use Rattle.kdf_director.specs.Fields.Agrees.{IsReady};
 ghost use Rattle.kdf_director.specs.Fields.Going.{any_on, first_going};
-ghost use Rattle.kdf_director.specs.Fields.Parts.{seat_of, shared_in};
+ghost use Rattle.kdf_director.specs.Fields.Parts.{seat_of};
+ghost use Rattle.kdf_places.specs.Shared.{shared_in};
 ghost use Rattle.kdf_director.specs.Fields.Running.{reaches_in, seat_at, seats_in, IsRunning};
 ghost use Rattle.kdf_director.specs.Runs.{HasEntered, HasMadeButFewer, HasMadeSome, HasTriedAt};
 ghost use Rattle.kdf_director.specs.Fields.Viewed.{viewed};
-ghost use Rattle.kdf_director.specs.Fields.Spots.{AreDry};
+ghost use Rattle.kdf_places.specs.Spots.{AreDry};
 
 use crate::dispatch::turn;
 use crate::entries::{enter, enter_quiet};

@@ -1,19 +1,20 @@
 //! The devices of a slot.
-ghost use Rattle.std.specs.Prelude.{◌≡◌, ◌==◌, ◌&&◌, ◌<◌, ℕ, length, nat_lt, false, None, if◌then◌else◌, map, slice_index_or, IfSome, not};
+ghost use Rattle.std.specs.Prelude.{◌≡◌, ◌==◌, ◌&&◌, ◌<◌, ℕ, length, nat_lt, true, false, None, if◌then◌else◌, map, slice_index_or, IfSome, not};
 ghost use Rattle.std.specs.List.{list_any};
 ghost use Rattle.kdf_transfer.specs.declared.device.Device.{Device};
 ghost use Rattle.kdf_job.specs.Slots.{lent_kind};
 ghost use Rattle.kdf_processor.specs.State.{device_limit, pooled_or};
 ghost use Rattle.kdf_director.specs.Fields.Parts.{fixture_owned, numbers, owns};
 ghost use Rattle.kdf_transfer.specs.Devices.{is_kind, is_wanted, kind_in};
+ghost use Rattle.kdf_processor.specs.View.{head};
 ghost use Rattle.kdf_transfer.specs.ByNumber.{by_number};
 ghost use Rattle.kdf_director.specs.Fields.Shared.{free_in, is_free_in};
-ghost use Rattle.kdf_director.specs.Fields.Spots.{spot_of, spot_at};
+ghost use Rattle.kdf_places.specs.Spots.{is_flying, own_from, spot_of, spot_at};
 
 use crate::Place;
-use crate::places::holder_in;
 use kdf_job::kind_lent;
 use kdf_journal::Kind;
+use kdf_places::holder_in;
 use kdf_processor::least;
 use kdf_transfer::{Device, Wanted};
 
@@ -126,4 +127,18 @@ fn is_lent_kind(pool: &[(u8, Kind)], d: u8, kind: Kind) -> bool
         Some(lent) => lent == kind,
         None => false,
     }
+}
+
+/// The first device on which slot `p` has a transfer.
+pub(crate) fn first_of(places: &[Place], p: u8) -> Option<usize>
+    ensures value { result ≡ head (own_from p 0 (map spot_of places.now)) }
+    ensures busy { IfSome result (λ d. is_flying (spot_at (map spot_of places.now) d) ≡ true) }
+    ensures within { IfSome result (λ d. d < length places.now) }
+{
+    for (d, place) in places.iter().enumerate() {
+        if place.is_of(p) {
+            return Some(d);
+        }
+    }
+    None
 }

@@ -2,11 +2,12 @@
 ghost use Rattle.std.specs.Prelude.{◌≡◌, ◌+◌, ◌*◌, ◌%◌, ◌<◌, ◌≤◌, length, map, IfOk, OnOk, OnErr, []};
 ghost use Rattle.kdf_lockout.specs.Groups.{Cells};
 ghost use Rattle.kdf_director.specs.Fields.Keeping.{IsActive, IsKept};
-ghost use Rattle.kdf_director.specs.Fields.Parts.{part_in, reach, reach_of, seat, seat_of, shared_in};
+ghost use Rattle.kdf_director.specs.Fields.Parts.{part_in, reach, reach_of, seat, seat_of};
+ghost use Rattle.kdf_places.specs.Shared.{shared_in};
 ghost use Rattle.kdf_director.specs.Fields.Settled.{both_of, retired, settled};
 ghost use Rattle.kdf_director.specs.Fields.Stints.{keeping_of};
 ghost use Rattle.kdf_director.specs.Fields.Running.{reaches_in, seat_at, seats_in, IsRunning};
-ghost use Rattle.kdf_director.specs.Fields.Spots.{AreDry};
+ghost use Rattle.kdf_places.specs.Spots.{AreDry};
 ghost use Rattle.kdf_director.specs.Fields.Turn.{HasObeyed, SameTurn, Stays};
 ghost use Rattle.kdf_director.specs.Fields.Turned.{HasRun, HasTried, HasTurned};
 ghost use Rattle.kdf_director.specs.Fields.Parts.{window_at};

@@ -2,9 +2,10 @@
 ghost use Rattle.std.specs.Prelude.{◌≡◌, ◌+◌, ◌*◌, ◌%◌, ◌<◌, ◌≤◌, length, map};
 ghost use Rattle.kdf_service.specs.Rules.{IsService};
 ghost use Rattle.kdf_director.specs.Fields.Keeping.{IsActive, IsKept};
-ghost use Rattle.kdf_director.specs.Fields.Parts.{part_in, reach, reach_of, seat, seat_of, shared_in, window_at};
+ghost use Rattle.kdf_director.specs.Fields.Parts.{part_in, reach, reach_of, seat, seat_of, window_at};
+ghost use Rattle.kdf_places.specs.Shared.{shared_in};
 ghost use Rattle.kdf_director.specs.Fields.Running.{reach_at, reaches_in, seat_at, seats_in, IsRunning};
-ghost use Rattle.kdf_director.specs.Fields.Spots.{AreDry};
+ghost use Rattle.kdf_places.specs.Spots.{AreDry};
 ghost use Rattle.kdf_director.specs.Fields.Stints.{keeping_of};
 ghost use Rattle.kdf_director.specs.Fields.TurnTaken.{HasAsked};
 ghost use Rattle.kdf_director.specs.Fields.Turned.{word_over};

@@ -15,7 +15,7 @@ ghost use Rattle.kdf_director.specs.Fields.Filled.{AreLoads, IsLoaded, first_sea
 ghost use Rattle.kdf_director.specs.Fields.Parts.{seat_of};
 ghost use Rattle.kdf_transfer.specs.ByNumber.{by_number};
 ghost use Rattle.kdf_director.specs.Fields.Running.{seats_in};
-ghost use Rattle.kdf_director.specs.Fields.Spots.{AreDry, spot_of};
+ghost use Rattle.kdf_places.specs.Spots.{AreDry, spot_of};
 
 use crate::fill::filled_store;
 use crate::{Loaded, Place, Program};

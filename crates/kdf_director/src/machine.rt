@@ -28,16 +28,15 @@ use crate::dispatch::window_of;
 use crate::load::{Parts, load_parts};
 use crate::moves::{ending, moving, word_of};
 use crate::next::is_any_on;
-use crate::places::transfer_in;
 use crate::shown::{
     device_in, is_claimed_in, registers_of, stint_in, stints_of, texts_of, window_given,
 };
-use crate::starting::cancel_all;
 use crate::{Loaded, Place, Program};
 use kdf_job::Job;
 use kdf_journal::{CALL_LIMIT, Entry, Journal};
 use kdf_lockout::Store;
 use kdf_place::Image;
+use kdf_places::{cancel_all, transfer_in};
 use kdf_processor::{Need, Registers, Spooled};
 use kdf_relocate::Window;
 use kdf_service::Service;

@@ -1,15 +1,14 @@
 //! Words of transfers that move, transfers that end, and the words of a program.
 ghost use Rattle.std.specs.Prelude.{◌≡◌, ◌+◌, ◌*◌, ◌<◌, ◌≤◌, length, map, ℕ};
-ghost use Rattle.kdf_director.specs.Fields.Parts.{shared_in};
-ghost use Rattle.kdf_director.specs.Fields.Physical.{word_at_place};
+ghost use Rattle.kdf_places.specs.Shared.{shared_in};
+ghost use Rattle.kdf_places.specs.Words.{word_at_place};
 ghost use Rattle.kdf_director.specs.Fields.Running.{part_at, own_state, moved_own, ended_own, reaches_in, seats_in, IsRunning};
-ghost use Rattle.kdf_director.specs.Fields.Shared.{after_move, after_end};
-ghost use Rattle.kdf_director.specs.Fields.Spots.{spot_of, spot_at, leases_of, AreDry};
+ghost use Rattle.kdf_places.specs.Transfers.{after_move, after_end};
+ghost use Rattle.kdf_places.specs.Spots.{spot_of, spot_at, leases_of, AreDry};
 
-use crate::places::word_lent;
-use crate::starting::{end_at, move_at};
 use crate::{Loaded, Place, Program};
 use kdf_lockout::Store;
+use kdf_places::{end_at, move_at, word_at};
 use kdf_relocate::Window;
 use kdf_word::Word;
 
@@ -81,8 +80,5 @@ pub(crate) fn word_of(window: Window, store: &Store, places: &[Place], address: 
         ≡ word_at_place store.now (leases_of (map spot_of places.now)) (window.base + address) }
 {
     let place = window.base as usize + usize::from(address);
-    match store.read(place) {
-        Ok(word) => word,
-        Err(_) => word_lent(places, place),
-    }
+    word_at(store, places, place)
 }

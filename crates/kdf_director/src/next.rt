@@ -5,9 +5,9 @@ ghost use Rattle.kdf_lockout.specs.Groups.{is_out};
 ghost use Rattle.kdf_processor.specs.Lone.{is_live};
 ghost use Rattle.kdf_director.specs.declared.program.Program.{Program};
 ghost use Rattle.kdf_director.specs.Fields.Going.{any_on, first_going, goes, goes_at, if_goes, is_stopped, place_of, AreNearHolds, IsNearHold};
-ghost use Rattle.kdf_director.specs.Fields.Parts.{reach_of, seat_of, shared_in, window_at};
+ghost use Rattle.kdf_director.specs.Fields.Parts.{reach_of, seat_of, window_at};
+ghost use Rattle.kdf_places.specs.Shared.{shared_in, is_busy_in};
 ghost use Rattle.kdf_director.specs.Fields.Running.{reaches_in, seat_at, seats_in, IsRunning};
-ghost use Rattle.kdf_director.specs.Fields.Shared.{is_busy_in};
 
 use crate::devices::first_free;
 use crate::dispatch::window_of;

@@ -3,17 +3,17 @@ ghost use Rattle.std.specs.Prelude.{◌≡◌, ◌==◌, ◌<◌, find, is_some,
 ghost use Rattle.kdf_director.specs.Fields.Stints.{is_lent, keeping_of, loan_of, no_keeping};
 ghost use Rattle.std.specs.Option.{option_copied, option_map};
 ghost use Rattle.kdf_director.specs.Fields.Filled.{loaded, pool_in};
-ghost use Rattle.kdf_director.specs.Fields.Owners.{HasLent, IsDeviceOf, IsDeviceOwned, IsTold, is_claimed_by, owner_in};
+ghost use Rattle.kdf_director.specs.Fields.Owners.{HasLent, IsDeviceOwned, IsTold, is_claimed_by, owner_in};
+ghost use Rattle.kdf_places.specs.Spots.{IsDeviceOf, spot_at, spot_of};
 ghost use Rattle.kdf_director.specs.Fields.Parts.{window_at};
 ghost use Rattle.kdf_director.specs.Fields.Running.{seats_in};
-ghost use Rattle.kdf_director.specs.Fields.Spots.{spot_at, spot_of};
 
 use crate::devices::owns;
 use crate::dispatch::window_of;
 use crate::load::pool_in;
-use crate::places::holder_in;
 use crate::{Loaded, Loan, Place, Program, Stint};
 use kdf_job::kind_lent;
+use kdf_places::holder_in;
 use kdf_processor::{Registers, Spooled};
 use kdf_relocate::Window;
 use kdf_transfer::Device;

@@ -3,11 +3,11 @@ ghost use Rattle.std.specs.Prelude.{◌≡◌, ◌≢◌, ◌<◌, ℕ, length, 
 ghost use Rattle.std.specs.List.{AllPairs};
 ghost use Rattle.kdf_transfer.specs.Devices.{fixture_of, progress_of};
 ghost use Rattle.kdf_director.specs.Fields.Settled.{kept_from, leaves};
-ghost use Rattle.kdf_director.specs.Fields.Spots.{spot_at, spot_of, AreDry};
+ghost use Rattle.kdf_places.specs.Spots.{spot_at, spot_of, AreDry};
 ghost use Rattle.kdf_director.specs.Fields.Stints.{Back, Keeping, is_open, is_open_of, keeping_of, no_keeping, with_loan};
 
 use crate::Place;
-use crate::places::take_back_at;
+use kdf_places::take_back_at;
 use kdf_transfer::Device;
 use std::alloc::Global;
 

@@ -2,18 +2,17 @@
 ghost use Rattle.std.specs.Prelude.{◌≡◌, ◌+◌, ◌*◌, ◌%◌, ◌<◌, ◌≤◌, length};
 ghost use Rattle.kdf_director.specs.True.{one_if};
 ghost use Rattle.kdf_director.specs.Fields.Keeping.{IsActive, IsActiveBy, IsKept, IsKeptBy};
-ghost use Rattle.kdf_director.specs.Fields.Parts.{part_with, shared_in};
-ghost use Rattle.kdf_director.specs.Fields.Spots.{AreDry};
+ghost use Rattle.kdf_director.specs.Fields.Parts.{part_with};
+ghost use Rattle.kdf_places.specs.Shared.{shared_in};
+ghost use Rattle.kdf_places.specs.Spots.{AreDry};
 
-use crate::devices::{first_free, is_free, kind_claimed, may_be_taken};
-use crate::places::{first_of, lend_at, make_ready_at, take_back_at, test_in};
-use crate::starting::start_at;
+use crate::devices::{first_free, first_of, is_free, kind_claimed, may_be_taken};
 use crate::stint::hand_in;
-use crate::text::text_of;
 use crate::{Loaded, Loan, Moment, Note, Place, Stint};
 use kdf_job::kind_lent;
 use kdf_journal::Kind;
 use kdf_lockout::Store;
+use kdf_places::{lend_at, make_ready_at, start_at, take_back_at, test_in, text_of};
 use kdf_processor::{Port, Reserve, Spooled, Test, Wanted, least};
 use kdf_relocate::Window;
 use kdf_transfer::{Area, TransferOrder, characters_in};
@@ -54,7 +53,8 @@ impl<'a> Turn<'a> {
     ghost use Rattle.kdf_processor.specs.Effect.{Acquires, Asks, Question, Releases};
     ghost use Rattle.kdf_processor.specs.View.{groups_of};
     ghost use Rattle.kdf_director.specs.Fields.Parts.{in_pool, own_claims};
-    ghost use Rattle.kdf_director.specs.Fields.Shared.{free_in, is_busy_in, is_out_of, is_pool_taken};
+    ghost use Rattle.kdf_director.specs.Fields.Shared.{free_in, is_out_of, is_pool_taken};
+    ghost use Rattle.kdf_places.specs.Shared.{is_busy_in};
     ghost use Rattle.kdf_director.specs.Fields.Turn.{part_of, shared, Acts};
     ghost use Rattle.kdf_director.specs.declared.note.Note.TheVariants.{Quiet};
     ghost use Rattle.kdf_director.specs.Fields.Notes.{IsPlain};

@@ -24,18 +24,19 @@ use Rattle.kdf_director.specs.declared.machine.Progress.{Progress}
 use Rattle.kdf_director.specs.declared.machine.Progress.TheVariants as progress
 use Rattle.kdf_director.specs.declared.note.Note.{Note}
 use Rattle.kdf_director.specs.declared.note.Note.TheVariants as note
-use Rattle.kdf_director.specs.declared.place.Place.{Place}
+use Rattle.kdf_places.specs.declared.place.Place.{Place}
 use Rattle.kdf_director.specs.declared.program.Program.{Program}
 use Rattle.kdf_director.specs.declared.slot.Loaded.{Loaded}
 use Rattle.kdf_director.specs.Fields.Agrees.{Agrees, IsReady}
 use Rattle.kdf_director.specs.Fields.Going.{any_on, first_going, AreNearHolds}
 use Rattle.kdf_director.specs.Next.{any_live}
-use Rattle.kdf_director.specs.Fields.Parts.{Reach, Seat, Shared, seat_of, shared_in}
+use Rattle.kdf_director.specs.Fields.Parts.{Reach, Seat, seat_of}
+use Rattle.kdf_places.specs.Shared.{Shared, shared_in}
 use Rattle.kdf_director.specs.Fields.Running.{reaches_in, seat_at, seats_in, IsRunning}
 use Rattle.kdf_director.specs.Runs.{HasEntered, HasMadeOn, HasMadeSome, HasTriedAt, IsEntered, held_after, ran_on, waited_on}
 use Rattle.kdf_director.specs.Shown.{Shown, state_at}
 use Rattle.kdf_director.specs.Fields.Viewed.{slot_loaded, viewed}
-use Rattle.kdf_director.specs.Fields.Spots.{AreDry}
+use Rattle.kdf_places.specs.Spots.{AreDry}
 use Rattle.kdf_director.specs.Fields.TurnTaken.{hold_left, progress_of, step_told}
 use Rattle.kdf_director.specs.World.{need_of}
 use Rattle.kdf_director.proofs.Calls.OneCall.{moves-took}

@@ -9,7 +9,8 @@ use Rattle.kdf_director.specs.declared.machine.Progress.TheVariants as progress
 use Rattle.kdf_director.specs.Fields.Agrees.{Agrees}
 use Rattle.kdf_director.specs.Fields.Going.{first_going}
 use Rattle.kdf_director.specs.Next.{any_live, next}
-use Rattle.kdf_director.specs.Fields.Parts.{Reach, Seat, Shared}
+use Rattle.kdf_director.specs.Fields.Parts.{Reach, Seat}
+use Rattle.kdf_places.specs.Shared.{Shared}
 use Rattle.kdf_director.specs.Runs.{HasMadeOn, HasMadeSome, waited_on}
 use Rattle.kdf_director.specs.Shown.{Shown, state_at, world_of}
 use Rattle.kdf_director.proofs.Calls.CallsAfterCalls.{made_more, made_none}

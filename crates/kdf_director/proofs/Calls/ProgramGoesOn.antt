@@ -18,7 +18,8 @@ use Rattle.kdf_director.specs.declared.note.Note.{Note as Noted}
 use Rattle.kdf_director.specs.declared.note.Note.TheVariants as noted
 use Rattle.kdf_director.specs.Fields.Agrees.{Agrees}
 use Rattle.kdf_director.specs.Next.{lives, next}
-use Rattle.kdf_director.specs.Fields.Parts.{Reach, Seat, Shared}
+use Rattle.kdf_director.specs.Fields.Parts.{Reach, Seat}
+use Rattle.kdf_places.specs.Shared.{Shared}
 use Rattle.kdf_director.specs.Progressed.{found_live}
 use Rattle.kdf_director.specs.Fields.Running.{seat_at, IsRunning}
 use Rattle.kdf_director.specs.Runs.{HasMadeOn, HasMadeSome, HasTriedAt, ran_on}

@@ -5,17 +5,17 @@ use Rattle.kdf_journal.specs.Counts.{clock}
 use Rattle.kdf_journal.specs.Steps.{Moves, Ends, Sets, Swaps, added}
 use Rattle.kdf_lockout.specs.Groups.{Cells}
 use Rattle.kdf_relocate.specs.declared.window.Window.{Window}
-use Rattle.kdf_director.specs.declared.place.Place.{Place}
+use Rattle.kdf_places.specs.declared.place.Place.{Place}
 use Rattle.kdf_director.specs.declared.program.Program.{Program}
 use Rattle.kdf_director.specs.declared.slot.Loaded.{Loaded}
 use Rattle.kdf_director.specs.Advance.{OthersStay}
 use Rattle.kdf_director.specs.Fields.Agrees.{IsReady}
-use Rattle.kdf_director.specs.Fields.Parts.{shared_in}
+use Rattle.kdf_places.specs.Shared.{shared_in}
 use Rattle.kdf_director.specs.Fields.Running.{reaches_in, seats_in}
-use Rattle.kdf_director.specs.Fields.Shared.{after_end, after_move}
+use Rattle.kdf_places.specs.Transfers.{after_end, after_move}
 use Rattle.kdf_director.specs.Shown.{entered}
 use Rattle.kdf_director.specs.Fields.Viewed.{slot_loaded, viewed}
-use Rattle.kdf_director.specs.Fields.Spots.{AreDry}
+use Rattle.kdf_places.specs.Spots.{AreDry}
 use Rattle.kdf_director.proofs.Linking.EventsEntered.{ended, entered_more, moved, ready_more, shown_seen, exchanged, timed}
 use Rattle.kdf_director.proofs.Course.OthersStay.{stay-ended, stay-exchanged, stay-moved, stay-timed}
 

@@ -14,19 +14,20 @@ use Rattle.kdf_relocate.specs.declared.window.Window.{Window}
 use Rattle.kdf_transfer.specs.Slots.{Slot}
 use Rattle.kdf_processor.specs.State.{State}
 use Rattle.kdf_processor.specs.declared.step.Need.{Need}
-use Rattle.kdf_director.specs.declared.place.Place.{Place}
+use Rattle.kdf_places.specs.declared.place.Place.{Place}
 use Rattle.kdf_director.specs.declared.program.Program.{Program}
 use Rattle.kdf_director.specs.declared.slot.Loaded.{Loaded}
 use Rattle.kdf_director.specs.Fields.Agrees.{Agrees, AreLent, HaveHolds, IsReady}
 use Rattle.kdf_director.specs.Fields.Following.{AreFollowing, asked_at}
 use Rattle.kdf_director.specs.Legal.{Meets}
 use Rattle.kdf_transfer.specs.ByNumber.{device_count}
-use Rattle.kdf_director.specs.Fields.Parts.{Reach, Seat, Shared, shared_in}
+use Rattle.kdf_director.specs.Fields.Parts.{Reach, Seat}
+use Rattle.kdf_places.specs.Shared.{Shared, shared_in}
 use Rattle.kdf_director.specs.Fields.Running.{no_seat, own_state, reaches_in, seats_in, IsRunning}
-use Rattle.kdf_director.specs.Fields.Shared.{after_end, after_move, ended_spot, moved_spot}
+use Rattle.kdf_places.specs.Transfers.{after_end, after_move, ended_spot, moved_spot}
 use Rattle.kdf_director.specs.Shown.{entered, states_seen}
 use Rattle.kdf_director.specs.Fields.Viewed.{slot_loaded, states_in, viewed}
-use Rattle.kdf_director.specs.Fields.Spots.{AreDry, Spot, spot_at}
+use Rattle.kdf_places.specs.Spots.{AreDry, Spot, spot_at}
 use Rattle.kdf_director.specs.ByJournal.{lone_world, seen_of}
 use Rattle.kdf_director.specs.World.{need_of}
 use Rattle.kdf_director.proofs.Turns.FlightsMove.{ended_holder, ended_running, flown_running}

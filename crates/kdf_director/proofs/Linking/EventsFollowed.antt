@@ -14,9 +14,10 @@ use Rattle.kdf_director.specs.Legal.{IsLegal}
 use Rattle.kdf_director.specs.Seen.{seen}
 use Rattle.kdf_director.specs.Slots.{AreSlots}
 use Rattle.kdf_director.specs.ByJournal.{own, seen_of}
-use Rattle.kdf_director.specs.Fields.Spots.{Held, Spot, no_spot, spot_at}
-use Rattle.kdf_director.specs.Fields.Parts.{Part, Seat, Reach, Shared}
-use Rattle.kdf_director.specs.Fields.Shared.{after_move, moved_held, moved_spot, after_end, ended_spot, ended_by}
+use Rattle.kdf_places.specs.Spots.{Held, Spot, no_spot, spot_at}
+use Rattle.kdf_director.specs.Fields.Parts.{Part, Seat, Reach}
+use Rattle.kdf_places.specs.Shared.{Shared}
+use Rattle.kdf_places.specs.Transfers.{after_move, moved_held, moved_spot, after_end, ended_spot, ended_by}
 use Rattle.kdf_director.specs.Fields.Running.{seat_at, part_at, own_state, IsRunning}
 use Rattle.kdf_director.specs.Fields.Following.{IsFollowing, AreFollowing, asked_at}
 use Rattle.kdf_director.proofs.Turns.FlightsMove.{flown_own, ended_state}

@@ -26,14 +26,15 @@ use Rattle.kdf_director.specs.Fields.Going.{any_on}
 use Rattle.kdf_director.specs.Lends.{IsLent, IsStored, window_in}
 use Rattle.kdf_director.specs.Next.{any_live}
 use Rattle.kdf_director.specs.Fields.Owners.{HasLent, IsDeviceOwned, IsTold, is_claimed_by, owner_in}
-use Rattle.kdf_director.specs.Fields.Parts.{Reach, Seat, Shared, own_stock, seat_of, shared_in, window_at}
-use Rattle.kdf_director.specs.Fields.Physical.{word_at_place}
+use Rattle.kdf_director.specs.Fields.Parts.{Reach, Seat, own_stock, seat_of, window_at}
+use Rattle.kdf_places.specs.Shared.{Shared, shared_in}
+use Rattle.kdf_places.specs.Words.{word_at_place}
 use Rattle.kdf_director.specs.Fields.Running.{own_state, part_at, reach_at, reaches_in, seat_at, seats_in}
 use Rattle.kdf_director.specs.Shown.{IsDeviceAt, Shown, state_of}
 use Rattle.kdf_director.specs.Fields.Viewed.{slot_loaded, viewed}
 use Rattle.kdf_director.specs.Slots.{slot_of}
-use Rattle.kdf_director.specs.Fields.Spots.{Held, leases_of, spot_at, spot_of}
-use Rattle.kdf_director.specs.declared.place.Place.{Place}
+use Rattle.kdf_places.specs.Spots.{Held, leases_of, spot_at, spot_of}
+use Rattle.kdf_places.specs.declared.place.Place.{Place}
 use Rattle.kdf_director.specs.declared.program.Program.{Program}
 use Rattle.kdf_director.specs.declared.slot.Loaded.{Loaded}
 use Rattle.kdf_director.proofs.Linking.FoundByNumber.{find_map}

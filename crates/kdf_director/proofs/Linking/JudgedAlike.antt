@@ -28,9 +28,10 @@ use Rattle.kdf_director.specs.ByJournal.{flights_of, is_free_after, is_pending_a
 use Rattle.kdf_director.specs.ByJournal as told
 use Rattle.kdf_director.specs.True.{known}
 use Rattle.kdf_director.specs.World.{first_need}
-use Rattle.kdf_director.specs.Fields.Physical.{has_group}
-use Rattle.kdf_director.specs.Fields.Spots.{Held, Spot, no_spot, spot_at, is_of, lease_held, leases_of, own_from}
-use Rattle.kdf_director.specs.Fields.Parts.{Part, Seat, Reach, Shared}
+use Rattle.kdf_places.specs.Words.{has_group}
+use Rattle.kdf_places.specs.Spots.{Held, Spot, no_spot, spot_at, is_of, lease_held, leases_of, own_from}
+use Rattle.kdf_director.specs.Fields.Parts.{Part, Seat, Reach}
+use Rattle.kdf_places.specs.Shared.{Shared}
 use Rattle.kdf_director.specs.Fields.Agrees.{AreLent}
 use Rattle.kdf_director.specs.Fields.Shared.{view, free_in, is_free_in, moment}
 use Rattle.kdf_director.specs.Fields.Sound.{IsFlightOf}

@@ -20,7 +20,8 @@ use Rattle.kdf_director.specs.Fields.Going.{first_going, goes_at, hold_at, if_go
 use Rattle.kdf_course.specs.World as course
 use Rattle.kdf_course.specs.World.{can_go, stands}
 use Rattle.kdf_director.specs.Next.{any_live, dispatched, lives, next}
-use Rattle.kdf_director.specs.Fields.Parts.{Reach, Seat, Shared}
+use Rattle.kdf_director.specs.Fields.Parts.{Reach, Seat}
+use Rattle.kdf_places.specs.Shared.{Shared}
 use Rattle.kdf_director.specs.Fields.Running.{no_seat, own_state, reach_at, seat_at}
 use Rattle.kdf_director.specs.Slots.{no_slot, slot_of}
 use Rattle.kdf_director.specs.ByJournal.{own, world_after}

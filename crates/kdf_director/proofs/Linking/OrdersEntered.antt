@@ -24,7 +24,8 @@ use Rattle.kdf_director.specs.Fields.Following.{asked_at}
 use Rattle.kdf_director.specs.Legal.{Meets, note_for, note_of, note_of_outcome}
 use Rattle.kdf_director.specs.Next.{next}
 use Rattle.kdf_director.specs.Fields.Notes as notes
-use Rattle.kdf_director.specs.Fields.Parts.{Reach, Seat, Shared, in_pool}
+use Rattle.kdf_director.specs.Fields.Parts.{Reach, Seat, in_pool}
+use Rattle.kdf_places.specs.Shared.{Shared}
 use Rattle.kdf_director.specs.Fields.Running.{outcome_at, hold_of, own_state, part_at, seat_at, IsRunning, reach_at}
 use Rattle.kdf_director.specs.Fields.Settled.{holder_left}
 use Rattle.kdf_director.specs.Seen.{begun_row, seen}

@@ -32,17 +32,19 @@ use Rattle.kdf_director.specs.ByJournal.{flights_of, lone_world, mine_after, own
 use Rattle.kdf_director.specs.True.{truth}
 use Rattle.kdf_director.specs.World.{first_need}
 use Rattle.kdf_transfer.specs.ByNumber.{device_count}
-use Rattle.kdf_director.specs.Fields.Physical as physical
+use Rattle.kdf_places.specs.Words as physical
 use Rattle.kdf_director.specs.Fields.Agrees.{AreLent}
-use Rattle.kdf_director.specs.Fields.Spots.{Held, Spot, blank_spot, lent_spot, no_spot, spot_at, fixture_or, leases_of, own_from}
-use Rattle.kdf_director.specs.Fields.Parts.{Part, Seat, Reach, Shared, asked_after, has_device, lent_to, own_claims, own_progress, own_stock}
-use Rattle.kdf_director.specs.Fields.Shared.{view, after_act, start_lease, start_spot, moment}
+use Rattle.kdf_places.specs.Spots.{Held, Spot, blank_spot, lent_spot, no_spot, spot_at, fixture_or, leases_of, own_from}
+use Rattle.kdf_director.specs.Fields.Parts.{Part, Seat, Reach, asked_after, has_device, lent_to, own_claims, own_progress, own_stock}
+use Rattle.kdf_places.specs.Shared.{Shared}
+use Rattle.kdf_director.specs.Fields.Shared.{view, after_act, moment}
+use Rattle.kdf_places.specs.Transfers.{start_lease, start_spot}
 use Rattle.kdf_director.specs.Fields.Running.{seat_at, part_at, own_state, hold_of, outcome_at, answers_at, IsRunning}
 use Rattle.kdf_director.specs.Fields.Turned.{HasTurned}
 use Rattle.kdf_director.specs.declared.note.Note.{Note as Noted}
 use Rattle.kdf_processor.specs.declared.step.Step.{Step as Ended}
 use Rattle.kdf_director.specs.Fields.Following.{IsLink, Linked, IsFollowing, AreFollowing, asked_at}
-use Rattle.kdf_director.proofs.Physical.OrdersAct.{free_here}
+use Rattle.kdf_places.proofs.GroupsKept.{free_here}
 use Rattle.kdf_director.proofs.Seen.OrdersSeen.{same_next, with_flight_is, with_flight_other}
 use Rattle.kdf_director.proofs.Course.FlightsAdded.{begun_at, pending_behind, pending-obeys}
 use Rattle.kdf_director.proofs.Seen.NeedsInside.{IsInside, next_inside}
@@ -57,7 +59,8 @@ use Rattle.kdf_director.proofs.Course.FlightsOnCourse.{IsOnCourse, apart-mine, f
 use Rattle.kdf_director.proofs.Course.SeenJournals.{same-need, same-note}
 use Rattle.kdf_director.proofs.Seen.SeenStates.{seen_apart, seen_device_at, seen_number, seen_word_at}
 use Rattle.kdf_director.proofs.Physical.PlacesAlike.{same_at}
-use Rattle.kdf_director.proofs.Physical.PartsShow.{claim_fixture, here_word, own_device, own_word}
+use Rattle.kdf_director.proofs.Physical.PartsShow.{claim_fixture, own_device, own_word}
+use Rattle.kdf_places.proofs.WordsHereAndOut.{here_word}
 use Rattle.kdf_transfer.proofs.Numbers.{length-numbers}
 use Rattle.kdf_director.proofs.Turns.OrdersTried.{IsPart, start_free, start_has, start_idle, start_small}
 use Rattle.kdf_director.proofs.Turns.OneOrder as turn

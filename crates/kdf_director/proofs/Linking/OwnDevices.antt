@@ -18,14 +18,15 @@ use Rattle.kdf_job.specs.Slots.{lent_kind}
 use Rattle.kdf_processor.specs.State.{State, device_at, fixture_at, is_pooled, own_fixture_at, pool_kind_at, pooled_or}
 use Rattle.kdf_director.specs.Fields.Agrees.{Agrees}
 use Rattle.kdf_director.specs.Fields.Following.{asked_at}
-use Rattle.kdf_director.specs.Fields.Owners.{IsDeviceOf, IsDeviceOwned, is_claimed_by, owner_in}
+use Rattle.kdf_places.specs.Spots.{IsDeviceOf, Spot, no_spot, spot_at}
+use Rattle.kdf_director.specs.Fields.Owners.{IsDeviceOwned, is_claimed_by, owner_in}
 use Rattle.kdf_transfer.specs.ByNumber.{by_number, device_count}
-use Rattle.kdf_director.specs.Fields.Parts.{Reach, Seat, Shared, has_device, in_pool, numbers, own_claims, own_fixture, owns, pool_kind, reach_of}
+use Rattle.kdf_director.specs.Fields.Parts.{Reach, Seat, has_device, in_pool, numbers, own_claims, own_fixture, owns, pool_kind, reach_of}
+use Rattle.kdf_places.specs.Shared.{Shared}
 use Rattle.kdf_director.specs.Fields.Running.{own_state, part_at, reach_at, reaches_in, seat_at}
 use Rattle.kdf_director.specs.Shown.{IsDeviceAt, Shown, state_of}
 use Rattle.kdf_director.specs.Fields.Viewed.{states_in}
 use Rattle.kdf_director.specs.Slots.{start_of}
-use Rattle.kdf_director.specs.Fields.Spots.{Spot, no_spot, spot_at}
 use Rattle.kdf_director.specs.declared.slot.Loaded.{Loaded}
 use Rattle.kdf_director.proofs.Linking.OwnStates.{program_is, same_number, state_is}
 use Rattle.kdf_director.proofs.Physical.PartsShow.{is_its, own_device, own_is}

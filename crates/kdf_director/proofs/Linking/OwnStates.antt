@@ -10,7 +10,8 @@ use Rattle.kdf_transfer.specs.Slots.{Slot}
 use Rattle.kdf_processor.specs.State.{State}
 use Rattle.kdf_director.specs.Fields.Agrees.{Agrees}
 use Rattle.kdf_director.specs.Fields.Following.{asked_at}
-use Rattle.kdf_director.specs.Fields.Parts.{Reach, Seat, Shared}
+use Rattle.kdf_director.specs.Fields.Parts.{Reach, Seat}
+use Rattle.kdf_places.specs.Shared.{Shared}
 use Rattle.kdf_director.specs.Fields.Running.{no_seat, own_state, seat_at}
 use Rattle.kdf_director.specs.Shown.{Shown, state_of}
 use Rattle.kdf_director.specs.Fields.Viewed.{states_in}

@@ -18,9 +18,10 @@ use Rattle.kdf_processor.specs.State.{State, device_at, device_in}
 use Rattle.kdf_director.specs.Flights.{Flight, moves_on, all_moves, arrivals, move_count, unmoved, completed, moved_to, with_flight}
 use Rattle.kdf_director.specs.Seen.{seen, with_both, with_store}
 use Rattle.kdf_director.specs.ByJournal.{flights_of, further, own, seen_of}
-use Rattle.kdf_director.specs.Fields.Spots.{Held, Spot, no_spot, spot_at}
-use Rattle.kdf_director.specs.Fields.Parts.{Part, Shared}
-use Rattle.kdf_director.specs.Fields.Shared.{flight_moves, moved_held, moved_spot, after_move, ended_by, ended_spot, after_end}
+use Rattle.kdf_places.specs.Spots.{Held, Spot, no_spot, spot_at}
+use Rattle.kdf_director.specs.Fields.Parts.{Part}
+use Rattle.kdf_places.specs.Shared.{Shared}
+use Rattle.kdf_places.specs.Transfers.{flight_moves, moved_held, moved_spot, after_move, ended_by, ended_spot, after_end}
 use Rattle.kdf_director.specs.Fields.Running.{moved_own, ended_own}
 use Rattle.kdf_director.specs.Fields.Following.{IsLink, Linked, IsFollowing}
 use Rattle.kdf_director.proofs.Seen.OrdersSeen.{with_flight_is, with_flight_other}

@@ -29,14 +29,15 @@ use Rattle.kdf_director.specs.Fields.Agrees.{Agrees}
 use Rattle.kdf_director.specs.Fields.Following.{AreFollowing, IsFollowing, Linked, asked_at}
 use Rattle.kdf_director.specs.Legal.{Meets, note_of}
 use Rattle.kdf_director.specs.Next.{any_live, next}
-use Rattle.kdf_director.specs.Fields.Parts.{Part, Reach, Seat, Shared, asked_after, in_pool}
+use Rattle.kdf_director.specs.Fields.Parts.{Part, Reach, Seat, asked_after, in_pool}
+use Rattle.kdf_places.specs.Shared.{Shared}
 use Rattle.kdf_director.specs.Fields.Settled.{holder_left}
 use Rattle.kdf_director.specs.Fields.Running.{no_seat, answers_at, hold_of, outcome_at, own_state, part_at, seat_at, IsRunning}
 use Rattle.kdf_director.specs.Fields.Shared.{after_act, moment}
 use Rattle.kdf_director.specs.Shown.{Shown, state_at, world_of}
 use Rattle.kdf_director.specs.Fields.Viewed.{states_in}
 use Rattle.kdf_director.specs.Slots.{slot_of}
-use Rattle.kdf_director.specs.Fields.Spots.{spot_at}
+use Rattle.kdf_places.specs.Spots.{spot_at}
 use Rattle.kdf_director.specs.Fields.TurnTaken.{HasTaken, hold_left, progress_of, step_told}
 use Rattle.kdf_director.specs.ByJournal.{flights_of, lone_world, own, seen_of}
 use Rattle.kdf_director.specs.True.{truth}

@@ -21,7 +21,7 @@ use Rattle.kdf_director.specs.Fields.Running.{no_seat, own_state, part_at, seat_
 use Rattle.kdf_director.specs.Fields.Viewed.{slot_loaded, states_in}
 use Rattle.kdf_director.specs.Slots.{no_slot, start, start_of}
 use Rattle.kdf_director.specs.Slots as slots
-use Rattle.kdf_director.specs.Fields.Spots.{Held}
+use Rattle.kdf_places.specs.Spots.{Held}
 use Rattle.kdf_director.specs.ByJournal.{seen_of}
 use Rattle.kdf_director.proofs.Linking.EventsEntered.{map_twice}
 use Rattle.kdf_director.proofs.Course.WorldsJudged.{legal_nil, true_nil}

@@ -11,7 +11,7 @@ use Rattle.kdf_job.specs.Slots.{fixture_on, numbered, progress_on}
 use Rattle.kdf_director.specs.Loading.{SlotLoad}
 use Rattle.kdf_director.specs.Fields.Filled.{AreApart, first_own, has, numbers_in, pool_spot, spot_or}
 use Rattle.kdf_director.specs.Fields.Parts.{owns}
-use Rattle.kdf_director.specs.Fields.Spots.{Spot}
+use Rattle.kdf_places.specs.Spots.{Spot}
 
 -- the place of a slot's device
 pub record IsOwnSpot (p : ℕ) (o : Option JobDevice) (x : Spot) : Type 0 where

@@ -18,15 +18,15 @@ use Rattle.kdf_job.specs.Slots.{fixture_on, lent_kind, numbered, progress_on}
 use Rattle.kdf_journal.specs.declared.kind.Kind.{Kind}
 use Rattle.kdf_director.specs.Loading.{SlotLoad, slot_of}
 use Rattle.kdf_director.specs.Fields.Filled.{AreLoads, IsLoad, IsLoaded, first_seat, has, idle_spot, lends, loaded, numbers_in, pool_in, pool_spot, sizes_of, with_images, zero_cells}
-use Rattle.kdf_director.specs.Fields.Parts.{Part, Reach, Seat, Shared, has_device, in_pool, pool_kind, own_fixture, own_progress, own_stock, owns, part_in, reach_of, shared_in, window_at}
+use Rattle.kdf_director.specs.Fields.Parts.{Part, Reach, Seat, has_device, in_pool, pool_kind, own_fixture, own_progress, own_stock, owns, part_in, reach_of, window_at}
+use Rattle.kdf_places.specs.Shared.{Shared, shared_in, IsSound}
 use Rattle.kdf_transfer.specs.ByNumber.{by_number, device_count}
-use Rattle.kdf_director.specs.Fields.Physical.{has_group, word_at_place, word_where}
+use Rattle.kdf_places.specs.Words.{has_group, word_at_place, word_where}
 use Rattle.kdf_director.specs.Fields.Running.{IsRunning, no_seat, own_state, part_at, reach_at, reaches_in, seat_at, seats_in}
 use Rattle.kdf_director.specs.Fields.Keeping.{IsActive, IsKept}
-use Rattle.kdf_director.specs.Fields.Sound.{IsSound}
 use Rattle.kdf_director.specs.Fields.Stints.{IsOfKind, Keeping, is_left}
 use Rattle.std.proofs.lemmas.List.Elements.{All-nil}
-use Rattle.kdf_director.specs.Fields.Spots.{AreDry, Spot, is_holder, lease_held, leases_of, no_spot, spot_at, spot_of}
+use Rattle.kdf_places.specs.Spots.{AreDry, Spot, is_holder, lease_held, leases_of, no_spot, spot_at, spot_of}
 use Rattle.kdf_director.proofs.Linking.EventsEntered.{map_twice}
 use Rattle.kdf_director.proofs.Loading.StoreFilled.{IsStore, none_lent, word_there, zero_store, zero_there}
 use Rattle.kdf_director.proofs.Loading.ImagesLoaded.{IsOutside, IsWithin, filled_at, images_store, images_there}

@@ -2,9 +2,9 @@
 use Rattle.std.proofs.Common.{◌≡◌, ℕ, zero, suc, List, [], ◌∷◌, get_or, map, Option, Some, None, refl, ap, ◌∙◌}
 use Rattle.std.specs.List.{range_with_len}
 use Rattle.kdf_transfer.specs.declared.device.Device.{Device}
-use Rattle.kdf_director.specs.declared.place.Place.TheVariants.{Absent}
+use Rattle.kdf_places.specs.declared.place.Place.TheVariants.{Absent}
 use Rattle.kdf_director.specs.Fields.Filled.{idle_place, idle_ring}
-use Rattle.kdf_director.specs.Fields.Spots.{ring_in, AreDry}
+use Rattle.kdf_places.specs.Spots.{ring_in, AreDry}
 
 abbrev nil : List ℕ
 nil = []

@@ -3,9 +3,9 @@ use Rattle.std.proofs.Common.{◌≡◌, ◌≢◌, ◌⊎◌, inl, inr, ℕ, ze
 use Rattle.std.proofs.lemmas.Bool.{cases_eq, eq-eqb, ne_eqb}
 use Rattle.std.proofs.lemmas.List.{get_or-replicate, length-replicate, get_or-set_same, get_or-set_other, length-set}
 use Rattle.kdf_lockout.specs.Groups.{Cells, Lent, group_at, is_out, with_word, words_in}
-use Rattle.kdf_director.specs.Fields.Physical.{word_at_place, word_where}
+use Rattle.kdf_places.specs.Words.{word_at_place, word_where}
 use Rattle.kdf_director.specs.Fields.Filled.{kept_word, with_words, zero_cells}
-use Rattle.kdf_director.proofs.Physical.WordsHereAndOut.{word_of-put_word}
+use Rattle.kdf_places.proofs.WordsHereAndOut.{word_of-put_word}
 
 -- a group is here, with its words
 pub record IsHere (cells : Cells) (g : ℕ) : Type 0 where

@@ -1,35 +1,18 @@
--- The text of an area that is free.
-use Rattle.std.proofs.Common.{◌≡◌, ℕ, ◌+◌, ◌-◌, ◌*◌, ◌/◌, ◌<◌, ◌≤◌, false, List, [], ◌++◌, length, get_or, take, drop, map, refl, sym, ap, ◌∙◌, arith, length-take, length-drop}
+-- The words of an area that is free.
+use Rattle.std.proofs.Common.{◌≡◌, ℕ, ◌+◌, ◌-◌, ◌<◌, ◌≤◌, List, length, get_or, take, drop, map, sym, ◌∙◌, arith, length-take, length-drop}
 use Rattle.std.specs.List.{range_with_len}
-use Rattle.std.proofs.lemmas.List.{ext_get_or, get_or-take, get_or-drop, flat_map_more}
-use Rattle.std.proofs.lemmas.List.FromFn.{length-map-range_with_len, get_or-map-range_with_len, map-range_with_len_more}
-use Rattle.kdf_word.specs.Characters.{codes_of, codes_of_all}
-use Rattle.kdf_lockout.specs.Groups.{Cells, is_out, touched, word_here}
-use Rattle.kdf_lockout.proofs.Ranges.{none_in_range}
+use Rattle.std.proofs.lemmas.List.{ext_get_or, get_or-take, get_or-drop}
+use Rattle.std.proofs.lemmas.List.FromFn.{length-map-range_with_len, get_or-map-range_with_len}
+use Rattle.kdf_lockout.specs.Groups.{word_here}
 use Rattle.kdf_transfer.specs.AtOnce.{IsArea}
-use Rattle.kdf_transfer.proofs.Codes.{length-codes}
 use Rattle.kdf_processor.specs.Row.{area_words}
-use Rattle.kdf_director.specs.Fields.Parts.{Part, Shared, own_stock}
-use Rattle.kdf_director.specs.Fields.Physical.{word_at_place, own_words}
-use Rattle.kdf_director.specs.Fields.Shared.{IsFreeArea}
-use Rattle.kdf_director.specs.Fields.Spots.{leases_of}
-use Rattle.kdf_director.proofs.Physical.PartsShow.{here_word}
-
--- one word more
-pub text_more : (f : ℕ → ℕ) (first i : ℕ) → codes_of_all (map f (range_with_len first i)) ++ codes_of (f (first + i)) ≡ codes_of_all (map f (range_with_len first (i + 1)))
-text_more f first i =
-    flat_map_more codes_of [] (map f (range_with_len first i)) (f (first + i))
-    ∙ ap codes_of_all (sym (map-range_with_len_more f first i (first + i) refl))
-
-pub length-text : (f : ℕ → ℕ) (first i : ℕ) → length (codes_of_all (map f (range_with_len first i))) ≡ 8 * i
-length-text f first i = length-codes (map f (range_with_len first i)) ∙ ap (λ n. 8 * n) (length-map-range_with_len f first i)
-
--- the group of a place of a free area is here
-pub here_at : (cells : Cells) (first last place : ℕ) → IsFreeArea cells first last → first ≤ place → place ≤ last → is_out cells (place / 32) ≡ false
-here_at cells first last place free low high =
-    let i : place / 32 - first / 32 < touched first last = omega arith in
-    let e : first / 32 + (place / 32 - first / 32) ≡ place / 32 = omega arith in
-    ap (is_out cells) (sym e) ∙ none_in_range (is_out cells) (first / 32) (touched first last) (place / 32 - first / 32) free.free i
+use Rattle.kdf_director.specs.Fields.Parts.{Part, own_stock}
+use Rattle.kdf_places.specs.Shared.{Shared}
+use Rattle.kdf_places.specs.Words.{word_at_place, own_words}
+use Rattle.kdf_places.specs.Transfers.{IsFreeArea}
+use Rattle.kdf_places.specs.Spots.{leases_of}
+use Rattle.kdf_places.proofs.WordsHereAndOut.{here_word}
+use Rattle.kdf_places.proofs.AreaTexts.{here_at}
 
 -- the words of such an area
 module _ (q : Part) (s : Shared) (first last : ℕ) (area : IsArea first last q.size) (free : IsFreeArea s.cells (q.base + first) (q.base + last)) where

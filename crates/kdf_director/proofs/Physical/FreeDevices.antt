@@ -13,14 +13,15 @@ use Rattle.kdf_job.specs.Slots.{lent_kind}
 use Rattle.kdf_processor.specs.Claims.{can_take, is_claimed, least_pooled}
 use Rattle.kdf_processor.specs.State.{own_fixture_at, pooled_or}
 use Rattle.kdf_processor.proofs.Fit.{found}
-use Rattle.kdf_director.specs.declared.place.Place.{Place}
-use Rattle.kdf_director.specs.declared.place.Place.TheVariants.{Absent, Idle, Busy}
+use Rattle.kdf_places.specs.declared.place.Place.{Place}
+use Rattle.kdf_places.specs.declared.place.Place.TheVariants.{Absent, Idle, Busy}
 use Rattle.kdf_director.specs.Fields.Keeping.{IsActive, IsKept}
-use Rattle.kdf_director.specs.Fields.Parts.{Part, Shared, back_from, in_pool, lent_to, own_claims, pool_kind}
+use Rattle.kdf_director.specs.Fields.Parts.{Part, back_from, in_pool, lent_to, own_claims, pool_kind}
+use Rattle.kdf_places.specs.Shared.{Shared}
 use Rattle.kdf_director.specs.Fields.Shared.{free_in, is_free_in}
-use Rattle.kdf_director.specs.Fields.Spots.{Spot, blank_spot, can_leave, fixture_or, is_holder, left_spot, spot_at, spot_of}
+use Rattle.kdf_places.specs.Spots.{Spot, blank_spot, can_leave, fixture_or, is_holder, left_spot, spot_at, spot_of}
 use Rattle.kdf_director.specs.Fields.Stints.{Back}
-use Rattle.kdf_director.proofs.Physical.PartsShow.{spot_there}
+use Rattle.kdf_places.proofs.OnePlaceChanges.{spot_there}
 
 pub not_taken : (b : Bool) → b ≡ not (not b)
 not_taken true = refl

@@ -1,65 +1,22 @@
--- Each group stays here, or in exactly one lease.
-use Rattle.std.proofs.Common.{◌≡◌, ◌≢◌, ℕ, ◌+◌, ◌-◌, ◌/◌, ◌%◌, ◌<◌, ◌≤◌, ◌⊎◌, inl, inr, true, false, List, [], ◌++◌, length, get_or, set, map, take, drop, replicate, Option, Some, None, is_none, cond, refl, sym, ap, ◌∙◌, subst, ⊎_elim, arith, length-take, length-drop}
-use Rattle.std.proofs.lemmas.Bool.{cases_Bool, cases_eq, cases_lt, and_parts, and_from, le-leb, lt-ltb, leb-true, ltb-true, false_from_ne_true}
-use Rattle.std.proofs.lemmas.List.{get_or-set_same, get_or-set_other, length-set, length-replicate, get_or-replicate, length-map, get_or-map, get_or-take, get_or-drop, get_or_past}
-use Rattle.kdf_lockout.specs.Groups.{Cells, Lent, group_at, is_out, with_word, without_groups, lent_groups, words_in, AreWhole, AreFull}
+-- Each group stays here, or in exactly one lease, as a program writes a word or begins a transfer.
+use Rattle.std.proofs.Common.{◌≡◌, ◌≢◌, ℕ, ◌+◌, ◌-◌, ◌/◌, ◌%◌, ◌<◌, ◌≤◌, ◌⊎◌, true, false, List, length, set, Option, Some, None, is_none, cond, refl, sym, ap, ◌∙◌, subst, ⊎_elim, arith}
+use Rattle.std.proofs.lemmas.Bool.{cases_Bool, cases_eq, cases_lt, false_from_ne_true}
+use Rattle.std.proofs.lemmas.List.{get_or-set_same, get_or-set_other, length-set, get_or_past}
+use Rattle.kdf_lockout.specs.Groups.{Lent, group_at, is_out, with_word, without_groups, lent_groups, words_in, AreWhole, AreFull}
 use Rattle.kdf_transfer.specs.declared.order.TransferOrder.{TransferOrder}
 use Rattle.kdf_transfer.specs.AtOnce.{has_area}
-use Rattle.kdf_director.specs.Fields.Physical.{has_group, with_lease}
+use Rattle.kdf_places.specs.Words.{has_group, with_lease}
 use Rattle.kdf_transfer.specs.ByNumber.{device_count}
-use Rattle.kdf_director.proofs.Physical.WordsHereAndOut.{splice_in, splice_out, in_range, with_lease_is, with_lease_other}
+use Rattle.kdf_places.proofs.WordsHereAndOut.{in_range, with_lease_is, with_lease_other}
 use Rattle.kdf_processor.specs.Effect.{Writes, Starts}
-use Rattle.kdf_director.specs.Fields.Spots.{spot_at, lease_held, leases_of}
-use Rattle.kdf_director.specs.Fields.Parts.{Shared, Part}
+use Rattle.kdf_places.specs.Spots.{spot_at, lease_held, leases_of}
+use Rattle.kdf_places.specs.Shared.{Shared, IsSound}
+use Rattle.kdf_director.specs.Fields.Parts.{Part}
 use Rattle.kdf_lockout.specs.Groups.{touched}
-use Rattle.kdf_director.specs.Fields.Shared.{start_lease, start_spot, after_act, IsFreeArea}
-use Rattle.kdf_director.specs.Fields.Sound.{IsSound}
-use Rattle.kdf_director.proofs.Physical.OrdersAct.{here_apart, free_here, leases-set}
-use Rattle.kdf_director.proofs.Physical.TransfersBegin.{length-start}
-
--- a group after some were taken out
-pub without_in : (cells : Cells) (f n g : ℕ) → f + n ≤ length cells → f ≤ g → g < f + n → group_at (without_groups cells f n) g ≡ None
-unfolding without_groups
-without_in cells f n g fits low high =
-    let none : Option (List ℕ) = None in
-    let count : length (replicate n none) ≡ n = length-replicate n none in
-    let fits' : f + length (replicate n none) ≤ length cells = omega arith in
-    let high' : g < f + length (replicate n none) = omega arith in
-    let i : g - f < n = omega arith in
-    ap (λ k. get_or (take f cells ++ (replicate n none ++ drop (f + k) cells)) g none) (sym count)
-    ∙ splice_in cells (replicate n none) f g none fits' low high'
-    ∙ get_or-replicate n (g - f) none none i
-
-pub without_out : (cells : Cells) (f n g : ℕ) → f + n ≤ length cells → (g < f) ⊎ (f + n ≤ g) → group_at (without_groups cells f n) g ≡ group_at cells g
-unfolding without_groups
-without_out cells f n g fits out =
-    let none : Option (List ℕ) = None in
-    let count : length (replicate n none) ≡ n = length-replicate n none in
-    let fits' : f + length (replicate n none) ≤ length cells = omega arith in
-    let out' : (g < f) ⊎ (f + length (replicate n none) ≤ g) = ⊎_elim (λ (h : g < f). inl h) (λ (h : f + n ≤ g). inr (omega arith)) out in
-    ap (λ k. get_or (take f cells ++ (replicate n none ++ drop (f + k) cells)) g none) (sym count)
-    ∙ splice_out cells (replicate n none) f g none fits' out'
-
--- a lease has the groups from its first on
-pub has_in : (l : Lent) (g : ℕ) → l.first ≤ g → g < l.first + length l.groups → has_group (Some l) g ≡ true
-has_in l g low high = and_from _ _ (le-leb l.first g low) (lt-ltb g (l.first + length l.groups) high)
-
-pub in_has : (l : Lent) (g : ℕ) → has_group (Some l) g ≡ true → (l.first ≤ g) × (g < l.first + length l.groups)
-in_has l g is = (leb-true l.first g (and_parts _ _ is).0, ltb-true g (l.first + length l.groups) (and_parts _ _ is).1)
-
-lent_full : (cells : Cells) (f n : ℕ) → f + n ≤ length cells → AreWhole cells → ((g : ℕ) → f ≤ g → g < f + n → (ws : List ℕ) × (group_at cells g ≡ Some ws)) → AreFull (lent_groups cells f n)
-unfolding lent_groups
-lent_full cells f n fits whole here i lt =
-    let count : length (map words_in (take n (drop f cells))) ≤ n = omega (arith, length-map (take n (drop f cells)) words_in, length-take n (drop f cells)) in
-    let within : i < n = omega arith in
-    let inside : i < length (take n (drop f cells)) = omega (arith, length-map (take n (drop f cells)) words_in) in
-    let is = here (f + i) (omega arith) (omega arith) in
-    ap length (get_or-map words_in (take n (drop f cells)) i None [] inside ∙ ap words_in (get_or-take n (drop f cells) i None within ∙ get_or-drop f cells i None ∙ is.1))
-    ∙ whole (f + i) is.0 is.1
-
-lent_range : (cells : Cells) (f n : ℕ) → f + n ≤ length cells → ((lent_groups cells f n).first ≡ f) × (length (lent_groups cells f n).groups ≡ n)
-unfolding lent_groups
-lent_range cells f n fits = (refl, omega (arith, length-map (take n (drop f cells)) words_in, length-take n (drop f cells), length-drop f cells))
+use Rattle.kdf_places.specs.Transfers.{start_lease, start_spot, IsFreeArea}
+use Rattle.kdf_director.specs.Fields.Shared.{after_act}
+use Rattle.kdf_places.proofs.GroupsKept.{here_apart, free_here, leases-set, without_in, without_out, has_in, in_has, lent_full, lent_range}
+use Rattle.kdf_places.proofs.TransfersBegin.{length-start}
 
 -- a word is written where its group is
 pub sound-writes : (q : Part) (s : Shared) (a w : ℕ) → IsSound s → is_out s.cells ((q.base + a) / 32) ≡ false → IsSound (after_act q s (Writes a w))

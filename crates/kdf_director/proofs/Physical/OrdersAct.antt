@@ -1,26 +1,27 @@
 -- What an order that acts makes of what is shown of a program.
 use Rattle.std.proofs.Common.{◌≡◌, ◌≢◌, ℕ, ◌+◌, ◌-◌, ◌*◌, ◌/◌, ◌%◌, ◌<◌, ◌≤◌, ◌⊎◌, inl, inr, Bool, true, false, List, length, map, set, Option, Some, None, is_some, is_none, cond, refl, sym, ap, ap₂, ◌∙◌, ⊎_elim, arith}
 use Rattle.std.proofs.Math.Path.{fun_ext}
-use Rattle.std.proofs.lemmas.Bool.{cases_Bool, cases_eq, eq-eqb, ne_eqb, false_from_ne_true}
+use Rattle.std.proofs.lemmas.Bool.{cases_Bool, cases_eq, eq-eqb, ne_eqb}
 use Rattle.std.proofs.lemmas.List.{get_or-set_same, get_or-set_other}
 use Rattle.kdf_lockout.specs.Groups.{Cells, group_at, is_out, with_word, without_groups, lent_groups, words_in}
-use Rattle.kdf_lockout.proofs.Ranges.{none_in_range}
 use Rattle.kdf_transfer.specs.declared.order.TransferOrder.{TransferOrder}
 use Rattle.kdf_transfer.specs.Devices.{Fixture, Progress}
 use Rattle.kdf_transfer.specs.AtOnce.{has_area}
 use Rattle.kdf_director.specs.Seen.{begun}
-use Rattle.kdf_director.specs.Fields.Physical.{own_words, has_group, with_lease}
+use Rattle.kdf_places.specs.Words.{own_words, with_lease}
 use Rattle.kdf_transfer.specs.ByNumber.{device_count, by_number}
-use Rattle.kdf_director.specs.Fields.Physical as physical
-use Rattle.kdf_director.proofs.Physical.WordsHereAndOut as words
+use Rattle.kdf_places.specs.Words as physical
+use Rattle.kdf_places.proofs.WordsHereAndOut as words
 use Rattle.kdf_processor.specs.State.{Stock, Claims}
 use Rattle.kdf_processor.specs.Effect.{Writes, Starts}
-use Rattle.kdf_director.specs.Fields.Spots.{Spot, no_spot, spot_at, is_holder, lease_held, leases_of, fixture_or}
+use Rattle.kdf_places.specs.Spots.{Spot, no_spot, spot_at, is_holder, lease_held, leases_of, fixture_or}
 use Rattle.kdf_director.specs.Fields.Stints.{left_in, stint_of}
-use Rattle.kdf_director.specs.Fields.Parts.{Shared, Part, has_device, owns, own_fixture, own_progress, own_stock, own_claims}
+use Rattle.kdf_places.specs.Shared.{Shared, IsSound}
+use Rattle.kdf_director.specs.Fields.Parts.{Part, has_device, owns, own_fixture, own_progress, own_stock, own_claims}
 use Rattle.kdf_lockout.specs.Groups.{touched}
-use Rattle.kdf_director.specs.Fields.Shared.{start_lease, start_spot, after_act, IsFreeArea}
-use Rattle.kdf_director.specs.Fields.Sound.{IsSound}
+use Rattle.kdf_places.specs.Transfers.{start_lease, start_spot, IsFreeArea}
+use Rattle.kdf_director.specs.Fields.Shared.{after_act}
+use Rattle.kdf_places.proofs.GroupsKept.{leases-set, here_apart, free_here}
 
 -- a stock by its parts
 abbrev pub stock : Part → Claims → ℕ → List ℕ → List Progress → Stock
@@ -53,20 +54,6 @@ writes_other q r n s a w sound fits lt here apart =
     ap (λ ws. stock r (own_claims r s) n ws (by_number (own_progress r s.spots)))
     (words.own_words_other r.base r.size (q.base + a) w s.cells (with_word s.cells (q.base + a) w) (leases_of s.spots) (leases_of s.spots) outside
     (λ x. words.word_of-put_word s.cells (leases_of s.spots) (words_in (group_at s.cells ((q.base + a) / 32))) (q.base + a) w x is inside within))
-
--- the leases after one spot is another
-pub leases-set : (spots : List Spot) (d : ℕ) (x : Spot) → d < length spots → leases_of (set spots d x) ≡ with_lease d (lease_held x.flight) (leases_of spots)
-leases-set spots d x lt =
-    fun_ext
-    (λ e. ⊎_elim
-    (λ (same : e ≡ d).
-    ap (λ k. lease_held (spot_at (set spots d x) k).flight) same
-    ∙ ap (λ (y : Spot). lease_held y.flight) (get_or-set_same spots d x no_spot lt)
-    ∙ sym (ap (λ b. cond b (lease_held x.flight) (leases_of spots e)) (eq-eqb e d same)))
-    (λ (ne : e ≢ d).
-    ap (λ (y : Spot). lease_held y.flight) (get_or-set_other spots d e x no_spot ne)
-    ∙ sym (ap (λ b. cond b (lease_held x.flight) (leases_of spots e)) (ne_eqb e d ne)))
-    (cases_eq e d))
 
 where_true : {X : Type 0} (b : Bool) (x y z : X) → (b ≡ true → x ≡ y) → cond b x z ≡ cond b y z
 where_true true x y z same = same refl
@@ -105,22 +92,6 @@ progress-set r spots d x lt holder same =
     ∙ sym (ap (own_progress r spots) is))
     (λ (ne : e ≢ d). ap (progress_in r e) (get_or-set_other spots d e x no_spot ne))
     (cases_eq e d))
-
--- a group that is out is in no lease of those that begin
-pub here_apart : (s : Shared) (d g : ℕ) (ws : List ℕ) → IsSound s → group_at s.cells g ≡ Some ws → has_group (leases_of s.spots d) g ≡ false
-here_apart s d g ws sound is =
-    false_from_ne_true _ (λ has. cc (sym (sound.out d g has) ∙ is))
-
--- the groups of a free area are here
-pub free_here : (s : Shared) (first last g : ℕ) → IsFreeArea s.cells first last → first / 32 ≤ g → g < first / 32 + touched first last → (ws : List ℕ) × (group_at s.cells g ≡ Some ws)
-free_here s first last g free low high =
-    let i : g - first / 32 < touched first last = omega arith in
-    let e : first / 32 + (g - first / 32) ≡ g = omega arith in
-    some_there (group_at s.cells g) (ap (is_out s.cells) (sym e) ∙ none_in_range (is_out s.cells) (first / 32) (touched first last) (g - first / 32) free.free i)
-  where
-    some_there : (o : Option (List ℕ)) → is_none o ≡ false → (ws : List ℕ) × (o ≡ Some ws)
-    some_there None h = cc
-    some_there (Some ws) h = (ws, refl)
 
 without-is : (cells : Cells) (f n : ℕ) → without_groups cells f n ≡ words.without cells f n
 unfolding without_groups

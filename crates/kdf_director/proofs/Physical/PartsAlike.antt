@@ -1,6 +1,6 @@
 -- Parts with the same slot, window, devices and pool.
 use Rattle.std.proofs.Common.{◌≡◌, ℕ, Some, refl, sym, ap, ◌∙◌, arith}
-use Rattle.kdf_director.specs.Fields.Spots.{Held, Spot}
+use Rattle.kdf_places.specs.Spots.{Held, Spot}
 use Rattle.kdf_director.specs.Fields.Parts.{Part}
 use Rattle.kdf_director.specs.Fields.Sound.{IsFlightOf}
 

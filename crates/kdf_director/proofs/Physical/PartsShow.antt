@@ -1,43 +1,31 @@
 -- What a part of the machine shows.
-use Rattle.std.specs.Prelude.{Ok, Err, not, unwrap_or, []}
-use Rattle.std.proofs.Common.{◌≡◌, ℕ, ◌+◌, ◌/◌, ◌%◌, ◌<◌, ◌≤◌, Bool, true, false, List, length, get_or, map, ◌&&◌, ltb, Option, Some, None, is_some, is_none, cond, refl, sym, ap, ap₂, ◌∙◌, ⊎_elim, arith}
-use Rattle.std.proofs.lemmas.Bool.{cases_lt, and_parts, eq-eqb, eqb-true, lt-ltb, ltb-true}
-use Rattle.std.proofs.lemmas.List.{get_or_past, get_or-map, length-map}
+use Rattle.std.specs.Prelude.{Ok, Err, not}
+use Rattle.std.proofs.Common.{◌≡◌, ℕ, ◌+◌, ◌<◌, Bool, true, false, List, get_or, ◌&&◌, ltb, Option, Some, None, is_some, cond, refl, sym, ap, ap₂, ◌∙◌, arith}
+use Rattle.std.proofs.lemmas.Bool.{and_parts, eq-eqb, eqb-true, lt-ltb, ltb-true}
 use Rattle.std.proofs.lemmas.List.FromFn.{get_or-map-range_with_len}
-use Rattle.kdf_lockout.specs.Groups.{Cells, Lent, group_at, is_out, word_here}
 use Rattle.kdf_journal.specs.declared.kind.Kind.{Kind}
 use Rattle.kdf_transfer.specs.Devices.{Fixture, new_progress, is_kind, kind_in, is_wanted}
 use Rattle.kdf_director.specs.True.{one_if}
-use Rattle.kdf_director.specs.Fields.Physical.{own_words}
 use Rattle.kdf_transfer.specs.ByNumber.{by_number, device_count}
 use Rattle.kdf_job.specs.Slots.{lent_kind}
 use Rattle.kdf_journal.specs.declared.kind.Kind.TheVariants.{Tr, Tp, Cr, Lp, Mt}
-use Rattle.kdf_director.specs.Fields.Physical as physical
+use Rattle.kdf_places.specs.Words as physical
 use Rattle.kdf_processor.specs.State.{word_in, device_in, fixture_at, own_fixture_at, pooled_or}
 use Rattle.kdf_processor.specs.Claims.{kind_at, claim, free_for, is_claimed, is_free}
 use Rattle.kdf_processor.proofs.Fit.{found}
 use Rattle.std.specs.List.{range_with_len}
-use Rattle.kdf_director.specs.declared.place.Place.{Place}
-use Rattle.kdf_director.specs.declared.place.Place.TheVariants.{Absent}
-use Rattle.kdf_director.specs.Fields.Spots.{spot_at, spot_of, no_spot, is_holder, leases_of, spot_kind}
+use Rattle.kdf_places.specs.Spots.{spot_at, is_holder, leases_of, spot_kind}
 use Rattle.kdf_transfer.specs.declared.wanted.Wanted.{Wanted}
 use Rattle.kdf_transfer.specs.declared.wanted.Wanted.TheVariants.{Kinded, Labelled}
 use Rattle.kdf_director.specs.Fields.Keeping.{IsActive, IsKept}
-use Rattle.kdf_director.specs.Fields.Parts.{Shared, Part, owns, fixture_owned, own_stock, own_fixture, own_progress, own_claims, has_device, pool_kind}
+use Rattle.kdf_places.specs.Shared.{Shared}
+use Rattle.kdf_director.specs.Fields.Parts.{Part, owns, fixture_owned, own_stock, own_fixture, own_progress, own_claims, has_device, pool_kind}
 use Rattle.kdf_director.specs.Fields.Stints.{left_in}
 use Rattle.kdf_transfer.proofs.Numbers.{limit_is, number_at}
 
 -- a word of the program
 pub own_word : (q : Part) (n : ℕ) (s : Shared) (a : ℕ) → a < q.size → word_in (own_stock q n s) a ≡ physical.word_at_place s.cells (leases_of s.spots) (q.base + a)
 own_word q n s a lt = get_or-map-range_with_len (λ x. physical.word_at_place s.cells (leases_of s.spots) (q.base + x)) 0 q.size a a 0 lt (omega arith)
-
--- one whose group is here
-pub here_word : (cells : Cells) (leases : ℕ → Option Lent) (place : ℕ) → is_out cells (place / 32) ≡ false → physical.word_at_place cells leases place ≡ word_here cells place
-here_word cells leases place here = at_group (group_at cells (place / 32)) here
-  where
-    at_group : (o : Option (List ℕ)) → is_none o ≡ false → physical.word_where leases place o ≡ get_or (unwrap_or o []) (place % 32) 0
-    at_group None h = cc
-    at_group (Some ws) h = refl
 
 pub ok_of : {E V : Type 0} (b : Bool) (e : E) (w v : V) → Ok w ≡ cond b (Err e) (Ok v) → (b ≡ false) × (w ≡ v)
 ok_of true e w v is = cc
@@ -238,14 +226,6 @@ free_owned q s w d kept lt is =
 -- the progress of one of its devices
 pub own_device : (q : Part) (n : ℕ) (s : Shared) (d : ℕ) → d < device_count → has_device q (spot_at s.spots d) ≡ true → device_in (own_stock q n s) d ≡ (spot_at s.spots d).progress
 own_device q n s d lt has = number_at (own_progress q s.spots) d new_progress lt ∙ ap (λ b. cond b (spot_at s.spots d).progress (left_in q.stints d)) has
-
--- a place of the list, as a spot
-pub spot_there : (places : List Place) (d : ℕ) → spot_at (map spot_of places) d ≡ spot_of (get_or places d Absent)
-spot_there places d =
-    ⊎_elim
-    (λ (lt : d < length places). get_or-map spot_of places d Absent no_spot lt)
-    (λ (past : length places ≤ d). get_or_past (map spot_of places) d no_spot (let e = length-map places spot_of in omega arith) ∙ sym (ap spot_of (get_or_past places d Absent past)))
-    (cases_lt d (length places))
 
 -- an answer of 1 or 0
 one_is : (b : Bool) → b ≡ ltb 0 (one_if b)

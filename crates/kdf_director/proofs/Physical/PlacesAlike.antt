@@ -3,8 +3,9 @@ use Rattle.std.proofs.Common.{◌≡◌, ◌≢◌, ℕ, ◌<◌, ◌≤◌, Lis
 use Rattle.std.proofs.lemmas.Bool.{cases_eq, cases_lt}
 use Rattle.std.proofs.lemmas.List.{get_or-set_same, get_or-set_other, get_or_past, length-set}
 use Rattle.kdf_director.specs.Fields.Keeping.{IsActive, IsKept}
-use Rattle.kdf_director.specs.Fields.Parts.{Part, Shared}
-use Rattle.kdf_director.specs.Fields.Spots.{Spot, is_holder, no_spot, spot_at}
+use Rattle.kdf_director.specs.Fields.Parts.{Part}
+use Rattle.kdf_places.specs.Shared.{Shared}
+use Rattle.kdf_places.specs.Spots.{Spot, is_holder, no_spot, spot_at}
 
 -- what is the same of the new place and the old is the same of each place
 pub same_at : {X : Type 0} (f : Spot → X) (spots : List Spot) (d e : ℕ) (y : Spot) → f y ≡ f (spot_at spots d) → f (spot_at (set spots d y) e) ≡ f (spot_at spots e)

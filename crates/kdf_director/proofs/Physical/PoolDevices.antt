@@ -16,11 +16,11 @@ use Rattle.kdf_processor.specs.Effect.{Releases}
 use Rattle.kdf_processor.specs.Row.{handed, taking}
 use Rattle.kdf_processor.specs.State.{Stint, Stock}
 use Rattle.kdf_director.specs.Fields.Keeping.{IsActive, IsKept}
-use Rattle.kdf_director.specs.Fields.Parts.{Part, Shared, back_from, has_device, in_pool, own_claims, own_fixture, own_progress, own_stock, owns, pool_kind}
-use Rattle.kdf_director.specs.Fields.Physical.{has_group, own_words}
+use Rattle.kdf_director.specs.Fields.Parts.{Part, back_from, has_device, in_pool, own_claims, own_fixture, own_progress, own_stock, owns, pool_kind}
+use Rattle.kdf_places.specs.Shared.{Shared, IsSound}
+use Rattle.kdf_places.specs.Words.{has_group, own_words}
 use Rattle.kdf_director.specs.Seen.{begun}
-use Rattle.kdf_director.specs.Fields.Sound.{IsSound}
-use Rattle.kdf_director.specs.Fields.Spots.{Spot, blank_spot, fixture_or, is_holder, lease_held, leases_of, lent_spot, no_spot, spot_at}
+use Rattle.kdf_places.specs.Spots.{Spot, blank_spot, fixture_or, is_holder, lease_held, leases_of, lent_spot, no_spot, spot_at}
 use Rattle.kdf_director.specs.Fields.Stints.{IsOfKind, Keeping, Loan, Lent, Left, is_left, is_lent, is_open_of, left_in, lends, stint_of, with_loan}
 use Rattle.kdf_director.proofs.Physical.OrdersAct.{claims, fixtures-set, progress_in, stock}
 use Rattle.kdf_director.proofs.Physical.StintsChange.{IsNotLeft, apart_push, apart_with, by_open, device_with, left_here, left_there, lends_here, lends_open, lends_push, lends_there, none_kept, open_others, stints_back, stints_left}

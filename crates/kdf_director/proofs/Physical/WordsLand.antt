@@ -9,16 +9,18 @@ use Rattle.kdf_transfer.specs.AtOnce.{is_input, has_area, addressed}
 use Rattle.kdf_transfer.specs.InFlight.{Motion, Covers, words_of, moves_of, put_words, lease_by, moved_by}
 use Rattle.kdf_transfer.proofs.Areas.{input_has}
 use Rattle.kdf_transfer.proofs.Words.{few_words}
-use Rattle.kdf_director.specs.Fields.Physical.{own_words, has_group, with_lease}
+use Rattle.kdf_places.specs.Words.{own_words, has_group, with_lease}
 use Rattle.kdf_transfer.specs.ByNumber.{device_count, by_number}
-use Rattle.kdf_director.proofs.Physical.WordsHereAndOut.{with_lease_is, with_lease_other}
+use Rattle.kdf_places.proofs.WordsHereAndOut.{with_lease_is, with_lease_other}
 use Rattle.kdf_transfer.specs.AtOnce.{written}
-use Rattle.kdf_director.specs.Fields.Spots.{Held, Spot, spot_at, lease_held, leases_of}
-use Rattle.kdf_director.specs.Fields.Parts.{Shared, Part, own_fixture, own_progress, own_claims, own_stock}
-use Rattle.kdf_director.specs.Fields.Shared.{moved_held, moved_spot, after_move, flight_moves}
-use Rattle.kdf_director.specs.Fields.Sound.{IsSound, IsFlightOf}
-use Rattle.kdf_director.proofs.Physical.OrdersAct.{stock, claims, leases-set, fixtures-set, progress-set}
-use Rattle.kdf_director.proofs.Physical.WordsPut.{shift, AreWithin, within-drop, within-take, within-addressed, shift-addressed, shift-drop, shift-take, has-with, full-with, IsLentAlone, HasAll, puts_own, puts_other}
+use Rattle.kdf_places.specs.Spots.{Held, Spot, spot_at, lease_held, leases_of}
+use Rattle.kdf_places.specs.Shared.{Shared, IsSound}
+use Rattle.kdf_director.specs.Fields.Parts.{Part, own_fixture, own_progress, own_claims, own_stock}
+use Rattle.kdf_places.specs.Transfers.{moved_held, moved_spot, after_move, flight_moves}
+use Rattle.kdf_director.specs.Fields.Sound.{IsFlightOf}
+use Rattle.kdf_director.proofs.Physical.OrdersAct.{stock, claims, fixtures-set, progress-set}
+use Rattle.kdf_places.proofs.GroupsKept.{leases-set}
+use Rattle.kdf_places.proofs.WordsPut.{shift, AreWithin, within-drop, within-take, within-addressed, shift-addressed, shift-drop, shift-take, has-with, full-with, IsLentAlone, HasAll, puts_own, puts_other}
 
 -- a lease after some words
 pub has-put : (ms : List (ℕ × ℕ)) (l : Lent) (g : ℕ) → has_group (Some (put_words ms l)) g ≡ has_group (Some l) g

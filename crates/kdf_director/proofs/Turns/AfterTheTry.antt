@@ -14,12 +14,13 @@ use Rattle.kdf_director.specs.declared.moment.Moment.{Moment}
 use Rattle.kdf_director.specs.Seen.{tried}
 use Rattle.kdf_director.specs.declared.note.Note.{Note}
 use Rattle.kdf_director.specs.Fields.Notes.{note_of}
-use Rattle.kdf_director.specs.Fields.Parts.{Part, Seat, Reach, Shared, asked_after, in_pool}
-use Rattle.kdf_director.specs.Fields.Physical.{word_at_place}
+use Rattle.kdf_director.specs.Fields.Parts.{Part, Seat, Reach, asked_after, in_pool}
+use Rattle.kdf_places.specs.Shared.{Shared}
+use Rattle.kdf_places.specs.Words.{word_at_place}
 use Rattle.kdf_director.specs.Fields.Running.{no_seat, seat_at, reach_at, part_at, own_state, hold_of, outcome_at, IsRunning}
 use Rattle.kdf_director.specs.Fields.Settled.{Both, both_of, holder_left, holder_over, retired, settled}
 use Rattle.kdf_director.specs.Fields.Shared.{after_act, view}
-use Rattle.kdf_director.specs.Fields.Spots.{leases_of, spot_at}
+use Rattle.kdf_places.specs.Spots.{leases_of, spot_at}
 use Rattle.kdf_director.specs.Fields.Turned.{both_after, outcome_over, HasRun, HasTurned}
 use Rattle.kdf_director.proofs.Physical.PartsShow.{own_word}
 use Rattle.kdf_director.proofs.Turns.ProgramsRetire.{HasRetired, alone_of, settled_all, settled_holder}

@@ -9,9 +9,10 @@ use Rattle.kdf_lockout.specs.Groups.{Cells}
 use Rattle.kdf_director.specs.declared.moment.Moment.{Moment}
 use Rattle.kdf_director.specs.declared.note.Note.{Note}
 use Rattle.kdf_director.specs.declared.stint.Stint.{Stint}
-use Rattle.kdf_director.specs.Fields.Parts.{Reach, Seat, Shared, seat}
+use Rattle.kdf_director.specs.Fields.Parts.{Reach, Seat, seat}
+use Rattle.kdf_places.specs.Shared.{Shared}
 use Rattle.kdf_director.specs.Fields.Settled.{Both, both_of, kept_from, leaves, retired, retired_at, settled}
-use Rattle.kdf_director.specs.Fields.Spots.{Spot, spot_at}
+use Rattle.kdf_places.specs.Spots.{Spot, spot_at}
 use Rattle.kdf_director.specs.Fields.Stints.{Keeping, keeping_of, no_keeping}
 use Rattle.kdf_director.specs.Fields.Turned.{HasRun, HasTried}
 

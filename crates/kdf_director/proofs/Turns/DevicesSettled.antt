@@ -10,11 +10,12 @@ use Rattle.kdf_processor.specs.Outcome.{done}
 use Rattle.kdf_processor.specs.View.{first_pending}
 use Rattle.kdf_director.specs.declared.moment.Moment.{Moment}
 use Rattle.kdf_director.specs.Fields.Notes.{note_of}
-use Rattle.kdf_director.specs.Fields.Parts.{Part, Shared, lent_to, own_claims}
+use Rattle.kdf_director.specs.Fields.Parts.{Part, lent_to, own_claims}
+use Rattle.kdf_places.specs.Shared.{Shared, IsSound}
 use Rattle.kdf_director.specs.Fields.Settled.{holder_left, holder_over}
-use Rattle.kdf_director.specs.Fields.Shared.{after_act, start_spot, view}
-use Rattle.kdf_director.specs.Fields.Sound.{IsSound}
-use Rattle.kdf_director.specs.Fields.Spots.{blank_spot, lent_spot, spot_at}
+use Rattle.kdf_director.specs.Fields.Shared.{after_act, view}
+use Rattle.kdf_places.specs.Transfers.{start_spot}
+use Rattle.kdf_places.specs.Spots.{blank_spot, lent_spot, spot_at}
 use Rattle.kdf_transfer.specs.ByNumber.{device_count}
 use Rattle.kdf_director.proofs.Seen.EffectsChecked.{IsLawful}
 use Rattle.kdf_director.proofs.Physical.PoolDevices.{at_spot}

@@ -9,7 +9,8 @@ use Rattle.kdf_processor.specs.declared.step.Need.{Need}
 use Rattle.kdf_processor.proofs.Finding.{found_behind, found_here, found_none}
 use Rattle.kdf_director.specs.declared.program.Program.{Program}
 use Rattle.kdf_director.specs.Fields.Going.{first_going, goes_at, if_goes, or_else, place_of}
-use Rattle.kdf_director.specs.Fields.Parts.{Reach, Seat, Shared, seat_of}
+use Rattle.kdf_director.specs.Fields.Parts.{Reach, Seat, seat_of}
+use Rattle.kdf_places.specs.Shared.{Shared}
 use Rattle.kdf_director.specs.Fields.Running.{seat_at, seats_in, AreNumbered}
 use Rattle.kdf_director.proofs.Physical.FirstFound.{found_first, none_found}
 

@@ -9,9 +9,10 @@ use Rattle.kdf_transfer.proofs.Words.{some-moved, covers-moved}
 use Rattle.kdf_transfer.specs.ByNumber.{device_count}
 use Rattle.kdf_processor.specs.declared.registers.Registers.{Registers}
 use Rattle.kdf_processor.specs.State.{State}
-use Rattle.kdf_director.specs.Fields.Spots.{Held, Spot, is_holder, no_spot, spot_at}
-use Rattle.kdf_director.specs.Fields.Parts.{Part, Seat, Reach, Shared, own_stock}
-use Rattle.kdf_director.specs.Fields.Shared.{moved_spot, moved_held, after_move, ended_spot, ended_by, after_end, last_lease, back_cells, IsBack}
+use Rattle.kdf_places.specs.Spots.{Held, Spot, is_holder, no_spot, spot_at}
+use Rattle.kdf_director.specs.Fields.Parts.{Part, Seat, Reach, own_stock}
+use Rattle.kdf_places.specs.Shared.{Shared}
+use Rattle.kdf_places.specs.Transfers.{moved_spot, moved_held, after_move, ended_spot, ended_by, after_end, last_lease, back_cells, IsBack}
 use Rattle.kdf_director.specs.Fields.Running.{seat_at, part_at, own_state, moved_own, ended_own, IsHeld, IsRunning}
 use Rattle.kdf_director.specs.Fields.Sound.{IsFlightOf}
 use Rattle.kdf_director.proofs.Physical.WordsLand.{moves_own, moves_other}

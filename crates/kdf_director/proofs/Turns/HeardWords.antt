@@ -7,7 +7,8 @@ use Rattle.kdf_processor.specs.Outcome.{Outcome}
 use Rattle.kdf_processor.specs.State.{State, word_at}
 use Rattle.kdf_processor.proofs.Words.{done_word, next_told, unserved_word, untold_word}
 use Rattle.kdf_director.specs.Advance.{IsHeard}
-use Rattle.kdf_director.specs.Fields.Parts.{Reach, Seat, Shared, part_in}
+use Rattle.kdf_director.specs.Fields.Parts.{Reach, Seat, part_in}
+use Rattle.kdf_places.specs.Shared.{Shared}
 use Rattle.kdf_director.specs.Fields.Running.{hold_of, own_state, part_at, reach_at, seat_at, IsRunning}
 use Rattle.kdf_director.specs.Fields.Shared.{moment, view}
 use Rattle.kdf_director.specs.Fields.TurnTaken.{HasAsked}

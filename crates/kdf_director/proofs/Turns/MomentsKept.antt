@@ -16,14 +16,16 @@ use Rattle.kdf_transfer.specs.ByNumber.{device_count}
 use Rattle.kdf_transfer.specs.Devices.{Fixture, blank_fixture}
 use Rattle.kdf_director.specs.declared.moment.Moment.{Moment}
 use Rattle.kdf_director.specs.Fields.Keeping.{IsActive, IsKept}
-use Rattle.kdf_director.specs.Fields.Spots.{Held, Spot, blank_spot, lent_spot, no_spot, spot_at, fixture_or}
-use Rattle.kdf_director.specs.Fields.Parts.{Part, Shared, Seat, Reach, lent_to, own_claims}
-use Rattle.kdf_director.specs.Fields.Shared.{view, after_act, start_lease, start_spot}
+use Rattle.kdf_places.specs.Spots.{Held, Spot, blank_spot, lent_spot, no_spot, spot_at, fixture_or}
+use Rattle.kdf_director.specs.Fields.Parts.{Part, Seat, Reach, lent_to, own_claims}
+use Rattle.kdf_places.specs.Shared.{Shared, IsSound}
+use Rattle.kdf_director.specs.Fields.Shared.{view, after_act}
+use Rattle.kdf_places.specs.Transfers.{start_lease, start_spot}
 use Rattle.kdf_director.specs.Fields.Running.{seat_at, part_at, hold_of, IsHeld, IsRunning}
-use Rattle.kdf_director.specs.Fields.Sound.{IsSound, IsFlightOf}
+use Rattle.kdf_director.specs.Fields.Sound.{IsFlightOf}
 use Rattle.kdf_director.proofs.Seen.EffectsChecked.{IsLawful}
 use Rattle.kdf_director.proofs.Physical.PartsAlike.{SamePart, flight_same}
-use Rattle.kdf_director.proofs.Physical.TransfersBegin.{length-start, start_covers}
+use Rattle.kdf_places.proofs.TransfersBegin.{length-start, start_covers}
 use Rattle.kdf_director.proofs.Turns.OrdersTried.{IsPart, give_its, start_small, start_free, take_free}
 use Rattle.kdf_director.proofs.Physical.PoolDevices.{at_spot, with_spot}
 use Rattle.kdf_director.proofs.Turns.OneOrder as turn

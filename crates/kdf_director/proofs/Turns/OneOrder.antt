@@ -12,12 +12,12 @@ use Rattle.kdf_processor.specs.Outcome.{Outcome, done, held_or, outcome}
 use Rattle.kdf_processor.specs.View.{first_pending}
 use Rattle.kdf_director.specs.declared.moment.Moment.{Moment}
 use Rattle.kdf_director.specs.Seen.{begun, tried}
-use Rattle.kdf_director.specs.Fields.Parts.{Part, Seat, Reach, Shared, part_in, part_after, asked_after, own_stock}
+use Rattle.kdf_director.specs.Fields.Parts.{Part, Seat, Reach, part_in, part_after, asked_after, own_stock}
+use Rattle.kdf_places.specs.Shared.{Shared, IsSound}
 use Rattle.kdf_director.specs.Fields.Shared.{view, after_act}
 use Rattle.kdf_director.specs.Fields.Running.{no_seat, seat_at, reach_at, part_at, own_state, hold_of, outcome_at, IsRunning}
-use Rattle.kdf_director.specs.Fields.Sound.{IsSound}
 use Rattle.kdf_director.specs.Fields.Keeping.{IsActive, IsKept}
-use Rattle.kdf_director.specs.Fields.Spots.{Held, own_from, spot_at}
+use Rattle.kdf_places.specs.Spots.{Held, own_from, spot_at}
 use Rattle.kdf_director.specs.Fields.Turned.{seat_after}
 use Rattle.kdf_director.proofs.Seen.EffectsChecked.{IsLawful, next_lawful, later_none}
 use Rattle.kdf_director.proofs.Turns.OrdersTried.{IsOther, IsPart, acts_active, acts_kept, acts_own, acts_other, acts_other_active, acts_other_kept, acts_sound}

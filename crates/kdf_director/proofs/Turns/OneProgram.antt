@@ -12,7 +12,8 @@ use Rattle.kdf_director.specs.declared.note.Note.{Note}
 use Rattle.kdf_director.specs.declared.program.Program.{Program}
 use Rattle.kdf_director.specs.declared.slot.Loaded.{Loaded}
 use Rattle.kdf_director.specs.Fields.Going.{place_of, goes, goes_at, hold_at, AreNearHolds, IsNearHold}
-use Rattle.kdf_director.specs.Fields.Parts.{Reach, Seat, Shared, reach_of, seat_of, window_at}
+use Rattle.kdf_director.specs.Fields.Parts.{Reach, Seat, reach_of, seat_of, window_at}
+use Rattle.kdf_places.specs.Shared.{Shared}
 use Rattle.kdf_director.specs.Fields.Running.{no_seat, seat_at, reach_at, reaches_in, seats_in, IsRunning}
 use Rattle.kdf_director.specs.Fields.TurnTaken.{HasAsked}
 use Rattle.kdf_director.specs.Fields.Turned.{word_over, HasRun, HasTurned}

@@ -24,10 +24,11 @@ use Rattle.kdf_processor.specs.View.{first_pending}
 use Rattle.kdf_processor.proofs.Fit.{found}
 use Rattle.kdf_director.proofs.Seen.EffectsChecked.{IsLawful}
 use Rattle.kdf_director.specs.Fields.Keeping.{IsActive, IsKept}
-use Rattle.kdf_director.specs.Fields.Spots.{Spot, fixture_or, is_holder, spot_at}
-use Rattle.kdf_director.specs.Fields.Parts.{Part, Shared, back_from, has_device, in_pool, lent_to, own_fixture, own_stock, own_claims, own_text, owns, part_after, asked_after}
-use Rattle.kdf_director.specs.Fields.Shared.{view, is_free_in, free_in, is_out_of, after_act, start_cells, start_spot, IsFreeArea}
-use Rattle.kdf_director.specs.Fields.Sound.{IsSound}
+use Rattle.kdf_places.specs.Spots.{Spot, fixture_or, is_holder, spot_at}
+use Rattle.kdf_director.specs.Fields.Parts.{Part, back_from, has_device, in_pool, lent_to, own_fixture, own_stock, own_claims, own_text, owns, part_after, asked_after}
+use Rattle.kdf_places.specs.Shared.{Shared, IsSound}
+use Rattle.kdf_director.specs.Fields.Shared.{view, is_free_in, free_in, is_out_of, after_act}
+use Rattle.kdf_places.specs.Transfers.{start_cells, start_spot, IsFreeArea}
 use Rattle.kdf_director.proofs.Physical.OrdersAct.{writes_own, writes_other, starts_own}
 use Rattle.kdf_director.proofs.Physical.GroupsKept.{sound-writes, sound-starts}
 use Rattle.kdf_director.proofs.Physical.StintsChange.{and_none}

@@ -12,11 +12,12 @@ use Rattle.kdf_director.specs.declared.moment.Moment.{Moment}
 use Rattle.kdf_director.specs.Fields.Keeping.{IsActive, IsKept}
 use Rattle.kdf_journal.specs.declared.kind.Kind.{Kind}
 use Rattle.kdf_processor.specs.declared.registers.Registers.{Registers}
-use Rattle.kdf_director.specs.Fields.Shared.{is_busy_in, view}
-use Rattle.kdf_director.specs.Fields.Parts.{Part, Reach, Seat, Shared, in_pool, own_stock, part_in, pool_kind}
+use Rattle.kdf_places.specs.Shared.{is_busy_in, Shared}
+use Rattle.kdf_director.specs.Fields.Shared.{view}
+use Rattle.kdf_director.specs.Fields.Parts.{Part, Reach, Seat, in_pool, own_stock, part_in, pool_kind}
 use Rattle.kdf_director.specs.Fields.Running.{no_seat, own_state, part_at, reach_at, seat_at, IsHeld, IsRunning}
 use Rattle.kdf_director.specs.Fields.Settled.{Both, both_of, holder_over, kept_from, keeping_at, retired, retired_at, settled}
-use Rattle.kdf_director.specs.Fields.Spots.{Held, Spot, blank_spot, can_leave, fixture_or, is_holder, is_of, no_spot, own_from, spot_at}
+use Rattle.kdf_places.specs.Spots.{Held, Spot, blank_spot, can_leave, fixture_or, is_holder, is_of, no_spot, own_from, spot_at}
 use Rattle.kdf_director.specs.Fields.Stints.{Keeping, Loan, Lent, Left, Back, is_lent, is_open, lends, with_loan}
 use Rattle.kdf_director.proofs.Physical.StintsChange.{and_none, set_one}
 use Rattle.kdf_director.proofs.Physical.PoolDevices.{IsIts, at_spot, emptied, gone_kept, gone_kind, gone_other, gone_other_active, gone_other_kept, gone_sound, left_own}

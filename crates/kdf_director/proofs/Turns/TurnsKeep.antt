@@ -6,13 +6,15 @@ use Rattle.kdf_transfer.specs.Devices.{Fixture}
 use Rattle.kdf_transfer.specs.declared.order.TransferOrder.{TransferOrder}
 use Rattle.kdf_processor.specs.Effect.{Asks, FreeOf}
 use Rattle.kdf_processor.specs.declared.spooled.Spooled.{Spooled}
-use Rattle.kdf_director.specs.declared.place.Place.{Place}
+use Rattle.kdf_places.specs.declared.place.Place.{Place}
 use Rattle.kdf_director.specs.declared.stint.Stint.{Stint}
 use Rattle.kdf_director.specs.declared.turn.Turn.{Turn}
 use Rattle.kdf_director.specs.Fields.Keeping.{IsActive, IsActiveBy, IsKept, IsKeptBy}
-use Rattle.kdf_director.specs.Fields.Parts.{Part, Shared, back_from, lent_to, part_after, part_with, shared_in}
-use Rattle.kdf_director.specs.Fields.Shared.{after_act, start_spot}
-use Rattle.kdf_director.specs.Fields.Spots.{Spot, blank_spot, fixture_or, lent_spot, spot_at, spot_of}
+use Rattle.kdf_director.specs.Fields.Parts.{Part, back_from, lent_to, part_after, part_with}
+use Rattle.kdf_places.specs.Shared.{Shared, shared_in}
+use Rattle.kdf_director.specs.Fields.Shared.{after_act}
+use Rattle.kdf_places.specs.Transfers.{start_spot}
+use Rattle.kdf_places.specs.Spots.{Spot, blank_spot, fixture_or, lent_spot, spot_at, spot_of}
 use Rattle.kdf_director.specs.Fields.Stints.{Keeping, Lent, keeping_of, with_loan}
 use Rattle.kdf_director.specs.Fields.Turn.{part_of, shared}
 use Rattle.kdf_director.proofs.Physical.PoolDevices.{IsFree, IsIts, active-cells, active-same, active-spooled, back_kind, given_active, given_kept, kept-cells, kept-marked, kept-same, kept-spooled, lent_active, lent_kept}

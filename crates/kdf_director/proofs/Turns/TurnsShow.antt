@@ -9,12 +9,13 @@ use Rattle.kdf_processor.specs.Effect.{Act}
 use Rattle.kdf_processor.specs.Outcome.{Outcome, outcome}
 use Rattle.kdf_processor.specs.declared.spooled.Spooled.{Spooled}
 use Rattle.kdf_lockout.specs.Groups.{Cells}
-use Rattle.kdf_director.specs.declared.place.Place.{Place}
+use Rattle.kdf_places.specs.declared.place.Place.{Place}
 use Rattle.kdf_director.specs.declared.turn.Turn.{Turn}
-use Rattle.kdf_director.specs.Fields.Spots.{Spot, spot_of}
+use Rattle.kdf_places.specs.Spots.{Spot, spot_of}
 use Rattle.kdf_director.specs.Fields.Turned.{outcome_over, seat_after, HasTried}
 use Rattle.kdf_director.specs.Fields.Notes.{note_after}
-use Rattle.kdf_director.specs.Fields.Parts.{Part, Reach, Shared, part_after, part_in, seat, shared_in}
+use Rattle.kdf_director.specs.Fields.Parts.{Part, Reach, part_after, part_in, seat}
+use Rattle.kdf_places.specs.Shared.{Shared, shared_in}
 use Rattle.kdf_director.specs.Fields.Shared.{view, after_act}
 use Rattle.kdf_director.specs.Fields.Stints.{keeping_of}
 use Rattle.kdf_director.specs.declared.stint.Stint.{Stint}

@@ -10,17 +10,18 @@ use Rattle.kdf_transfer.specs.Slots.{Slot}
 use Rattle.kdf_relocate.specs.Windows.{windows_from}
 use Rattle.kdf_relocate.specs.declared.window.Window.{Window}
 use Rattle.kdf_director.specs.declared.machine.TheConstants.{EVENT_LIMIT}
-use Rattle.kdf_director.specs.declared.place.Place.{Place}
+use Rattle.kdf_places.specs.declared.place.Place.{Place}
 use Rattle.kdf_director.specs.declared.program.Program.{Program}
 use Rattle.kdf_director.specs.declared.slot.Loaded.{Loaded}
 use Rattle.kdf_director.specs.Fields.Following.{AreFollowing}
 use Rattle.kdf_director.specs.Legal.{IsLegal, IsTrue}
 use Rattle.kdf_director.specs.Fields.Filled.{loaded, sizes_of}
-use Rattle.kdf_director.specs.Fields.Parts.{Reach, Seat, Shared, in_pool, shared_in}
+use Rattle.kdf_director.specs.Fields.Parts.{Reach, Seat, in_pool}
+use Rattle.kdf_places.specs.Shared.{Shared, shared_in}
 use Rattle.kdf_director.specs.Fields.Running.{part_at, reaches_in, seats_in, IsRunning}
 use Rattle.kdf_director.specs.Fields.Viewed.{slot_loaded}
 use Rattle.kdf_director.specs.Slots.{AreSlots}
-use Rattle.kdf_director.specs.Fields.Spots.{AreDry, spot_at}
+use Rattle.kdf_places.specs.Spots.{AreDry, spot_at}
 use Rattle.kdf_director.specs.World.{need_of}
 
 -- each device of the pool is whose the journal tells

@@ -11,14 +11,15 @@ use Rattle.kdf_job.specs.Job.{JobDevice}
 use Rattle.kdf_job.specs.Shows.{shown_device}
 use Rattle.kdf_processor.specs.State.{begin, new_registers, unclaimed}
 use Rattle.kdf_director.specs.declared.load.Parts.{Parts}
-use Rattle.kdf_director.specs.declared.place.Place.{Place}
-use Rattle.kdf_director.specs.declared.place.Place.TheVariants.{Absent, Idle}
+use Rattle.kdf_places.specs.declared.place.Place.{Place}
+use Rattle.kdf_places.specs.declared.place.Place.TheVariants.{Absent, Idle}
 use Rattle.kdf_director.specs.declared.program.Program.{Program}
 use Rattle.kdf_director.specs.declared.slot.Loaded.{Loaded}
-use Rattle.kdf_director.specs.Fields.Parts.{Seat, Reach, Shared, in_pool, owns, shared_in, window_at}
+use Rattle.kdf_director.specs.Fields.Parts.{Seat, Reach, in_pool, owns, window_at}
+use Rattle.kdf_places.specs.Shared.{Shared, shared_in}
 use Rattle.kdf_director.specs.Fields.Running.{IsRunning, own_state, part_at, reaches_in, seats_in}
 use Rattle.kdf_director.specs.Slots.{AreSlots}
-use Rattle.kdf_director.specs.Fields.Spots.{AreDry, Spot, no_spot, spot_at}
+use Rattle.kdf_places.specs.Spots.{AreDry, Spot, no_spot, spot_at}
 use Rattle.kdf_job.specs.Slots.{lent_kind, numbered}
 use Rattle.kdf_director.specs.Loading.{SlotLoad, slot_of}
 

@@ -9,8 +9,9 @@ use Rattle.kdf_transfer.specs.Slots.{Slot}
 use Rattle.kdf_processor.specs.State.{State, device_at, fixture_at}
 use Rattle.kdf_director.specs.Flights.{Flight}
 use Rattle.kdf_director.specs.ByJournal.{flights_of, seen_of}
-use Rattle.kdf_director.specs.Fields.Spots.{Held, spot_at}
-use Rattle.kdf_director.specs.Fields.Parts.{Part, Seat, Reach, Shared}
+use Rattle.kdf_places.specs.Spots.{Held, spot_at}
+use Rattle.kdf_director.specs.Fields.Parts.{Part, Seat, Reach}
+use Rattle.kdf_places.specs.Shared.{Shared}
 use Rattle.kdf_director.specs.Fields.Running.{seat_at, part_at, own_state}
 
 -- A transfer of the machine is the flight that the journal tells: its order, its area placed by the window, the device

@@ -6,9 +6,10 @@ use Rattle.kdf_processor.specs.Lone.{is_live}
 use Rattle.kdf_processor.specs.declared.step.Need.{Need}
 use Rattle.kdf_processor.specs.declared.step.Need.TheVariants.{Group, Device, Pool}
 use Rattle.kdf_director.specs.declared.program.Program.{Program}
-use Rattle.kdf_director.specs.Fields.Parts.{Reach, Seat, Shared}
+use Rattle.kdf_director.specs.Fields.Parts.{Reach, Seat}
+use Rattle.kdf_places.specs.Shared.{Shared, is_busy_in}
 use Rattle.kdf_director.specs.Fields.Running.{reach_at, seat_at}
-use Rattle.kdf_director.specs.Fields.Shared.{is_busy_in, is_pool_taken}
+use Rattle.kdf_director.specs.Fields.Shared.{is_pool_taken}
 
 -- what held a program, which reaches so much, is pending still
 abbrev pub is_stopped : Reach → Shared → Option Need → Bool

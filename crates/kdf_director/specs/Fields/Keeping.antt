@@ -5,12 +5,13 @@ use Rattle.kdf_journal.specs.declared.kind.Kind.{Kind}
 use Rattle.kdf_transfer.specs.ByNumber.{device_count}
 use Rattle.kdf_transfer.specs.Devices.{blank_fixture, new_progress}
 use Rattle.kdf_processor.specs.State.{device_limit}
-use Rattle.kdf_director.specs.declared.place.Place.{Place}
+use Rattle.kdf_places.specs.declared.place.Place.{Place}
 use Rattle.kdf_director.specs.declared.stint.Stint.{Stint as KeptStint}
 use Rattle.kdf_relocate.specs.declared.window.Window.{Window}
 use Rattle.kdf_director.specs.declared.slot.Loaded.{Loaded}
-use Rattle.kdf_director.specs.Fields.Parts.{Part, Shared, in_pool, owns, part_with, pool_kind, shared_in}
-use Rattle.kdf_director.specs.Fields.Spots.{is_holder, spot_at}
+use Rattle.kdf_director.specs.Fields.Parts.{Part, in_pool, owns, part_with, pool_kind}
+use Rattle.kdf_places.specs.Shared.{Shared, shared_in}
+use Rattle.kdf_places.specs.Spots.{is_holder, spot_at}
 use Rattle.kdf_director.specs.Fields.Stints.{IsOfKind, Keeping, is_left, is_open, lends}
 
 -- The devices of the slot are the program's, and no number of theirs is the pool's. In the place of each number of the

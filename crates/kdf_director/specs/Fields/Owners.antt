@@ -9,13 +9,8 @@ use Rattle.kdf_processor.specs.State.{device_limit}
 use Rattle.kdf_director.specs.declared.slot.Loaded.{Loaded}
 use Rattle.kdf_director.specs.Fields.Parts.{Seat, numbers, owns}
 use Rattle.kdf_director.specs.Fields.Running.{seat_at}
-use Rattle.kdf_director.specs.Fields.Spots.{Spot, fixture_or, spot_at}
+use Rattle.kdf_places.specs.Spots.{Spot, fixture_or, spot_at, IsDeviceOf}
 use Rattle.kdf_director.specs.Fields.Stints.{Keeping, Loan, Lent, Left, Back, is_lent, is_open}
-
--- a device as a place has it: as its transfer found it, where it has one
-abbrev pub IsDeviceOf : Spot → Option Device → Type 0
-IsDeviceOf x None = x.fixture ≡ None
-IsDeviceOf x (Some device) = (x.fixture ≡ Some (fixture_of device)) × (x.progress ≡ progress_of device)
 
 -- the first of the slots that has a device of this number
 abbrev pub owner_in : List Loaded → ℕ → Option ℕ

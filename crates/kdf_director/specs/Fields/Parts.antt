@@ -3,7 +3,6 @@ use Rattle.std.specs.Prelude.{ℕ, ◌+◌, ◌==◌, Bool, true, false, if◌th
 use Rattle.std.specs.List.{list_any}
 use Rattle.kdf_word.specs.Characters.{codes_of_all}
 use Rattle.kdf_media.specs.Media.{through_end}
-use Rattle.kdf_lockout.specs.Groups.{Cells}
 use Rattle.kdf_relocate.specs.declared.window.Window.{Window}
 use Rattle.kdf_journal.specs.declared.kind.Kind.{Kind}
 use Rattle.kdf_transfer.specs.Devices.{Fixture, Progress}
@@ -15,22 +14,14 @@ use Rattle.kdf_processor.specs.Claims.{taken}
 use Rattle.kdf_processor.specs.Effect.{Act, Nothing, Writes, Starts, Asks, FreeOf, Acquires, Releases, Spools}
 use Rattle.kdf_processor.specs.Row.{area_words}
 use Rattle.kdf_processor.specs.State.{Claims, Stock}
-use Rattle.kdf_director.specs.declared.place.Place.{Place}
 use Rattle.kdf_director.specs.declared.program.Program.{Program}
 use Rattle.kdf_director.specs.declared.slot.Loaded.{Loaded}
 use Rattle.kdf_director.specs.declared.stint.Stint.{Stint as KeptStint}
-use Rattle.kdf_director.specs.Fields.Physical.{own_words}
+use Rattle.kdf_places.specs.Words.{own_words}
 use Rattle.kdf_transfer.specs.ByNumber.{by_number}
-use Rattle.kdf_director.specs.Fields.Spots.{Spot, fixture_or, is_holder, spot_of, spot_at, leases_of}
+use Rattle.kdf_places.specs.Spots.{Spot, fixture_or, is_holder, spot_at, leases_of}
 use Rattle.kdf_director.specs.Fields.Stints.{Keeping, Loan, Lent, Back, keeping_of, left_in, stint_of, with_loan}
-
--- what all programs share: the groups, and the places of the devices
-pub record Shared : Type 0 where
-  pub cells : Cells
-  pub spots : List Spot
-
-abbrev pub shared_in : Cells → List Place → Shared
-shared_in cells places = record { cells = cells; spots = map spot_of places }
+use Rattle.kdf_places.specs.Shared.{Shared}
 
 -- what contracts see of a program: its slot, its registers, which devices it claimed, what it spooled, and its stints
 pub record Seat : Type 0 where

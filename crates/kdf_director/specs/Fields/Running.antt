@@ -15,10 +15,12 @@ use Rattle.kdf_director.specs.declared.moment.Moment.{Moment}
 use Rattle.kdf_director.specs.declared.program.Program.{Program}
 use Rattle.kdf_director.specs.declared.slot.Loaded.{Loaded}
 use Rattle.kdf_director.specs.Fields.Keeping.{IsActive, IsKept}
-use Rattle.kdf_director.specs.Fields.Parts.{Part, Shared, Seat, Reach, seat_of, reach_of, part_in, own_stock, owns}
-use Rattle.kdf_director.specs.Fields.Shared.{answer_in, moment, view, flight_moves}
-use Rattle.kdf_director.specs.Fields.Sound.{IsSound, IsFlightOf}
-use Rattle.kdf_director.specs.Fields.Spots.{Held, Spot, spot_at, own_from}
+use Rattle.kdf_director.specs.Fields.Parts.{Part, Seat, Reach, seat_of, reach_of, part_in, own_stock, owns}
+use Rattle.kdf_places.specs.Shared.{Shared, IsSound}
+use Rattle.kdf_director.specs.Fields.Shared.{answer_in, moment, view}
+use Rattle.kdf_places.specs.Transfers.{flight_moves}
+use Rattle.kdf_director.specs.Fields.Sound.{IsFlightOf}
+use Rattle.kdf_places.specs.Spots.{Held, Spot, spot_at, own_from}
 
 abbrev pub no_seat : Seat
 no_seat = record { p = 0; registers = new_registers; claimed = []; spooled = []; stints = [] }

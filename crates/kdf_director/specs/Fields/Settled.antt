@@ -6,8 +6,9 @@ use Rattle.kdf_processor.specs.declared.step.Step.{Step}
 use Rattle.kdf_processor.specs.declared.step.Step.TheVariants as step
 use Rattle.kdf_director.specs.declared.note.Note.{Note}
 use Rattle.kdf_director.specs.declared.note.Note.TheVariants as note
-use Rattle.kdf_director.specs.Fields.Parts.{Seat, Shared}
-use Rattle.kdf_director.specs.Fields.Spots.{Spot, can_leave, fixture_or, is_holder, left_spot, spot_at}
+use Rattle.kdf_director.specs.Fields.Parts.{Seat}
+use Rattle.kdf_places.specs.Shared.{Shared}
+use Rattle.kdf_places.specs.Spots.{Spot, can_leave, fixture_or, is_holder, left_spot, spot_at}
 use Rattle.kdf_director.specs.Fields.Stints.{Keeping, Left, is_lent, no_keeping}
 
 -- the stint n of a program

@@ -1,28 +1,22 @@
--- What is shown of the machine to one program, and what an acting call, moved words and an end leave of what all share.
-use Rattle.std.specs.Prelude.{◌≡◌, ◌<◌, ◌≤◌, ◌&&◌, not, length, take, drop, find, ℕ, ◌+◌, ◌-◌, ◌/◌, List, [], Bool, true, false, if◌then◌else◌, Option, Some, None, slice_index_or, slice_set, is_some, unwrap_or}
+-- What is shown of the machine to one program, and what an acting call leaves of what all share.
+use Rattle.std.specs.Prelude.{◌&&◌, not, find, ℕ, ◌+◌, ◌-◌, ◌/◌, List, Bool, true, false, Option, None, slice_index_or, slice_set, is_some, unwrap_or}
 use Rattle.std.specs.List.{range_with_len}
 use Rattle.kdf_journal.specs.declared.kind.Kind.{Kind}
-use Rattle.kdf_lockout.specs.Groups.{Cells, Lent, is_out, with_word, without_groups, lent_groups, first_out_of, touched, with_groups}
-use Rattle.kdf_lockout.specs.Groups as groups
+use Rattle.kdf_lockout.specs.Groups.{is_out, with_word}
 use Rattle.kdf_transfer.specs.ByNumber.{device_count}
 use Rattle.kdf_transfer.specs.Devices.{is_kind}
-use Rattle.kdf_transfer.specs.declared.order.TransferOrder.{TransferOrder}
-use Rattle.kdf_transfer.specs.AtOnce.{is_input, has_area, addressed}
-use Rattle.kdf_transfer.specs.InFlight.{Motion, moved_by, words_of, total_of, ended_progress}
 use Rattle.kdf_processor.specs.Effect.{Question, IsBusy, IsOut, Time, FreeOf, OfService, Act, Nothing, Writes, Starts, Asks, Acquires, Releases, Spools}
 use Rattle.kdf_processor.specs.View.{View, by_itself, groups_of}
 use Rattle.kdf_director.specs.declared.moment.Moment.{Moment}
 use Rattle.kdf_director.specs.True.{one_if}
-use Rattle.kdf_director.specs.Fields.Spots.{Held, Spot, blank_spot, lent_spot, spot_at, own_from, fixture_or}
-use Rattle.kdf_director.specs.Fields.Parts.{Shared, Part, lent_to, own_stock}
+use Rattle.kdf_places.specs.Spots.{Spot, blank_spot, lent_spot, spot_at, own_from}
+use Rattle.kdf_places.specs.Shared.{Shared, is_busy_in}
+use Rattle.kdf_director.specs.Fields.Parts.{Part, lent_to, own_stock}
+use Rattle.kdf_places.specs.Transfers.{start_cells, start_spot}
 
 -- a group of the program's window is out
 abbrev pub is_out_of : Part → Shared → ℕ → Bool
 is_out_of q s g = is_out s.cells (q.base / 32 + g)
-
--- a device has a transfer
-abbrev pub is_busy_in : Shared → ℕ → Bool
-is_busy_in s d = is_some (spot_at s.spots d).flight
 
 -- the device of a number is one of this kind in the pool, and nobody's
 abbrev pub is_free_in : List (Option Kind) → List Spot → Kind → ℕ → Bool
@@ -58,35 +52,6 @@ view q m s =
       mine = own_from q.p 0 s.spots;
     }
 
-abbrev pub start_cells : TransferOrder → ℕ → ℕ → Cells → Cells
-start_cells o first last cells =
-    if has_area o then without_groups cells (first / 32) (touched first last) else cells
-
-abbrev pub start_lease : TransferOrder → ℕ → ℕ → Cells → Option Lent
-start_lease o first last cells =
-    if has_area o then Some (lent_groups cells (first / 32) (touched first last)) else None
-
--- the place of a device whose transfer was begun
-abbrev pub start_spot : ℕ → TransferOrder → ℕ → ℕ → Cells → Spot → Spot
-start_spot p o first last cells s =
-    record {
-      fixture = Some (fixture_or s.fixture);
-      progress = s.progress;
-      flight = Some (record {
-        p = p;
-        motion = record {
-          order = o;
-          first = first;
-          last = last;
-          fixture = fixture_or s.fixture;
-          progress = s.progress;
-          lease = start_lease o first last cells;
-          moved = 0;
-        };
-      });
-      holder = Some p;
-    }
-
 -- what an acting call of a program leaves
 abbrev pub after_act : Part → Shared → Act → Shared
 after_act q s Nothing = s
@@ -106,59 +71,3 @@ after_act q s (Acquires d) = s
 after_act q s (Releases true d) = record s { spots = slice_set s.spots d (blank_spot (spot_at s.spots d)) }
 after_act q s (Releases false d) = s
 after_act q s (Spools stream first last) = s
-
--- the places are in the store, no more than 4,096, and none of their groups is out
-pub record IsFreeArea (cells : Cells) (first last : ℕ) : Type 0 where
-  pub rising : first ≤ last
-  pub few : last ≤ first + 4095
-  pub inside : last / 32 < length cells
-  pub free : first_out_of cells (first / 32) (touched first last) ≡ None
-
--- the groups of a lease are out of the store, where there is one
-abbrev pub IsBack : Cells → Option Lent → Type 0
-IsBack cells None = Unit {0}
-IsBack cells (Some l) = groups.IsOut cells l
-
--- the place of a device after n words more of its transfer
-abbrev pub moved_held : ℕ → Option Held → Option Held
-moved_held n None = None
-moved_held n (Some h) = Some (record { p = h.p; motion = moved_by n h.motion })
-
-abbrev pub moved_spot : ℕ → Spot → Spot
-moved_spot n x = record x { flight = moved_held n x.flight }
-
-abbrev pub after_move : ℕ → ℕ → Shared → Shared
-after_move d n s = record s { spots = slice_set s.spots d (moved_spot n (spot_at s.spots d)) }
-
--- the place of a device after the end of its transfer
-abbrev pub ended_by : Spot → Option Held → Spot
-ended_by x None = x
-ended_by x (Some h) =
-    record x { progress = ended_progress h.motion; flight = None }
-
-abbrev pub ended_spot : Spot → Spot
-ended_spot x = ended_by x x.flight
-
--- the store with the groups of a lease
-abbrev pub back_cells : Option Lent → Cells → Cells
-back_cells None cells = cells
-back_cells (Some l) cells = with_groups cells l
-
--- the lease once all words have moved
-abbrev pub last_lease : Option Held → Option Lent
-last_lease None = None
-last_lease (Some h) = (moved_by (total_of h.motion) h.motion).lease
-
-abbrev pub after_end : ℕ → Shared → Shared
-after_end d s =
-    record {
-      cells = back_cells (last_lease (spot_at s.spots d).flight) s.cells;
-      spots = slice_set s.spots d (ended_spot (spot_at s.spots d));
-    }
-
--- the moves of a flight's next n words to the store, in the program's addresses
-abbrev pub flight_moves : ℕ → ℕ → Motion → List (ℕ × ℕ)
-flight_moves base n t =
-    if is_input t.order
-    then take n (drop t.moved (addressed t.order (t.first - base) (t.last - base) (words_of t)))
-    else []

@@ -1,25 +1,9 @@
--- What the groups and the leases are to one another, at each moment.
-use Rattle.std.specs.Prelude.{◌≡◌, ◌≢◌, ℕ, ◌+◌, ◌<◌, ◌≤◌, length, true, false, Some, None, is_some}
-use Rattle.kdf_lockout.specs.Groups.{Lent, group_at, AreWhole, AreFull}
+-- What a transfer is to the program whose it is.
+use Rattle.std.specs.Prelude.{◌≡◌, ℕ, ◌+◌, ◌<◌, ◌≤◌, true, Some, is_some}
 use Rattle.kdf_transfer.specs.AtOnce.{has_area}
 use Rattle.kdf_transfer.specs.InFlight.{Covers, total_of}
-use Rattle.kdf_director.specs.Fields.Physical.{has_group}
-use Rattle.kdf_transfer.specs.ByNumber.{device_count}
-use Rattle.kdf_director.specs.Fields.Spots.{Held, Spot, leases_of}
-use Rattle.kdf_director.specs.Fields.Parts.{Shared, Part}
-
--- each group is here, or in exactly one lease
-pub record IsSound (s : Shared) : Type 0 where
-  pub spots : length s.spots ≡ device_count
-  pub whole : AreWhole s.cells
-  pub full : (d : ℕ) (l : Lent) → leases_of s.spots d ≡ Some l → AreFull l
-  pub inside : (d : ℕ) (l : Lent) → leases_of s.spots d ≡ Some l
-      → l.first + length l.groups ≤ length s.cells
-  pub out : (d g : ℕ) → has_group (leases_of s.spots d) g ≡ true → group_at s.cells g ≡ None
-  pub alone : (d e g : ℕ) → e ≢ d → has_group (leases_of s.spots d) g ≡ true
-      → has_group (leases_of s.spots e) g ≡ false
-  pub held : (g : ℕ) → g < length s.cells → group_at s.cells g ≡ None
-      → (d : ℕ) × (has_group (leases_of s.spots d) g ≡ true)
+use Rattle.kdf_places.specs.Spots.{Held, Spot}
+use Rattle.kdf_director.specs.Fields.Parts.{Part}
 
 -- a transfer is over a device that is the program's, and its area lies in the program's window
 pub record IsFlightOf (q : Part) (d : ℕ) (s : Spot) (h : Held) : Type 0 where

@@ -10,12 +10,13 @@ use Rattle.kdf_director.specs.declared.note.Note.{Note}
 use Rattle.kdf_processor.specs.Effect.{Act}
 use Rattle.kdf_processor.specs.Room.{RoomFor}
 use Rattle.kdf_processor.specs.View.{View}
-use Rattle.kdf_director.specs.declared.place.Place.TheVariants.{Absent}
+use Rattle.kdf_places.specs.declared.place.Place.TheVariants.{Absent}
 use Rattle.kdf_director.specs.declared.turn.Turn.{Turn}
 use Rattle.kdf_director.specs.Fields.Notes.{note_after}
-use Rattle.kdf_director.specs.Fields.Parts.{Part, Shared, part_after, part_with, shared_in}
+use Rattle.kdf_director.specs.Fields.Parts.{Part, part_after, part_with}
+use Rattle.kdf_places.specs.Shared.{Shared, shared_in}
 use Rattle.kdf_director.specs.Fields.Shared.{view, after_act}
-use Rattle.kdf_director.specs.Fields.Spots.{IsReady}
+use Rattle.kdf_places.specs.Spots.{IsReady}
 
 abbrev pub part_of : Turn → Part
 part_of t =

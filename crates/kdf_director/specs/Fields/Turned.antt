@@ -7,11 +7,12 @@ use Rattle.kdf_director.specs.Seen.{tried}
 use Rattle.kdf_director.specs.declared.moment.Moment.{Moment}
 use Rattle.kdf_director.specs.declared.note.Note.{Note}
 use Rattle.kdf_director.specs.Fields.Notes.{note_of}
-use Rattle.kdf_director.specs.Fields.Parts.{Part, Seat, Reach, Shared, in_pool, part_in, part_after, asked_after}
+use Rattle.kdf_director.specs.Fields.Parts.{Part, Seat, Reach, in_pool, part_in, part_after, asked_after}
+use Rattle.kdf_places.specs.Shared.{Shared}
 use Rattle.kdf_director.specs.Fields.Running.{seat_at, part_at, own_state, outcome_at}
 use Rattle.kdf_director.specs.Fields.Settled.{Both, both_of, holder_left, settled}
 use Rattle.kdf_director.specs.Fields.Shared.{moment, view, after_act}
-use Rattle.kdf_director.specs.Fields.Spots.{spot_at}
+use Rattle.kdf_places.specs.Spots.{spot_at}
 
 -- what the next order of a program comes to
 abbrev pub outcome_over : Seat → Reach → Moment → Shared → Outcome

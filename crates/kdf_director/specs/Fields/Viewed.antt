@@ -6,13 +6,14 @@ use Rattle.kdf_lockout.specs.Groups.{Cells}
 use Rattle.kdf_transfer.specs.Slots.{Slot}
 use Rattle.kdf_processor.specs.State.{State}
 use Rattle.kdf_relocate.specs.declared.window.Window.{Window}
-use Rattle.kdf_director.specs.declared.place.Place.{Place}
+use Rattle.kdf_places.specs.declared.place.Place.{Place}
 use Rattle.kdf_director.specs.declared.program.Program.{Program}
 use Rattle.kdf_director.specs.declared.slot.Loaded.{Loaded}
 use Rattle.kdf_director.specs.Fields.Following.{asked_at}
 use Rattle.kdf_director.specs.Loading.{slot_of}
 use Rattle.kdf_director.specs.Fields.Filled.{loaded}
-use Rattle.kdf_director.specs.Fields.Parts.{Reach, Seat, Shared, shared_in}
+use Rattle.kdf_director.specs.Fields.Parts.{Reach, Seat}
+use Rattle.kdf_places.specs.Shared.{Shared, shared_in}
 use Rattle.kdf_director.specs.Fields.Running.{own_state, reaches_in, seats_in}
 use Rattle.kdf_director.specs.Shown.{Shown}
 

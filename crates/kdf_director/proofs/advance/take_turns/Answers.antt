@@ -2,7 +2,7 @@ use Rattle.std.specs.Prelude.{IfOk, OnErr}
 use Rattle.std.proofs.Common.{List, set, sym, ap, ◌∙◌, refl, subst, arith}
 use Rattle.kdf_journal.specs.declared.entry.Entry.{Entry}
 use Rattle.kdf_journal.specs.Counts.{clock}
-use Rattle.kdf_director.specs.Fields.Parts.{shared_in}
+use Rattle.kdf_places.specs.Shared.{shared_in}
 use Rattle.kdf_director.specs.Fields.Running.{reaches_in, seats_in}
 use Rattle.kdf_director.specs.Runs.{HasEntered, HasMadeButFewer, HasMadeOn, HasTriedAt}
 use Rattle.kdf_director.specs.Fields.Viewed.{viewed}

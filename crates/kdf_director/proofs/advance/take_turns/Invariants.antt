@@ -1,8 +1,8 @@
 use Rattle.std.proofs.Common.{◌≡◌, ◌+◌, ◌-◌, ◌<◌, ◌≤◌, length, map}
 use Rattle.kdf_journal.specs.Counts.{clock}
-use Rattle.kdf_director.specs.Fields.Parts.{shared_in}
+use Rattle.kdf_places.specs.Shared.{shared_in}
 use Rattle.kdf_director.specs.Fields.Running.{reaches_in, seat_at, seats_in}
-use Rattle.kdf_director.specs.Fields.Spots.{AreDry}
+use Rattle.kdf_places.specs.Spots.{AreDry}
 use Rattle.kdf_director.specs.Fields.Viewed.{slot_loaded, viewed}
 use Rattle.kdf_director.proofs.Calls.CallsAtOnce.{holds_of}
 use Rattle.kdf_director.proofs.Calls.ProgramGoesOn.{IsGoingOn}

@@ -1,5 +1,5 @@
 use Rattle.std.proofs.Common.{ap₂, subst}
-use Rattle.kdf_director.specs.Fields.Parts.{Shared, shared_in}
+use Rattle.kdf_places.specs.Shared.{Shared, shared_in}
 use Rattle.kdf_director.specs.Fields.Running.{reaches_in, seats_in}
 use Rattle.kdf_director.specs.Runs.{HasTriedAt}
 use Rattle.kdf_director.specs.Fields.Shared.{moment}

@@ -2,7 +2,7 @@ use Rattle.std.proofs.Common.{map, rules, ◌∙◌}
 use Rattle.kdf_job.specs.Slots.{lent_kind}
 use Rattle.kdf_transfer.specs.ByNumber.{by_number}
 use Rattle.kdf_director.specs.Fields.Shared.{is_free_in}
-use Rattle.kdf_director.specs.Fields.Spots.{spot_of}
+use Rattle.kdf_places.specs.Spots.{spot_of}
 use Rattle.kdf_director.proofs.Physical.FreeDevices.{least_free}
 use Rattle.kdf_director.proofs.devices.first_free.Goals as goal
 

@@ -1,6 +1,6 @@
 use Rattle.std.proofs.Common.{is_some, map, ap, ◌∙◌, sym}
 use Rattle.std.specs.Prelude.{◌&&◌, not}
-use Rattle.kdf_director.specs.Fields.Spots.{spot_at, spot_of}
+use Rattle.kdf_places.specs.Spots.{spot_at, spot_of}
 use Rattle.kdf_director.proofs.Physical.FreeDevices.{free_by, none_is}
 use Rattle.kdf_director.proofs.devices.is_free_in.Goals as goal
 

@@ -1,8 +1,9 @@
 use Rattle.std.proofs.Common.{map, ◌∙◌, arith}
 use Rattle.std.proofs.lemmas.List.{length-set}
-use Rattle.kdf_director.specs.Fields.Parts.{seat_of, shared_in}
+use Rattle.kdf_director.specs.Fields.Parts.{seat_of}
+use Rattle.kdf_places.specs.Shared.{shared_in}
 use Rattle.kdf_director.specs.Fields.Settled.{both_of}
-use Rattle.kdf_director.specs.Fields.Spots.{spot_of}
+use Rattle.kdf_places.specs.Spots.{spot_of}
 use Rattle.kdf_director.proofs.Turns.DevicesLeave.{retired_more, retired_one}
 use Rattle.kdf_director.proofs.dispatch.retire_all.Goals as goal
 

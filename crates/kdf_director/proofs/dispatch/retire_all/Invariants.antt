@@ -1,8 +1,9 @@
 use Rattle.std.proofs.Common.{◌≡◌, length}
 use Rattle.kdf_lockout.specs.Groups.{Cells}
-use Rattle.kdf_director.specs.Fields.Parts.{seat_of, shared_in}
+use Rattle.kdf_director.specs.Fields.Parts.{seat_of}
+use Rattle.kdf_places.specs.Shared.{shared_in}
 use Rattle.kdf_director.specs.Fields.Settled.{both_of, retired}
-use Rattle.kdf_director.specs.Fields.Spots.{AreDry}
+use Rattle.kdf_places.specs.Spots.{AreDry}
 use Rattle.kdf_director.proofs.dispatch.retire_all.Given as goal
 
 abbrev pub invariant-loop-i : goal.invariant-loop-i

@@ -1,5 +1,6 @@
 use Rattle.std.proofs.Common.{◌≡◌, map, ap, subst}
-use Rattle.kdf_director.specs.Fields.Parts.{Reach, Seat, Shared, reach, reach_of, seat, seat_of, shared_in}
+use Rattle.kdf_director.specs.Fields.Parts.{Reach, Seat, reach, reach_of, seat, seat_of}
+use Rattle.kdf_places.specs.Shared.{Shared, shared_in}
 use Rattle.kdf_director.specs.Fields.Stints.{keeping_of}
 use Rattle.kdf_director.specs.Fields.Turned.{HasTried}
 use Rattle.kdf_director.proofs.Turns.DevicesLeave.{run_by}

@@ -1,6 +1,7 @@
 use Rattle.std.proofs.Common.{◌≡◌, map, ap, ap₂, ◌∙◌, sym}
-use Rattle.kdf_director.specs.Fields.Parts.{reach, shared_in}
-use Rattle.kdf_director.specs.Fields.Spots.{spot_of}
+use Rattle.kdf_director.specs.Fields.Parts.{reach}
+use Rattle.kdf_places.specs.Shared.{shared_in}
+use Rattle.kdf_places.specs.Spots.{spot_of}
 use Rattle.kdf_director.specs.Fields.Turn.{shared}
 use Rattle.kdf_director.proofs.Turns.AfterTheTry.{if_ok, on_err}
 use Rattle.kdf_director.proofs.Turns.TurnsShow.{share, ran_back, left_back}

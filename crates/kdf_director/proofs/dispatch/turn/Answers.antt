@@ -2,9 +2,10 @@ use Rattle.std.proofs.Common.{◌≡◌, ◌+◌, ◌*◌, ◌%◌, ◌<◌, ◌
 use Rattle.std.proofs.lemmas.List.{length-map}
 use Rattle.kdf_processor.specs.Lone.{is_live}
 use Rattle.kdf_director.specs.Fields.Keeping.{IsActive, IsKept}
-use Rattle.kdf_director.specs.Fields.Parts.{Reach, Seat, Shared, part_in, reach_of, seat_of, shared_in}
+use Rattle.kdf_director.specs.Fields.Parts.{Reach, Seat, part_in, reach_of, seat_of}
+use Rattle.kdf_places.specs.Shared.{Shared, shared_in}
 use Rattle.kdf_director.specs.Fields.Running.{reach_at, reaches_in, seat_at, seats_in, IsRunning}
-use Rattle.kdf_director.specs.Fields.Spots.{spot_of}
+use Rattle.kdf_places.specs.Spots.{spot_of}
 use Rattle.kdf_director.proofs.Turns.OneProgram.{reach_is, seat_is, within, turned_all, running_all, unturned_all, holds_all}
 use Rattle.kdf_transfer.proofs.Numbers.{limit_is}
 use Rattle.kdf_director.proofs.Turns.AfterTheTry.{if_ok, on_err, on_either}

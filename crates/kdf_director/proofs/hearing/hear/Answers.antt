@@ -1,6 +1,7 @@
 use Rattle.std.specs.Prelude.{not}
 use Rattle.std.proofs.Common.{sym, ap, ◌∙◌}
-use Rattle.kdf_director.specs.Fields.Parts.{reach_of, seat_of, shared_in}
+use Rattle.kdf_director.specs.Fields.Parts.{reach_of, seat_of}
+use Rattle.kdf_places.specs.Shared.{shared_in}
 use Rattle.kdf_director.specs.Fields.Turned.{word_over}
 use Rattle.kdf_director.proofs.Turns.HeardWords.{has_none, none_if, none_told}
 use Rattle.kdf_director.proofs.hearing.hear.Goals as goal

@@ -2,9 +2,10 @@ use Rattle.std.proofs.Common.{◌<◌, length, sym, ap, ◌∙◌, subst, arith}
 use Rattle.std.proofs.lemmas.List.{length-map}
 use Rattle.kdf_transfer.proofs.Numbers.{limit_is}
 use Rattle.kdf_director.specs.Fields.Keeping.{IsKept}
-use Rattle.kdf_director.specs.Fields.Parts.{Reach, part_in, seat_of, shared_in}
+use Rattle.kdf_director.specs.Fields.Parts.{Reach, part_in, seat_of}
+use Rattle.kdf_places.specs.Shared.{shared_in}
 use Rattle.kdf_director.specs.Fields.Running.{reach_at, reaches_in, seat_at, seats_in}
-use Rattle.kdf_director.specs.Fields.Spots.{spot_of}
+use Rattle.kdf_places.specs.Spots.{spot_of}
 use Rattle.kdf_director.specs.Fields.Turned.{word_over}
 use Rattle.kdf_director.proofs.Turns.HeardWords.{has_none, none_served}
 use Rattle.kdf_director.proofs.Turns.OneProgram.{asked_at, holds_all, reach_is, reach_there, seat_is, unturned_all, within}

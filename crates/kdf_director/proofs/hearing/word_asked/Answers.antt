@@ -1,9 +1,10 @@
 use Rattle.std.proofs.Common.{◌≡◌, map, ap, ap₂, ◌∙◌, sym}
 use Rattle.kdf_processor.specs.Ahead.{act_word}
 use Rattle.kdf_processor.specs.Outcome.{outcome}
-use Rattle.kdf_director.specs.Fields.Parts.{part_in, reach, seat, shared_in}
+use Rattle.kdf_director.specs.Fields.Parts.{part_in, reach, seat}
+use Rattle.kdf_places.specs.Shared.{shared_in}
 use Rattle.kdf_director.specs.Fields.Shared.{moment}
-use Rattle.kdf_director.specs.Fields.Spots.{spot_of}
+use Rattle.kdf_places.specs.Spots.{spot_of}
 use Rattle.kdf_director.specs.Fields.Stints.{keeping_of}
 use Rattle.kdf_director.specs.Fields.Turn.{shared}
 use Rattle.kdf_director.proofs.Turns.TurnsShow.{lent_back, share, shown_of}

@@ -1,6 +1,6 @@
 use Rattle.std.proofs.Common.{[], map}
 use Rattle.kdf_director.specs.Fields.Filled.{idle_place, idle_ring, idle_spot, loaded}
-use Rattle.kdf_director.specs.Fields.Spots.{spot_of}
+use Rattle.kdf_places.specs.Spots.{spot_of}
 use Rattle.kdf_transfer.proofs.Numbers.{one_more}
 use Rattle.kdf_director.proofs.load.idle_all.Goals as goal
 

@@ -1,7 +1,7 @@
 use Rattle.std.proofs.Common.{◌≡◌, map, []}
 use Rattle.std.specs.List.{range_with_len}
 use Rattle.kdf_director.specs.Fields.Filled.{idle_place, idle_ring, idle_spot, loaded}
-use Rattle.kdf_director.specs.Fields.Spots.{spot_of}
+use Rattle.kdf_places.specs.Spots.{spot_of}
 use Rattle.kdf_director.proofs.load.idle_all.Given as goal
 
 abbrev pub invariant-loop-d : goal.invariant-loop-d

@@ -1,6 +1,6 @@
 use Rattle.std.proofs.Common.{map, sym, ap, ◌∙◌, subst}
 use Rattle.kdf_director.specs.Fields.Filled.{idle_place, idle_spot, loaded}
-use Rattle.kdf_director.specs.Fields.Spots.{AreDry, spot_of}
+use Rattle.kdf_places.specs.Spots.{AreDry, spot_of}
 use Rattle.kdf_director.proofs.Linking.EventsEntered.{map_twice}
 use Rattle.kdf_transfer.proofs.Numbers.{sixteen_numbers}
 use Rattle.kdf_director.proofs.Loading.PlacesLoaded.{dry_is}

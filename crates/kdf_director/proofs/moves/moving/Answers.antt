@@ -1,9 +1,10 @@
 use Rattle.std.proofs.Common.{◌≡◌, ◌<◌, List, map, set, ap, ◌∙◌, sym, subst, arith}
 use Rattle.std.proofs.lemmas.List.{length-map}
 use Rattle.kdf_transfer.specs.ByNumber.{device_count}
-use Rattle.kdf_director.specs.Fields.Spots.{spot_at, spot_of}
-use Rattle.kdf_director.specs.Fields.Shared.{after_move, moved_spot}
-use Rattle.kdf_director.specs.Fields.Parts.{Reach, Seat, Shared, seat_of, shared_in}
+use Rattle.kdf_places.specs.Spots.{spot_at, spot_of}
+use Rattle.kdf_places.specs.Transfers.{after_move, moved_spot}
+use Rattle.kdf_director.specs.Fields.Parts.{Reach, Seat, seat_of}
+use Rattle.kdf_places.specs.Shared.{Shared, shared_in}
 use Rattle.kdf_director.specs.Fields.Running.{own_state, reaches_in, seats_in, IsRunning}
 use Rattle.kdf_transfer.proofs.Numbers.{limit_is}
 use Rattle.kdf_director.proofs.Turns.TurnsShow.{share}

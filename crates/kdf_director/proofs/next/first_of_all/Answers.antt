@@ -1,7 +1,7 @@
 use Rattle.std.proofs.Common.{length, map, sym, ◌∙◌}
 use Rattle.kdf_processor.proofs.Finding.{found_behind, found_here}
 use Rattle.kdf_director.specs.Fields.Going.{goes_at}
-use Rattle.kdf_director.specs.Fields.Parts.{shared_in}
+use Rattle.kdf_places.specs.Shared.{shared_in}
 use Rattle.kdf_director.specs.Fields.Running.{reaches_in, seats_in}
 use Rattle.kdf_director.specs.declared.program.Program.{Program}
 use Rattle.kdf_director.proofs.Turns.FirstGoesOn.{in_order}

@@ -3,7 +3,7 @@ use Rattle.std.specs.Prelude.{find}
 use Rattle.std.specs.List.{range_with_len}
 use Rattle.kdf_journal.specs.Counts.{slot_numbers}
 use Rattle.kdf_director.specs.Fields.Going.{first_going, goes_at}
-use Rattle.kdf_director.specs.Fields.Parts.{shared_in}
+use Rattle.kdf_places.specs.Shared.{shared_in}
 use Rattle.kdf_director.specs.Fields.Running.{reaches_in, seats_in}
 use Rattle.kdf_director.specs.declared.program.Program.{Program}
 use Rattle.kdf_director.proofs.next.first_of_all.Given as goal

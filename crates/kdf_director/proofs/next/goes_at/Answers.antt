@@ -1,5 +1,6 @@
 use Rattle.std.proofs.Common.{◌≡◌, ◌+◌, ◌*◌, ◌%◌, ◌≤◌, length, sym, ◌∙◌, subst}
-use Rattle.kdf_director.specs.Fields.Parts.{Reach, shared_in}
+use Rattle.kdf_director.specs.Fields.Parts.{Reach}
+use Rattle.kdf_places.specs.Shared.{shared_in}
 use Rattle.kdf_director.proofs.Turns.OneProgram.{goes_is, near_is, reach_is, within}
 use Rattle.kdf_director.proofs.next.goes_at.Goals as goal
 

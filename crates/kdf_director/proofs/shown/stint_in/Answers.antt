@@ -3,7 +3,7 @@ use Rattle.std.specs.Prelude.{find, IfSome, IsSomeAnd}
 use Rattle.std.proofs.Common.{◌≡◌, ◌<◌, eqb, get_or, is_some, length, map, Some, sym, ap, ◌∙◌, subst, arith}
 use Rattle.std.proofs.lemmas.List.{get_or-map, length-map}
 use Rattle.kdf_director.specs.Fields.Owners.{HasLent}
-use Rattle.kdf_director.specs.Fields.Spots.{spot_at, spot_of}
+use Rattle.kdf_places.specs.Spots.{spot_at, spot_of}
 use Rattle.kdf_director.specs.Fields.Stints.{Keeping, is_lent, keeping_of}
 use Rattle.kdf_director.specs.declared.program.Program.{Program}
 use Rattle.kdf_director.proofs.shown.stint_in.Goals as goal

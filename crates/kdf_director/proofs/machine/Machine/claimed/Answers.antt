@@ -8,7 +8,7 @@ use Rattle.kdf_director.specs.Fields.Filled.{loaded, pool_in}
 use Rattle.kdf_director.specs.Fields.Owners.{is_claimed_by, owner_in}
 use Rattle.kdf_director.specs.Fields.Running.{seats_in}
 use Rattle.kdf_director.specs.Shown.{Shown, state_of}
-use Rattle.kdf_director.specs.Fields.Spots.{spot_of}
+use Rattle.kdf_places.specs.Spots.{spot_of}
 use Rattle.kdf_director.proofs.Linking.FieldsShow.{claimed_absent, claimed_shown, claims_it, pool_shown}
 use Rattle.kdf_director.proofs.machine.Machine.claimed.Goals as goal
 use Rattle.kdf_director.proofs.machine.Machine.claimed.Goals.{After-is_claimed_in}

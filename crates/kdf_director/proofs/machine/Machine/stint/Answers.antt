@@ -4,7 +4,7 @@ use Rattle.kdf_processor.specs.State.{State, lendings}
 use Rattle.kdf_processor.specs.Stints.{IsStint}
 use Rattle.kdf_director.specs.Fields.Owners.{HasLent, IsTold}
 use Rattle.kdf_director.specs.Shown.{Shown, state_of}
-use Rattle.kdf_director.specs.Fields.Spots.{spot_of}
+use Rattle.kdf_places.specs.Spots.{spot_of}
 use Rattle.kdf_director.specs.Fields.Stints.{keeping_of, no_keeping}
 use Rattle.kdf_director.specs.declared.program.Program.{Program}
 use Rattle.kdf_director.proofs.Linking.FieldsShow.{stint_lent, stint_shown, stint_there}

@@ -3,7 +3,7 @@ use Rattle.std.proofs.Common.{map, ap₂, ◌∙◌, subst}
 use Rattle.kdf_journal.specs.Counts.{pending}
 use Rattle.kdf_director.specs.Lends.{IsLent}
 use Rattle.kdf_director.specs.Shown.{Shown}
-use Rattle.kdf_director.specs.Fields.Spots.{Held, spot_at, spot_of}
+use Rattle.kdf_places.specs.Spots.{Held, spot_at, spot_of}
 use Rattle.kdf_director.proofs.Linking.FieldsShow.{transfer_shown}
 use Rattle.kdf_director.proofs.machine.Machine.transfer.Goals as goal
 

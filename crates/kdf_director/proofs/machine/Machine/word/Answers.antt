@@ -1,9 +1,9 @@
 use Rattle.std.specs.Prelude.{IsSomeAnd}
 use Rattle.std.proofs.Common.{◌≡◌, ◌+◌, ◌<◌, length, map, sym, ap, ◌∙◌, subst}
 use Rattle.kdf_processor.specs.State.{State, word_at}
-use Rattle.kdf_director.specs.Fields.Physical.{word_at_place}
+use Rattle.kdf_places.specs.Words.{word_at_place}
 use Rattle.kdf_director.specs.Shown.{Shown, state_of}
-use Rattle.kdf_director.specs.Fields.Spots.{leases_of, spot_of}
+use Rattle.kdf_places.specs.Spots.{leases_of, spot_of}
 use Rattle.kdf_director.proofs.Linking.FieldsShow.{sixteen, word_below, word_in_store, word_shown}
 use Rattle.kdf_director.proofs.machine.Machine.word.Goals as goal
 

@@ -2,8 +2,9 @@ use Rattle.std.proofs.Common.{◌≡◌, ◌<◌, true, false, length, map, set,
 use Rattle.std.proofs.lemmas.List.{length-map}
 use Rattle.kdf_transfer.specs.Devices.{fixture_of, progress_of}
 use Rattle.kdf_director.specs.Fields.Keeping.{IsActiveBy}
-use Rattle.kdf_director.specs.Fields.Parts.{Part, Shared, back_from}
-use Rattle.kdf_director.specs.Fields.Spots.{Spot, blank_spot, can_leave, left_spot, spot_at, spot_of}
+use Rattle.kdf_director.specs.Fields.Parts.{Part, back_from}
+use Rattle.kdf_places.specs.Shared.{Shared}
+use Rattle.kdf_places.specs.Spots.{Spot, blank_spot, can_leave, left_spot, spot_at, spot_of}
 use Rattle.kdf_director.specs.Fields.Stints.{Loan, keeping_of, with_loan}
 use Rattle.kdf_director.specs.Fields.Turn.{part_of, shared}
 use Rattle.kdf_director.proofs.Physical.PoolDevices.{IsIts}

@@ -4,7 +4,7 @@ use Rattle.kdf_job.specs.Slots.{lent_kind}
 use Rattle.kdf_processor.specs.State.{pooled_or}
 use Rattle.kdf_director.specs.Fields.Parts.{fixture_owned, numbers}
 use Rattle.kdf_transfer.specs.Devices.{kind_in}
-use Rattle.kdf_director.specs.Fields.Spots.{spot_of}
+use Rattle.kdf_places.specs.Spots.{spot_of}
 use Rattle.kdf_director.specs.Fields.Turn.{part_of, shared}
 use Rattle.kdf_director.proofs.Physical.PartsShow.{claim_lent}
 use Rattle.kdf_director.proofs.turn.TurnPort.held.Goals as goal

@@ -1,9 +1,10 @@
 use Rattle.std.proofs.Common.{◌≡◌, ◌+◌, ◌/◌, ap, ◌∙◌, sym, arith}
 use Rattle.kdf_lockout.specs.Groups.{is_out}
-use Rattle.kdf_director.specs.Fields.Physical as physical
-use Rattle.kdf_director.specs.Fields.Spots.{leases_of}
+use Rattle.kdf_places.specs.Words as physical
+use Rattle.kdf_places.specs.Spots.{leases_of}
 use Rattle.kdf_director.specs.Fields.Turn.{part_of, shared}
-use Rattle.kdf_director.proofs.Physical.PartsShow.{ok_of, ok_is, own_word, here_word}
+use Rattle.kdf_director.proofs.Physical.PartsShow.{ok_of, ok_is, own_word}
+use Rattle.kdf_places.proofs.WordsHereAndOut.{here_word}
 use Rattle.kdf_director.proofs.turn.TurnPort.read.Goals as goal
 
 pub returns-in-Ok : goal.returns-in-Ok

@@ -5,7 +5,7 @@ use Rattle.kdf_lockout.specs.Groups.{word_here}
 use Rattle.kdf_media.specs.Media.{through_end}
 use Rattle.kdf_processor.specs.declared.spooled.Spooled.{Spooled}
 use Rattle.kdf_director.specs.Fields.Parts.{Part, own_text}
-use Rattle.kdf_director.specs.Fields.Shared.{IsFreeArea}
+use Rattle.kdf_places.specs.Transfers.{IsFreeArea}
 use Rattle.kdf_director.specs.Fields.Turn.{part_of, shared}
 use Rattle.kdf_director.proofs.Physical.TransfersBegin.{free_area}
 use Rattle.kdf_director.proofs.Physical.AreaTexts.{area_here}

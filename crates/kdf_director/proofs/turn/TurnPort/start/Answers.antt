@@ -1,10 +1,12 @@
 use Rattle.std.proofs.Common.{◌≡◌, ◌+◌, ◌<◌, true, length, map, Some, is_some, ap, ◌∙◌, sym, subst, arith}
 use Rattle.kdf_transfer.specs.AtOnce.{kind_of, has_area}
 use Rattle.kdf_transfer.specs.Devices.{is_kind}
-use Rattle.kdf_director.specs.Fields.Spots.{spot_at, spot_kind, spot_of}
-use Rattle.kdf_director.specs.Fields.Shared.{is_out_of, IsFreeArea}
+use Rattle.kdf_places.specs.Spots.{spot_at, spot_kind, spot_of}
+use Rattle.kdf_director.specs.Fields.Shared.{is_out_of}
+use Rattle.kdf_places.specs.Transfers.{IsFreeArea}
 use Rattle.kdf_director.specs.Fields.Turn.{part_of, shared}
-use Rattle.kdf_director.proofs.Physical.TransfersBegin.{free_groups, free_area, length-start}
+use Rattle.kdf_director.proofs.Physical.TransfersBegin.{free_groups, free_area}
+use Rattle.kdf_places.proofs.TransfersBegin.{length-start}
 use Rattle.kdf_director.proofs.Physical.PartsShow.{claim_fixture, claim_holder, claim_spot}
 use Rattle.kdf_director.proofs.Turns.TurnsKeep.{active_in, kept_in, start_active, start_kept}
 use Rattle.std.proofs.lemmas.List.{length-map}

@@ -4,7 +4,7 @@ use Rattle.std.proofs.lemmas.List.{length-map, map_push}
 use Rattle.kdf_director.specs.Fields.Keeping.{IsActiveBy}
 use Rattle.kdf_director.specs.Fields.Parts.{Part}
 use Rattle.kdf_director.specs.Fields.Shared.{free_in}
-use Rattle.kdf_director.specs.Fields.Spots.{can_leave, lent_spot, spot_at, spot_of}
+use Rattle.kdf_places.specs.Spots.{can_leave, lent_spot, spot_at, spot_of}
 use Rattle.kdf_director.specs.Fields.Stints.{Lent, keeping_of}
 use Rattle.kdf_director.specs.Fields.Turn.{part_of, shared}
 use Rattle.kdf_director.specs.declared.note.Note.TheVariants.{Took}

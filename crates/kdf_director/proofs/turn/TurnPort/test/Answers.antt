@@ -1,6 +1,6 @@
 use Rattle.std.proofs.Common.{map, ap, ◌∙◌, sym, arith}
 use Rattle.kdf_transfer.specs.Devices.{test_of}
-use Rattle.kdf_director.specs.Fields.Spots.{spot_at, spot_of}
+use Rattle.kdf_places.specs.Spots.{spot_at, spot_of}
 use Rattle.kdf_director.specs.Fields.Turn.{part_of, shared}
 use Rattle.kdf_transfer.proofs.Numbers.{limit_is}
 use Rattle.kdf_director.proofs.Physical.PartsShow.{claimed_has, claimed_small, own_device}

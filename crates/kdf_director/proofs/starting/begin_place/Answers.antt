@@ -1,9 +1,0 @@
-use Rattle.std.proofs.Common.{subst, sym}
-use Rattle.kdf_transfer.specs.InFlight.{Covers}
-use Rattle.kdf_director.proofs.Physical.TransfersBegin.{start_covers}
-use Rattle.kdf_director.proofs.starting.begin_place.Goals as goal
-
-pub begin-transfer-requires-clause-area : goal.begin-transfer-requires-clause-area
-begin-transfer-requires-clause-area c = λ has.
-    subst (λ l. Covers l c.args.area.first c.args.area.last) (sym c.take_lease-lease.ensures.lease)
-    (start_covers c.args.order c.args.area.first c.args.area.last c.args.store.now has (c.requires.area has))

@@ -1,0 +1,18 @@
+use Rattle.std.proofs.Common.{map, set, ap, ◌∙◌, sym}
+use Rattle.std.proofs.lemmas.List.{map-set, get_or_default, set-set}
+use Rattle.kdf_places.specs.declared.place.Place.TheVariants.{Absent}
+use Rattle.kdf_places.specs.Spots.{spot_of}
+use Rattle.kdf_places.specs.Transfers.{start_spot}
+use Rattle.kdf_places.proofs.OnePlaceChanges.{spot_there}
+use Rattle.kdf_places.proofs.starting.start_at.Goals as goal
+
+pub returns-clause-spots : goal.returns-clause-spots
+returns-clause-spots c =
+    let items = c.args.places.now.items in
+    let old = c.replace-place.ensures.value ∙ c.index_mut.ensures.value ∙ get_or_default items c.args.d _ Absent c.requires.there in
+    ap (map spot_of) (set-set items c.args.d c.replace-place.new.dest c.replace-absent.new.dest)
+    ∙ map-set spot_of items c.args.d c.replace-absent.new.dest
+    ∙ ap (set (map spot_of items) c.args.d)
+    (ap spot_of c.replace-absent.ensures.after
+    ∙ c.begin_place-begun.ensures.spot
+    ∙ ap (start_spot c.args.p c.args.order c.args.area.first c.args.area.last c.args.store.now) (ap spot_of old ∙ sym (spot_there items c.args.d)))

@@ -1,0 +1,4 @@
+pub mod Shared
+pub mod Spots
+pub mod Transfers
+pub mod Words

@@ -1,0 +1,222 @@
+//! Places whose transfers begin, end and are given up.
+ghost use Rattle.std.specs.Prelude.{◌≡◌, ◌+◌, ◌-◌, ◌*◌, ◌<◌, ◌≤◌, length, true, false, [], map, slice_set, slice_index_or};
+ghost use Rattle.std.specs.Vec.{vec_capacity};
+ghost use Rattle.kdf_transfer.specs.AtOnce.{kind_of, has_area, is_output};
+ghost use Rattle.kdf_transfer.specs.Devices.{is_kind};
+ghost use Rattle.kdf_lockout.specs.Groups.{is_out};
+ghost use Rattle.kdf_places.specs.Shared.{shared_in, IsSound};
+ghost use Rattle.kdf_places.specs.Transfers.{start_lease, start_cells, start_spot, IsFreeArea, IsBack, back_cells, last_lease, ended_spot, moved_spot};
+ghost use Rattle.kdf_places.specs.Spots.{spot_of, spot_at, spot_kind, is_flying, lease_held, ring_in, AreDry, IsReady};
+ghost use Rattle.kdf_places.specs.declared.place.Place.TheVariants.{Absent, Busy};
+ghost use Rattle.std.specs.Prelude.{ℕ};
+
+use crate::Place;
+use kdf_lockout::{Lease, Store};
+use kdf_transfer::{Area, Transfer, TransferOrder};
+use std::mem;
+
+/// Moves the groups of the order's area into a lease.
+fn take_lease(store: &mut Store, order: TransferOrder, area: Area) -> Option<Lease>
+    requires area { has_area order ≡ true → IsFreeArea store.old area.first area.last }
+    ensures lease { result ≡ start_lease order area.first area.last store.old }
+    ensures store { store.new ≡ start_cells order area.first area.last store.old }
+{
+    if !order.has_area() {
+        return None;
+    }
+    match store.lock(area.first, area.last) {
+        Ok(lease) => Some(lease),
+        Err(_) => None,
+    }
+}
+
+/// Moves the groups of a lease back, if there is one.
+fn put_back(store: &mut Store, lease: Option<Lease>)
+    requires { IsBack store.old lease }
+    ensures { store.new ≡ back_cells lease store.old }
+{
+    match lease {
+        Some(lease) => store.unlock(lease),
+        None => {}
+    }
+}
+
+/// Begins a transfer on a device that has none.
+fn begin_place(
+    place: Place,
+    p: u8,
+    order: TransferOrder,
+    area: Area,
+    store: &mut Store,
+    block: Vec<u8>,
+) -> Place
+    requires free { is_flying (spot_of place) ≡ false }
+    requires kind { is_kind (kind_of order) (spot_kind (spot_of place)) ≡ true }
+    requires ready { IsReady order place }
+    requires dry { ring_in place ≡ [] }
+    requires block { block.items ≡ [] }
+    requires room { is_output order ≡ true
+        → 8 * (area.last + 1 - area.first) ≤ vec_capacity block }
+    requires area { has_area order ≡ true → IsFreeArea store.old area.first area.last }
+    ensures spot { spot_of result
+        ≡ start_spot p order area.first area.last store.old (spot_of place) }
+    ensures ring { ring_in result ≡ [] }
+    ensures store { store.new ≡ start_cells order area.first area.last store.old }
+{
+    match place {
+        Place::Idle {
+            device,
+            ring,
+            holder: _,
+        } => {
+            let lease = take_lease(store, order, area);
+            let transfer = Transfer::begin(device, order, area, lease, block, ring);
+            Place::Busy { p, transfer }
+        }
+        Place::Absent => Place::Absent,
+        Place::Busy { p, transfer } => Place::Busy { p, transfer },
+    }
+}
+
+/// Gives a place up: a transfer is cancelled, and its groups come back.
+fn give_up(place: Place, store: &mut Store)
+    requires { (p : _) (t : _) → place ≡ Busy p t → IsBack store.old t.lease }
+    ensures { place ≡ Absent → store.new ≡ store.old }
+{
+    match place {
+        Place::Absent => {}
+        Place::Idle {
+            device: _,
+            ring: _,
+            holder: _,
+        } => {}
+        Place::Busy { p: _, transfer } => {
+            let (_, lease, _) = transfer.cancel();
+            put_back(store, lease);
+        }
+    }
+}
+
+/// Begins a transfer of slot `p` on a device.
+pub fn start_at(
+    places: &mut Vec<Place>,
+    d: usize,
+    p: u8,
+    order: TransferOrder,
+    area: Area,
+    store: &mut Store,
+    block: Vec<u8>,
+)
+    requires there { d < length places.old.items }
+    requires free { is_flying (spot_at (map spot_of places.old.items) d) ≡ false }
+    requires kind { is_kind (kind_of order) (spot_kind (spot_at (map spot_of places.old.items) d))
+        ≡ true }
+    requires ready { IsReady order (slice_index_or places.old.items d Absent) }
+    requires dry { AreDry places.old.items }
+    requires block { block.items ≡ [] }
+    requires room { is_output order ≡ true
+        → 8 * (area.last + 1 - area.first) ≤ vec_capacity block }
+    requires area { has_area order ≡ true → IsFreeArea store.old area.first area.last }
+    ensures spots { map spot_of places.new.items ≡ slice_set (map spot_of places.old.items) d
+        (start_spot p order area.first area.last store.old (spot_at (map spot_of places.old.items) d)) }
+    ensures dry { AreDry places.new.items }
+    ensures len { length places.new.items ≡ length places.old.items }
+    ensures store { store.new ≡ start_cells order area.first area.last store.old }
+{
+    let place = mem::replace(&mut places[d], Place::Absent);
+    let begun = begin_place(place, p, order, area, store, block);
+    let absent = mem::replace(&mut places[d], begun);
+    give_up(absent, store);
+}
+
+/// Ends the transfer of a device, if it has one.
+fn end_place(place: Place, store: &mut Store) -> Place
+    requires back { IsBack store.old (last_lease (spot_of place).flight) }
+    requires dry { ring_in place ≡ [] }
+    ensures spot { spot_of result ≡ ended_spot (spot_of place) }
+    ensures ring { ring_in result ≡ [] }
+    ensures store { store.new ≡ back_cells (last_lease (spot_of place).flight) store.old }
+{
+    match place {
+        Place::Busy { p, transfer } => {
+            let (device, lease, ring) = transfer.end();
+            put_back(store, lease);
+            Place::Idle {
+                device,
+                ring,
+                holder: Some(p),
+            }
+        }
+        Place::Absent => Place::Absent,
+        Place::Idle {
+            device,
+            ring,
+            holder,
+        } => Place::Idle {
+            device,
+            ring,
+            holder,
+        },
+    }
+}
+
+/// Ends the transfer on a device, if it has one.
+pub fn end_at(places: &mut Vec<Place>, d: usize, store: &mut Store)
+    requires there { d < length places.old.items }
+    requires back { IsBack store.old
+        (last_lease (spot_at (map spot_of places.old.items) d).flight) }
+    requires dry { AreDry places.old.items }
+    ensures spots { map spot_of places.new.items ≡ slice_set (map spot_of places.old.items) d
+        (ended_spot (spot_at (map spot_of places.old.items) d)) }
+    ensures dry { AreDry places.new.items }
+    ensures len { length places.new.items ≡ length places.old.items }
+    ensures store { store.new
+        ≡ back_cells (last_lease (spot_at (map spot_of places.old.items) d).flight) store.old }
+{
+    let place = mem::replace(&mut places[d], Place::Absent);
+    let ended = end_place(place, store);
+    let absent = mem::replace(&mut places[d], ended);
+    give_up(absent, store);
+}
+
+/// Moves the next `n` words of the transfer on a device, if it has one.
+pub fn move_at(places: &mut Vec<Place>, d: usize, n: u16)
+    requires there { d < length places.old.items }
+    ensures spots { map spot_of places.new.items ≡ slice_set (map spot_of places.old.items) d
+        (moved_spot n (spot_at (map spot_of places.old.items) d)) }
+    ensures dry { AreDry places.old.items → AreDry places.new.items }
+    ensures len { length places.new.items ≡ length places.old.items }
+{
+    let place = &mut places[d];
+    place.move_words(n);
+}
+
+/// Gives a device up: its transfer is cancelled, and its groups come back.
+fn cancel(place: Place, store: &mut Store)
+    requires { IsBack store.old (lease_held (spot_of place).flight) }
+    ensures { store.new ≡ back_cells (lease_held (spot_of place).flight) store.old }
+{
+    match place {
+        Place::Absent => {}
+        Place::Idle {
+            device: _,
+            ring: _,
+            holder: _,
+        } => {}
+        Place::Busy { p: _, transfer } => {
+            let (_, lease, _) = transfer.cancel();
+            put_back(store, lease);
+        }
+    }
+}
+
+/// Gives all devices up: transfers are cancelled, and all groups come back.
+pub fn cancel_all(mut places: Vec<Place>, store: &mut Store)
+    requires sound { IsSound (shared_in store.old places.items) }
+    ensures { (g : ℕ) → g < length store.new → is_out store.new g ≡ false }
+{
+    while let Some(place) = places.pop() {
+        cancel(place, store);
+    }
+    places.destroy_empty();
+}
