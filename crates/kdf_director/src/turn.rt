@@ -12,7 +12,7 @@ use crate::{Loaded, Loan, Moment, Note, Place, Stint};
 use kdf_job::kind_lent;
 use kdf_journal::Kind;
 use kdf_lockout::Store;
-use kdf_places::{lend_at, make_ready_at, start_at, take_back_at, test_in, text_of};
+use kdf_places::{Start, lend_at, make_ready_at, start_at, take_back_at, test_in, text_of};
 use kdf_processor::{Port, Reserve, Spooled, Test, Wanted, least};
 use kdf_relocate::Window;
 use kdf_transfer::{Area, TransferOrder, characters_in};
@@ -294,15 +294,12 @@ impl Port for Turn<'_> {
             last: self.place(last),
         };
         let block = mem::replace(self.block, Vec::new(self.alloc));
-        start_at(
-            self.places,
-            usize::from(device),
-            self.p,
+        let start = Start {
+            p: self.p,
             order,
             area,
-            self.store,
-            block,
-        );
+        };
+        start_at(self.places, usize::from(device), start, self.store, block);
         self.note = Note::Began(device);
     }
 

@@ -10,5 +10,5 @@ mod text;
 
 pub use place::Place;
 pub use places::{holder_in, lend_at, make_ready_at, take_back_at, test_in, transfer_in, word_at};
-pub use starting::{cancel_all, end_at, move_at, start_at};
+pub use starting::{Start, cancel_all, end_at, move_at, start_at};
 pub use text::text_of;

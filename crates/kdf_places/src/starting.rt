@@ -15,6 +15,14 @@ use kdf_lockout::{Lease, Store};
 use kdf_transfer::{Area, Transfer, TransferOrder};
 use std::mem;
 
+/// A transfer that is to begin: the slot whose it is, its order, and its area, in places of the store.
+#[derive(Clone, Copy)]
+pub struct Start {
+    pub p: u8,
+    pub order: TransferOrder,
+    pub area: Area,
+}
+
 /// Moves the groups of the order's area into a lease.
 fn take_lease(store: &mut Store, order: TransferOrder, area: Area) -> Option<Lease>
     requires area { has_area order ≡ true → IsFreeArea store.old area.first area.last }
@@ -42,26 +50,21 @@ fn put_back(store: &mut Store, lease: Option<Lease>)
 }
 
 /// Begins a transfer on a device that has none.
-fn begin_place(
-    place: Place,
-    p: u8,
-    order: TransferOrder,
-    area: Area,
-    store: &mut Store,
-    block: Vec<u8>,
-) -> Place
+fn begin_place(place: Place, start: Start, store: &mut Store, block: Vec<u8>) -> Place
     requires free { is_flying (spot_of place) ≡ false }
-    requires kind { is_kind (kind_of order) (spot_kind (spot_of place)) ≡ true }
-    requires ready { IsReady order place }
+    requires kind { is_kind (kind_of start.order) (spot_kind (spot_of place)) ≡ true }
+    requires ready { IsReady start.order place }
     requires dry { ring_in place ≡ [] }
     requires block { block.items ≡ [] }
-    requires room { is_output order ≡ true
-        → 8 * (area.last + 1 - area.first) ≤ vec_capacity block }
-    requires area { has_area order ≡ true → IsFreeArea store.old area.first area.last }
+    requires room { is_output start.order ≡ true
+        → 8 * (start.area.last + 1 - start.area.first) ≤ vec_capacity block }
+    requires area { has_area start.order ≡ true
+        → IsFreeArea store.old start.area.first start.area.last }
     ensures spot { spot_of result
-        ≡ start_spot p order area.first area.last store.old (spot_of place) }
+        ≡ start_spot start.p start.order start.area.first start.area.last store.old (spot_of place) }
     ensures ring { ring_in result ≡ [] }
-    ensures store { store.new ≡ start_cells order area.first area.last store.old }
+    ensures store { store.new
+        ≡ start_cells start.order start.area.first start.area.last store.old }
 {
     match place {
         Place::Idle {
@@ -69,6 +72,7 @@ fn begin_place(
             ring,
             holder: _,
         } => {
+            let Start { p, order, area } = start;
             let lease = take_lease(store, order, area);
             let transfer = Transfer::begin(device, order, area, lease, block, ring);
             Place::Busy { p, transfer }
@@ -97,34 +101,29 @@ fn give_up(place: Place, store: &mut Store)
     }
 }
 
-/// Begins a transfer of slot `p` on a device.
-pub fn start_at(
-    places: &mut Vec<Place>,
-    d: usize,
-    p: u8,
-    order: TransferOrder,
-    area: Area,
-    store: &mut Store,
-    block: Vec<u8>,
-)
+/// Begins a transfer on a device.
+pub fn start_at(places: &mut Vec<Place>, d: usize, start: Start, store: &mut Store, block: Vec<u8>)
     requires there { d < length places.old.items }
     requires free { is_flying (spot_at (map spot_of places.old.items) d) ≡ false }
-    requires kind { is_kind (kind_of order) (spot_kind (spot_at (map spot_of places.old.items) d))
-        ≡ true }
-    requires ready { IsReady order (slice_index_or places.old.items d Absent) }
+    requires kind { is_kind (kind_of start.order)
+        (spot_kind (spot_at (map spot_of places.old.items) d)) ≡ true }
+    requires ready { IsReady start.order (slice_index_or places.old.items d Absent) }
     requires dry { AreDry places.old.items }
     requires block { block.items ≡ [] }
-    requires room { is_output order ≡ true
-        → 8 * (area.last + 1 - area.first) ≤ vec_capacity block }
-    requires area { has_area order ≡ true → IsFreeArea store.old area.first area.last }
+    requires room { is_output start.order ≡ true
+        → 8 * (start.area.last + 1 - start.area.first) ≤ vec_capacity block }
+    requires area { has_area start.order ≡ true
+        → IsFreeArea store.old start.area.first start.area.last }
     ensures spots { map spot_of places.new.items ≡ slice_set (map spot_of places.old.items) d
-        (start_spot p order area.first area.last store.old (spot_at (map spot_of places.old.items) d)) }
+        (start_spot start.p start.order start.area.first start.area.last store.old
+        (spot_at (map spot_of places.old.items) d)) }
     ensures dry { AreDry places.new.items }
     ensures len { length places.new.items ≡ length places.old.items }
-    ensures store { store.new ≡ start_cells order area.first area.last store.old }
+    ensures store { store.new
+        ≡ start_cells start.order start.area.first start.area.last store.old }
 {
     let place = mem::replace(&mut places[d], Place::Absent);
-    let begun = begin_place(place, p, order, area, store, block);
+    let begun = begin_place(place, start, store, block);
     let absent = mem::replace(&mut places[d], begun);
     give_up(absent, store);
 }

@@ -5,5 +5,5 @@ use Rattle.kdf_places.proofs.starting.begin_place.Goals as goal
 
 pub begin-transfer-requires-clause-area : goal.begin-transfer-requires-clause-area
 begin-transfer-requires-clause-area c = λ has.
-    subst (λ l. Covers l c.args.area.first c.args.area.last) (sym c.take_lease-lease.ensures.lease)
-    (start_covers c.args.order c.args.area.first c.args.area.last c.args.store.now has (c.requires.area has))
+    subst (λ l. Covers l c.args.start.area.first c.args.start.area.last) (sym c.take_lease-lease.ensures.lease)
+    (start_covers c.args.start.order c.args.start.area.first c.args.start.area.last c.args.store.now has (c.requires.area has))

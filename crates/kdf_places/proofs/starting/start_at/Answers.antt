@@ -15,4 +15,4 @@ returns-clause-spots c =
     ∙ ap (set (map spot_of items) c.args.d)
     (ap spot_of c.replace-absent.ensures.after
     ∙ c.begin_place-begun.ensures.spot
-    ∙ ap (start_spot c.args.p c.args.order c.args.area.first c.args.area.last c.args.store.now) (ap spot_of old ∙ sym (spot_there items c.args.d)))
+    ∙ ap (start_spot c.args.start.p c.args.start.order c.args.start.area.first c.args.start.area.last c.args.store.now) (ap spot_of old ∙ sym (spot_there items c.args.d)))
