@@ -26,7 +26,7 @@ ghost use Rattle.kdf_director.specs.Fields.Viewed.{slot_loaded};
 use crate::advance::advance;
 use crate::dispatch::window_of;
 use crate::load::{Parts, load_parts};
-use crate::moves::{ending, moving, word_of};
+use crate::moves::{Move, ending, moving, word_of};
 use crate::next::is_any_on;
 use crate::shown::{
     device_in, is_claimed_in, registers_of, stint_in, stints_of, texts_of, window_given,
@@ -209,8 +209,7 @@ impl Machine {
             &self.programs,
             &self.store,
             &mut self.devices,
-            d,
-            n,
+            Move { d, n },
         );
         self.journal.push(Entry::Move { d, n });
         self.room -= 1;

@@ -12,34 +12,40 @@ use kdf_places::{end_at, move_at, word_at};
 use kdf_relocate::Window;
 use kdf_word::Word;
 
-/// Moves the next `n` words of the transfer on a device, if it has one.
+/// A call for words: the next `n` of the transfer on device `d`.
+#[derive(Clone, Copy)]
+pub(crate) struct Move {
+    pub d: u8,
+    pub n: u16,
+}
+
+/// Moves the words that are called for, if the device has a transfer.
 pub(crate) fn moving(
     windows: &[Window; 4],
     slots: &[Loaded],
     programs: &[Program],
     store: &Store,
     places: &mut Vec<Place>,
-    d: u8,
-    n: u16,
+    words: Move,
 )
-    requires device { d < 16 }
+    requires device { words.d < 16 }
     requires running { IsRunning (reaches_in windows.now slots.now) (seats_in programs.now)
         (shared_in store.now places.old.items) }
     requires dry { AreDry places.old.items }
     ensures own { (asked i : ℕ) → i < length programs.now →
         own_state (reaches_in windows.now slots.now) (seats_in programs.now)
         (shared_in store.now places.new.items) asked i
-        ≡ moved_own (part_at (reaches_in windows.now slots.now) (seats_in programs.now) i) n
-        (spot_at (map spot_of places.old.items) d).flight
+        ≡ moved_own (part_at (reaches_in windows.now slots.now) (seats_in programs.now) i) words.n
+        (spot_at (map spot_of places.old.items) words.d).flight
         (own_state (reaches_in windows.now slots.now) (seats_in programs.now)
         (shared_in store.now places.old.items) asked i) }
     ensures shared { shared_in store.now places.new.items
-        ≡ after_move d n (shared_in store.now places.old.items) }
+        ≡ after_move words.d words.n (shared_in store.now places.old.items) }
     ensures running { IsRunning (reaches_in windows.now slots.now) (seats_in programs.now)
         (shared_in store.now places.new.items) }
     ensures dry { AreDry places.new.items }
 {
-    move_at(places, usize::from(d), n);
+    move_at(places, usize::from(words.d), words.n);
 }
 
 /// Ends the transfer on a device, if it has one.

@@ -1,5 +1,5 @@
 -- A transfer begins: the lease of its area, and the store.
-use Rattle.std.proofs.Common.{◌≡◌, ℕ, ◌+◌, ◌-◌, ◌/◌, ◌≤◌, true, false, List, ◌++◌, length, take, drop, replicate, Option, Some, None, cond, refl, sym, ap, ◌∙◌, subst, ⊎_elim, arith, length-take, length-drop, length-append}
+use Rattle.std.proofs.Common.{◌≡◌, ℕ, ◌+◌, ◌/◌, ◌≤◌, true, false, List, ◌++◌, length, take, drop, replicate, Option, Some, None, cond, refl, sym, ap, ◌∙◌, subst, ⊎_elim, arith, length-take, length-drop, length-append}
 use Rattle.std.proofs.lemmas.Bool.{cases_Bool}
 use Rattle.std.proofs.lemmas.List.{length-map, length-replicate}
 use Rattle.kdf_lockout.specs.Groups.{Cells, words_in, lent_groups, without_groups, touched}

@@ -18,7 +18,7 @@ move_at-requires c =
     let spots = run.sound.spots in
     record { there = omega (arith, limit_is, length-map c.args.places.now.items spot_of, c.from.ensures, c.requires.device) }
 
-small : (c : After-from) → c.args.d < device_count
+small : (c : After-from) → c.args.words.d < device_count
 small c = omega (arith, limit_is, c.requires.device)
 
 abbrev reaches : After-from → List Reach
@@ -30,16 +30,16 @@ seats c = seats_in c.args.programs.now
 abbrev s : After-from → Shared
 s c = shared_in c.args.store.now c.args.places.now.items
 
-later : (c : After-move_at) → shared_in c.args.store.now c.move_at.new.places.items ≡ after_move c.args.d c.args.n (shared_in c.args.store.now c.args.places.now.items)
+later : (c : After-move_at) → shared_in c.args.store.now c.move_at.new.places.items ≡ after_move c.args.words.d c.args.words.n (shared_in c.args.store.now c.args.places.now.items)
 later c =
-    ap (share c.args.store.now) (c.move_at.ensures.spots ∙ ap (λ d. set (map spot_of c.args.places.now.items) d (moved_spot c.args.n (spot_at (map spot_of c.args.places.now.items) d))) c.from.ensures)
+    ap (share c.args.store.now) (c.move_at.ensures.spots ∙ ap (λ d. set (map spot_of c.args.places.now.items) d (moved_spot c.args.words.n (spot_at (map spot_of c.args.places.now.items) d))) c.from.ensures)
 
 pub returns-clause-own : goal.returns-clause-own
 returns-clause-own c = λ asked i lt.
     let at = (goal.at.returns-clause-own c).After-move_at in
     let from = (goal.at.returns-clause-own c).After-from in
     ap (λ x. own_state (reaches from) (seats from) x asked i) (later at)
-    ∙ flown_own (reaches from) (seats from) (s from) c.args.d c.requires.running (small from) c.args.n asked i (omega (arith, lt, length-map c.args.programs.now seat_of))
+    ∙ flown_own (reaches from) (seats from) (s from) c.args.words.d c.requires.running (small from) c.args.words.n asked i (omega (arith, lt, length-map c.args.programs.now seat_of))
 
 pub returns-clause-shared : goal.returns-clause-shared
 returns-clause-shared c = later (goal.at.returns-clause-shared c).After-move_at
@@ -49,4 +49,4 @@ returns-clause-running c =
     let at = (goal.at.returns-clause-running c).After-move_at in
     let from = (goal.at.returns-clause-running c).After-from in
     subst (IsRunning (reaches from) (seats from)) (sym (later at))
-    (flown_running (reaches from) (seats from) (s from) c.args.d c.requires.running (small from) c.args.n)
+    (flown_running (reaches from) (seats from) (s from) c.args.words.d c.requires.running (small from) c.args.words.n)
