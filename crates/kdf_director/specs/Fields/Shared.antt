@@ -1,5 +1,5 @@
 -- What is shown of the machine to one program, and what an acting call leaves of what all share.
-use Rattle.std.specs.Prelude.{◌&&◌, not, find, ℕ, ◌+◌, ◌-◌, ◌/◌, List, Bool, true, false, Option, None, slice_index_or, slice_set, is_some, unwrap_or}
+use Rattle.std.specs.Prelude.{◌&&◌, not, find, ℕ, ◌+◌, ◌/◌, List, Bool, true, false, Option, None, slice_index_or, slice_set, is_some, unwrap_or}
 use Rattle.std.specs.List.{range_with_len}
 use Rattle.kdf_journal.specs.declared.kind.Kind.{Kind}
 use Rattle.kdf_lockout.specs.Groups.{is_out, with_word}
