@@ -3,6 +3,7 @@ pub mod CallsAfterCalls
 pub mod CallsAtOnce
 pub mod CallsInTurn
 pub mod FoundLive
+pub mod GoingFurther
 pub mod NoneGoesOn
 pub mod OneCall
 pub mod OrdersInARow

@@ -1,5 +1,6 @@
 -- One order of one program, over the fields of the machine.
 pub mod AfterTheTry
+pub mod Batching
 pub mod DevicesLeave
 pub mod DevicesSettled
 pub mod FirstGoesOn

@@ -1,5 +1,6 @@
 -- The fields of a machine: its store, places, slots and programs, and what an order, a call and an event make of them.
 pub mod Agrees
+pub mod Batches
 pub mod Filled
 pub mod Following
 pub mod Going

@@ -45,7 +45,8 @@ pub record HasTriedAt (answers : ℕ → ℕ → Type 0) (reaches : List Reach) 
   pub asked : HasAsked answers (word_over (seat_at before i) (reach_at reaches i) s) heard
   pub turned : HasTurned reaches (moment time (unwrap_or heard 0)) i before s after left ended noted
 
--- what is entered of so many orders of program p of which nothing is noted, and of the turn after them, which ended so: in all it makes so many calls
+-- what is entered of so many orders of program p of which nothing is noted, and of the turn after them, which ended so:
+-- in all it makes so many calls
 pub record IsEntered (J : List Entry) (p quiet ran : ℕ) (ended : Step) (noted : Note) (K : List Entry)
     (held : Option Need) (made : ℕ) (progress : Progress) : Type 0 where
   pub entries : K ≡ added (ran_on J p quiet) (step_told p ran ended noted)

@@ -9,11 +9,12 @@ ghost use Rattle.kdf_director.specs.declared.machine.Progress.TheVariants.{AllEn
 ghost use Rattle.kdf_director.specs.declared.note.Note.TheVariants.{Quiet};
 ghost use Rattle.kdf_director.specs.declared.program.Program.{Program};
 ghost use Rattle.kdf_director.specs.Fields.Agrees.{IsReady};
+ghost use Rattle.kdf_director.specs.Fields.Batches.{AreQuiet, HasBatch, HasTriedOn};
 ghost use Rattle.kdf_director.specs.Fields.Going.{any_on, first_going};
 ghost use Rattle.kdf_director.specs.Fields.Parts.{seat_of};
 ghost use Rattle.kdf_places.specs.Shared.{shared_in};
 ghost use Rattle.kdf_director.specs.Fields.Running.{reaches_in, seat_at, seats_in, IsRunning};
-ghost use Rattle.kdf_director.specs.Runs.{HasEntered, HasMadeButFewer, HasMadeSome, HasTriedAt};
+ghost use Rattle.kdf_director.specs.Runs.{HasEntered, HasMadeButFewer, HasMadeSome};
 ghost use Rattle.kdf_director.specs.Fields.Viewed.{viewed};
 ghost use Rattle.kdf_places.specs.Spots.{AreDry};
 
@@ -30,7 +31,21 @@ use kdf_service::Service;
 use kdf_word::Word;
 use std::alloc::{AllocError, Global};
 
-/// Tries the next order of program `i` at this time. If that asks the service, the answer is drawn before it. At Err all is unchanged.
+/// How many of so many orders of a program are tried with nothing heard between them. The service of a program that is
+/// served may be heard before each.
+#[inline(always)]
+fn batch_of(slot: &Loaded, most: u32) -> u32
+    requires { 0 < most }
+    ensures some { 0 < result }
+    ensures few { result ≤ most }
+    ensures served { slot.now.served ≡ true → result ≡ 1 }
+{
+    if slot.served { 1 } else { most }
+}
+
+/// Tries orders of program `i` at this time up to one of which something is noted, that is held or that ends it, and
+/// at most so many. If one asks the service, the answer is drawn before it. Answers how many were obeyed before the
+/// last, and how the last ended. At Err that had no memory, and has changed nothing.
 #[inline(always)]
 fn try_at<F: Fn(u64) -> u64>(
     alloc: Global,
@@ -42,17 +57,20 @@ fn try_at<F: Fn(u64) -> u64>(
     time: u64,
     i: usize,
     service: &Service<F>,
-) -> Result<(Step, Note), AllocError>
+    most: u32,
+) -> (u32, Result<(Step, Note), AllocError>)
     requires service { IsService (F.pre service.now) (F.post service.now) }
     requires there { i < length programs.old.items }
     requires slots { length slots.now ≡ length programs.old.items }
     requires live { (seat_at (seats_in programs.old.items) i).registers.state ≡ Life.Live }
-    requires ran { (seat_at (seats_in programs.old.items) i).registers.ran < u32.MAX }
+    requires some { 0 < most }
+    requires ran { (seat_at (seats_in programs.old.items) i).registers.ran + most ≤ u32.MAX }
     requires running { IsRunning (reaches_in windows.now slots.now) (seats_in programs.old.items)
         (shared_in store.old places.old.items) }
     requires dry { AreDry places.old.items }
-    ensures tried { IfOk result (λ x. HasTriedAt (F.post service.now) (reaches_in windows.now slots.now) time i
-        (seats_in programs.old.items) (shared_in store.old places.old.items)
+    ensures tried { IfOk result.1 (λ x. HasBatch (HasTriedOn (F.post service.now)
+        (reaches_in windows.now slots.now) time i)
+        result.0 (seats_in programs.old.items) (shared_in store.old places.old.items)
         (seats_in programs.new.items) (shared_in store.new places.new.items) x.0 x.1) }
     ensures running { IsRunning (reaches_in windows.now slots.now) (seats_in programs.new.items)
         (shared_in store.new places.new.items) }
@@ -60,15 +78,20 @@ fn try_at<F: Fn(u64) -> u64>(
     ensures many { length programs.new.items ≡ length programs.old.items }
     ensures holds { map (λ (x : Program). x.hold) programs.new.items
         ≡ map (λ (x : Program). x.hold) programs.old.items }
-    ensures err { OnErr result ((seats_in programs.new.items ≡ seats_in programs.old.items)
-        × (shared_in store.new places.new.items ≡ shared_in store.old places.old.items)) }
+    ensures err { OnErr result.1 (AreQuiet (HasTriedOn (F.post service.now) (reaches_in windows.now slots.now) time i)
+        result.0 (seats_in programs.old.items) (shared_in store.old places.old.items)
+        (seats_in programs.new.items) (shared_in store.new places.new.items)) }
+    ensures within { result.0 < most }
 {
     let answer = heard(alloc, windows, slots, programs, store, places, i, service);
     let moment = Moment {
         time,
         heard: answer.unwrap_or(Word::default()),
     };
-    turn(alloc, windows, slots, programs, store, places, moment, i)
+    let batch = batch_of(&slots[i], most);
+    turn(
+        alloc, windows, slots, programs, store, places, moment, i, batch,
+    )
 }
 
 /// Whether an order was obeyed of which nothing is noted, so that the same program is next.
@@ -79,9 +102,10 @@ fn is_quiet(tried: &Result<(Step, Note), AllocError>) -> bool
     matches!(tried, Ok((Step::Done, Note::Quiet)))
 }
 
-/// Obeys orders of program `i`, which is next, up to one of which something is noted, that is held or that ends it, and at most so many. They are
-/// entered at once: while nothing is noted, no other program's turn comes. Answers how many calls that were, and what the last did. At Err those
-/// that were obeyed are entered, and the one that had no memory has changed nothing.
+/// Obeys orders of program `i`, which is next, up to one of which something is noted, that is held or that ends it, and
+/// at most so many. They are entered at once: while nothing is noted, no other program's turn comes. Answers how many
+/// calls that were, and what the last did. At Err those that were obeyed are entered, and the one that had no memory
+/// has changed nothing.
 fn take_turns<F: Fn(u64) -> u64>(
     alloc: Global,
     windows: &[Window; 4],
@@ -121,9 +145,19 @@ fn take_turns<F: Fn(u64) -> u64>(
     let time = journal.clock();
     let mut quiet = 0;
     loop {
-        let tried = try_at(
-            alloc, windows, slots, programs, store, places, time, i, service,
+        let (more, tried) = try_at(
+            alloc,
+            windows,
+            slots,
+            programs,
+            store,
+            places,
+            time,
+            i,
+            service,
+            most - quiet,
         );
+        quiet += more;
         if quiet + 1 < most && is_quiet(&tried) {
             quiet += 1;
         } else {
@@ -132,8 +166,9 @@ fn take_turns<F: Fn(u64) -> u64>(
     }
 }
 
-/// Enters so many orders of a program of which nothing is noted, and how the turn after them ended, where it had memory. Answers how many calls that
-/// were, and what the last did. It is inlined, so that what each order of a run came to goes through no memory.
+/// Enters so many orders of a program of which nothing is noted, and how the turn after them ended, where it had
+/// memory. Answers how many calls that were, and what the last did. It is inlined, so that what each order of a run
+/// came to goes through no memory.
 #[inline(always)]
 fn enter_tried(
     journal: &mut Journal,
@@ -144,7 +179,8 @@ fn enter_tried(
     requires room { 2 ≤ journal.old.spare }
     requires few_calls { calls journal.old.entries + quiet < CALL_LIMIT }
     requires few_moves { moves journal.old.entries ≤ MOVE_LIMIT }
-    ensures entered { HasEntered journal.old.entries program.old.p quiet program.old.registers.ran program.old.hold tried
+    ensures entered { HasEntered journal.old.entries program.old.p quiet program.old.registers.ran program.old.hold
+        tried
         journal.new.entries program.new.hold result }
     ensures spare { journal.old.spare ≤ journal.new.spare + 2 }
     ensures seat { seat_of program.new ≡ seat_of program.old }
@@ -176,9 +212,9 @@ fn wait(programs: &[Program], journal: &mut Journal, most: u32) -> (u32, Progres
     }
 }
 
-/// Some of so many calls with a service, one at least, over the fields of a machine: the orders of the program that is next, as far as it stays
-/// next, or all, where none can go on. Answers how many, and what the last did. At Err some are made, and the one that had no memory has changed
-/// nothing.
+/// Some of so many calls with a service, one at least, over the fields of a machine: the orders of the program that is
+/// next, as far as it stays next, or all, where none can go on. Answers how many, and what the last did. At Err some
+/// are made, and the one that had no memory has changed nothing.
 pub(crate) fn advance<F: Fn(u64) -> u64>(
     alloc: Global,
     windows: &[Window; 4],

@@ -1,6 +1,8 @@
-//! One order of one program.
-ghost use Rattle.std.specs.Prelude.{◌≡◌, ◌+◌, ◌*◌, ◌%◌, ◌<◌, ◌≤◌, length, map, IfOk, OnOk, OnErr, []};
+//! The orders of one program, as long as nothing is noted of them.
+ghost use Rattle.std.specs.Prelude.{◌≡◌, ◌+◌, ◌*◌, ◌%◌, ◌<◌, ◌≤◌, length, map, IfOk, OnErr};
 ghost use Rattle.kdf_lockout.specs.Groups.{Cells};
+ghost use Rattle.kdf_director.specs.declared.note.Note.TheVariants.{Quiet};
+ghost use Rattle.kdf_director.specs.Fields.Batches.{AreQuiet, HasBatch, HasTurnedOn};
 ghost use Rattle.kdf_director.specs.Fields.Keeping.{IsActive, IsKept};
 ghost use Rattle.kdf_director.specs.Fields.Parts.{part_in, reach, reach_of, seat, seat_of};
 ghost use Rattle.kdf_places.specs.Shared.{shared_in};
@@ -8,8 +10,8 @@ ghost use Rattle.kdf_director.specs.Fields.Settled.{both_of, retired, settled};
 ghost use Rattle.kdf_director.specs.Fields.Stints.{keeping_of};
 ghost use Rattle.kdf_director.specs.Fields.Running.{reaches_in, seat_at, seats_in, IsRunning};
 ghost use Rattle.kdf_places.specs.Spots.{AreDry};
-ghost use Rattle.kdf_director.specs.Fields.Turn.{HasObeyed, SameTurn, Stays};
-ghost use Rattle.kdf_director.specs.Fields.Turned.{HasRun, HasTried, HasTurned};
+ghost use Rattle.kdf_director.specs.Fields.Turn.{reach_in, seat_in, shared, SameProgram};
+ghost use Rattle.kdf_director.specs.Fields.Turned.{HasRun, HasTried};
 ghost use Rattle.kdf_director.specs.Fields.Parts.{window_at};
 
 use crate::stint::retire;
@@ -20,22 +22,61 @@ use kdf_processor::{Life, Registers, Spooled, Step, obey_with_room};
 use kdf_relocate::Window;
 use std::alloc::{AllocError, Global};
 
-/// Obeys the next order of a live program. It has one caller and is inlined there, so what it answers goes through no memory.
+/// Obeys the next order of a live program. It is inlined in the loop over the orders, so what it answers goes through
+/// no memory.
 #[inline(always)]
-fn obey_next(registers: &mut Registers, turn: &mut Turn<'_>) -> Result<(Step, Note), AllocError>
+fn obey_next(registers: &mut Registers, turn: &mut Turn<'_>) -> Result<Step, AllocError>
     requires live { registers.old.state ≡ Life.Live }
     requires ran { registers.old.ran < u32.MAX }
-    requires empty { turn.old.block.now.items ≡ [] }
-    ensures obeyed { IfOk result
-        (λ x. HasObeyed turn.old registers.old turn.new registers.new x.0 x.1) }
-    ensures err { OnErr result ((registers.new ≡ registers.old) × Stays turn.old turn.new) }
-    ensures same { SameTurn turn.old turn.new }
+    requires quiet { turn.old.note ≡ Quiet }
+    ensures tried { IfOk result (λ step. HasTried (reach_in turn.old) turn.old.moment
+        (seat_in turn.old registers.old) (shared turn.old) (seat_in turn.new registers.new) (shared turn.new)
+        step turn.new.note) }
+    ensures err { OnErr result ((seat_in turn.new registers.new ≡ seat_in turn.old registers.old)
+        × (shared turn.new ≡ shared turn.old)) }
+    ensures same { SameProgram turn.old turn.new }
 {
     let step = obey_with_room(registers, turn)?;
-    Ok((step, turn.note()))
+    Ok(step)
 }
 
-/// Tries the next order of program `p` in its slot at a moment, over its window. At Err all is unchanged.
+/// Obeys orders of a live program up to one of which something is noted, that is held or that ends it, and at most so
+/// many. Answers how many were obeyed before the last, and how the last ended. At Err that had no memory, and has
+/// changed nothing. It is inlined where the view is made: passed on by its address, that would be read anew by each
+/// order.
+#[inline(always)]
+fn obey_quiet(
+    registers: &mut Registers,
+    turn: &mut Turn<'_>,
+    most: u32,
+) -> (u32, Result<(Step, Note), AllocError>)
+    requires live { registers.old.state ≡ Life.Live }
+    requires some { 0 < most }
+    requires ran { registers.old.ran + most ≤ u32.MAX }
+    requires quiet { turn.old.note ≡ Quiet }
+    ensures tried { IfOk result.1 (λ x. HasBatch (HasTried (reach_in turn.old) turn.old.moment) result.0
+        (seat_in turn.old registers.old) (shared turn.old) (seat_in turn.new registers.new) (shared turn.new) x.0 x.1) }
+    ensures err { OnErr result.1 (AreQuiet (HasTried (reach_in turn.old) turn.old.moment) result.0
+        (seat_in turn.old registers.old) (shared turn.old) (seat_in turn.new registers.new) (shared turn.new)) }
+    ensures within { result.0 < most }
+    ensures same { SameProgram turn.old turn.new }
+{
+    let mut left = most;
+    loop {
+        match obey_next(registers, turn) {
+            Ok(Step::Done) => {
+                left -= 1;
+                if left == 0 || !turn.is_quiet() {
+                    return (most - left - 1, Ok((Step::Done, turn.note())));
+                }
+            }
+            Ok(step) => return (most - left, Ok((step, turn.note()))),
+            Err(error) => return (most - left, Err(error)),
+        }
+    }
+}
+
+/// Tries orders of program `p` in its slot at a moment, over its window, as `obey_quiet` does.
 fn try_next(
     alloc: Global,
     p: u8,
@@ -48,36 +89,43 @@ fn try_next(
     stints: &mut Vec<Stint>,
     store: &mut Store,
     places: &mut Vec<Place>,
-) -> Result<(Step, Note), AllocError>
+    most: u32,
+) -> (u32, Result<(Step, Note), AllocError>)
     requires live { registers.old.state ≡ Life.Live }
-    requires ran { registers.old.ran < u32.MAX }
+    requires some { 0 < most }
+    requires ran { registers.old.ran + most ≤ u32.MAX }
     requires at_group { window.base % 32 ≡ 0 }
     requires in_store { window.base + window.size ≤ 32 * length store.old }
     requires sixteen { length places.old.items ≡ 16 }
     requires dry { AreDry places.old.items }
-    requires kept { IsKept (part_in (seat p registers.old claimed.old spooled.old.items (map keeping_of stints.old.items))
+    requires kept { IsKept (part_in (seat p registers.old claimed.old spooled.old.items
+        (map keeping_of stints.old.items))
         (reach window slot.now)) (shared_in store.old places.old.items) }
-    requires active { IsActive (part_in (seat p registers.old claimed.old spooled.old.items (map keeping_of stints.old.items))
+    requires active { IsActive (part_in (seat p registers.old claimed.old spooled.old.items
+        (map keeping_of stints.old.items))
         (reach window slot.now)) (shared_in store.old places.old.items) }
-    ensures tried { IfOk result (λ x. HasTried (reach window slot.now) moment
+    ensures tried { IfOk result.1 (λ x. HasBatch (HasTried (reach window slot.now) moment) result.0
         (seat p registers.old claimed.old spooled.old.items (map keeping_of stints.old.items))
         (shared_in store.old places.old.items)
         (seat p registers.new claimed.new spooled.new.items (map keeping_of stints.new.items))
         (shared_in store.new places.new.items) x.0 x.1) }
-    ensures err { OnErr result ((seat p registers.new claimed.new spooled.new.items (map keeping_of stints.new.items)
-        ≡ seat p registers.old claimed.old spooled.old.items (map keeping_of stints.old.items))
-        × (shared_in store.new places.new.items ≡ shared_in store.old places.old.items)) }
+    ensures err { OnErr result.1 (AreQuiet (HasTried (reach window slot.now) moment) result.0
+        (seat p registers.old claimed.old spooled.old.items (map keeping_of stints.old.items))
+        (shared_in store.old places.old.items)
+        (seat p registers.new claimed.new spooled.new.items (map keeping_of stints.new.items))
+        (shared_in store.new places.new.items)) }
+    ensures within { result.0 < most }
     ensures dry { AreDry places.new.items }
 {
     let mut block = Vec::new(alloc);
     let mut turn = Turn::new(
         alloc, p, window, moment, slot, claimed, spooled, stints, store, places, &mut block,
     );
-    obey_next(registers, &mut turn)
+    obey_quiet(registers, &mut turn, most)
 }
 
-/// Takes the devices of a program that is over out of their places, those of the first to the last of its stints that are lent still. It isn't
-/// inlined in the loop over the orders, which it would slow down.
+/// Takes the devices of a program that is over out of their places, those of the first to the last of its stints that
+/// are lent still. It isn't inlined in the loop over the orders, which it would slow down.
 #[inline(never)]
 fn retire_all(alloc: Global, program: &mut Program, places: &mut Vec<Place>)
     ensures both { (cells : Cells) → both_of (seat_of program.new) (shared_in cells places.new.items)
@@ -103,8 +151,8 @@ fn settle(alloc: Global, program: &mut Program, places: &mut Vec<Place>)
     }
 }
 
-/// Tries the next order of a program at a moment over what is shared, all its memory being taken first, and where that ended it, takes back what it
-/// had from the pool. At Err all is unchanged.
+/// Tries orders of a program at a moment over what is shared, as `obey_quiet` does, and where the last ended it, takes
+/// back what it had from the pool.
 pub(crate) fn run(
     alloc: Global,
     windows: &[Window; 4],
@@ -113,9 +161,11 @@ pub(crate) fn run(
     program: &mut Program,
     store: &mut Store,
     places: &mut Vec<Place>,
-) -> Result<(Step, Note), AllocError>
+    most: u32,
+) -> (u32, Result<(Step, Note), AllocError>)
     requires live { program.old.registers.state ≡ Life.Live }
-    requires ran { program.old.registers.ran < u32.MAX }
+    requires some { 0 < most }
+    requires ran { program.old.registers.ran + most ≤ u32.MAX }
     requires at_group { (window_at windows.now slot.now.p).base % 32 ≡ 0 }
     requires in_store { (window_at windows.now slot.now.p).base
         + (window_at windows.now slot.now.p).size ≤ 32 * length store.old }
@@ -125,11 +175,13 @@ pub(crate) fn run(
         (shared_in store.old places.old.items) }
     requires active { IsActive (part_in (seat_of program.old) (reach_of windows.now slot.now))
         (shared_in store.old places.old.items) }
-    ensures ran { IfOk result (λ x. HasRun (reach_of windows.now slot.now) moment
+    ensures ran { IfOk result.1 (λ x. HasBatch (HasRun (reach_of windows.now slot.now) moment) result.0
         (seat_of program.old) (shared_in store.old places.old.items)
         (seat_of program.new) (shared_in store.new places.new.items) x.0 x.1) }
-    ensures err { OnErr result ((seat_of program.new ≡ seat_of program.old)
-        × (shared_in store.new places.new.items ≡ shared_in store.old places.old.items)) }
+    ensures err { OnErr result.1 (AreQuiet (HasRun (reach_of windows.now slot.now) moment) result.0
+        (seat_of program.old) (shared_in store.old places.old.items)
+        (seat_of program.new) (shared_in store.new places.new.items)) }
+    ensures within { result.0 < most }
     ensures hold { program.new.hold ≡ program.old.hold }
     ensures dry { AreDry places.new.items }
 {
@@ -146,9 +198,10 @@ pub(crate) fn run(
         &mut program.stints,
         store,
         places,
-    )?;
+        most,
+    );
     settle(alloc, program, places);
-    Ok(tried)
+    tried
 }
 
 /// The window of a slot; one without a word where there is no such slot.
@@ -161,7 +214,7 @@ pub(crate) fn window_of(windows: &[Window; 4], p: u8) -> Window
     }
 }
 
-/// Tries the next order of program `i` at a moment. At Err all is unchanged.
+/// Tries orders of program `i` at a moment, as `obey_quiet` does.
 pub(crate) fn turn(
     alloc: Global,
     windows: &[Window; 4],
@@ -171,21 +224,25 @@ pub(crate) fn turn(
     places: &mut Vec<Place>,
     moment: Moment,
     i: usize,
-) -> Result<(Step, Note), AllocError>
+    most: u32,
+) -> (u32, Result<(Step, Note), AllocError>)
     requires there { i < length programs.old.items }
     requires slots { length slots.now ≡ length programs.old.items }
     requires live { (seat_at (seats_in programs.old.items) i).registers.state ≡ Life.Live }
-    requires ran { (seat_at (seats_in programs.old.items) i).registers.ran < u32.MAX }
+    requires some { 0 < most }
+    requires ran { (seat_at (seats_in programs.old.items) i).registers.ran + most ≤ u32.MAX }
     requires running { IsRunning (reaches_in windows.now slots.now) (seats_in programs.old.items)
         (shared_in store.old places.old.items) }
     requires dry { AreDry places.old.items }
-    ensures turned { IfOk result (λ x. HasTurned (reaches_in windows.now slots.now) moment i
+    ensures turned { IfOk result.1 (λ x. HasBatch (HasTurnedOn (reaches_in windows.now slots.now) moment i) result.0
         (seats_in programs.old.items) (shared_in store.old places.old.items)
         (seats_in programs.new.items) (shared_in store.new places.new.items) x.0 x.1) }
     ensures running { IsRunning (reaches_in windows.now slots.now) (seats_in programs.new.items)
         (shared_in store.new places.new.items) }
-    ensures err { OnErr result ((seats_in programs.new.items ≡ seats_in programs.old.items)
-        × (shared_in store.new places.new.items ≡ shared_in store.old places.old.items)) }
+    ensures err { OnErr result.1 (AreQuiet (HasTurnedOn (reaches_in windows.now slots.now) moment i) result.0
+        (seats_in programs.old.items) (shared_in store.old places.old.items)
+        (seats_in programs.new.items) (shared_in store.new places.new.items)) }
+    ensures within { result.0 < most }
     ensures dry { AreDry places.new.items }
     ensures many { length programs.new.items ≡ length programs.old.items }
     ensures holds { map (λ (x : Program). x.hold) programs.new.items
@@ -200,5 +257,6 @@ pub(crate) fn turn(
         &mut programs[i],
         store,
         places,
+        most,
     )
 }

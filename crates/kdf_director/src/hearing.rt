@@ -20,7 +20,8 @@ use kdf_service::Service;
 use kdf_word::Word;
 use std::alloc::Global;
 
-/// The word of which the next order of program `p` asks the service, in its slot and over its window. All is lent for that, and nothing changes.
+/// The word of which the next order of program `p` asks the service, in its slot and over its window. All is lent for
+/// that, and nothing changes.
 fn word_asked(
     alloc: Global,
     p: u8,
@@ -37,11 +38,14 @@ fn word_asked(
     requires in_store { window.base + window.size ≤ 32 * length store.old }
     requires sixteen { length places.old.items ≡ 16 }
     requires dry { AreDry places.old.items }
-    requires kept { IsKept (part_in (seat p registers.now claimed.old spooled.old.items (map keeping_of stints.old.items))
+    requires kept { IsKept (part_in (seat p registers.now claimed.old spooled.old.items
+        (map keeping_of stints.old.items))
         (reach window slot.now)) (shared_in store.old places.old.items) }
-    requires active { IsActive (part_in (seat p registers.now claimed.old spooled.old.items (map keeping_of stints.old.items))
+    requires active { IsActive (part_in (seat p registers.now claimed.old spooled.old.items
+        (map keeping_of stints.old.items))
         (reach window slot.now)) (shared_in store.old places.old.items) }
-    ensures asked { result ≡ word_over (seat p registers.now claimed.old spooled.old.items (map keeping_of stints.old.items))
+    ensures asked { result ≡ word_over (seat p registers.now claimed.old spooled.old.items
+        (map keeping_of stints.old.items))
         (reach window slot.now) (shared_in store.old places.old.items) }
     ensures seat { seat p registers.now claimed.new spooled.new.items (map keeping_of stints.new.items)
         ≡ seat p registers.now claimed.old spooled.old.items (map keeping_of stints.old.items) }
@@ -59,8 +63,8 @@ fn word_asked(
     asks_ahead(registers, &turn)
 }
 
-/// What the service answers to the word of which the next order of a program asks it; None where that asks nothing. Most programs aren't served:
-/// this stays out of the way of their orders.
+/// What the service answers to the word of which the next order of a program asks it; None where that asks nothing.
+/// Most programs aren't served: this stays out of the way of their orders.
 #[inline(never)]
 fn hear<F: Fn(u64) -> u64>(
     alloc: Global,
@@ -82,7 +86,8 @@ fn hear<F: Fn(u64) -> u64>(
     requires active { IsActive (part_in (seat_of program.old) (reach_of windows.now slot.now))
         (shared_in store.old places.old.items) }
     ensures asked { HasAsked (F.post service.now)
-        (word_over (seat_of program.old) (reach_of windows.now slot.now) (shared_in store.old places.old.items)) result }
+        (word_over (seat_of program.old) (reach_of windows.now slot.now)
+        (shared_in store.old places.old.items)) result }
     ensures seat { seat_of program.new ≡ seat_of program.old }
     ensures hold { program.new.hold ≡ program.old.hold }
     ensures store { store.new ≡ store.old }
@@ -107,8 +112,8 @@ fn hear<F: Fn(u64) -> u64>(
     Some(service.ask(word))
 }
 
-/// What is heard of the service before the next order of program `i`: its answer to the word of which that order asks it. The service is asked
-/// there and nowhere else: None where the order asks nothing. Nothing changes.
+/// What is heard of the service before the next order of program `i`: its answer to the word of which that order asks
+/// it. The service is asked there and nowhere else: None where the order asks nothing. Nothing changes.
 #[inline(always)]
 pub(crate) fn heard<F: Fn(u64) -> u64>(
     alloc: Global,

@@ -1,5 +1,6 @@
-//! The port of one program of the machine for one order: a window of the store, the devices of its slot, and those that the pool lends.
-ghost use Rattle.std.specs.Prelude.{◌≡◌, ◌+◌, ◌*◌, ◌%◌, ◌<◌, ◌≤◌, length};
+//! The port of one program of the machine for its orders at a moment: a window of the store, the devices of its slot,
+//! and those that the pool lends.
+ghost use Rattle.std.specs.Prelude.{◌≡◌, ◌+◌, ◌*◌, ◌%◌, ◌<◌, ◌≤◌, [], length};
 ghost use Rattle.kdf_director.specs.True.{one_if};
 ghost use Rattle.kdf_director.specs.Fields.Keeping.{IsActive, IsActiveBy, IsKept, IsKeptBy};
 ghost use Rattle.kdf_director.specs.Fields.Parts.{part_with};
@@ -20,14 +21,15 @@ use kdf_word::Word;
 use std::alloc::{AllocError, Global};
 use std::mem;
 
-/// The view of one program for one order at a moment. Its fields are lent by the machine: nothing is kept here but the note.
+/// The view of one program for its orders at a moment. Its fields are lent by the machine: nothing is kept here but
+/// the note.
 #[derive(Drop)]
 pub struct Turn<'a> {
     alloc: Global,
     window: Window,
     moment: Moment,
-    /// Its slot, which has its devices and those of the pool, and says whether the installation's service answers it. An order reads of it only
-    /// what it needs.
+    /// Its slot, which has its devices and those of the pool, and says whether the installation's service answers it.
+    /// An order reads of it only what it needs.
     slot: &'a Loaded,
     claimed: &'a mut [bool; 16],
     spooled: &'a mut Vec<Spooled>,
@@ -37,7 +39,7 @@ pub struct Turn<'a> {
     /// Memory for the characters that an order moves.
     block: &'a mut Vec<u8>,
     p: u8,
-    /// What is to be noted of the order.
+    /// What is to be noted of its orders.
     note: Note,
     ghost at_group: { window.base % 32 ≡ 0 },
     ghost in_store: { window.base + window.size ≤ 32 * length store.now },
@@ -45,6 +47,7 @@ pub struct Turn<'a> {
     ghost dry: { AreDry places.now.items },
     ghost kept: { IsKeptBy p window slot.now stints.now.items places.now.items },
     ghost active: { IsActiveBy p window slot.now claimed.now stints.now.items places.now.items },
+    ghost blank: { block.now.items ≡ [] },
 }
 
 impl<'a> Turn<'a> {
@@ -81,6 +84,7 @@ impl<'a> Turn<'a> {
             (shared_in store.old places.old.items) }
         requires active { IsActive (part_with p window slot.now claimed.old spooled.old.items stints.old.items)
             (shared_in store.old places.old.items) }
+        requires blank { block.old.items ≡ [] }
         ensures part { part_of result
             ≡ part_with p window slot.now claimed.old spooled.old.items stints.old.items }
         ensures moment { result.moment ≡ moment }
@@ -111,11 +115,18 @@ impl<'a> Turn<'a> {
         }
     }
 
-    /// What is to be noted of the order.
+    /// What is to be noted of its orders.
     pub fn note(&self) -> Note
         ensures { result ≡ self.now.note }
     {
         self.note
+    }
+
+    /// Whether nothing is to be noted of it.
+    pub fn is_quiet(&self) -> bool
+        ensures { result ≡ true → self.now.note ≡ Quiet }
+    {
+        matches!(self.note, Note::Quiet)
     }
 
     /// The place of an address in the store.
@@ -376,7 +387,15 @@ impl Port for Turn<'_> {
     }
 
     ghost stays = { λ _. record {
-      same = record { moment = refl; claimed = refl; spooled = refl; stints = refl; store = refl; places = refl; block = refl };
+      same = record {
+        moment = refl;
+        claimed = refl;
+        spooled = refl;
+        stints = refl;
+        store = refl;
+        places = refl;
+        block = refl;
+      };
       part = refl;
       shared = refl;
       note = refl;
@@ -391,7 +410,15 @@ impl Reserve for Turn<'_> {
     ghost keeps = { Stays };
 
     ghost itself = { λ _. record {
-      same = record { moment = refl; claimed = refl; spooled = refl; stints = refl; store = refl; places = refl; block = refl };
+      same = record {
+        moment = refl;
+        claimed = refl;
+        spooled = refl;
+        stints = refl;
+        store = refl;
+        places = refl;
+        block = refl;
+      };
       part = refl;
       shared = refl;
       note = refl;

@@ -28,6 +28,7 @@ use Rattle.kdf_places.specs.declared.place.Place.{Place}
 use Rattle.kdf_director.specs.declared.program.Program.{Program}
 use Rattle.kdf_director.specs.declared.slot.Loaded.{Loaded}
 use Rattle.kdf_director.specs.Fields.Agrees.{Agrees, IsReady}
+use Rattle.kdf_director.specs.Fields.Batches.{AreQuiet, HasBatch, HasTriedOn}
 use Rattle.kdf_director.specs.Fields.Going.{any_on, first_going, AreNearHolds}
 use Rattle.kdf_director.specs.Next.{any_live}
 use Rattle.kdf_director.specs.Fields.Parts.{Reach, Seat, seat_of}
@@ -41,6 +42,7 @@ use Rattle.kdf_director.specs.Fields.TurnTaken.{hold_left, progress_of, step_tol
 use Rattle.kdf_director.specs.World.{need_of}
 use Rattle.kdf_director.proofs.Calls.OneCall.{moves-took}
 use Rattle.kdf_director.proofs.Linking.EventsEntered.{map_twice}
+use Rattle.kdf_director.proofs.Calls.GoingFurther.{going_further}
 use Rattle.kdf_director.proofs.Calls.ProgramGoesOn.{IsGoingOn, advanced_on, few_on, going_on, held_on, live_on, made_some}
 use Rattle.kdf_director.proofs.Calls.CallsAfterCalls.{made_none}
 use Rattle.kdf_director.proofs.Linking.NextPrograms.{any_same, is_next, near_holds, of_four}
@@ -187,116 +189,123 @@ module _ (answers : ℕ → ℕ → Type 0) (slots : List Loaded) (windows : Lis
           made = made_none answers old ready.agrees.legal;
         }
 
+    abbrev Going : ℕ → List Seat → Shared → Type 0
+    Going = IsGoingOn answers xs rs J room (holds_of programs) i p old
+
+    abbrev Tries : List Seat → Shared → List Seat → Shared → Step → Note → Type 0
+    Tries = HasTriedOn answers rs (clock J) i
+
     -- it has obeyed n orders
-    module _ (n : ℕ) (store' : Cells) (programs' : List Program) (places' : List Place) (many' : length programs' ≡ length programs) (holds' : holds_of programs' ≡ holds_of programs) (g : IsGoingOn answers xs rs J room (holds_of programs) i p old n (seats_in programs') (shared_in store' places')) where
-      pub there : i < length programs'
-      there = let lt = g.there in omega (arith, length-map programs' seat_of)
+    module _ (n : ℕ) (mid : List Seat) (between : Shared) (g : Going n mid between) where
+      pub live : (seat_at mid i).registers.state ≡ life.Live
+      live = live_is (seat_at mid i).registers.state (live_on answers xs rs J room (holds_of programs) i p old n mid between g)
 
-      pub live : (seat_at (seats_in programs') i).registers.state ≡ life.Live
-      live = live_is (seat_at (seats_in programs') i).registers.state (live_on answers xs rs J room (holds_of programs) i p old n (seats_in programs') (shared_in store' places') g)
+      pub ran : (seat_at mid i).registers.ran ≤ CALL_LIMIT
+      ran = few_on answers xs rs J room (holds_of programs) i p old n mid between g
 
-      pub ran : (seat_at (seats_in programs') i).registers.ran ≤ CALL_LIMIT
-      ran = few_on answers xs rs J room (holds_of programs) i p old n (seats_in programs') (shared_in store' places') g
+      -- and k more, of which nothing is noted
+      further : (k : ℕ) (after : List Seat) (left : Shared) → calls J + (n + k) ≤ CALL_LIMIT → AreQuiet Tries k mid between after left → Going (n + k) after left
+      further k after left few quiet = going_further answers xs rs J room (holds_of programs) i p old n k mid between after left g few quiet
 
-      -- and one more, of which nothing is noted
-      pub going_more : {E : Type 0} (few : calls J + n < CALL_LIMIT) (left : Cells) (after : List Program) (rest : List Place) (tried : Result (Step × Note) E) → tried ≡ Ok (step.Done, note.Quiet)
-          → IfOk tried (λ x. HasTriedAt answers rs (clock J) i (seats_in programs') (shared_in store' places') (seats_in after) (shared_in left rest) x.0 x.1) → IsRunning rs (seats_in after) (shared_in left rest)
-          → IsGoingOn answers xs rs J room (holds_of programs) i p old (n + 1) (seats_in after) (shared_in left rest)
-      going_more {E} few left after rest tried is did run =
-          let one : suc n ≡ n + 1 = omega arith in
-          let done : HasTriedAt answers rs (clock J) i (seats_in programs') (shared_in store' places') (seats_in after) (shared_in left rest) step.Done note.Quiet =
-          subst (λ (t : Result (Step × Note) E). IfOk t (λ x. HasTriedAt answers rs (clock J) i (seats_in programs') (shared_in store' places') (seats_in after) (shared_in left rest) x.0 x.1)) is did in
-          subst (λ k. IsGoingOn answers xs rs J room (holds_of programs) i p old k (seats_in after) (shared_in left rest)) one
-          (going_on answers xs rs J room (holds_of programs) i p old n (seats_in programs') (shared_in store' places') g (seats_in after) (shared_in left rest) done run (omega (arith, calls-ran_on J p n)))
+      -- and one more
+      one_more : (k : ℕ) (after : List Seat) (left : Shared) → calls J + (n + k) < CALL_LIMIT → HasBatch Tries k mid between after left step.Done note.Quiet → Going (n + k + 1) after left
+      one_more k after left few batch =
+          let one : suc (n + k) ≡ n + k + 1 = omega arith in
+          subst (λ m. Going m after left) one
+          (going_on answers xs rs J room (holds_of programs) i p old (n + k) batch.mid batch.between (further k batch.mid batch.between (omega (arith, few)) batch.earlier) after left batch.last.0 batch.last.1 (omega (arith, few, calls-ran_on J p (n + k))))
 
-      -- and tried one more, and what was made is entered
-      module _ (few : calls J + n < CALL_LIMIT) (left : Cells) (after : List Program) (rest : List Place) (many : length after ≡ length programs') (kept : holds_of after ≡ holds_of programs') (dry : AreDry rest) (run : IsRunning rs (seats_in after) (shared_in left rest)) (program new : Program) (at : program ≡ get_or after i program) (same : seat_of new ≡ seat_of program) (J' : List Entry) (spare' : ℕ) (fits : room ≤ spare') where
-        abbrev then_programs : List Program
-        then_programs = set after i new
+      pub going_more : {E : Type 0} (k : ℕ) (few : calls J + (n + k) < CALL_LIMIT) (after : List Seat) (left : Shared) (tried : Result (Step × Note) E) → tried ≡ Ok (step.Done, note.Quiet) → IfOk tried (λ x. HasBatch Tries k mid between after left x.0 x.1) → Going (n + k + 1) after left
+      going_more {E} k few after left tried is did =
+          one_more k after left few (subst (λ (t : Result (Step × Note) E). IfOk t (λ x. HasBatch Tries k mid between after left x.0 x.1)) is did)
 
-        inside : i < length after
-        inside = let lt = there in omega (arith, many)
+    -- it tried one more, and what was made is entered
+    module _ (left : Cells) (after : List Program) (rest : List Place) (many : length after ≡ length programs) (kept : holds_of after ≡ holds_of programs) (dry : AreDry rest) (program new : Program) (at : program ≡ get_or after i program) (same : seat_of new ≡ seat_of program) (J' : List Entry) (spare' : ℕ) (fits : room ≤ spare') where
+      abbrev then_programs : List Program
+      then_programs = set after i new
 
-        many_then : length then_programs ≡ length programs
-        many_then = length-set after i new ∙ many ∙ many'
+      inside : i < length after
+      inside = let lt = begun.there in omega (arith, many, length-map programs seat_of)
 
-        holds_then : holds_of then_programs ≡ set (holds_of programs) i new.hold
-        holds_then = map-set (λ (x : Program). x.hold) after i new ∙ ap (λ hs. set hs i new.hold) (kept ∙ holds')
+      many_then : length then_programs ≡ length programs
+      many_then = length-set after i new ∙ many
 
-        run_then : IsRunning rs (seats_in then_programs) (shared_in left rest)
-        run_then = running_entered after i inside program new at same rs (shared_in left rest) run
+      holds_then : holds_of then_programs ≡ set (holds_of programs) i new.hold
+      holds_then = map-set (λ (x : Program). x.hold) after i new ∙ ap (λ hs. set hs i new.hold) kept
 
-        few_then : calls (ran_on J p n) < CALL_LIMIT
-        few_then = omega (arith, calls-ran_on J p n)
+      abbrev Made : ℕ → ℕ → Progress → Type 0
+      Made n k answer =
+          IsReady slots windows left then_programs rest J' spare' room
+          × HasMadeSome answers k old (viewed slots windows left then_programs rest J' room) answer
+          × (k ≡ n + 1)
 
-        abbrev Goes : ℕ → Progress → Type 0
-        Goes k answer =
+      turned : (n : ℕ) (mid : List Seat) (between : Shared) → Going n mid between → calls J + n < CALL_LIMIT → (ended : Step) (noted : Note) (k : ℕ) (answer : Progress) → Tries mid between (seats_in after) (shared_in left rest) ended noted → IsEntered J program.p n program.registers.ran ended noted J' new.hold k answer → Made n k answer
+      turned n mid between g few ended noted k answer tried e =
+          let seats = seats_entered after i inside program new at same in
+          let seat = seat_then after i inside program new at same in
+          let tried' = subst (λ x. HasTriedAt answers rs (clock J) i mid between x (shared_in left rest) ended noted) (sym seats) tried.0 in
+          let run : IsRunning rs (seats_in then_programs) (shared_in left rest) = running_entered after i inside program new at same rs (shared_in left rest) tried.1 in
+          let few_then : calls (ran_on J p n) < CALL_LIMIT = omega (arith, few, calls-ran_on J p n) in
+          let number : program.p ≡ p = sym (ap (λ (x : Seat). x.p) seat) ∙ tried'.turned.numbers i ∙ g.number in
+          let held : holds_of then_programs ≡ set (holds_of programs) i (hold_left ended) = holds_then ∙ ap (set (holds_of programs) i) e.hold in
+          let entered : J' ≡ added (ran_on J p n) (step_told (seat_at (seats_in then_programs) i).p (seat_at (seats_in then_programs) i).registers.ran ended noted) =
+          e.entries ∙ ap₂ (λ q (x : Seat). added (ran_on J q n) (step_told x.p x.registers.ran ended noted)) number (sym seat) in
+          let told : answer ≡ progress_of (seat_at (seats_in then_programs) i).p ended = e.answer ∙ ap (λ (x : Seat). progress_of x.p ended) (sym seat) in
+          let did = advanced_on answers xs rs J room (holds_of programs) i p old n mid between g (seats_in then_programs) (shared_in left rest) ended noted tried' run few_then (holds_of then_programs) J' answer held entered told in (
+            ready_then left then_programs rest J' spare' many_then dry fits did.agrees did.holds_are
+                (moves-took did.advance.heard _ _ answer did.advance.advance ∙ moves-ran_on J p n),
+            made_some answers xs rs J room (holds_of programs) i p old n mid between g (seats_in then_programs) (shared_in left rest) ended noted tried' run few_then (holds_of then_programs) J' answer held entered told k e.count,
+            e.count,
+          )
+
+      held_still : (hold : Option Need) → hold ≡ get_or (holds_of programs) i None → (k : ℕ) → set (holds_of programs) i (held_after k hold) ≡ held_on (holds_of programs) i k
+      held_still hold is zero = ap (set (holds_of programs) i) is ∙ set-get_or (holds_of programs) i None
+      held_still hold is (suc k) = refl
+
+      abbrev Stops : ℕ → Type 0
+      Stops n =
+          IsReady slots windows left then_programs rest J' spare' room
+          × HasMadeOn answers n old (viewed slots windows left then_programs rest J' room)
+
+      stopped : (n : ℕ) → Going n (seats_in after) (shared_in left rest) → J' ≡ ran_on J program.p n → new.hold ≡ held_after n program.hold → Stops n
+      stopped n g entries hold =
+          let seats : seats_in then_programs ≡ seats_in after = seats_entered after i inside program new at same in
+          let seat = seat_then after i inside program new at same in
+          let number : program.p ≡ p = sym (ap (λ (x : Seat). x.p) seat) ∙ ap (λ x. (seat_at x i).p) seats ∙ g.number in
+          let journal : J' ≡ ran_on J p n = entries ∙ ap (λ q. ran_on J q n) number in
+          let was : program.hold ≡ get_or (holds_of programs) i None =
+          ap (λ (x : Program). x.hold) at ∙ sym (get_or-map (λ (x : Program). x.hold) after i program None inside) ∙ ap (λ hs. get_or hs i None) kept in
+          let held : holds_of then_programs ≡ held_on (holds_of programs) i n =
+          holds_then ∙ ap (set (holds_of programs) i) hold ∙ held_still program.hold was n in (
+            ready_then left then_programs rest J' spare' many_then dry fits
+                (subst (λ L. Agrees xs rs (seats_in then_programs) (shared_in left rest) L) (sym journal)
+                (subst (λ y. Agrees xs rs y (shared_in left rest) (ran_on J p n)) (sym seats) g.agrees))
+                (held ∙ g.holds_are ∙ ap₂ holds_in (sym seats) (sym journal))
+                (ap moves journal ∙ moves-ran_on J p n),
+            subst (λ L. HasMadeOn answers n old (shown xs rs (seats_in then_programs) (shared_in left rest) L room)) (sym journal)
+                (subst (λ y. HasMadeOn answers n old (shown xs rs y (shared_in left rest) (ran_on J p n) room)) (sym seats) g.made),
+          )
+
+      -- either way, after n orders and k more of which nothing is noted
+      module _ {E F : Type 0} (n k : ℕ) (mid : List Seat) (between : Shared) (g : Going n mid between) (few : calls J + (n + k) < CALL_LIMIT) (tried : Result (Step × Note) E) (r : Result (ℕ × Progress) F) (did : IfOk tried (λ x. HasBatch Tries k mid between (seats_in after) (shared_in left rest) x.0 x.1)) (err : OnErr tried (AreQuiet Tries k mid between (seats_in after) (shared_in left rest))) (entered : HasEntered J program.p (n + k) program.registers.ran program.hold tried J' new.hold r) where
+        abbrev Ends : Result (ℕ × Progress) F → Type 0
+        Ends x =
             IsReady slots windows left then_programs rest J' spare' room
-            × HasMadeSome answers k old (viewed slots windows left then_programs rest J' room) answer
-            × (k ≡ n + 1)
+            × IfOk x (λ y. HasMadeSome answers y.0 old (viewed slots windows left then_programs rest J' room) y.1)
+            × IfOk x (λ y. y.0 ≡ n + k + 1)
+            × OnErr x (HasMadeOn answers (n + k) old (viewed slots windows left then_programs rest J' room))
 
-        turned : (ended : Step) (noted : Note) (k : ℕ) (answer : Progress) → HasTriedAt answers rs (clock J) i (seats_in programs') (shared_in store' places') (seats_in after) (shared_in left rest) ended noted → IsEntered J program.p n program.registers.ran ended noted J' new.hold k answer → Goes k answer
-        turned ended noted k answer tried e =
-            let seats = seats_entered after i inside program new at same in
-            let seat = seat_then after i inside program new at same in
-            let tried' = subst (λ x. HasTriedAt answers rs (clock J) i (seats_in programs') (shared_in store' places') x (shared_in left rest) ended noted) (sym seats) tried in
-            let number : program.p ≡ p = sym (ap (λ (x : Seat). x.p) seat) ∙ tried'.turned.numbers i ∙ g.number in
-            let held : holds_of then_programs ≡ set (holds_of programs) i (hold_left ended) = holds_then ∙ ap (set (holds_of programs) i) e.hold in
-            let entered : J' ≡ added (ran_on J p n) (step_told (seat_at (seats_in then_programs) i).p (seat_at (seats_in then_programs) i).registers.ran ended noted) =
-            e.entries ∙ ap₂ (λ q (x : Seat). added (ran_on J q n) (step_told x.p x.registers.ran ended noted)) number (sym seat) in
-            let told : answer ≡ progress_of (seat_at (seats_in then_programs) i).p ended = e.answer ∙ ap (λ (x : Seat). progress_of x.p ended) (sym seat) in
-            let did = advanced_on answers xs rs J room (holds_of programs) i p old n (seats_in programs') (shared_in store' places') g (seats_in then_programs) (shared_in left rest) ended noted tried' run_then few_then (holds_of then_programs) J' answer held entered told in (
-              ready_then left then_programs rest J' spare' many_then dry fits did.agrees did.holds_are
-                  (moves-took did.advance.heard _ _ answer did.advance.advance ∙ moves-ran_on J p n),
-              made_some answers xs rs J room (holds_of programs) i p old n (seats_in programs') (shared_in store' places') g (seats_in then_programs) (shared_in left rest) ended noted tried' run_then few_then (holds_of then_programs) J' answer held entered told k e.count,
-              e.count,
-            )
+        little : calls J + (n + k) ≤ CALL_LIMIT
+        little = omega (arith, few)
 
-        held_still : (hold : Option Need) → hold ≡ get_or (holds_of programs) i None → (k : ℕ) → set (holds_of programs) i (held_after k hold) ≡ held_on (holds_of programs) i k
-        held_still hold is zero = ap (set (holds_of programs) i) is ∙ set-get_or (holds_of programs) i None
-        held_still hold is (suc k) = refl
-
-        abbrev Stops : Type 0
-        Stops =
-            IsReady slots windows left then_programs rest J' spare' room
-            × HasMadeOn answers n old (viewed slots windows left then_programs rest J' room)
-
-        stopped : seats_in after ≡ seats_in programs' → shared_in left rest ≡ shared_in store' places' → J' ≡ ran_on J program.p n → new.hold ≡ held_after n program.hold → Stops
-        stopped seats shared entries hold =
-            let seats' : seats_in then_programs ≡ seats_in programs' = seats_entered after i inside program new at same ∙ seats in
-            let seat = seat_then after i inside program new at same in
-            let number : program.p ≡ p = sym (ap (λ (x : Seat). x.p) seat) ∙ ap (λ x. (seat_at x i).p) seats' ∙ g.number in
-            let journal : J' ≡ ran_on J p n = entries ∙ ap (λ q. ran_on J q n) number in
-            let was : program.hold ≡ get_or (holds_of programs) i None =
-            ap (λ (x : Program). x.hold) at ∙ sym (get_or-map (λ (x : Program). x.hold) after i program None inside) ∙ ap (λ hs. get_or hs i None) (kept ∙ holds') in
-            let held : holds_of then_programs ≡ held_on (holds_of programs) i n =
-            holds_then ∙ ap (set (holds_of programs) i) hold ∙ held_still program.hold was n in (
-              ready_then left then_programs rest J' spare' many_then dry fits
-                  (subst (λ L. Agrees xs rs (seats_in then_programs) (shared_in left rest) L) (sym journal)
-                  (subst (λ y. Agrees xs rs (seats_in then_programs) y (ran_on J p n)) (sym shared)
-                  (subst (λ y. Agrees xs rs y (shared_in store' places') (ran_on J p n)) (sym seats') g.agrees)))
-                  (held ∙ g.holds_are ∙ ap₂ holds_in (sym seats') (sym journal))
-                  (ap moves journal ∙ moves-ran_on J p n),
-              subst (λ L. HasMadeOn answers n old (shown xs rs (seats_in then_programs) (shared_in left rest) L room)) (sym journal)
-                  (subst (λ y. HasMadeOn answers n old (shown xs rs (seats_in then_programs) y (ran_on J p n) room)) (sym shared)
-                  (subst (λ y. HasMadeOn answers n old (shown xs rs y (shared_in store' places') (ran_on J p n) room)) (sym seats') g.made)),
-            )
-
-        -- either way
-        module _ {E F : Type 0} (tried : Result (Step × Note) E) (r : Result (ℕ × Progress) F) (did : IfOk tried (λ x. HasTriedAt answers rs (clock J) i (seats_in programs') (shared_in store' places') (seats_in after) (shared_in left rest) x.0 x.1)) (err : OnErr tried ((seats_in after ≡ seats_in programs') × (shared_in left rest ≡ shared_in store' places'))) (entered : HasEntered J program.p n program.registers.ran program.hold tried J' new.hold r) where
-          abbrev Ends : Type 0
-          Ends =
-              IsReady slots windows left then_programs rest J' spare' room
-              × IfOk r (λ x. HasMadeSome answers x.0 old (viewed slots windows left then_programs rest J' room) x.1)
-              × IfOk r (λ x. x.0 ≡ n + 1)
-              × OnErr r (HasMadeOn answers n old (viewed slots windows left then_programs rest J' room))
-
-          pub ends : Ends
-          ends = by tried r did err entered
-            where
-              by : (t : Result (Step × Note) E) (x : Result (ℕ × Progress) F) → IfOk t (λ x. HasTriedAt answers rs (clock J) i (seats_in programs') (shared_in store' places') (seats_in after) (shared_in left rest) x.0 x.1) → OnErr t ((seats_in after ≡ seats_in programs') × (shared_in left rest ≡ shared_in store' places')) → HasEntered J program.p n program.registers.ran program.hold t J' new.hold x
-                  → IsReady slots windows left then_programs rest J' spare' room × IfOk x (λ y. HasMadeSome answers y.0 old (viewed slots windows left then_programs rest J' room) y.1) × IfOk x (λ y. y.0 ≡ n + 1) × OnErr x (HasMadeOn answers n old (viewed slots windows left then_programs rest J' room))
-              by (Ok t) (Ok x) did err e = let all = turned t.0 t.1 x.0 x.1 did e in (all.0, all.1, all.2, tt)
-              by (Err _) (Err _) did err e = let all = stopped err.0 err.1 e.0 e.1 in (all.0, tt, tt, all.1)
-              by (Ok t) (Err _) did err e = absurd e
-              by (Err _) (Ok x) did err e = absurd e
+        pub ends : Ends r
+        ends = by tried r did err entered
+          where
+            by : (t : Result (Step × Note) E) (x : Result (ℕ × Progress) F) → IfOk t (λ x. HasBatch Tries k mid between (seats_in after) (shared_in left rest) x.0 x.1) → OnErr t (AreQuiet Tries k mid between (seats_in after) (shared_in left rest)) → HasEntered J program.p (n + k) program.registers.ran program.hold t J' new.hold x → Ends x
+            by (Ok t) (Ok x) did err e =
+                let all = turned (n + k) did.mid did.between (further n mid between g k did.mid did.between little did.earlier) few t.0 t.1 x.0 x.1 did.last e in
+                (all.0, all.1, all.2, tt)
+            by (Err _) (Err _) did err e =
+                let all = stopped (n + k) (further n mid between g k (seats_in after) (shared_in left rest) little err) e.0 e.1 in
+                (all.0, tt, tt, all.1)
+            by (Ok t) (Err _) did err e = absurd e
+            by (Err _) (Ok x) did err e = absurd e

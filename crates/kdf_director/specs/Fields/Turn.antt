@@ -1,21 +1,19 @@
 -- What a turn shows, and what an acting call does to it.
-use Rattle.std.specs.Prelude.{◌≡◌, ◌+◌, ◌-◌, ◌*◌, ◌<◌, ◌≤◌, [], true, ℕ, slice_index_or, vec_len}
+use Rattle.std.specs.Prelude.{◌≡◌, ◌+◌, ◌-◌, ◌*◌, ◌<◌, ◌≤◌, [], true, ℕ, map, slice_index_or, vec_len}
 use Rattle.std.specs.Vec.{vec_capacity}
 use Rattle.kdf_transfer.specs.AtOnce.{is_output}
 use Rattle.kdf_transfer.specs.declared.order.TransferOrder.{TransferOrder}
 use Rattle.kdf_processor.specs.declared.registers.Registers.{Registers}
-use Rattle.kdf_processor.specs.declared.step.Step.{Step}
-use Rattle.kdf_processor.specs.Outcome.{outcome}
-use Rattle.kdf_director.specs.declared.note.Note.{Note}
 use Rattle.kdf_processor.specs.Effect.{Act}
 use Rattle.kdf_processor.specs.Room.{RoomFor}
 use Rattle.kdf_processor.specs.View.{View}
 use Rattle.kdf_places.specs.declared.place.Place.TheVariants.{Absent}
 use Rattle.kdf_director.specs.declared.turn.Turn.{Turn}
 use Rattle.kdf_director.specs.Fields.Notes.{note_after}
-use Rattle.kdf_director.specs.Fields.Parts.{Part, part_after, part_with}
+use Rattle.kdf_director.specs.Fields.Parts.{Part, Reach, Seat, part_after, part_with, reach, seat}
 use Rattle.kdf_places.specs.Shared.{Shared, shared_in}
 use Rattle.kdf_director.specs.Fields.Shared.{view, after_act}
+use Rattle.kdf_director.specs.Fields.Stints.{keeping_of}
 use Rattle.kdf_places.specs.Spots.{IsReady}
 
 abbrev pub part_of : Turn → Part
@@ -29,6 +27,14 @@ shared t = shared_in t.store.now t.places.now.items
 abbrev pub shown : Turn → View
 shown t = view (part_of t) t.moment (shared t)
 
+-- the program, when these are its registers
+abbrev pub seat_in : Turn → Registers → Seat
+seat_in t r = seat t.p r t.claimed.now t.spooled.now.items (map keeping_of t.stints.now.items)
+
+-- what it reaches
+abbrev pub reach_in : Turn → Reach
+reach_in t = reach t.window t.slot.now
+
 -- it is a turn over the same machine, at the same moment
 pub record SameTurn (old new : Turn) : Type 0 where
   pub moment : new.moment ≡ old.moment
@@ -38,6 +44,12 @@ pub record SameTurn (old new : Turn) : Type 0 where
   pub store : new.store.ghost_name ≡ old.store.ghost_name
   pub places : new.places.ghost_name ≡ old.places.ghost_name
   pub block : new.block.ghost_name ≡ old.block.ghost_name
+
+-- it is one of the same program, in its slot and over its window
+pub record SameProgram (old new : Turn) : Type 0 where
+  pub same : SameTurn old new
+  pub p : new.p ≡ old.p
+  pub reach : reach_in new ≡ reach_in old
 
 -- an acting call does what it does to the program's part and to what is shared, and is noted
 pub record Acts (old : Turn) (act : Act) (new : Turn) : Type 0 where
@@ -52,14 +64,6 @@ pub record Stays (old new : Turn) : Type 0 where
   pub part : part_of new ≡ part_of old
   pub shared : shared new ≡ shared old
   pub note : new.note ≡ old.note
-
--- its next order was obeyed
-pub record HasObeyed (old : Turn) (r : Registers) (new : Turn) (left : Registers) (ended : Step)
-    (noted : Note) : Type 0 where
-  pub step : ended ≡ (outcome (shown old) r).step
-  pub note : noted ≡ note_after (outcome (shown old) r).act old.note
-  pub registers : left ≡ (outcome (shown old) r).registers
-  pub acted : Acts old (outcome (shown old) r).act new
 
 -- there is memory for a transfer: for the blocks that its device gains, and for the characters of its area
 pub record CanStart (t : Turn) (d : ℕ) (order : TransferOrder) (first last : ℕ) : Type 0 where

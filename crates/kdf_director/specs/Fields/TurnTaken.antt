@@ -32,14 +32,15 @@ abbrev pub progress_of : ℕ → Ending → Progress
 progress_of p (ending.Held need) = progress.Held p need
 progress_of p ended = progress.Ran p
 
--- where an order asks the service of a word, this is one of its answers to that; where it asks nothing, nothing was heard
+-- where an order asks the service of a word, this is one of its answers to that; where it asks nothing, nothing was
+-- heard
 abbrev pub HasAsked : (answers : ℕ → ℕ → Type 0) → (asked heard : Option ℕ) → Type 0
 HasAsked answers (Some word) (Some answer) = (word < 2 ^ 48) × answers word answer
 HasAsked answers None None = Unit {0}
 HasAsked answers asked heard = ⊥
 
--- program i of all had its turn, at a moment at which the service was heard where its order asked it, and the journal and its hold tell how
--- that ended
+-- program i of all had its turn, at a moment at which the service was heard where its order asked it, and the journal
+-- and its hold tell how that ended
 pub record HasTaken (answers : ℕ → ℕ → Type 0) (reaches : List Reach) (i : ℕ) (before : List Seat) (s : Shared)
     (holds : List (Option Need)) (J : List Entry) (after : List Seat) (left : Shared) (held : List (Option Need))
     (K : List Entry) (answer : Progress) : Type 0 where

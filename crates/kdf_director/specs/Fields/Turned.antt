@@ -18,7 +18,8 @@ use Rattle.kdf_places.specs.Spots.{spot_at}
 abbrev pub outcome_over : Seat → Reach → Moment → Shared → Outcome
 outcome_over seat reach m s = outcome (view (part_in seat reach) m s) seat.registers
 
--- the word of which its next order asks the service, if it does: what an order asks depends on no answer, so any moment tells it
+-- the word of which its next order asks the service, if it does: what an order asks depends on no answer, so any moment
+-- tells it
 abbrev pub word_over : Seat → Reach → Shared → Option ℕ
 word_over seat reach s = act_word (outcome_over seat reach (moment 0 0) s).act
 
@@ -52,8 +53,8 @@ pub record HasRun (reach : Reach) (m : Moment) (before : Seat) (s : Shared) (aft
   pub note : noted ≡ note_of (outcome_over before reach m s).act
   pub both : both_of after left ≡ settled (both_after (part_in before reach) s (outcome_over before reach m s))
 
--- Program i of all tried its next order: its own state is that of its row, where a transfer only begins, and every other's is as it was. A
--- transfer is there where one was or began, and each device of the pool is its holder's.
+-- Program i of all tried its next order: its own state is that of its row, where a transfer only begins, and every
+-- other's is as it was. A transfer is there where one was or began, and each device of the pool is its holder's.
 pub record HasTurned (reaches : List Reach) (m : Moment) (i : ℕ) (before : List Seat) (s : Shared)
     (after : List Seat) (left : Shared) (ended : Step) (noted : Note) : Type 0 where
   pub step : (asked : ℕ) → ended ≡ (outcome_at reaches before s m asked i).step

@@ -1,10 +1,11 @@
 use Rattle.std.specs.Prelude.{IfOk, OnErr}
-use Rattle.std.proofs.Common.{List, set, sym, ap, ◌∙◌, refl, subst, arith}
+use Rattle.std.proofs.Common.{◌+◌, List, set, sym, ap, ◌∙◌, refl, subst, arith}
 use Rattle.kdf_journal.specs.declared.entry.Entry.{Entry}
 use Rattle.kdf_journal.specs.Counts.{clock}
+use Rattle.kdf_director.specs.Fields.Batches.{AreQuiet, HasBatch, HasTriedOn}
 use Rattle.kdf_places.specs.Shared.{shared_in}
 use Rattle.kdf_director.specs.Fields.Running.{reaches_in, seats_in}
-use Rattle.kdf_director.specs.Runs.{HasEntered, HasMadeButFewer, HasMadeOn, HasTriedAt}
+use Rattle.kdf_director.specs.Runs.{HasEntered, HasMadeButFewer, HasMadeOn}
 use Rattle.kdf_director.specs.Fields.Viewed.{viewed}
 use Rattle.kdf_director.proofs.Calls.CallsAtOnce.{all_err, begun, ends, going_more, live, ran}
 use Rattle.kdf_director.proofs.Calls.CallsAfterCalls.{made_none}
@@ -24,29 +25,24 @@ loop-quiet-init g c =
       time = c.clock-time.ensures ∙ ap clock c.reserve.ensures.entries;
     }
 
-pub try_at-tried-requires-clause-live : goal.try_at-tried-requires-clause-live
-try_at-tried-requires-clause-live g c =
-    live (λ n a. goal.F-post g c.args.service.now n a) c.args.slots.now c.args.windows.now c.args.store.now c.args.programs.now.items c.args.places.now.items c.args.journal.now.entries c.args.journal.now.spare c.args.room c.requires.ready c.args.i c.requires.next
-    c.loop-quiet.quiet c.loop-quiet.store c.loop-quiet.programs.items c.loop-quiet.places.items c.loop-quiet.invariant.many c.loop-quiet.invariant.holds c.loop-quiet.invariant.going
+pub try_at-more-requires-clause-live : goal.try_at-more-requires-clause-live
+try_at-more-requires-clause-live g c = live (λ n a. goal.F-post g c.args.service.now n a) c.args.slots.now c.args.windows.now c.args.store.now c.args.programs.now.items c.args.places.now.items c.args.journal.now.entries c.args.journal.now.spare c.args.room c.requires.ready c.args.i c.requires.next c.loop-quiet.quiet (seats_in c.loop-quiet.programs.items) (shared_in c.loop-quiet.store c.loop-quiet.places.items) c.loop-quiet.invariant.going
 
-pub try_at-tried-requires-clause-ran : goal.try_at-tried-requires-clause-ran
-try_at-tried-requires-clause-ran g c =
-    let few = ran (λ n a. goal.F-post g c.args.service.now n a) c.args.slots.now c.args.windows.now c.args.store.now c.args.programs.now.items c.args.places.now.items c.args.journal.now.entries c.args.journal.now.spare c.args.room c.requires.ready c.args.i c.requires.next
-    c.loop-quiet.quiet c.loop-quiet.store c.loop-quiet.programs.items c.loop-quiet.places.items c.loop-quiet.invariant.many c.loop-quiet.invariant.holds c.loop-quiet.invariant.going in
-    omega arith
+pub try_at-more-requires-clause-ran : goal.try_at-more-requires-clause-ran
+try_at-more-requires-clause-ran g c =
+    let few = ran (λ n a. goal.F-post g c.args.service.now n a) c.args.slots.now c.args.windows.now c.args.store.now c.args.programs.now.items c.args.places.now.items c.args.journal.now.entries c.args.journal.now.spare c.args.room c.requires.ready c.args.i c.requires.next c.loop-quiet.quiet (seats_in c.loop-quiet.programs.items) (shared_in c.loop-quiet.store c.loop-quiet.places.items) c.loop-quiet.invariant.going in
+    omega (arith, few, c.requires.few)
 
 pub loop-quiet-preserved : goal.loop-quiet-preserved
 loop-quiet-preserved g c =
     record {
       going =
-          going_more (λ n a. goal.F-post g c.args.service.now n a) c.args.slots.now c.args.windows.now c.args.store.now c.args.programs.now.items c.args.places.now.items c.args.journal.now.entries c.args.journal.now.spare c.args.room c.requires.ready c.args.i c.requires.next
-          c.loop-quiet.quiet c.loop-quiet.store c.loop-quiet.programs.items c.loop-quiet.places.items c.loop-quiet.invariant.many c.loop-quiet.invariant.holds c.loop-quiet.invariant.going
-          (omega (arith, c.requires.few, c.loop-quiet.invariant.left)) c.try_at-tried.new.store c.try_at-tried.new.programs.items c.try_at-tried.new.places.items c.try_at-tried.result (c.is_quiet.ensures c.if-is_quiet.true)
-          (subst (λ t. IfOk c.try_at-tried.result (λ x. HasTriedAt (λ n a. goal.F-post g c.args.service.now n a) (reaches_in c.args.windows.now c.args.slots.now) t c.args.i (seats_in c.loop-quiet.programs.items) (shared_in c.loop-quiet.store c.loop-quiet.places.items) (seats_in c.try_at-tried.new.programs.items) (shared_in c.try_at-tried.new.store c.try_at-tried.new.places.items) x.0 x.1)) c.loop-quiet.invariant.time c.try_at-tried.ensures.tried)
-          c.try_at-tried.ensures.running;
-      many = c.try_at-tried.ensures.many ∙ c.loop-quiet.invariant.many;
-      holds = c.try_at-tried.ensures.holds ∙ c.loop-quiet.invariant.holds;
-      dry = c.try_at-tried.ensures.dry;
+          going_more (λ n a. goal.F-post g c.args.service.now n a) c.args.slots.now c.args.windows.now c.args.store.now c.args.programs.now.items c.args.places.now.items c.args.journal.now.entries c.args.journal.now.spare c.args.room c.requires.ready c.args.i c.requires.next c.loop-quiet.quiet (seats_in c.loop-quiet.programs.items) (shared_in c.loop-quiet.store c.loop-quiet.places.items) c.loop-quiet.invariant.going c.try_at-more.result.0
+          (omega (arith, c.requires.few, c.loop-quiet.invariant.left, c.try_at-more.ensures.within)) (seats_in c.try_at-more.new.programs.items) (shared_in c.try_at-more.new.store c.try_at-more.new.places.items) c.try_at-more.result.1 (c.is_quiet.ensures c.if-is_quiet.true)
+          (subst (λ t. IfOk c.try_at-more.result.1 (λ x. HasBatch (HasTriedOn (λ n a. goal.F-post g c.args.service.now n a) (reaches_in c.args.windows.now c.args.slots.now) t c.args.i) c.try_at-more.result.0 (seats_in c.loop-quiet.programs.items) (shared_in c.loop-quiet.store c.loop-quiet.places.items) (seats_in c.try_at-more.new.programs.items) (shared_in c.try_at-more.new.store c.try_at-more.new.places.items) x.0 x.1)) c.loop-quiet.invariant.time c.try_at-more.ensures.tried);
+      many = c.try_at-more.ensures.many ∙ c.loop-quiet.invariant.many;
+      holds = c.try_at-more.ensures.holds ∙ c.loop-quiet.invariant.holds;
+      dry = c.try_at-more.ensures.dry;
       left = c.if-quiet-most.true;
       entries = c.loop-quiet.invariant.entries;
       spare = c.loop-quiet.invariant.spare;
@@ -56,43 +52,43 @@ loop-quiet-preserved g c =
 pub returns-else-quiet-most-clause-ready : goal.returns-else-quiet-most-clause-ready
 returns-else-quiet-most-clause-ready g c =
     (ends (λ n a. goal.F-post g c.args.service.now n a) c.args.slots.now c.args.windows.now c.args.store.now c.args.programs.now.items c.args.places.now.items c.args.journal.now.entries c.args.journal.now.spare c.args.room c.requires.ready c.args.i c.requires.next
-    c.loop-quiet.quiet c.loop-quiet.store c.loop-quiet.programs.items c.loop-quiet.places.items c.loop-quiet.invariant.many c.loop-quiet.invariant.holds c.loop-quiet.invariant.going
-    (omega (arith, c.requires.few, c.loop-quiet.invariant.left)) c.try_at-tried.new.store c.try_at-tried.new.programs.items c.try_at-tried.new.places.items c.try_at-tried.ensures.many c.try_at-tried.ensures.holds c.try_at-tried.ensures.dry c.try_at-tried.ensures.running
+    c.try_at-more.new.store c.try_at-more.new.programs.items c.try_at-more.new.places.items (c.try_at-more.ensures.many ∙ c.loop-quiet.invariant.many) (c.try_at-more.ensures.holds ∙ c.loop-quiet.invariant.holds) c.try_at-more.ensures.dry
     c.index_mut.result.now c.enter_tried.new.program c.index_mut.ensures.value c.enter_tried.ensures.seat c.enter_tried.new.journal.entries c.enter_tried.new.journal.spare (omega (arith, c.loop-quiet.invariant.spare, c.enter_tried.ensures.spare))
-    c.try_at-tried.result c.enter_tried.result
-    (subst (λ t. IfOk c.try_at-tried.result (λ x. HasTriedAt (λ n a. goal.F-post g c.args.service.now n a) (reaches_in c.args.windows.now c.args.slots.now) t c.args.i (seats_in c.loop-quiet.programs.items) (shared_in c.loop-quiet.store c.loop-quiet.places.items) (seats_in c.try_at-tried.new.programs.items) (shared_in c.try_at-tried.new.store c.try_at-tried.new.places.items) x.0 x.1)) c.loop-quiet.invariant.time c.try_at-tried.ensures.tried)
-    c.try_at-tried.ensures.err
-    (subst (λ (J : List Entry). HasEntered J c.index_mut.result.now.p c.loop-quiet.quiet c.index_mut.result.now.registers.ran c.index_mut.result.now.hold c.try_at-tried.result c.enter_tried.new.journal.entries c.enter_tried.new.program.hold c.enter_tried.result) c.loop-quiet.invariant.entries c.enter_tried.ensures.entered)).0
+    c.loop-quiet.quiet c.try_at-more.result.0 (seats_in c.loop-quiet.programs.items) (shared_in c.loop-quiet.store c.loop-quiet.places.items) c.loop-quiet.invariant.going (omega (arith, c.requires.few, c.loop-quiet.invariant.left, c.try_at-more.ensures.within))
+    c.try_at-more.result.1 c.enter_tried.result
+    (subst (λ t. IfOk c.try_at-more.result.1 (λ x. HasBatch (HasTriedOn (λ n a. goal.F-post g c.args.service.now n a) (reaches_in c.args.windows.now c.args.slots.now) t c.args.i) c.try_at-more.result.0 (seats_in c.loop-quiet.programs.items) (shared_in c.loop-quiet.store c.loop-quiet.places.items) (seats_in c.try_at-more.new.programs.items) (shared_in c.try_at-more.new.store c.try_at-more.new.places.items) x.0 x.1)) c.loop-quiet.invariant.time c.try_at-more.ensures.tried)
+    (subst (λ t. OnErr c.try_at-more.result.1 (AreQuiet (HasTriedOn (λ n a. goal.F-post g c.args.service.now n a) (reaches_in c.args.windows.now c.args.slots.now) t c.args.i) c.try_at-more.result.0 (seats_in c.loop-quiet.programs.items) (shared_in c.loop-quiet.store c.loop-quiet.places.items) (seats_in c.try_at-more.new.programs.items) (shared_in c.try_at-more.new.store c.try_at-more.new.places.items))) c.loop-quiet.invariant.time c.try_at-more.ensures.err)
+    (subst (λ (J : List Entry). HasEntered J c.index_mut.result.now.p (c.loop-quiet.quiet + c.try_at-more.result.0) c.index_mut.result.now.registers.ran c.index_mut.result.now.hold c.try_at-more.result.1 c.enter_tried.new.journal.entries c.enter_tried.new.program.hold c.enter_tried.result) c.loop-quiet.invariant.entries c.enter_tried.ensures.entered)).0
 
 pub returns-else-quiet-most-clause-made : goal.returns-else-quiet-most-clause-made
 returns-else-quiet-most-clause-made g c =
     (ends (λ n a. goal.F-post g c.args.service.now n a) c.args.slots.now c.args.windows.now c.args.store.now c.args.programs.now.items c.args.places.now.items c.args.journal.now.entries c.args.journal.now.spare c.args.room c.requires.ready c.args.i c.requires.next
-    c.loop-quiet.quiet c.loop-quiet.store c.loop-quiet.programs.items c.loop-quiet.places.items c.loop-quiet.invariant.many c.loop-quiet.invariant.holds c.loop-quiet.invariant.going
-    (omega (arith, c.requires.few, c.loop-quiet.invariant.left)) c.try_at-tried.new.store c.try_at-tried.new.programs.items c.try_at-tried.new.places.items c.try_at-tried.ensures.many c.try_at-tried.ensures.holds c.try_at-tried.ensures.dry c.try_at-tried.ensures.running
+    c.try_at-more.new.store c.try_at-more.new.programs.items c.try_at-more.new.places.items (c.try_at-more.ensures.many ∙ c.loop-quiet.invariant.many) (c.try_at-more.ensures.holds ∙ c.loop-quiet.invariant.holds) c.try_at-more.ensures.dry
     c.index_mut.result.now c.enter_tried.new.program c.index_mut.ensures.value c.enter_tried.ensures.seat c.enter_tried.new.journal.entries c.enter_tried.new.journal.spare (omega (arith, c.loop-quiet.invariant.spare, c.enter_tried.ensures.spare))
-    c.try_at-tried.result c.enter_tried.result
-    (subst (λ t. IfOk c.try_at-tried.result (λ x. HasTriedAt (λ n a. goal.F-post g c.args.service.now n a) (reaches_in c.args.windows.now c.args.slots.now) t c.args.i (seats_in c.loop-quiet.programs.items) (shared_in c.loop-quiet.store c.loop-quiet.places.items) (seats_in c.try_at-tried.new.programs.items) (shared_in c.try_at-tried.new.store c.try_at-tried.new.places.items) x.0 x.1)) c.loop-quiet.invariant.time c.try_at-tried.ensures.tried)
-    c.try_at-tried.ensures.err
-    (subst (λ (J : List Entry). HasEntered J c.index_mut.result.now.p c.loop-quiet.quiet c.index_mut.result.now.registers.ran c.index_mut.result.now.hold c.try_at-tried.result c.enter_tried.new.journal.entries c.enter_tried.new.program.hold c.enter_tried.result) c.loop-quiet.invariant.entries c.enter_tried.ensures.entered)).1
+    c.loop-quiet.quiet c.try_at-more.result.0 (seats_in c.loop-quiet.programs.items) (shared_in c.loop-quiet.store c.loop-quiet.places.items) c.loop-quiet.invariant.going (omega (arith, c.requires.few, c.loop-quiet.invariant.left, c.try_at-more.ensures.within))
+    c.try_at-more.result.1 c.enter_tried.result
+    (subst (λ t. IfOk c.try_at-more.result.1 (λ x. HasBatch (HasTriedOn (λ n a. goal.F-post g c.args.service.now n a) (reaches_in c.args.windows.now c.args.slots.now) t c.args.i) c.try_at-more.result.0 (seats_in c.loop-quiet.programs.items) (shared_in c.loop-quiet.store c.loop-quiet.places.items) (seats_in c.try_at-more.new.programs.items) (shared_in c.try_at-more.new.store c.try_at-more.new.places.items) x.0 x.1)) c.loop-quiet.invariant.time c.try_at-more.ensures.tried)
+    (subst (λ t. OnErr c.try_at-more.result.1 (AreQuiet (HasTriedOn (λ n a. goal.F-post g c.args.service.now n a) (reaches_in c.args.windows.now c.args.slots.now) t c.args.i) c.try_at-more.result.0 (seats_in c.loop-quiet.programs.items) (shared_in c.loop-quiet.store c.loop-quiet.places.items) (seats_in c.try_at-more.new.programs.items) (shared_in c.try_at-more.new.store c.try_at-more.new.places.items))) c.loop-quiet.invariant.time c.try_at-more.ensures.err)
+    (subst (λ (J : List Entry). HasEntered J c.index_mut.result.now.p (c.loop-quiet.quiet + c.try_at-more.result.0) c.index_mut.result.now.registers.ran c.index_mut.result.now.hold c.try_at-more.result.1 c.enter_tried.new.journal.entries c.enter_tried.new.program.hold c.enter_tried.result) c.loop-quiet.invariant.entries c.enter_tried.ensures.entered)).1
 
 pub returns-else-quiet-most-clause-err : goal.returns-else-quiet-most-clause-err
 returns-else-quiet-most-clause-err g c =
     on_err c.enter_tried.result
-    (HasMadeOn (λ n a. goal.F-post g c.args.service.now n a) c.loop-quiet.quiet
+    (HasMadeOn (λ n a. goal.F-post g c.args.service.now n a) (c.loop-quiet.quiet + c.try_at-more.result.0)
     (viewed c.args.slots.now c.args.windows.now c.args.store.now c.args.programs.now.items c.args.places.now.items c.args.journal.now.entries c.args.room)
-    (viewed c.args.slots.now c.args.windows.now c.try_at-tried.new.store (set c.try_at-tried.new.programs.items c.args.i c.enter_tried.new.program) c.try_at-tried.new.places.items c.enter_tried.new.journal.entries c.args.room))
+    (viewed c.args.slots.now c.args.windows.now c.try_at-more.new.store (set c.try_at-more.new.programs.items c.args.i c.enter_tried.new.program) c.try_at-more.new.places.items c.enter_tried.new.journal.entries c.args.room))
     (HasMadeButFewer (λ n a. goal.F-post g c.args.service.now n a) c.args.most
     (viewed c.args.slots.now c.args.windows.now c.args.store.now c.args.programs.now.items c.args.places.now.items c.args.journal.now.entries c.args.room)
-    (viewed c.args.slots.now c.args.windows.now c.try_at-tried.new.store (set c.try_at-tried.new.programs.items c.args.i c.enter_tried.new.program) c.try_at-tried.new.places.items c.enter_tried.new.journal.entries c.args.room))
-    (λ h. (c.loop-quiet.quiet, c.loop-quiet.invariant.left, h))
+    (viewed c.args.slots.now c.args.windows.now c.try_at-more.new.store (set c.try_at-more.new.programs.items c.args.i c.enter_tried.new.program) c.try_at-more.new.places.items c.enter_tried.new.journal.entries c.args.room))
+    (λ h. (c.loop-quiet.quiet + c.try_at-more.result.0, omega (arith, c.loop-quiet.invariant.left, c.try_at-more.ensures.within), h))
     (ends (λ n a. goal.F-post g c.args.service.now n a) c.args.slots.now c.args.windows.now c.args.store.now c.args.programs.now.items c.args.places.now.items c.args.journal.now.entries c.args.journal.now.spare c.args.room c.requires.ready c.args.i c.requires.next
-    c.loop-quiet.quiet c.loop-quiet.store c.loop-quiet.programs.items c.loop-quiet.places.items c.loop-quiet.invariant.many c.loop-quiet.invariant.holds c.loop-quiet.invariant.going
-    (omega (arith, c.requires.few, c.loop-quiet.invariant.left)) c.try_at-tried.new.store c.try_at-tried.new.programs.items c.try_at-tried.new.places.items c.try_at-tried.ensures.many c.try_at-tried.ensures.holds c.try_at-tried.ensures.dry c.try_at-tried.ensures.running
+    c.try_at-more.new.store c.try_at-more.new.programs.items c.try_at-more.new.places.items (c.try_at-more.ensures.many ∙ c.loop-quiet.invariant.many) (c.try_at-more.ensures.holds ∙ c.loop-quiet.invariant.holds) c.try_at-more.ensures.dry
     c.index_mut.result.now c.enter_tried.new.program c.index_mut.ensures.value c.enter_tried.ensures.seat c.enter_tried.new.journal.entries c.enter_tried.new.journal.spare (omega (arith, c.loop-quiet.invariant.spare, c.enter_tried.ensures.spare))
-    c.try_at-tried.result c.enter_tried.result
-    (subst (λ t. IfOk c.try_at-tried.result (λ x. HasTriedAt (λ n a. goal.F-post g c.args.service.now n a) (reaches_in c.args.windows.now c.args.slots.now) t c.args.i (seats_in c.loop-quiet.programs.items) (shared_in c.loop-quiet.store c.loop-quiet.places.items) (seats_in c.try_at-tried.new.programs.items) (shared_in c.try_at-tried.new.store c.try_at-tried.new.places.items) x.0 x.1)) c.loop-quiet.invariant.time c.try_at-tried.ensures.tried)
-    c.try_at-tried.ensures.err
-    (subst (λ (J : List Entry). HasEntered J c.index_mut.result.now.p c.loop-quiet.quiet c.index_mut.result.now.registers.ran c.index_mut.result.now.hold c.try_at-tried.result c.enter_tried.new.journal.entries c.enter_tried.new.program.hold c.enter_tried.result) c.loop-quiet.invariant.entries c.enter_tried.ensures.entered)).3
+    c.loop-quiet.quiet c.try_at-more.result.0 (seats_in c.loop-quiet.programs.items) (shared_in c.loop-quiet.store c.loop-quiet.places.items) c.loop-quiet.invariant.going (omega (arith, c.requires.few, c.loop-quiet.invariant.left, c.try_at-more.ensures.within))
+    c.try_at-more.result.1 c.enter_tried.result
+    (subst (λ t. IfOk c.try_at-more.result.1 (λ x. HasBatch (HasTriedOn (λ n a. goal.F-post g c.args.service.now n a) (reaches_in c.args.windows.now c.args.slots.now) t c.args.i) c.try_at-more.result.0 (seats_in c.loop-quiet.programs.items) (shared_in c.loop-quiet.store c.loop-quiet.places.items) (seats_in c.try_at-more.new.programs.items) (shared_in c.try_at-more.new.store c.try_at-more.new.places.items) x.0 x.1)) c.loop-quiet.invariant.time c.try_at-more.ensures.tried)
+    (subst (λ t. OnErr c.try_at-more.result.1 (AreQuiet (HasTriedOn (λ n a. goal.F-post g c.args.service.now n a) (reaches_in c.args.windows.now c.args.slots.now) t c.args.i) c.try_at-more.result.0 (seats_in c.loop-quiet.programs.items) (shared_in c.loop-quiet.store c.loop-quiet.places.items) (seats_in c.try_at-more.new.programs.items) (shared_in c.try_at-more.new.store c.try_at-more.new.places.items))) c.loop-quiet.invariant.time c.try_at-more.ensures.err)
+    (subst (λ (J : List Entry). HasEntered J c.index_mut.result.now.p (c.loop-quiet.quiet + c.try_at-more.result.0) c.index_mut.result.now.registers.ran c.index_mut.result.now.hold c.try_at-more.result.1 c.enter_tried.new.journal.entries c.enter_tried.new.program.hold c.enter_tried.result) c.loop-quiet.invariant.entries c.enter_tried.ensures.entered)).3
 
 pub returns-in_err-reserve-clause-err : goal.returns-in_err-reserve-clause-err
 returns-in_err-reserve-clause-err g c =

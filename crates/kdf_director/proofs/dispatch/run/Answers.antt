@@ -1,23 +1,50 @@
-use Rattle.std.proofs.Common.{◌≡◌, map, ap, subst}
+use Rattle.std.proofs.Common.{◌≡◌, map, true, ap, subst}
+use Rattle.kdf_processor.specs.Lone.{is_live}
+use Rattle.kdf_director.specs.Fields.Batches.{AreQuiet, HasBatch}
 use Rattle.kdf_director.specs.Fields.Parts.{Reach, Seat, reach, reach_of, seat, seat_of}
 use Rattle.kdf_places.specs.Shared.{Shared, shared_in}
 use Rattle.kdf_director.specs.Fields.Stints.{keeping_of}
 use Rattle.kdf_director.specs.Fields.Turned.{HasTried}
-use Rattle.kdf_director.proofs.Turns.DevicesLeave.{run_by}
+use Rattle.kdf_director.proofs.Turns.Batching.{runs_by, runs_still}
+use Rattle.kdf_director.proofs.Turns.AfterTheTry.{if_ok, on_err}
 use Rattle.kdf_director.proofs.dispatch.run.Goals as goal
-use Rattle.kdf_director.proofs.dispatch.run.Goals.{After-try_next}
+use Rattle.kdf_director.proofs.dispatch.run.Goals.{After-settle}
 
 -- what the slot reaches
-reached : (c : After-try_next) → reach c.window_of-window.result c.args.slot.now ≡ reach_of c.args.windows.now c.args.slot.now
+reached : (c : After-settle) → reach c.window_of-window.result c.args.slot.now ≡ reach_of c.args.windows.now c.args.slot.now
 reached c = ap (λ w. reach w c.args.slot.now) c.window_of-window.ensures
+
+-- the program and what is shared: before, and after its orders
+abbrev before : After-settle → Seat
+before c = seat_of c.args.program.now
+
+abbrev s : After-settle → Shared
+s c = shared_in c.args.store.now c.args.places.now.items
+
+abbrev mid : After-settle → Seat
+mid c =
+    seat c.args.program.now.p c.try_next-tried.new.registers c.try_next-tried.new.claimed c.try_next-tried.new.spooled.items (map keeping_of c.try_next-tried.new.stints.items)
+
+abbrev between : After-settle → Shared
+between c = shared_in c.try_next-tried.new.store c.try_next-tried.new.places.items
+
+live : (c : After-settle) → is_live (before c).registers.state ≡ true
+live c = ap is_live c.requires.live
 
 pub returns-clause-ran : goal.returns-clause-ran
 returns-clause-ran c =
-    let at = (goal.at.returns-clause-ran c).After-try_next in
-    let before : Seat = seat_of c.args.program.now in
-    let s : Shared = shared_in c.args.store.now c.args.places.now.items in
-    let mid : Seat = seat c.args.program.now.p c.try_next.new.registers c.try_next.new.claimed c.try_next.new.spooled.items (map keeping_of c.try_next.new.stints.items) in
-    let between : Shared = shared_in c.try_next.new.store c.try_next.new.places.items in
-    run_by (reach_of c.args.windows.now c.args.slot.now) c.args.moment before s mid between _ _ c.in_ok-tried.tried.0 c.in_ok-tried.tried.1
-    (subst (λ (r : Reach). HasTried r c.args.moment before s mid between c.in_ok-tried.tried.0 c.in_ok-tried.tried.1) (reached at) c.in_ok-tried.ensures.tried)
-    (c.settle.ensures.both c.try_next.new.store)
+    let at = (goal.at.returns-clause-ran c).After-settle in
+    if_ok c.try_next-tried.result.1 _ _
+    (λ x h. runs_by (reach_of c.args.windows.now c.args.slot.now) c.args.moment c.try_next-tried.result.0 (before at) (s at) (mid at) (between at) _ _ x.0 x.1 (live at)
+    (subst (λ (r : Reach). HasBatch (HasTried r c.args.moment) c.try_next-tried.result.0 (before at) (s at) (mid at) (between at) x.0 x.1) (reached at) h)
+    (c.settle.ensures.both c.try_next-tried.new.store))
+    c.try_next-tried.ensures.tried
+
+pub returns-clause-err : goal.returns-clause-err
+returns-clause-err c =
+    let at = (goal.at.returns-clause-err c).After-settle in
+    on_err c.try_next-tried.result.1 _ _
+    (λ h. runs_still (reach_of c.args.windows.now c.args.slot.now) c.args.moment c.try_next-tried.result.0 (before at) (s at) (mid at) (between at) _ _ (live at)
+    (subst (λ (r : Reach). AreQuiet (HasTried r c.args.moment) c.try_next-tried.result.0 (before at) (s at) (mid at) (between at)) (reached at) h)
+    (c.settle.ensures.both c.try_next-tried.new.store))
+    c.try_next-tried.ensures.err

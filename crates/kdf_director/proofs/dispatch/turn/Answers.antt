@@ -1,16 +1,19 @@
-use Rattle.std.proofs.Common.{◌≡◌, ◌+◌, ◌*◌, ◌%◌, ◌<◌, ◌≤◌, true, length, sym, ap, ◌∙◌, subst, arith}
+use Rattle.std.proofs.Common.{◌≡◌, ◌+◌, ◌*◌, ◌%◌, ◌<◌, ◌≤◌, true, length, set, sym, ap, ◌∙◌, subst, arith}
 use Rattle.std.proofs.lemmas.List.{length-map}
 use Rattle.kdf_processor.specs.Lone.{is_live}
+use Rattle.kdf_director.specs.Fields.Batches.{AreQuiet, HasTurnedOn}
 use Rattle.kdf_director.specs.Fields.Keeping.{IsActive, IsKept}
 use Rattle.kdf_director.specs.Fields.Parts.{Reach, Seat, part_in, reach_of, seat_of}
 use Rattle.kdf_places.specs.Shared.{Shared, shared_in}
-use Rattle.kdf_director.specs.Fields.Running.{reach_at, reaches_in, seat_at, seats_in, IsRunning}
+use Rattle.kdf_director.specs.Fields.Running.{reach_at, reaches_in, seat_at, seats_in}
 use Rattle.kdf_places.specs.Spots.{spot_of}
-use Rattle.kdf_director.proofs.Turns.OneProgram.{reach_is, seat_is, within, turned_all, running_all, unturned_all, holds_all}
+use Rattle.kdf_director.specs.Fields.Turned.{HasRun}
+use Rattle.kdf_director.proofs.Turns.Batching.{still_all, still_running, turns_all}
+use Rattle.kdf_director.proofs.Turns.OneProgram.{reach_is, seat_is, within, holds_all}
 use Rattle.kdf_transfer.proofs.Numbers.{limit_is}
 use Rattle.kdf_director.proofs.Turns.AfterTheTry.{if_ok, on_err, on_either}
 use Rattle.kdf_director.proofs.dispatch.turn.Goals as goal
-use Rattle.kdf_director.proofs.dispatch.turn.Goals.{After-index_mut}
+use Rattle.kdf_director.proofs.dispatch.turn.Goals.{After-index_mut, After-run}
 
 abbrev s : After-index_mut → Shared
 s c = shared_in c.args.store.now c.args.places.now.items
@@ -55,7 +58,7 @@ run-requires-clause-live c =
 pub run-requires-clause-ran : goal.run-requires-clause-ran
 run-requires-clause-ran c =
     let at = (goal.at.run-requires-clause-ran c).After-index_mut in
-    subst (λ (x : Seat). x.registers.ran < 4294967295) (sym (seat at)) c.requires.ran
+    subst (λ (x : Seat). x.registers.ran + c.args.most ≤ 4294967295) (sym (seat at)) c.requires.ran
 
 pub run-requires-clause-kept : goal.run-requires-clause-kept
 run-requires-clause-kept c =
@@ -71,29 +74,36 @@ run-requires-clause-active c =
     (subst (λ x. IsActive (part_in x (reach_at (reaches_in c.args.windows.now c.args.slots.now) c.args.i)) (s at)) (sym (seat at))
     (c.requires.running.active c.args.i (inside at) (on at)))
 
+-- what its orders leave
+abbrev left : After-run → Shared
+left c = shared_in c.run.new.store c.run.new.places.items
+
 pub returns-clause-turned : goal.returns-clause-turned
 returns-clause-turned c =
     let at = (goal.at.returns-clause-turned c).After-index_mut in
-    if_ok c.run.result _ _
-    (λ x h. turned_all c.args.windows.now c.args.slots.now c.args.programs.now.items c.args.i c.requires.there c.requires.slots c.index-slots-i.result c.index_mut.result.now c.index-slots-i.is c.index_mut.ensures.value
-    c.args.moment (s at) (shared_in c.run.new.store c.run.new.places.items) c.run.new.program x.0 x.1 c.requires.running (on at) h)
+    let ended = (goal.at.returns-clause-turned c).After-run in
+    if_ok c.run.result.1 _ _
+    (λ x h. turns_all c.args.windows.now c.args.slots.now c.args.programs.now.items c.args.i c.requires.there c.requires.slots c.index-slots-i.result c.index_mut.result.now c.index-slots-i.is c.index_mut.ensures.value
+    c.args.moment (s at) (left ended) c.run.new.program c.run.result.0 c.requires.running (on at) x.0 x.1 h)
     c.run.ensures.ran
+
+still : (c : After-run) → AreQuiet (HasRun (reach_of c.args.windows.now c.index-slots-i.result) c.args.moment) c.run.result.0 (seat_of c.index_mut.result.now) (shared_in c.args.store.now c.args.places.now.items) (seat_of c.run.new.program) (left c)
+    → AreQuiet (HasTurnedOn (reaches_in c.args.windows.now c.args.slots.now) c.args.moment c.args.i) c.run.result.0 (seats_in c.args.programs.now.items) (shared_in c.args.store.now c.args.places.now.items) (seats_in (set c.args.programs.now.items c.args.i c.run.new.program)) (left c)
+still c h =
+    still_all c.args.windows.now c.args.slots.now c.args.programs.now.items c.args.i c.requires.there c.requires.slots c.index-slots-i.result c.index_mut.result.now c.index-slots-i.is c.index_mut.ensures.value
+    c.args.moment (shared_in c.args.store.now c.args.places.now.items) (left c) c.run.new.program c.run.result.0 c.requires.running (ap is_live c.requires.live) h
 
 pub returns-clause-running : goal.returns-clause-running
 returns-clause-running c =
     let at = (goal.at.returns-clause-running c).After-index_mut in
-    on_either c.run.result _ _ _ c.run.ensures.ran c.run.ensures.err
-    (λ x h. running_all c.args.windows.now c.args.slots.now c.args.programs.now.items c.args.i c.requires.there c.requires.slots c.index-slots-i.result c.index_mut.result.now c.index-slots-i.is c.index_mut.ensures.value
-    c.args.moment (s at) (shared_in c.run.new.store c.run.new.places.items) c.run.new.program x.0 x.1 c.requires.running (on at) h)
-    (λ h. subst (λ seats. IsRunning (reaches_in c.args.windows.now c.args.slots.now) seats (shared_in c.run.new.store c.run.new.places.items))
-    (sym (unturned_all c.args.windows.now c.args.slots.now c.args.programs.now.items c.args.i c.requires.there c.requires.slots c.index-slots-i.result c.index_mut.result.now c.index-slots-i.is c.index_mut.ensures.value c.run.new.program h.0))
-    (subst (IsRunning (reaches_in c.args.windows.now c.args.slots.now) (seats_in c.args.programs.now.items)) (sym h.1) c.requires.running))
+    let ended = (goal.at.returns-clause-running c).After-run in
+    on_either c.run.result.1 _ _ _ c.run.ensures.ran c.run.ensures.err
+    (λ x h. (turns_all c.args.windows.now c.args.slots.now c.args.programs.now.items c.args.i c.requires.there c.requires.slots c.index-slots-i.result c.index_mut.result.now c.index-slots-i.is c.index_mut.ensures.value
+    c.args.moment (s at) (left ended) c.run.new.program c.run.result.0 c.requires.running (on at) x.0 x.1 h).last.1)
+    (λ h. still_running (reaches_in c.args.windows.now c.args.slots.now) c.args.moment c.args.i c.run.result.0 (seats_in c.args.programs.now.items) (s at) _ (left ended) c.requires.running (still ended h))
 
 pub returns-clause-err : goal.returns-clause-err
-returns-clause-err c =
-    on_err c.run.result _ _
-    (λ h. (unturned_all c.args.windows.now c.args.slots.now c.args.programs.now.items c.args.i c.requires.there c.requires.slots c.index-slots-i.result c.index_mut.result.now c.index-slots-i.is c.index_mut.ensures.value c.run.new.program h.0, h.1))
-    c.run.ensures.err
+returns-clause-err c = on_err c.run.result.1 _ _ (still (goal.at.returns-clause-err c).After-run) c.run.ensures.err
 
 pub returns-clause-holds : goal.returns-clause-holds
 returns-clause-holds c =

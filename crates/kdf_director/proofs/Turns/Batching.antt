@@ -1,0 +1,269 @@
+-- Orders of one program that are tried one after the other, of which nothing is noted.
+use Rattle.std.specs.Prelude.{unwrap_or}
+use Rattle.std.proofs.Common.{◌≡◌, ℕ, zero, suc, ◌+◌, ◌<◌, Bool, true, false, List, length, get_or, set, Option, Some, None, refl, sym, ap, ◌∙◌, subst, arith}
+use Rattle.std.proofs.lemmas.List.{get_or-set_same, length-set, map-set, set-get_or, set-set}
+use Rattle.kdf_processor.specs.declared.registers.Registers.{Registers}
+use Rattle.kdf_processor.specs.declared.step.Need.{Need}
+use Rattle.kdf_processor.specs.declared.step.Step.{Step}
+use Rattle.kdf_processor.specs.declared.step.Step.TheVariants as step
+use Rattle.kdf_processor.specs.Effect.{Effect, Failing, Ending, Changing, Fetching, Keeping, Testing, Starting, Asking, Claiming, Returning, Spooling}
+use Rattle.kdf_processor.specs.Lone.{is_live}
+use Rattle.kdf_processor.specs.Needs.{effect_at, needs_at}
+use Rattle.kdf_processor.specs.Outcome.{Outcome, done, held_or, outcome}
+use Rattle.kdf_processor.specs.View.{View, first_pending}
+use Rattle.kdf_director.specs.declared.moment.Moment.{Moment}
+use Rattle.kdf_director.specs.declared.note.Note.{Note}
+use Rattle.kdf_director.specs.declared.note.Note.TheVariants as note
+use Rattle.kdf_relocate.specs.declared.window.Window.{Window}
+use Rattle.kdf_director.specs.declared.program.Program.{Program}
+use Rattle.kdf_director.specs.declared.slot.Loaded.{Loaded}
+use Rattle.kdf_director.specs.Fields.Batches.{AreQuiet, HasBatch, HasTriedOn, HasTurnedOn}
+use Rattle.kdf_director.specs.Fields.Parts.{Part, Reach, Seat, part_in, reach_of, seat_of}
+use Rattle.kdf_places.specs.Shared.{Shared}
+use Rattle.kdf_director.specs.Fields.Running.{no_seat, reach_at, reaches_in, seat_at, seats_in, IsRunning}
+use Rattle.kdf_director.specs.Fields.Settled.{Both, both_of, settled}
+use Rattle.kdf_director.specs.Fields.Shared.{moment, view}
+use Rattle.kdf_director.specs.Fields.TurnTaken.{HasAsked}
+use Rattle.kdf_director.specs.declared.turn.Turn.{Turn}
+use Rattle.kdf_director.specs.Fields.Turn.{reach_in, SameProgram}
+use Rattle.kdf_director.specs.Fields.Turned.{both_after, outcome_over, word_over, HasRun, HasTried, HasTurned}
+use Rattle.kdf_director.proofs.Turns.HeardWords.{has_none, none_served}
+use Rattle.kdf_director.proofs.Turns.OneProgram.{reach_is, seat_is, within}
+use Rattle.kdf_director.proofs.Turns.DevicesLeave.{run_by, settled_on}
+use Rattle.kdf_director.proofs.Turns.AfterTheTry.{turned, turned_running}
+
+-- registers after an order that was obeyed: the program goes on, and the order is counted
+pub record GoesOn (before after : Registers) : Type 0 where
+  pub state : after.state ≡ before.state
+  pub ran : after.ran ≡ before.ran + 1
+
+done_on : (v : View) (r : Registers) (e : Effect) → (done v r e).step ≡ step.Done → GoesOn r (done v r e).registers
+done_on v r (Failing kind) is = cc
+done_on v r (Ending after) is = cc
+done_on v r (Changing after) is = record { state = refl; ran = refl }
+done_on v r (Fetching a after) is = record { state = refl; ran = refl }
+done_on v r (Keeping a w after) is = record { state = refl; ran = refl }
+done_on v r (Testing d what after) is = record { state = refl; ran = refl }
+done_on v r (Starting d o first last after) is = record { state = refl; ran = refl }
+done_on v r (Asking q after) is = record { state = refl; ran = refl }
+done_on v r (Claiming d after) is = record { state = refl; ran = refl }
+done_on v r (Returning pooled d after) is = record { state = refl; ran = refl }
+done_on v r (Spooling stream first last after) is = record { state = refl; ran = refl }
+
+held_on : (v : View) (r : Registers) (o : Option Need) (e : Effect) → (held_or r o (done v r e)).step ≡ step.Done → GoesOn r (held_or r o (done v r e)).registers
+held_on v r (Some need) e is = cc
+held_on v r None e is = done_on v r e is
+
+pub goes_on : (v : View) (r : Registers) → (outcome v r).step ≡ step.Done → GoesOn r (outcome v r).registers
+goes_on v r is = held_on v r (first_pending v (needs_at v.claims v.word r v.mine)) (effect_at v.claims v.word r) is
+
+module _ (reach : Reach) (m : Moment) where
+  abbrev Tries : Seat → Shared → Seat → Shared → Step → Note → Type 0
+  Tries = HasTried reach m
+
+  abbrev Runs : Seat → Shared → Seat → Shared → Step → Note → Type 0
+  Runs = HasRun reach m
+
+  -- a program that tried an order, which was obeyed
+  pub went_on : (before : Seat) (s : Shared) (after : Seat) (left : Shared) (noted : Note) → Tries before s after left step.Done noted → GoesOn before.registers after.registers
+  went_on before s after left noted tried =
+      let o : Outcome = outcome_over before reach m s in
+      subst (GoesOn before.registers) (sym (ap (λ (x : Seat). x.registers) tried.program))
+      (goes_on (view (part_in before reach) m s) before.registers (sym tried.step))
+
+  -- after so many, it was the last of them
+  pub last_by : (n k : ℕ) (before : Seat) (s : Shared) (mid : Seat) (between : Shared) (after : Seat) (left : Shared) (ended ended' : Step) (noted noted' : Note) → AreQuiet Tries n before s mid between → n ≡ k → Tries mid between after left ended noted → ended ≡ ended' → noted' ≡ noted → HasBatch Tries k before s after left ended' noted'
+  last_by n k before s mid between after left ended ended' noted noted' earlier many last is is' =
+      record {
+        mid = mid;
+        between = between;
+        earlier = subst (λ i. AreQuiet Tries i before s mid between) many earlier;
+        last = subst (Tries mid between after left ended') (sym is') (subst (λ e. Tries mid between after left e noted) is last);
+      }
+
+  -- gives nothing up
+  pub run_on : (before : Seat) (s : Shared) (after : Seat) (left : Shared) (noted : Note) → is_live before.registers.state ≡ true → Tries before s after left step.Done noted → Runs before s after left step.Done noted × is_live after.registers.state ≡ true
+  run_on before s after left noted live tried =
+      let on : is_live after.registers.state ≡ true = ap is_live (went_on before s after left noted tried).state ∙ live in
+      (run_by reach m before s after left after left step.Done noted tried (settled_on (both_of after left) on), on)
+
+  -- nor do so many
+  pub runs_on : (n : ℕ) (before : Seat) (s : Shared) (after : Seat) (left : Shared) → is_live before.registers.state ≡ true → AreQuiet Tries n before s after left → AreQuiet Runs n before s after left × is_live after.registers.state ≡ true
+  runs_on zero before s after left live same = (same, ap (λ (x : Seat). is_live x.registers.state) same.0 ∙ live)
+  runs_on (suc n) before s after left live (mid, between, earlier, last) =
+      let until = runs_on n before s mid between live earlier in
+      let then = run_on mid between after left note.Quiet until.1 last in
+      ((mid, between, until.0, then.0), then.1)
+
+  -- after the last, a program that is over gave up what it had
+  pub runs_by : (n : ℕ) (before : Seat) (s : Shared) (mid : Seat) (between : Shared) (after : Seat) (left : Shared) (ended : Step) (noted : Note) → is_live before.registers.state ≡ true → HasBatch Tries n before s mid between ended noted → both_of after left ≡ settled (both_of mid between) → HasBatch Runs n before s after left ended noted
+  runs_by n before s mid between after left ended noted live batch is =
+      record {
+        mid = batch.mid;
+        between = batch.between;
+        earlier = (runs_on n before s batch.mid batch.between live batch.earlier).0;
+        last = run_by reach m batch.mid batch.between mid between after left ended noted batch.last is;
+      }
+
+  -- and where there was no memory for it, the program goes on
+  pub runs_still : (n : ℕ) (before : Seat) (s : Shared) (mid : Seat) (between : Shared) (after : Seat) (left : Shared) → is_live before.registers.state ≡ true → AreQuiet Tries n before s mid between → both_of after left ≡ settled (both_of mid between) → AreQuiet Runs n before s after left
+  runs_still n before s mid between after left live quiet is =
+      let until = runs_on n before s mid between live quiet in
+      let same : both_of after left ≡ both_of mid between = is ∙ sym (settled_on (both_of mid between) until.1) in
+      subst (λ (b : Both). AreQuiet Runs n before s b.seat b.shared) (sym same) until.0
+
+  -- a program that was obeyed is live, if it was
+  pub live_on : (before : Seat) (s : Shared) (after : Seat) (left : Shared) (noted : Note) → is_live before.registers.state ≡ true → Runs before s after left step.Done noted → is_live after.registers.state ≡ true
+  live_on before s after left noted live ran =
+      let q : Part = part_in before reach in
+      let o : Outcome = outcome_over before reach m s in
+      let on : is_live o.registers.state ≡ true = ap is_live (goes_on (view q m s) before.registers (sym ran.step)).state ∙ live in
+      ap (λ (b : Both). is_live b.seat.registers.state) (ran.both ∙ sym (settled_on (both_after q s o) on)) ∙ on
+
+-- what is tried over a turn is tried over one of the same program
+pub tried_over : (t u : Turn) → SameProgram t u → (before : Seat) (s : Shared) (after : Seat) (left : Shared) (ended : Step) (noted : Note) → HasTried (reach_in u) u.moment before s after left ended noted → HasTried (reach_in t) t.moment before s after left ended noted
+tried_over t u same before s after left ended noted tried =
+    subst (λ m. HasTried (reach_in t) m before s after left ended noted) same.same.moment
+    (subst (λ r. HasTried r u.moment before s after left ended noted) same.reach tried)
+
+-- program i of all
+module _ (reaches : List Reach) (m : Moment) (i : ℕ) where
+  abbrev Turns : List Seat → Shared → List Seat → Shared → Step → Note → Type 0
+  Turns = HasTurnedOn reaches m i
+
+  abbrev Goes : Seat → Shared → Seat → Shared → Step → Note → Type 0
+  Goes = HasRun (reach_at reaches i) m
+
+  pub turn_on : (seats : List Seat) (s : Shared) (new : Seat) (left : Shared) (ended : Step) (noted : Note) → IsRunning reaches seats s → i < length seats → is_live (seat_at seats i).registers.state ≡ true → Goes (seat_at seats i) s new left ended noted → Turns seats s (set seats i new) left ended noted
+  turn_on seats s new left ended noted run lt live ran = (turned reaches seats m s i run lt live new left ended noted ran, turned_running reaches seats m s i run lt live new left ended noted ran)
+
+  -- after one that goes on, from where it is
+  turn_then : (seats : List Seat) (s : Shared) (mid : Seat) (between : Shared) (new : Seat) (left : Shared) (ended : Step) (noted : Note) → i < length seats → IsRunning reaches (set seats i mid) between → is_live mid.registers.state ≡ true → Goes mid between new left ended noted → Turns (set seats i mid) between (set seats i new) left ended noted
+  turn_then seats s mid between new left ended noted lt run live ran =
+      let at : seat_at (set seats i mid) i ≡ mid = get_or-set_same seats i mid no_seat lt in
+      subst (λ xs. Turns (set seats i mid) between xs left ended noted) (set-set seats i mid new)
+      (turn_on (set seats i mid) between new left ended noted run (omega (arith, length-set seats i mid))
+      (ap (λ (x : Seat). is_live x.registers.state) at ∙ live)
+      (subst (λ x. Goes x between new left ended noted) (sym at) ran))
+
+  pub turns_on : (n : ℕ) (seats : List Seat) (s : Shared) (new : Seat) (left : Shared) → IsRunning reaches seats s → i < length seats → is_live (seat_at seats i).registers.state ≡ true → AreQuiet Goes n (seat_at seats i) s new left
+      → AreQuiet Turns n seats s (set seats i new) left × IsRunning reaches (set seats i new) left × (is_live new.registers.state ≡ true)
+  turns_on zero seats s new left run lt live same =
+      let still : set seats i new ≡ seats = ap (set seats i) same.0 ∙ set-get_or seats i no_seat in (
+        (still, same.1),
+        subst (IsRunning reaches (set seats i new)) (sym same.1) (subst (λ xs. IsRunning reaches xs s) (sym still) run),
+        ap (λ (x : Seat). is_live x.registers.state) same.0 ∙ live,
+      )
+  turns_on (suc n) seats s new left run lt live (mid, between, earlier, last) =
+      let until = turns_on n seats s mid between run lt live earlier in
+      let then = turn_then seats s mid between new left step.Done note.Quiet lt until.1 until.2 last in
+      ((set seats i mid, between, until.0, then), then.1, live_on (reach_at reaches i) m mid between new left note.Quiet until.2 last)
+
+  pub turns_by : (n : ℕ) (seats : List Seat) (s : Shared) (new : Seat) (left : Shared) (ended : Step) (noted : Note) → IsRunning reaches seats s → i < length seats → is_live (seat_at seats i).registers.state ≡ true → HasBatch Goes n (seat_at seats i) s new left ended noted → HasBatch Turns n seats s (set seats i new) left ended noted
+  turns_by n seats s new left ended noted run lt live batch =
+      let until = turns_on n seats s batch.mid batch.between run lt live batch.earlier in
+      record {
+        mid = set seats i batch.mid;
+        between = batch.between;
+        earlier = until.0;
+        last = turn_then seats s batch.mid batch.between new left ended noted lt until.1 until.2 batch.last;
+      }
+
+-- ---- what holds of each that is tried
+module _ {X : Type 0} (P Q : X → Shared → X → Shared → Step → Note → Type 0) where
+  -- each of one kind is one of the other
+  pub quiet_map : ((b : X) (s : Shared) (a : X) (l : Shared) → P b s a l step.Done note.Quiet → Q b s a l step.Done note.Quiet) → (n : ℕ) (before : X) (s : Shared) (after : X) (left : Shared) → AreQuiet P n before s after left → AreQuiet Q n before s after left
+  quiet_map f zero before s after left same = same
+  quiet_map f (suc n) before s after left (mid, between, earlier, last) =
+      (mid, between, quiet_map f n before s mid between earlier, f mid between after left last)
+
+-- the programs are over what they share as before
+pub still_running : (reaches : List Reach) (m : Moment) (i n : ℕ) (seats : List Seat) (s : Shared) (seats' : List Seat) (s' : Shared) → IsRunning reaches seats s → AreQuiet (HasTurnedOn reaches m i) n seats s seats' s' → IsRunning reaches seats' s'
+still_running reaches m i zero seats s seats' s' run same =
+    subst (IsRunning reaches seats') (sym same.1) (subst (λ xs. IsRunning reaches xs s) (sym same.0) run)
+still_running reaches m i (suc n) seats s seats' s' run (mid, between, earlier, last) = last.1
+
+-- ---- one program of all, and its slot
+module _ (windows : List Window) (slots : List Loaded) (programs : List Program) (i : ℕ) (lt : i < length programs) (many : length slots ≡ length programs) (slot : Loaded) (program : Program) (slot_is : slot ≡ get_or slots i slot) (program_is : program ≡ get_or programs i program)
+    (t : Moment) (s s' : Shared) (new : Program) (n : ℕ) (run : IsRunning (reaches_in windows slots) (seats_in programs) s) (live : is_live (seat_at (seats_in programs) i).registers.state ≡ true) where
+  abbrev rs : List Reach
+  rs = reaches_in windows slots
+
+  there : i < length (seats_in programs)
+  there = within windows slots programs i lt many slot program slot_is program_is
+
+  -- over what its slot reaches, and from its seat in the list
+  at_seat : (P : Reach → Seat → Type 0) → P (reach_of windows slot) (seat_of program) → P (reach_at rs i) (seat_at (seats_in programs) i)
+  at_seat P p =
+      subst (λ r. P r (seat_at (seats_in programs) i)) (reach_is windows slots programs i lt many slot program slot_is program_is)
+      (subst (P (reach_of windows slot)) (seat_is windows slots programs i lt many slot program slot_is program_is) p)
+
+  pub turns_all : (ended : Step) (noted : Note) → HasBatch (HasRun (reach_of windows slot) t) n (seat_of program) s (seat_of new) s' ended noted → HasBatch (HasTurnedOn rs t i) n (seats_in programs) s (seats_in (set programs i new)) s' ended noted
+  turns_all ended noted batch =
+      subst (λ xs. HasBatch (HasTurnedOn rs t i) n (seats_in programs) s xs s' ended noted) (sym (map-set seat_of programs i new))
+      (turns_by rs t i n (seats_in programs) s (seat_of new) s' ended noted run there live
+      (at_seat (λ r x. HasBatch (HasRun r t) n x s (seat_of new) s' ended noted) batch))
+
+  pub still_all : AreQuiet (HasRun (reach_of windows slot) t) n (seat_of program) s (seat_of new) s' → AreQuiet (HasTurnedOn rs t i) n (seats_in programs) s (seats_in (set programs i new)) s'
+  still_all quiet =
+      subst (λ xs. AreQuiet (HasTurnedOn rs t i) n (seats_in programs) s xs s') (sym (map-set seat_of programs i new))
+      (turns_on rs t i n (seats_in programs) s (seat_of new) s' run there live
+      (at_seat (λ r x. AreQuiet (HasRun r t) n x s (seat_of new) s') quiet)).0
+
+-- ---- what was heard of the service
+module _ (answers : ℕ → ℕ → Type 0) (reaches : List Reach) (time i : ℕ) where
+  abbrev Told : List Seat → Shared → List Seat → Shared → Step → Note → Type 0
+  Told = HasTriedOn answers reaches time i
+
+  abbrev Turned : ℕ → List Seat → Shared → List Seat → Shared → Step → Note → Type 0
+  Turned h = HasTurnedOn reaches (moment time h) i
+
+  -- a program that isn't served asks nothing
+  unserved : (reach_at reaches i).served ≡ false → (h : ℕ) → h ≡ 0 → (b : List Seat) (s : Shared) (a : List Seat) (l : Shared) (ended : Step) (noted : Note) → Turned h b s a l ended noted → Told b s a l ended noted
+  unserved not_served h none b s a l ended noted turn = (
+    record {
+      heard = None;
+      asked = has_none answers (word_over (seat_at b i) (reach_at reaches i) s) (none_served (seat_at b i) (reach_at reaches i) s not_served);
+      turned = subst (λ k. HasTurned reaches (moment time k) i b s a l ended noted) none turn.0;
+    },
+    turn.1,
+  )
+
+  -- so nothing was heard for it
+  none_then : (x : Seat) (s : Shared) (heard : Option ℕ) → (reach_at reaches i).served ≡ false → HasAsked answers (word_over x (reach_at reaches i) s) heard → unwrap_or heard 0 ≡ 0
+  none_then x s None not_served asked = refl
+  none_then x s (Some a) not_served asked =
+      absurd (subst (λ o. HasAsked answers o (Some a)) (none_served x (reach_at reaches i) s not_served) asked)
+
+  -- one that is served tried one order
+  module _ (heard : Option ℕ) (h : ℕ) (is : h ≡ unwrap_or heard 0) (before : List Seat) (s : Shared) (asked : HasAsked answers (word_over (seat_at before i) (reach_at reaches i) s) heard) where
+    one : (a : List Seat) (l : Shared) (ended : Step) (noted : Note) (mid : List Seat) (between : Shared) → mid ≡ before → between ≡ s → Turned h mid between a l ended noted → HasBatch Told 0 before s a l ended noted
+    one a l ended noted mid between same same' turn =
+        let here : Turned h before s a l ended noted = subst (λ y. Turned h before y a l ended noted) same' (subst (λ x. Turned h x between a l ended noted) same turn) in
+        record {
+          mid = before;
+          between = s;
+          earlier = (refl, refl);
+          last = (record { heard = heard; asked = asked; turned = subst (λ k. HasTurned reaches (moment time k) i before s a l ended noted) is here.0 }, here.1);
+        }
+
+    pub told_by : (served : Bool) → (reach_at reaches i).served ≡ served → (n : ℕ) → (served ≡ true → n ≡ 0) → (a : List Seat) (l : Shared) (ended : Step) (noted : Note) → HasBatch (Turned h) n before s a l ended noted → HasBatch Told n before s a l ended noted
+    told_by false not_served n few a l ended noted batch =
+        let none : h ≡ 0 = is ∙ none_then (seat_at before i) s heard not_served asked in
+        record {
+          mid = batch.mid;
+          between = batch.between;
+          earlier = quiet_map (Turned h) Told (λ b x c y turn. unserved not_served h none b x c y step.Done note.Quiet turn) n before s batch.mid batch.between batch.earlier;
+          last = unserved not_served h none batch.mid batch.between a l ended noted batch.last;
+        }
+    told_by true is_served n few a l ended noted batch =
+        let alone : HasBatch (Turned h) 0 before s a l ended noted = subst (λ k. HasBatch (Turned h) k before s a l ended noted) (few refl) batch in
+        subst (λ k. HasBatch Told k before s a l ended noted) (sym (few refl))
+        (one a l ended noted alone.mid alone.between alone.earlier.0 alone.earlier.1 alone.last)
+
+    pub told_still : (served : Bool) → (reach_at reaches i).served ≡ served → (n : ℕ) → (served ≡ true → n ≡ 0) → (a : List Seat) (l : Shared) → AreQuiet (Turned h) n before s a l → AreQuiet Told n before s a l
+    told_still false not_served n few a l quiet =
+        let none : h ≡ 0 = is ∙ none_then (seat_at before i) s heard not_served asked in
+        quiet_map (Turned h) Told (λ b x c y turn. unserved not_served h none b x c y step.Done note.Quiet turn) n before s a l quiet
+    told_still true is_served n few a l quiet =
+        subst (λ k. AreQuiet Told k before s a l) (sym (few refl)) (let same : AreQuiet (Turned h) 0 before s a l = subst (λ k. AreQuiet (Turned h) k before s a l) (few refl) quiet in same)
