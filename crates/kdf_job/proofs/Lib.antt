@@ -1,6 +1,5 @@
 pub mod WordLemmas
 pub mod CodesRead
-pub mod Filling
 pub mod Schedules
 pub mod Numbers
 pub mod Slots

@@ -24,7 +24,8 @@ use Rattle.kdf_job.specs.Forms.{Form, ADeckLine, ADevice, AMedium, AService, ASh
 use Rattle.kdf_job.specs.Job.{JobDevice, SlotJob}
 use Rattle.kdf_job.specs.Kept.{IsKept, IsPlaced, IsUntold}
 use Rattle.kdf_job.specs.Lengths.{device_length, kept_length, medium_length, slot_length, spared, weight}
-use Rattle.kdf_job.specs.Media.{added, card_of, codes_in, filled, fits, new_device, with_code, with_codes, with_medium, word_of_text}
+use Rattle.kdf_media.specs.Media.{card_of}
+use Rattle.kdf_job.specs.Media.{added, codes_in, filled, fits, new_device, with_code, with_codes, with_medium, word_of_text}
 use Rattle.kdf_job.specs.Reading.{or_fault}
 use Rattle.kdf_job.specs.Shows.{shown_draft}
 use Rattle.kdf_job.specs.Taking.{IsSound, Taken, Takes}

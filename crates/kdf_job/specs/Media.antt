@@ -5,6 +5,7 @@ use Rattle.kdf_code.specs.Code.{code_of}
 use Rattle.kdf_word.specs.Characters.{first_word, words_of}
 use Rattle.kdf_journal.specs.declared.kind.Kind.{Kind}
 use Rattle.kdf_journal.specs.declared.kind.Kind.TheVariants.{Tr, Tp, Cr, Lp, Mt}
+use Rattle.kdf_media.specs.Media.{card_of}
 use Rattle.kdf_tape.specs.Tape.{Recorded}
 use Rattle.kdf_transfer.specs.Devices.{Progress}
 use Rattle.kdf_job.specs.Job.{JobDevice}
@@ -54,10 +55,6 @@ new_device d kind label =
       fixture = record { kind = kind; label = label_of kind label; codes = []; cards = [] };
       progress = at_start [];
     }
-
--- characters of a card, with spaces after them
-abbrev pub card_of : List ℕ → List ℕ
-card_of codes = codes ++ replicate (card_length - length codes) 0
 
 -- characters of a block, filled up with code 0 to whole words
 abbrev pub filled : List ℕ → List ℕ

@@ -29,7 +29,7 @@ fixture_in (medium.Tr paper) =
     record { kind = kind.Tr; label = 0; codes = paper.codes.items; cards = [] }
 fixture_in medium.Tp = record { kind = kind.Tp; label = 0; codes = []; cards = [] }
 fixture_in (medium.Cr stack) =
-    record { kind = kind.Cr; label = 0; codes = []; cards = stack.cards.items }
+    record { kind = kind.Cr; label = 0; codes = []; cards = stack.cards }
 fixture_in medium.Lp = record { kind = kind.Lp; label = 0; codes = []; cards = [] }
 fixture_in (medium.Mt label tape) =
     record { kind = kind.Mt; label = label; codes = []; cards = [] }

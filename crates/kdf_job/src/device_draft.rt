@@ -100,7 +100,7 @@ impl Medium {
         match self {
             Medium::Tr(paper) => Device::Tr(Reader::new(paper.codes)),
             Medium::Tp => Device::Tp(Punch::new(alloc)),
-            Medium::Cr(stack) => Device::Cr(Cards::new(stack.cards)),
+            Medium::Cr(stack) => Device::Cr(Cards::of_stack(stack.cards)),
             Medium::Lp => Device::Lp(Printer::new(alloc)),
             Medium::Mt(label, tape) => Device::Mt(MagTape::new(label, tape.blocks)),
         }

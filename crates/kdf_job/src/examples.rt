@@ -12,7 +12,7 @@ ghost use Rattle.kdf_job.specs.Draft.{event_fault, lent_fault, new_slot, show_fa
 ghost use Rattle.kdf_job.specs.Forms.{ADeckLine, ADevice, AMedium, APool, APoolDevice, ASchedule, AService, AShow, ASlot, AStore, AnEndDeck, AnEndJob, AnEvent, told_at};
 ghost use Rattle.kdf_job.specs.Front.{front_fault, front_length};
 ghost use Rattle.kdf_job.specs.Made.{letter, reader_line, step};
-ghost use Rattle.kdf_job.specs.Media.{card_of, filled, fits, is_label, word_of_text};
+ghost use Rattle.kdf_job.specs.Media.{filled, fits, is_label, word_of_text};
 ghost use Rattle.kdf_job.specs.More.{more_events, more_fault};
 ghost use Rattle.kdf_job.specs.Reading.{job, job_fault};
 ghost use Rattle.kdf_job.specs.SlotLines.{pool_lines, slot_lines};
@@ -85,14 +85,13 @@ pub fn pool_lines_tell()
     ensures schedule { told_at place.BehindPool (codes "SCHEDULE") ≡ Ok ASchedule }
 {}
 
-/// Labels, cards and blocks, and which lines may stand after which kinds.
+/// Labels and blocks, and which lines may stand after which kinds.
 pub fn media()
     ensures label { is_label (codes "A1B2C3D4") ≡ true }
     ensures no_label { is_label [] ≡ false }
     ensures small_letter { is_label (codes "a") ≡ false }
     ensures long_label { is_label (codes "ABCDEFGHI") ≡ false }
     ensures word { word_of_text (codes "A") ≡ 33 * 2 ^ 42 }
-    ensures card { card_of (33 ∷ []) ≡ 33 ∷ replicate 79 0 }
     ensures filled { filled (33 ∷ []) ≡ 33 ∷ replicate 7 0 }
     ensures full { filled (replicate 8 33) ≡ replicate 8 33 }
     ensures empty_paper { fits kind.Tr false 0 ≡ true }

@@ -1,15 +1,12 @@
-//! Texts as characters, labels and cards.
-ghost use Rattle.std.specs.Prelude.{◌≡◌, ◌-◌, ◌%◌, ◌<◌, ◌≤◌, ◌++◌, All, IfOk, IfSome, IsTrue, length, replicate};
+//! Texts as characters, labels and blocks.
+ghost use Rattle.std.specs.Prelude.{◌≡◌, ◌%◌, ◌<◌, All, IfOk, IfSome, length};
 ghost use Rattle.std.specs.List.{list_all};
 ghost use Rattle.std.specs.Option.{option_map};
-ghost use Rattle.kdf_job.specs.Media.{card_of, codes_in, filled, is_label, is_label_byte, word_of_text};
+ghost use Rattle.kdf_job.specs.Media.{codes_in, filled, is_label, is_label_byte, word_of_text};
 
 use kdf_code::to_code;
 use kdf_word::Word;
 use std::alloc::{AllocError, Global};
-
-/// The characters of a card.
-pub const CARD_LENGTH: usize = 80;
 
 /// The characters of a word.
 const WORD_LENGTH: usize = 8;
@@ -63,18 +60,6 @@ fn is_label_byte(byte: u8) -> bool
     ensures { result ≡ is_label_byte byte }
 {
     (byte >= b'A' && byte <= b'Z') || (byte >= b'0' && byte <= b'9')
-}
-
-/// A card of these characters, with spaces after them.
-pub fn card_of(codes: &[u8]) -> [u8; CARD_LENGTH]
-    requires short { length codes.now ≤ 80 }
-    requires small { All (λ c. c < 64) codes.now }
-    ensures card { result ≡ card_of codes.now }
-    ensures small { All (λ c. c < 64) result }
-{
-    let mut card = [0; CARD_LENGTH];
-    card[..codes.len()].copy_from_slice(codes);
-    card
 }
 
 /// The characters of a block, filled up to whole words.

@@ -1,11 +1,13 @@
 //! Media that grow by a line.
-ghost use Rattle.std.specs.Prelude.{◌≡◌, ◌+◌, ◌&&◌, ◌++◌, ◌∷◌, [], ◌^◌, ◌<◌, ◌≤◌, All, false, not, nat_le, length};
+ghost use Rattle.std.specs.Prelude.{◌≡◌, ◌+◌, ◌&&◌, ◌++◌, ◌∷◌, [], ◌^◌, ◌<◌, All, not, nat_le, length};
 ghost use Rattle.kdf_word.specs.Characters.{words_of};
 ghost use Rattle.kdf_job.specs.Adding.{IsAdded};
-ghost use Rattle.kdf_job.specs.Media.{card_of, filled};
+ghost use Rattle.kdf_job.specs.Media.{filled};
+ghost use Rattle.kdf_media.specs.Media.{card_of};
 
-use crate::media::{CARD_LENGTH, card_of, filled};
+use crate::media::filled;
 use crate::{JobFault, LineError};
+use kdf_media::{CARD_LENGTH, Stack};
 use kdf_tape::TapeBlock;
 use std::alloc::Global;
 
@@ -48,32 +50,31 @@ impl Paper {
 /// A stack of cards.
 #[derive(Drop)]
 pub struct CardStack {
-    pub cards: Vec<[u8; CARD_LENGTH]>,
-    ghost small: { All (λ card. All (λ code. code < 64) card) cards.items },
-    ghost few: { length cards.items < 2 ^ 32 },
+    pub cards: Stack,
+    ghost few: { length cards < 2 ^ 32 },
 }
 
 impl CardStack {
     /// No cards.
     pub fn new(alloc: Global) -> CardStack
-        ensures { result.cards.items ≡ [] }
+        ensures { result.cards ≡ [] }
     {
         CardStack {
-            cards: Vec::new(alloc),
+            cards: Stack::new(alloc),
         }
     }
 
     /// Adds a card of these characters, at most 80, which isn't marked.
     pub fn add(&mut self, marked: bool, codes: &[u8]) -> Result<(), LineError>
         requires small { All (λ c. c < 64) codes.now }
-        requires few { length self.old.cards.items + 1 < 2 ^ 32 }
+        requires few { length self.old.cards + 1 < 2 ^ 32 }
         ensures { IsAdded (not marked && nat_le (length codes.now) 80)
-            (self.old.cards.items ++ card_of codes.now ∷ []) self.new.cards.items result }
+            (self.old.cards ++ card_of codes.now ∷ []) self.new.cards result }
     {
         if marked || codes.len() > CARD_LENGTH {
             return Err(LineError::Fault(JobFault::BadMedium));
         }
-        self.cards.push(card_of(codes))?;
+        self.cards.push(codes)?;
         Ok(())
     }
 }

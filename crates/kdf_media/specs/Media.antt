@@ -1,5 +1,5 @@
 -- Readers, card readers, punches and printers: which characters an order reads or prints, and what it leaves.
-use Rattle.std.specs.Prelude.{ℕ, ◌+◌, ◌*◌, ◌^◌, ◌<◌, ◌≤◌, ◌==◌, ◌&&◌, not, nat_lt, nat_le, min, Bool, if◌then◌else◌, List, [], ◌∷◌, length, take, drop, map, slice_index_or}
+use Rattle.std.specs.Prelude.{ℕ, ◌+◌, ◌-◌, ◌*◌, ◌^◌, ◌<◌, ◌≤◌, ◌==◌, ◌&&◌, not, nat_lt, nat_le, min, Bool, if◌then◌else◌, List, [], ◌∷◌, ◌++◌, length, take, drop, map, replicate, slice_index_or}
 use Rattle.std.specs.List.{All, list_any, slice_split, join_with_byte}
 use Rattle.std.specs.Io.BufRead.{take_through}
 use Rattle.kdf_word.specs.Characters.{codes_of, words_of}
@@ -46,6 +46,10 @@ unfoldable pub after_read : Bool → ℕ → ReaderState → ReaderState
 after_read to_end n r =
     let fitting = take (8 * n) (drop r.place r.codes) in
     record r { place = r.place + length (read_codes to_end fitting); flag = falls_short to_end n fitting }
+
+-- characters of a card, with spaces after them
+abbrev pub card_of : List ℕ → List ℕ
+card_of codes = codes ++ replicate (80 - length codes) 0
 
 -- a card reader: the characters of its cards, 80 a card, how many cards are read, and its flag
 pub record CardsState : Type 0 where

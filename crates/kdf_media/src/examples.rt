@@ -4,7 +4,7 @@
 ghost use Rattle.std.specs.Prelude.{◌≡◌, [], ◌∷◌, ◌++◌, replicate, take, drop, true, false};
 ghost use Rattle.kdf_word.specs.Characters.{codes_of, codes_of_all, words_of};
 ghost use Rattle.kdf_media.specs.Examples.{deck, letters, message, reader};
-ghost use Rattle.kdf_media.specs.Media.{after_card, after_read, card_words, printed, through_end, through_end_word};
+ghost use Rattle.kdf_media.specs.Media.{after_card, after_read, card_of, card_words, printed, through_end, through_end_word};
 
 /// PRQ over one word and two: a medium with more characters than the area takes, as many, fewer, and none. The flag tells that
 /// the medium ended before the area was full, also where its last characters fill the last word in part.
@@ -78,8 +78,9 @@ pub fn words_of_paper_tape()
     ensures codes { codes_of 0x87d000000000 ≡ 33 ∷ 61 ∷ 0 ∷ 0 ∷ 0 ∷ 0 ∷ 0 ∷ 0 ∷ [] }
 {}
 
-/// CRQ: the ten words of the next card, of which an area takes the first, and none without a card.
+/// A card, filled up with spaces. CRQ: the ten words of the next card, of which an area takes the first, and none without a card.
 pub fn cards()
+    ensures filled { card_of (33 ∷ []) ≡ 33 ∷ replicate 79 0 }
     ensures ten { card_words 0 (letters 80 ∷ []) ≡ replicate 10 0x861861861861 }
     ensures first_words { take 2 (card_words 0 ((letters 8 ++ replicate 72 34) ∷ []))
         ≡ 0x861861861861 ∷ 0x8a28a28a28a2 ∷ [] }

@@ -9,10 +9,12 @@ mod blocks;
 mod cards;
 mod end_message;
 pub mod examples;
+mod packed_cards;
 mod printed;
 mod printer;
 mod punch;
 mod reader;
+mod stack;
 
 pub use block::Block;
 pub use cards::Cards;
@@ -20,3 +22,4 @@ pub use end_message::through_end;
 pub use printer::Printer;
 pub use punch::Punch;
 pub use reader::Reader;
+pub use stack::{CARD_LENGTH, Stack};

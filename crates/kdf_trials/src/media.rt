@@ -1,8 +1,6 @@
 //! Each device is made, used and copied.
 
-ghost use Rattle.std.specs.Prelude.{◌<◌, All};
-
-use kdf_media::{Cards, Printer, Punch, Reader};
+use kdf_media::{Cards, Printer, Punch, Reader, Stack};
 use kdf_word::Word;
 use std::alloc::{AllocError, Global};
 use std::test::Fail;
@@ -17,23 +15,13 @@ const LETTERS: u64 = 0x8618_6186_1861;
 
 const FOUR_LETTERS: u64 = 0x8618_6100_0000;
 
-/// A card of letters.
-fn card() -> [u8; 80]
-    ensures { All (λ c. c < 64) result }
-{
-    let mut card = [0; 80];
-    for i in 0..80 {
-        card[i] = A;
-    }
-    card
-}
-
-/// A card reader with two cards.
+/// A card reader with a full card and two short ones.
 fn cards(alloc: Global) -> Result<Cards, AllocError> {
-    let mut cards = Vec::new(alloc);
-    cards.push(card())?;
-    cards.push(card())?;
-    Ok(Cards::new(cards))
+    let mut stack = Stack::new(alloc);
+    stack.push(&[A; 80])?;
+    stack.push(&[A; 20])?;
+    stack.push(&[A; 4])?;
+    Ok(Cards::of_stack(stack.copy(alloc)?))
 }
 
 #[test]
@@ -51,11 +39,15 @@ fn readers_give_words(rt: HostRuntime) -> Result<(), Fail> {
     cards.finish_read();
     let mut cards = cards.copy(rt.alloc())?;
     assert!(rt; (cards.place(), cards.flag()) == (1, false));
-    assert!(rt; cards.take_word(1, 9) == Some(Word::new(LETTERS)));
-    assert!(rt; cards.take_word(1, 10).is_none() && cards.take_word(2, 0).is_none());
+    assert!(rt; cards.take_word(0, 9) == Some(Word::new(LETTERS)));
+    assert!(rt; cards.take_word(1, 2) == Some(Word::new(FOUR_LETTERS)));
+    assert!(rt; cards.take_word(2, 0) == Some(Word::new(FOUR_LETTERS)));
+    assert!(rt; cards.take_word(2, 9) == Some(Word::default()));
+    assert!(rt; cards.take_word(2, 10).is_none() && cards.take_word(3, 0).is_none());
     cards.finish_read();
     cards.finish_read();
-    assert!(rt; (cards.place(), cards.flag()) == (2, true));
+    cards.finish_read();
+    assert!(rt; (cards.place(), cards.flag()) == (3, true));
     Ok(())
 }
 
