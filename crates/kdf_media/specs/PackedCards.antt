@@ -1,4 +1,4 @@
--- Cards of which only the characters are kept, one card behind another.
+-- Cards of which only the characters are kept, one after another.
 use Rattle.std.specs.Prelude.{ℕ, ◌+◌, ◌≤◌, ◌≡◌, List, [], ◌∷◌, slice_range}
 use Rattle.kdf_media.specs.Media.{card_of}
 

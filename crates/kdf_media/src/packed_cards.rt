@@ -7,7 +7,7 @@ ghost use Rattle.kdf_media.specs.PackedCards.{AreEnds};
 use std::alloc::{AllocError, Global};
 use std::marker::Model;
 
-/// Cards of at most 80 characters, which contracts see filled up with code 0. Their characters stand one card behind another.
+/// Cards of at most 80 characters, which contracts see filled up with code 0. Their characters stand one after another.
 #[derive(Drop)]
 pub(crate) struct PackedCards {
     codes: Vec<u8>,
