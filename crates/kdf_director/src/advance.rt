@@ -18,11 +18,11 @@ ghost use Rattle.kdf_director.specs.Runs.{HasEntered, HasMadeButFewer, HasMadeSo
 ghost use Rattle.kdf_director.specs.Fields.Viewed.{viewed};
 ghost use Rattle.kdf_places.specs.Spots.{AreDry};
 
-use crate::dispatch::turn;
+use crate::dispatch::{Batch, turn};
 use crate::entries::{enter, enter_quiet};
 use crate::hearing::heard;
 use crate::next::{is_any_on, next_of};
-use crate::{Loaded, Moment, Note, Place, Program, Progress};
+use crate::{Loaded, Note, Place, Program, Progress, Site};
 use kdf_journal::{CALL_LIMIT, Entry, Journal, MOVE_LIMIT};
 use kdf_lockout::Store;
 use kdf_processor::{Life, Step};
@@ -30,6 +30,17 @@ use kdf_relocate::Window;
 use kdf_service::Service;
 use kdf_word::Word;
 use std::alloc::{AllocError, Global};
+
+/// So many calls of a machine with a service, which leave room in the journal for so many events.
+#[derive(Drop)]
+pub struct Calls<'a, F: Fn(u64) -> u64> {
+    pub alloc: Global,
+    pub windows: &'a [Window; 4],
+    pub slots: &'a [Loaded],
+    pub service: &'a Service<F>,
+    pub room: u32,
+    pub most: u32,
+}
 
 /// How many of so many orders of a program are tried with nothing heard between them. The service of a program that is
 /// served may be heard before each.
@@ -43,55 +54,50 @@ fn batch_of(slot: &Loaded, most: u32) -> u32
     if slot.served { 1 } else { most }
 }
 
-/// Tries orders of program `i` at this time up to one of which something is noted, that is held or that ends it, and
-/// at most so many. If one asks the service, the answer is drawn before it. Answers how many were obeyed before the
-/// last, and how the last ended. At Err that had no memory, and has changed nothing.
+/// Tries orders of a batch up to one of which something is noted, that is held or that ends the program. If one asks
+/// the service, the answer is drawn before it. Answers how many were obeyed before the last, and how the last ended. At
+/// Err that had no memory, and has changed nothing.
 #[inline(always)]
 fn try_at<F: Fn(u64) -> u64>(
-    alloc: Global,
-    windows: &[Window; 4],
-    slots: &[Loaded],
+    site: &Site<'_>,
     programs: &mut Vec<Program>,
     store: &mut Store,
     places: &mut Vec<Place>,
-    time: u64,
-    i: usize,
+    batch: Batch,
     service: &Service<F>,
-    most: u32,
 ) -> (u32, Result<(Step, Note), AllocError>)
     requires service { IsService (F.pre service.now) (F.post service.now) }
-    requires there { i < length programs.old.items }
-    requires slots { length slots.now ≡ length programs.old.items }
-    requires live { (seat_at (seats_in programs.old.items) i).registers.state ≡ Life.Live }
-    requires some { 0 < most }
-    requires ran { (seat_at (seats_in programs.old.items) i).registers.ran + most ≤ u32.MAX }
-    requires running { IsRunning (reaches_in windows.now slots.now) (seats_in programs.old.items)
+    requires there { batch.i < length programs.old.items }
+    requires slots { length site.now.slots.now ≡ length programs.old.items }
+    requires live { (seat_at (seats_in programs.old.items) batch.i).registers.state ≡ Life.Live }
+    requires some { 0 < batch.most }
+    requires ran { (seat_at (seats_in programs.old.items) batch.i).registers.ran + batch.most ≤ u32.MAX }
+    requires running { IsRunning (reaches_in site.now.windows.now site.now.slots.now) (seats_in programs.old.items)
         (shared_in store.old places.old.items) }
     requires dry { AreDry places.old.items }
     ensures tried { IfOk result.1 (λ x. HasBatch (HasTriedOn (F.post service.now)
-        (reaches_in windows.now slots.now) time i)
+        (reaches_in site.now.windows.now site.now.slots.now) batch.time batch.i)
         result.0 (seats_in programs.old.items) (shared_in store.old places.old.items)
         (seats_in programs.new.items) (shared_in store.new places.new.items) x.0 x.1) }
-    ensures running { IsRunning (reaches_in windows.now slots.now) (seats_in programs.new.items)
+    ensures running { IsRunning (reaches_in site.now.windows.now site.now.slots.now) (seats_in programs.new.items)
         (shared_in store.new places.new.items) }
     ensures dry { AreDry places.new.items }
     ensures many { length programs.new.items ≡ length programs.old.items }
     ensures holds { map (λ (x : Program). x.hold) programs.new.items
         ≡ map (λ (x : Program). x.hold) programs.old.items }
-    ensures err { OnErr result.1 (AreQuiet (HasTriedOn (F.post service.now) (reaches_in windows.now slots.now) time i)
+    ensures err { OnErr result.1 (AreQuiet (HasTriedOn (F.post service.now)
+        (reaches_in site.now.windows.now site.now.slots.now) batch.time batch.i)
         result.0 (seats_in programs.old.items) (shared_in store.old places.old.items)
         (seats_in programs.new.items) (shared_in store.new places.new.items)) }
-    ensures within { result.0 < most }
+    ensures within { result.0 < batch.most }
 {
-    let answer = heard(alloc, windows, slots, programs, store, places, i, service);
-    let moment = Moment {
-        time,
-        heard: answer.unwrap_or(Word::default()),
+    let answer = heard(site, programs, store, places, batch.i, service);
+    let heard = answer.unwrap_or(Word::default());
+    let batch = Batch {
+        most: batch_of(&site.slots[batch.i], batch.most),
+        ..batch
     };
-    let batch = batch_of(&slots[i], most);
-    turn(
-        alloc, windows, slots, programs, store, places, moment, i, batch,
-    )
+    turn(site, programs, store, places, batch, heard)
 }
 
 /// Whether an order was obeyed of which nothing is noted, so that the same program is next.
@@ -107,58 +113,52 @@ fn is_quiet(tried: &Result<(Step, Note), AllocError>) -> bool
 /// calls that were, and what the last did. At Err those that were obeyed are entered, and the one that had no memory
 /// has changed nothing.
 fn take_turns<F: Fn(u64) -> u64>(
-    alloc: Global,
-    windows: &[Window; 4],
-    slots: &[Loaded],
+    due: &Calls<'_, F>,
     programs: &mut Vec<Program>,
     store: &mut Store,
     places: &mut Vec<Place>,
     journal: &mut Journal,
-    room: u32,
     i: usize,
-    most: u32,
-    service: &Service<F>,
 ) -> Result<(u32, Progress), AllocError>
-    requires service { IsService (F.pre service.now) (F.post service.now) }
-    requires ready { IsReady slots.now windows.now store.old programs.old.items places.old.items
-        journal.old.entries journal.old.spare room }
-    requires next { first_going (reaches_in windows.now slots.now) (seats_in programs.old.items)
+    requires service { IsService (F.pre due.now.service.now) (F.post due.now.service.now) }
+    requires ready { IsReady due.now.slots.now due.now.windows.now store.old programs.old.items places.old.items
+        journal.old.entries journal.old.spare due.now.room }
+    requires next { first_going (reaches_in due.now.windows.now due.now.slots.now) (seats_in programs.old.items)
         (map (λ (x : Program). x.hold) programs.old.items) (shared_in store.old places.old.items)
         (priorities journal.old.entries) ≡ Some i }
-    requires some { 0 < most }
-    requires few { calls journal.old.entries + most ≤ CALL_LIMIT }
-    ensures ready { IsReady slots.now windows.now store.new programs.new.items places.new.items
-        journal.new.entries journal.new.spare room }
-    ensures made { IfOk result (λ x. HasMadeSome (F.post service.now) x.0
-        (viewed slots.now windows.now store.old programs.old.items places.old.items
-        journal.old.entries room)
-        (viewed slots.now windows.now store.new programs.new.items places.new.items
-        journal.new.entries room) x.1) }
-    ensures within { IfOk result (λ x. x.0 ≤ most) }
-    ensures err { OnErr result (HasMadeButFewer (F.post service.now) most
-        (viewed slots.now windows.now store.old programs.old.items places.old.items
-        journal.old.entries room)
-        (viewed slots.now windows.now store.new programs.new.items places.new.items
-        journal.new.entries room)) }
+    requires some { 0 < due.now.most }
+    requires few { calls journal.old.entries + due.now.most ≤ CALL_LIMIT }
+    ensures ready { IsReady due.now.slots.now due.now.windows.now store.new programs.new.items places.new.items
+        journal.new.entries journal.new.spare due.now.room }
+    ensures made { IfOk result (λ x. HasMadeSome (F.post due.now.service.now) x.0
+        (viewed due.now.slots.now due.now.windows.now store.old programs.old.items places.old.items
+        journal.old.entries due.now.room)
+        (viewed due.now.slots.now due.now.windows.now store.new programs.new.items places.new.items
+        journal.new.entries due.now.room) x.1) }
+    ensures within { IfOk result (λ x. x.0 ≤ due.now.most) }
+    ensures err { OnErr result (HasMadeButFewer (F.post due.now.service.now) due.now.most
+        (viewed due.now.slots.now due.now.windows.now store.old programs.old.items places.old.items
+        journal.old.entries due.now.room)
+        (viewed due.now.slots.now due.now.windows.now store.new programs.new.items places.new.items
+        journal.new.entries due.now.room)) }
 {
-    journal.reserve(room + 2)?;
+    journal.reserve(due.room + 2)?;
     let time = journal.clock();
+    let site = Site {
+        alloc: due.alloc,
+        windows: due.windows,
+        slots: due.slots,
+    };
     let mut quiet = 0;
     loop {
-        let (more, tried) = try_at(
-            alloc,
-            windows,
-            slots,
-            programs,
-            store,
-            places,
-            time,
+        let batch = Batch {
             i,
-            service,
-            most - quiet,
-        );
+            time,
+            most: due.most - quiet,
+        };
+        let (more, tried) = try_at(&site, programs, store, places, batch, due.service);
         quiet += more;
-        if quiet + 1 < most && is_quiet(&tried) {
+        if quiet + 1 < due.most && is_quiet(&tried) {
             quiet += 1;
         } else {
             return enter_tried(journal, &mut programs[i], quiet, tried);
@@ -212,48 +212,41 @@ fn wait(programs: &[Program], journal: &mut Journal, most: u32) -> (u32, Progres
     }
 }
 
-/// Some of so many calls with a service, one at least, over the fields of a machine: the orders of the program that is
-/// next, as far as it stays next, or all, where none can go on. Answers how many, and what the last did. At Err some
-/// are made, and the one that had no memory has changed nothing.
+/// Some of these calls, one at least, over the fields of a machine: the orders of the program that is next, as far as
+/// it stays next, or all, where none can go on. Answers how many, and what the last did. At Err some are made, and the
+/// one that had no memory has changed nothing.
 pub(crate) fn advance<F: Fn(u64) -> u64>(
-    alloc: Global,
-    windows: &[Window; 4],
-    slots: &[Loaded],
+    due: &Calls<'_, F>,
     programs: &mut Vec<Program>,
     store: &mut Store,
     places: &mut Vec<Place>,
     journal: &mut Journal,
-    room: u32,
-    most: u32,
-    service: &Service<F>,
 ) -> Result<(u32, Progress), AllocError>
-    requires service { IsService (F.pre service.now) (F.post service.now) }
-    requires ready { IsReady slots.now windows.now store.old programs.old.items places.old.items
-        journal.old.entries journal.old.spare room }
-    requires some { 0 < most }
-    requires few { calls journal.old.entries + most ≤ CALL_LIMIT }
-    ensures ready { IsReady slots.now windows.now store.new programs.new.items places.new.items
-        journal.new.entries journal.new.spare room }
-    ensures made { IfOk result (λ x. HasMadeSome (F.post service.now) x.0
-        (viewed slots.now windows.now store.old programs.old.items places.old.items
-        journal.old.entries room)
-        (viewed slots.now windows.now store.new programs.new.items places.new.items
-        journal.new.entries room) x.1) }
-    ensures within { IfOk result (λ x. x.0 ≤ most) }
-    ensures err { OnErr result (HasMadeButFewer (F.post service.now) most
-        (viewed slots.now windows.now store.old programs.old.items places.old.items
-        journal.old.entries room)
-        (viewed slots.now windows.now store.new programs.new.items places.new.items
-        journal.new.entries room)) }
+    requires service { IsService (F.pre due.now.service.now) (F.post due.now.service.now) }
+    requires ready { IsReady due.now.slots.now due.now.windows.now store.old programs.old.items places.old.items
+        journal.old.entries journal.old.spare due.now.room }
+    requires some { 0 < due.now.most }
+    requires few { calls journal.old.entries + due.now.most ≤ CALL_LIMIT }
+    ensures ready { IsReady due.now.slots.now due.now.windows.now store.new programs.new.items places.new.items
+        journal.new.entries journal.new.spare due.now.room }
+    ensures made { IfOk result (λ x. HasMadeSome (F.post due.now.service.now) x.0
+        (viewed due.now.slots.now due.now.windows.now store.old programs.old.items places.old.items
+        journal.old.entries due.now.room)
+        (viewed due.now.slots.now due.now.windows.now store.new programs.new.items places.new.items
+        journal.new.entries due.now.room) x.1) }
+    ensures within { IfOk result (λ x. x.0 ≤ due.now.most) }
+    ensures err { OnErr result (HasMadeButFewer (F.post due.now.service.now) due.now.most
+        (viewed due.now.slots.now due.now.windows.now store.old programs.old.items places.old.items
+        journal.old.entries due.now.room)
+        (viewed due.now.slots.now due.now.windows.now store.new programs.new.items places.new.items
+        journal.new.entries due.now.room)) }
 {
     let priorities = journal.priorities();
-    match next_of(windows, slots, programs, store, places, &priorities) {
-        Some(i) => take_turns(
-            alloc, windows, slots, programs, store, places, journal, room, i, most, service,
-        ),
+    match next_of(due.windows, due.slots, programs, store, places, &priorities) {
+        Some(i) => take_turns(due, programs, store, places, journal, i),
         None => {
-            journal.reserve(room + 2)?;
-            Ok(wait(programs, journal, most))
+            journal.reserve(due.room + 2)?;
+            Ok(wait(programs, journal, due.most))
         }
     }
 }

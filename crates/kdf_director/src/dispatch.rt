@@ -4,22 +4,22 @@ ghost use Rattle.kdf_lockout.specs.Groups.{Cells};
 ghost use Rattle.kdf_director.specs.declared.note.Note.TheVariants.{Quiet};
 ghost use Rattle.kdf_director.specs.Fields.Batches.{AreQuiet, HasBatch, HasTurnedOn};
 ghost use Rattle.kdf_director.specs.Fields.Keeping.{IsActive, IsKept};
-ghost use Rattle.kdf_director.specs.Fields.Parts.{part_in, reach, reach_of, seat, seat_of};
+ghost use Rattle.kdf_director.specs.Fields.Parts.{part_in, reach_of, seat_of, window_at};
 ghost use Rattle.kdf_places.specs.Shared.{shared_in};
 ghost use Rattle.kdf_director.specs.Fields.Settled.{both_of, retired, settled};
-ghost use Rattle.kdf_director.specs.Fields.Stints.{keeping_of};
+ghost use Rattle.kdf_director.specs.Fields.Shared.{moment};
 ghost use Rattle.kdf_director.specs.Fields.Running.{reaches_in, seat_at, seats_in, IsRunning};
 ghost use Rattle.kdf_places.specs.Spots.{AreDry};
 ghost use Rattle.kdf_director.specs.Fields.Turn.{reach_in, seat_in, shared, SameProgram};
 ghost use Rattle.kdf_director.specs.Fields.Turned.{HasRun, HasTried};
-ghost use Rattle.kdf_director.specs.Fields.Parts.{window_at};
 
 use crate::stint::retire;
 use crate::turn::Turn;
-use crate::{Loaded, Moment, Note, Place, Program, Stint};
+use crate::{Moment, Note, Place, Program, Site, Stand};
 use kdf_lockout::Store;
-use kdf_processor::{Life, Registers, Spooled, Step, obey_with_room};
+use kdf_processor::{Life, Registers, Step, obey_with_room};
 use kdf_relocate::Window;
+use kdf_word::Word;
 use std::alloc::{AllocError, Global};
 
 /// Obeys the next order of a live program. It is inlined in the loop over the orders, so what it answers goes through
@@ -76,52 +76,55 @@ fn obey_quiet(
     }
 }
 
-/// Tries orders of program `p` in its slot at a moment, over its window, as `obey_quiet` does.
+/// Tries orders of a program in its slot at a moment, as `obey_quiet` does.
 fn try_next(
-    alloc: Global,
-    p: u8,
-    window: Window,
+    stand: &Stand<'_>,
     moment: Moment,
-    slot: &Loaded,
-    registers: &mut Registers,
-    claimed: &mut [bool; 16],
-    spooled: &mut Vec<Spooled>,
-    stints: &mut Vec<Stint>,
+    program: &mut Program,
     store: &mut Store,
     places: &mut Vec<Place>,
     most: u32,
 ) -> (u32, Result<(Step, Note), AllocError>)
-    requires live { registers.old.state ≡ Life.Live }
+    requires live { program.old.registers.state ≡ Life.Live }
     requires some { 0 < most }
-    requires ran { registers.old.ran + most ≤ u32.MAX }
-    requires at_group { window.base % 32 ≡ 0 }
-    requires in_store { window.base + window.size ≤ 32 * length store.old }
+    requires ran { program.old.registers.ran + most ≤ u32.MAX }
+    requires at_group { (window_at stand.now.windows.now stand.now.slot.now.p).base % 32 ≡ 0 }
+    requires in_store { (window_at stand.now.windows.now stand.now.slot.now.p).base
+        + (window_at stand.now.windows.now stand.now.slot.now.p).size ≤ 32 * length store.old }
     requires sixteen { length places.old.items ≡ 16 }
     requires dry { AreDry places.old.items }
-    requires kept { IsKept (part_in (seat p registers.old claimed.old spooled.old.items
-        (map keeping_of stints.old.items))
-        (reach window slot.now)) (shared_in store.old places.old.items) }
-    requires active { IsActive (part_in (seat p registers.old claimed.old spooled.old.items
-        (map keeping_of stints.old.items))
-        (reach window slot.now)) (shared_in store.old places.old.items) }
-    ensures tried { IfOk result.1 (λ x. HasBatch (HasTried (reach window slot.now) moment) result.0
-        (seat p registers.old claimed.old spooled.old.items (map keeping_of stints.old.items))
-        (shared_in store.old places.old.items)
-        (seat p registers.new claimed.new spooled.new.items (map keeping_of stints.new.items))
-        (shared_in store.new places.new.items) x.0 x.1) }
-    ensures err { OnErr result.1 (AreQuiet (HasTried (reach window slot.now) moment) result.0
-        (seat p registers.old claimed.old spooled.old.items (map keeping_of stints.old.items))
-        (shared_in store.old places.old.items)
-        (seat p registers.new claimed.new spooled.new.items (map keeping_of stints.new.items))
-        (shared_in store.new places.new.items)) }
+    requires kept { IsKept (part_in (seat_of program.old) (reach_of stand.now.windows.now stand.now.slot.now))
+        (shared_in store.old places.old.items) }
+    requires active { IsActive (part_in (seat_of program.old) (reach_of stand.now.windows.now stand.now.slot.now))
+        (shared_in store.old places.old.items) }
+    ensures tried { IfOk result.1 (λ x. HasBatch
+        (HasTried (reach_of stand.now.windows.now stand.now.slot.now) moment) result.0
+        (seat_of program.old) (shared_in store.old places.old.items)
+        (seat_of program.new) (shared_in store.new places.new.items) x.0 x.1) }
+    ensures err { OnErr result.1 (AreQuiet
+        (HasTried (reach_of stand.now.windows.now stand.now.slot.now) moment) result.0
+        (seat_of program.old) (shared_in store.old places.old.items)
+        (seat_of program.new) (shared_in store.new places.new.items)) }
     ensures within { result.0 < most }
+    ensures hold { program.new.hold ≡ program.old.hold }
     ensures dry { AreDry places.new.items }
 {
-    let mut block = Vec::new(alloc);
-    let mut turn = Turn::new(
-        alloc, p, window, moment, slot, claimed, spooled, stints, store, places, &mut block,
-    );
-    obey_quiet(registers, &mut turn, most)
+    let mut block = Vec::new(stand.alloc);
+    let mut turn = Turn {
+        alloc: stand.alloc,
+        p: program.p,
+        window: window_of(stand.windows, stand.slot.p),
+        moment,
+        slot: stand.slot,
+        claimed: &mut program.claimed,
+        spooled: &mut program.spooled,
+        stints: &mut program.stints,
+        store,
+        places,
+        block: &mut block,
+        note: Note::Quiet,
+    };
+    obey_quiet(&mut program.registers, &mut turn, most)
 }
 
 /// Takes the devices of a program that is over out of their places, those of the first to the last of its stints that
@@ -154,10 +157,8 @@ fn settle(alloc: Global, program: &mut Program, places: &mut Vec<Place>)
 /// Tries orders of a program at a moment over what is shared, as `obey_quiet` does, and where the last ended it, takes
 /// back what it had from the pool.
 pub(crate) fn run(
-    alloc: Global,
-    windows: &[Window; 4],
+    stand: &Stand<'_>,
     moment: Moment,
-    slot: &Loaded,
     program: &mut Program,
     store: &mut Store,
     places: &mut Vec<Place>,
@@ -166,41 +167,29 @@ pub(crate) fn run(
     requires live { program.old.registers.state ≡ Life.Live }
     requires some { 0 < most }
     requires ran { program.old.registers.ran + most ≤ u32.MAX }
-    requires at_group { (window_at windows.now slot.now.p).base % 32 ≡ 0 }
-    requires in_store { (window_at windows.now slot.now.p).base
-        + (window_at windows.now slot.now.p).size ≤ 32 * length store.old }
+    requires at_group { (window_at stand.now.windows.now stand.now.slot.now.p).base % 32 ≡ 0 }
+    requires in_store { (window_at stand.now.windows.now stand.now.slot.now.p).base
+        + (window_at stand.now.windows.now stand.now.slot.now.p).size ≤ 32 * length store.old }
     requires sixteen { length places.old.items ≡ 16 }
     requires dry { AreDry places.old.items }
-    requires kept { IsKept (part_in (seat_of program.old) (reach_of windows.now slot.now))
+    requires kept { IsKept (part_in (seat_of program.old) (reach_of stand.now.windows.now stand.now.slot.now))
         (shared_in store.old places.old.items) }
-    requires active { IsActive (part_in (seat_of program.old) (reach_of windows.now slot.now))
+    requires active { IsActive (part_in (seat_of program.old) (reach_of stand.now.windows.now stand.now.slot.now))
         (shared_in store.old places.old.items) }
-    ensures ran { IfOk result.1 (λ x. HasBatch (HasRun (reach_of windows.now slot.now) moment) result.0
+    ensures ran { IfOk result.1 (λ x. HasBatch
+        (HasRun (reach_of stand.now.windows.now stand.now.slot.now) moment) result.0
         (seat_of program.old) (shared_in store.old places.old.items)
         (seat_of program.new) (shared_in store.new places.new.items) x.0 x.1) }
-    ensures err { OnErr result.1 (AreQuiet (HasRun (reach_of windows.now slot.now) moment) result.0
+    ensures err { OnErr result.1 (AreQuiet
+        (HasRun (reach_of stand.now.windows.now stand.now.slot.now) moment) result.0
         (seat_of program.old) (shared_in store.old places.old.items)
         (seat_of program.new) (shared_in store.new places.new.items)) }
     ensures within { result.0 < most }
     ensures hold { program.new.hold ≡ program.old.hold }
     ensures dry { AreDry places.new.items }
 {
-    let window = window_of(windows, slot.p);
-    let tried = try_next(
-        alloc,
-        program.p,
-        window,
-        moment,
-        slot,
-        &mut program.registers,
-        &mut program.claimed,
-        &mut program.spooled,
-        &mut program.stints,
-        store,
-        places,
-        most,
-    );
-    settle(alloc, program, places);
+    let tried = try_next(stand, moment, program, store, places, most);
+    settle(stand.alloc, program, places);
     tried
 }
 
@@ -214,49 +203,62 @@ pub(crate) fn window_of(windows: &[Window; 4], p: u8) -> Window
     }
 }
 
-/// Tries orders of program `i` at a moment, as `obey_quiet` does.
+/// Orders of program `i` of all: so many at most, at this time.
+#[derive(Clone, Copy)]
+pub struct Batch {
+    pub i: usize,
+    pub time: u64,
+    pub most: u32,
+}
+
+/// Tries orders of a batch, as `obey_quiet` does, where this was heard of the service.
 pub(crate) fn turn(
-    alloc: Global,
-    windows: &[Window; 4],
-    slots: &[Loaded],
+    site: &Site<'_>,
     programs: &mut Vec<Program>,
     store: &mut Store,
     places: &mut Vec<Place>,
-    moment: Moment,
-    i: usize,
-    most: u32,
+    batch: Batch,
+    heard: Word,
 ) -> (u32, Result<(Step, Note), AllocError>)
-    requires there { i < length programs.old.items }
-    requires slots { length slots.now ≡ length programs.old.items }
-    requires live { (seat_at (seats_in programs.old.items) i).registers.state ≡ Life.Live }
-    requires some { 0 < most }
-    requires ran { (seat_at (seats_in programs.old.items) i).registers.ran + most ≤ u32.MAX }
-    requires running { IsRunning (reaches_in windows.now slots.now) (seats_in programs.old.items)
+    requires there { batch.i < length programs.old.items }
+    requires slots { length site.now.slots.now ≡ length programs.old.items }
+    requires live { (seat_at (seats_in programs.old.items) batch.i).registers.state ≡ Life.Live }
+    requires some { 0 < batch.most }
+    requires ran { (seat_at (seats_in programs.old.items) batch.i).registers.ran + batch.most ≤ u32.MAX }
+    requires running { IsRunning (reaches_in site.now.windows.now site.now.slots.now) (seats_in programs.old.items)
         (shared_in store.old places.old.items) }
     requires dry { AreDry places.old.items }
-    ensures turned { IfOk result.1 (λ x. HasBatch (HasTurnedOn (reaches_in windows.now slots.now) moment i) result.0
+    ensures turned { IfOk result.1 (λ x. HasBatch (HasTurnedOn (reaches_in site.now.windows.now site.now.slots.now)
+        (moment batch.time heard) batch.i) result.0
         (seats_in programs.old.items) (shared_in store.old places.old.items)
         (seats_in programs.new.items) (shared_in store.new places.new.items) x.0 x.1) }
-    ensures running { IsRunning (reaches_in windows.now slots.now) (seats_in programs.new.items)
+    ensures running { IsRunning (reaches_in site.now.windows.now site.now.slots.now) (seats_in programs.new.items)
         (shared_in store.new places.new.items) }
-    ensures err { OnErr result.1 (AreQuiet (HasTurnedOn (reaches_in windows.now slots.now) moment i) result.0
+    ensures err { OnErr result.1 (AreQuiet (HasTurnedOn (reaches_in site.now.windows.now site.now.slots.now)
+        (moment batch.time heard) batch.i) result.0
         (seats_in programs.old.items) (shared_in store.old places.old.items)
         (seats_in programs.new.items) (shared_in store.new places.new.items)) }
-    ensures within { result.0 < most }
+    ensures within { result.0 < batch.most }
     ensures dry { AreDry places.new.items }
     ensures many { length programs.new.items ≡ length programs.old.items }
     ensures holds { map (λ (x : Program). x.hold) programs.new.items
         ≡ map (λ (x : Program). x.hold) programs.old.items }
 {
-    let slot = &slots[i];
+    let stand = Stand {
+        alloc: site.alloc,
+        windows: site.windows,
+        slot: &site.slots[batch.i],
+    };
+    let moment = Moment {
+        time: batch.time,
+        heard,
+    };
     run(
-        alloc,
-        windows,
+        &stand,
         moment,
-        slot,
-        &mut programs[i],
+        &mut programs[batch.i],
         store,
         places,
-        most,
+        batch.most,
     )
 }

@@ -23,7 +23,7 @@ ghost use Rattle.kdf_director.specs.Shown.{IsDeviceAt, ShowsSeen, state_of};
 ghost use Rattle.kdf_director.specs.Slots.{NoneServed};
 ghost use Rattle.kdf_director.specs.Fields.Viewed.{slot_loaded};
 
-use crate::advance::advance;
+use crate::advance::{Calls, advance};
 use crate::dispatch::window_of;
 use crate::load::{Parts, load_parts};
 use crate::moves::{Move, ending, moving, word_of};
@@ -164,17 +164,20 @@ impl Machine {
         ensures room { self.new.room ≡ self.old.room }
         ensures err { OnErr result (HasMadeButFewer (F.post service.now) most self.old self.new) }
     {
+        let due = Calls {
+            alloc: self.alloc,
+            windows: &self.windows,
+            slots: &self.slots,
+            service,
+            room: self.room,
+            most,
+        };
         advance(
-            self.alloc,
-            &self.windows,
-            &self.slots,
+            &due,
             &mut self.programs,
             &mut self.store,
             &mut self.devices,
             &mut self.journal,
-            self.room,
-            most,
-            service,
         )
     }
 

@@ -25,22 +25,22 @@ use std::mem;
 /// the note.
 #[derive(Drop)]
 pub struct Turn<'a> {
-    alloc: Global,
-    window: Window,
-    moment: Moment,
+    pub alloc: Global,
+    pub window: Window,
+    pub moment: Moment,
     /// Its slot, which has its devices and those of the pool, and says whether the installation's service answers it.
     /// An order reads of it only what it needs.
-    slot: &'a Loaded,
-    claimed: &'a mut [bool; 16],
-    spooled: &'a mut Vec<Spooled>,
-    stints: &'a mut Vec<Stint>,
-    store: &'a mut Store,
-    places: &'a mut Vec<Place>,
+    pub slot: &'a Loaded,
+    pub claimed: &'a mut [bool; 16],
+    pub spooled: &'a mut Vec<Spooled>,
+    pub stints: &'a mut Vec<Stint>,
+    pub store: &'a mut Store,
+    pub places: &'a mut Vec<Place>,
     /// Memory for the characters that an order moves.
-    block: &'a mut Vec<u8>,
-    p: u8,
+    pub block: &'a mut Vec<u8>,
+    pub p: u8,
     /// What is to be noted of its orders.
-    note: Note,
+    pub note: Note,
     ghost at_group: { window.base % 32 ≡ 0 },
     ghost in_store: { window.base + window.size ≤ 32 * length store.now },
     ghost sixteen: { length places.now.items ≡ 16 },
@@ -61,59 +61,6 @@ impl<'a> Turn<'a> {
     ghost use Rattle.kdf_director.specs.Fields.Turn.{part_of, shared, Acts};
     ghost use Rattle.kdf_director.specs.declared.note.Note.TheVariants.{Quiet};
     ghost use Rattle.kdf_director.specs.Fields.Notes.{IsPlain};
-
-    /// The view of program `p` over this window, in this slot.
-    pub fn new(
-        alloc: Global,
-        p: u8,
-        window: Window,
-        moment: Moment,
-        slot: &'a Loaded,
-        claimed: &'a mut [bool; 16],
-        spooled: &'a mut Vec<Spooled>,
-        stints: &'a mut Vec<Stint>,
-        store: &'a mut Store,
-        places: &'a mut Vec<Place>,
-        block: &'a mut Vec<u8>,
-    ) -> Turn<'a>
-        requires at_group { window.base % 32 ≡ 0 }
-        requires in_store { window.base + window.size ≤ 32 * length store.old }
-        requires sixteen { length places.old.items ≡ 16 }
-        requires dry { AreDry places.old.items }
-        requires kept { IsKept (part_with p window slot.now claimed.old spooled.old.items stints.old.items)
-            (shared_in store.old places.old.items) }
-        requires active { IsActive (part_with p window slot.now claimed.old spooled.old.items stints.old.items)
-            (shared_in store.old places.old.items) }
-        requires blank { block.old.items ≡ [] }
-        ensures part { part_of result
-            ≡ part_with p window slot.now claimed.old spooled.old.items stints.old.items }
-        ensures moment { result.moment ≡ moment }
-        ensures store { result.store.now ≡ store.old }
-        ensures places { result.places.now ≡ places.old }
-        ensures block { result.block.now ≡ block.old }
-        ensures note { result.note ≡ Quiet }
-        ensures same_claimed { result.claimed.ghost_name ≡ claimed.entry.ghost_name }
-        ensures same_spooled { result.spooled.ghost_name ≡ spooled.entry.ghost_name }
-        ensures same_stints { result.stints.ghost_name ≡ stints.entry.ghost_name }
-        ensures same_store { result.store.ghost_name ≡ store.entry.ghost_name }
-        ensures same_places { result.places.ghost_name ≡ places.entry.ghost_name }
-        ensures same_block { result.block.ghost_name ≡ block.entry.ghost_name }
-    {
-        Turn {
-            alloc,
-            p,
-            window,
-            moment,
-            slot,
-            claimed,
-            spooled,
-            stints,
-            store,
-            places,
-            block,
-            note: Note::Quiet,
-        }
-    }
 
     /// What is to be noted of its orders.
     pub fn note(&self) -> Note

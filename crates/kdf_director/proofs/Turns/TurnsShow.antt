@@ -13,7 +13,7 @@ use Rattle.kdf_director.specs.declared.turn.Turn.{Turn}
 use Rattle.kdf_places.specs.Spots.{Spot, spot_of}
 use Rattle.kdf_director.specs.Fields.Turned.{HasTried}
 use Rattle.kdf_director.specs.Fields.Notes.{note_after}
-use Rattle.kdf_director.specs.Fields.Parts.{Part, Reach, Seat, part_after, part_in, seat}
+use Rattle.kdf_director.specs.Fields.Parts.{Part, Reach, Seat, part_after, seat}
 use Rattle.kdf_places.specs.Shared.{Shared}
 use Rattle.kdf_director.specs.Fields.Shared.{view, after_act}
 use Rattle.kdf_director.specs.Fields.Stints.{keeping_of}
@@ -141,9 +141,3 @@ seat_back t p r claimed spooled stints e f g h =
 
 pub shared_back : (t : Turn) (c : Cells) (ps : List Place) → c ≡ t.store.now → ps ≡ t.places.now.items → share c (map spot_of ps) ≡ shared t
 shared_back t c ps d e = ap₂ (λ a b. share a (map spot_of b)) d e
-
--- the fields of a program that were lent to be looked at
-pub lent_back : (t : Turn) (p : ℕ) (r : Registers) (claimed claimed' : List Bool) (spooled spooled' : List Spooled) (stints stints' : List Stint) (reach : Reach) → part_of t ≡ part_in (seat p r claimed spooled (map keeping_of stints)) reach → claimed' ≡ t.claimed.now → spooled' ≡ t.spooled.now.items → stints' ≡ t.stints.now.items → seat p r claimed' spooled' (map keeping_of stints') ≡ seat p r claimed spooled (map keeping_of stints)
-lent_back t p r claimed claimed' spooled spooled' stints stints' reach part claimed_is spooled_is stints_are =
-    ap₂ (λ a b. seat p r a b (map keeping_of stints')) (claimed_is ∙ ap (λ (x : Part). x.claimed) part) (spooled_is ∙ ap (λ (x : Part). x.spooled) part)
-    ∙ ap (seat p r claimed spooled) (ap (map keeping_of) stints_are ∙ ap (λ (x : Part). x.stints) part)

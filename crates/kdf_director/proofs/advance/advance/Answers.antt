@@ -15,45 +15,45 @@ use Rattle.kdf_director.proofs.advance.advance.Goals as goal
 
 pub next_of-requires-clause-near : goal.next_of-requires-clause-near
 next_of-requires-clause-near g c =
-    subst (λ (xs : List Program). AreNearHolds (reaches_in c.args.windows.now c.args.slots.now) (holds_of xs)) (sym c.deref.ensures.value)
-    (near (λ n a. goal.F-post g c.args.service.now n a) c.args.slots.now c.args.windows.now c.args.store.now c.args.programs.now.items c.args.places.now.items c.args.journal.now.entries c.args.journal.now.spare c.args.room c.requires.ready)
+    subst (λ (xs : List Program). AreNearHolds (reaches_in c.args.due.now.windows.now c.args.due.now.slots.now) (holds_of xs)) (sym c.deref.ensures.value)
+    (near (λ n a. goal.F-post g c.args.due.now.service.now n a) c.args.due.now.slots.now c.args.due.now.windows.now c.args.store.now c.args.programs.now.items c.args.places.now.items c.args.journal.now.entries c.args.journal.now.spare c.args.due.now.room c.requires.ready)
 
 pub next_of-requires-clause-four : goal.next_of-requires-clause-four
 next_of-requires-clause-four g c =
     subst (λ (xs : List Program). (i : ℕ) → i < length xs → (seat_at (seats_in xs) i).p < 4) (sym c.deref.ensures.value)
-    (fours (λ n a. goal.F-post g c.args.service.now n a) c.args.slots.now c.args.windows.now c.args.store.now c.args.programs.now.items c.args.places.now.items c.args.journal.now.entries c.args.journal.now.spare c.args.room c.requires.ready)
+    (fours (λ n a. goal.F-post g c.args.due.now.service.now n a) c.args.due.now.slots.now c.args.due.now.windows.now c.args.store.now c.args.programs.now.items c.args.places.now.items c.args.journal.now.entries c.args.journal.now.spare c.args.due.now.room c.requires.ready)
 
 pub take_turns-requires-clause-next : goal.take_turns-requires-clause-next
 take_turns-requires-clause-next g c =
-    found (λ n a. goal.F-post g c.args.service.now n a) c.args.slots.now c.args.windows.now c.args.store.now c.args.programs.now.items c.args.places.now.items c.args.journal.now.entries c.args.journal.now.spare c.args.room c.requires.ready c.next_of.result (Some c.in-Some.i) c.deref.result.now c.deref-2.result.now c.deref.ensures.value c.deref-2.ensures.value c.priorities-priorities.result c.priorities-priorities.ensures c.next_of.ensures c.in-Some.is
+    found (λ n a. goal.F-post g c.args.due.now.service.now n a) c.args.due.now.slots.now c.args.due.now.windows.now c.args.store.now c.args.programs.now.items c.args.places.now.items c.args.journal.now.entries c.args.journal.now.spare c.args.due.now.room c.requires.ready c.next_of.result (Some c.in-Some.i) c.deref.result.now c.deref-2.result.now c.deref.ensures.value c.deref-2.ensures.value c.priorities-priorities.result c.priorities-priorities.ensures c.next_of.ensures c.in-Some.is
 
 pub returns-in_err-reserve-in-None-clause-err : goal.returns-in_err-reserve-in-None-clause-err
 returns-in_err-reserve-in-None-clause-err g c =
-    subst (λ (J : List Entry). OnErr c.from_residual.result (HasMadeButFewer (λ n a. goal.F-post g c.args.service.now n a) c.args.most
-    (viewed c.args.slots.now c.args.windows.now c.args.store.now c.args.programs.now.items c.args.places.now.items c.args.journal.now.entries c.args.room)
-    (viewed c.args.slots.now c.args.windows.now c.args.store.now c.args.programs.now.items c.args.places.now.items J c.args.room)))
+    subst (λ (J : List Entry). OnErr c.from_residual.result (HasMadeButFewer (λ n a. goal.F-post g c.args.due.now.service.now n a) c.args.due.now.most
+    (viewed c.args.due.now.slots.now c.args.due.now.windows.now c.args.store.now c.args.programs.now.items c.args.places.now.items c.args.journal.now.entries c.args.due.now.room)
+    (viewed c.args.due.now.slots.now c.args.due.now.windows.now c.args.store.now c.args.programs.now.items c.args.places.now.items J c.args.due.now.room)))
     (sym c.reserve.ensures.entries)
     (all_err c.from_residual.result _
-    (0, c.requires.some, made_none (λ n a. goal.F-post g c.args.service.now n a) _ c.requires.ready.agrees.legal))
+    (0, c.requires.some, made_none (λ n a. goal.F-post g c.args.due.now.service.now n a) _ c.requires.ready.agrees.legal))
 
 pub returns-in_ok-reserve-in-None-clause-ready : goal.returns-in_ok-reserve-in-None-clause-ready
 returns-in_ok-reserve-in-None-clause-ready g c =
-    (waits (λ n a. goal.F-post g c.args.service.now n a) c.args.slots.now c.args.windows.now c.args.store.now c.args.programs.now.items c.args.places.now.items c.args.journal.now.entries c.args.journal.now.spare c.args.room c.requires.ready
-    c.args.most c.requires.some c.requires.few
-    (found (λ n a. goal.F-post g c.args.service.now n a) c.args.slots.now c.args.windows.now c.args.store.now c.args.programs.now.items c.args.places.now.items c.args.journal.now.entries c.args.journal.now.spare c.args.room c.requires.ready c.next_of.result None c.deref.result.now c.deref-2.result.now c.deref.ensures.value c.deref-2.ensures.value c.priorities-priorities.result c.priorities-priorities.ensures c.next_of.ensures c.in-None.is)
+    (waits (λ n a. goal.F-post g c.args.due.now.service.now n a) c.args.due.now.slots.now c.args.due.now.windows.now c.args.store.now c.args.programs.now.items c.args.places.now.items c.args.journal.now.entries c.args.journal.now.spare c.args.due.now.room c.requires.ready
+    c.args.due.now.most c.requires.some c.requires.few
+    (found (λ n a. goal.F-post g c.args.due.now.service.now n a) c.args.due.now.slots.now c.args.due.now.windows.now c.args.store.now c.args.programs.now.items c.args.places.now.items c.args.journal.now.entries c.args.journal.now.spare c.args.due.now.room c.requires.ready c.next_of.result None c.deref.result.now c.deref-2.result.now c.deref.ensures.value c.deref-2.ensures.value c.priorities-priorities.result c.priorities-priorities.ensures c.next_of.ensures c.in-None.is)
     c.wait.new.journal.spare (omega (arith, c.in_ok-reserve-in-None.ensures.room, c.wait.ensures.spare))
     c.wait.new.journal.entries c.wait.result
-    (subst (λ (xs : List Program). c.wait.new.journal.entries ≡ cond (any_on xs) (pushed c.args.journal.now.entries (Idled c.args.most)) c.args.journal.now.entries) c.deref-in-None.ensures.value
-    (subst (λ (J : List Entry). c.wait.new.journal.entries ≡ cond (any_on c.deref-in-None.result.now) (pushed J (Idled c.args.most)) J) c.reserve.ensures.entries c.wait.ensures.entries))
-    (subst (λ (xs : List Program). c.wait.result ≡ cond (any_on xs) (c.args.most, Idle) (1, AllEnded)) c.deref-in-None.ensures.value c.wait.ensures.answer)).0
+    (subst (λ (xs : List Program). c.wait.new.journal.entries ≡ cond (any_on xs) (pushed c.args.journal.now.entries (Idled c.args.due.now.most)) c.args.journal.now.entries) c.deref-in-None.ensures.value
+    (subst (λ (J : List Entry). c.wait.new.journal.entries ≡ cond (any_on c.deref-in-None.result.now) (pushed J (Idled c.args.due.now.most)) J) c.reserve.ensures.entries c.wait.ensures.entries))
+    (subst (λ (xs : List Program). c.wait.result ≡ cond (any_on xs) (c.args.due.now.most, Idle) (1, AllEnded)) c.deref-in-None.ensures.value c.wait.ensures.answer)).0
 
 pub returns-in_ok-reserve-in-None-clause-made : goal.returns-in_ok-reserve-in-None-clause-made
 returns-in_ok-reserve-in-None-clause-made g c =
-    (waits (λ n a. goal.F-post g c.args.service.now n a) c.args.slots.now c.args.windows.now c.args.store.now c.args.programs.now.items c.args.places.now.items c.args.journal.now.entries c.args.journal.now.spare c.args.room c.requires.ready
-    c.args.most c.requires.some c.requires.few
-    (found (λ n a. goal.F-post g c.args.service.now n a) c.args.slots.now c.args.windows.now c.args.store.now c.args.programs.now.items c.args.places.now.items c.args.journal.now.entries c.args.journal.now.spare c.args.room c.requires.ready c.next_of.result None c.deref.result.now c.deref-2.result.now c.deref.ensures.value c.deref-2.ensures.value c.priorities-priorities.result c.priorities-priorities.ensures c.next_of.ensures c.in-None.is)
+    (waits (λ n a. goal.F-post g c.args.due.now.service.now n a) c.args.due.now.slots.now c.args.due.now.windows.now c.args.store.now c.args.programs.now.items c.args.places.now.items c.args.journal.now.entries c.args.journal.now.spare c.args.due.now.room c.requires.ready
+    c.args.due.now.most c.requires.some c.requires.few
+    (found (λ n a. goal.F-post g c.args.due.now.service.now n a) c.args.due.now.slots.now c.args.due.now.windows.now c.args.store.now c.args.programs.now.items c.args.places.now.items c.args.journal.now.entries c.args.journal.now.spare c.args.due.now.room c.requires.ready c.next_of.result None c.deref.result.now c.deref-2.result.now c.deref.ensures.value c.deref-2.ensures.value c.priorities-priorities.result c.priorities-priorities.ensures c.next_of.ensures c.in-None.is)
     c.wait.new.journal.spare (omega (arith, c.in_ok-reserve-in-None.ensures.room, c.wait.ensures.spare))
     c.wait.new.journal.entries c.wait.result
-    (subst (λ (xs : List Program). c.wait.new.journal.entries ≡ cond (any_on xs) (pushed c.args.journal.now.entries (Idled c.args.most)) c.args.journal.now.entries) c.deref-in-None.ensures.value
-    (subst (λ (J : List Entry). c.wait.new.journal.entries ≡ cond (any_on c.deref-in-None.result.now) (pushed J (Idled c.args.most)) J) c.reserve.ensures.entries c.wait.ensures.entries))
-    (subst (λ (xs : List Program). c.wait.result ≡ cond (any_on xs) (c.args.most, Idle) (1, AllEnded)) c.deref-in-None.ensures.value c.wait.ensures.answer)).1
+    (subst (λ (xs : List Program). c.wait.new.journal.entries ≡ cond (any_on xs) (pushed c.args.journal.now.entries (Idled c.args.due.now.most)) c.args.journal.now.entries) c.deref-in-None.ensures.value
+    (subst (λ (J : List Entry). c.wait.new.journal.entries ≡ cond (any_on c.deref-in-None.result.now) (pushed J (Idled c.args.due.now.most)) J) c.reserve.ensures.entries c.wait.ensures.entries))
+    (subst (λ (xs : List Program). c.wait.result ≡ cond (any_on xs) (c.args.due.now.most, Idle) (1, AllEnded)) c.deref-in-None.ensures.value c.wait.ensures.answer)).1

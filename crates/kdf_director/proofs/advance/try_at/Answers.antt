@@ -1,4 +1,4 @@
-use Rattle.std.proofs.Common.{◌≡◌, ap, ap₂, sym, subst, arith}
+use Rattle.std.proofs.Common.{◌≡◌, ap, ap₂, sym, subst, arith, get_or}
 use Rattle.kdf_director.specs.Fields.Batches.{AreQuiet, HasBatch, HasTurnedOn}
 use Rattle.kdf_director.specs.Fields.Parts.{Reach}
 use Rattle.kdf_places.specs.Shared.{Shared, shared_in}
@@ -12,46 +12,46 @@ use Rattle.kdf_director.proofs.advance.try_at.Goals as goal
 
 pub returns-clause-tried : goal.returns-clause-tried
 returns-clause-tried g c =
-    let rs = reaches_in c.args.windows.now c.args.slots.now in
+    let rs = reaches_in c.args.site.now.windows.now c.args.site.now.slots.now in
     let before = seats_in c.args.programs.now.items in
     let s = shared_in c.args.store.now c.args.places.now.items in
     let after = seats_in c.turn.new.programs.items in
     let left = shared_in c.turn.new.store c.turn.new.places.items in
-    let i = c.args.i in
+    let i = c.args.batch.i in
     let n = c.turn.result.0 in
-    let h = c.unwrap_or.result in
-    let slot = c.index-slots-i.result in
-    let served : (reach_at rs i).served ≡ slot.served = sym (ap (λ (r : Reach). r.served) (reach_there c.args.windows.now c.args.slots.now i (omega (arith, c.requires.there, c.requires.slots)) slot c.index-slots-i.is)) in
+    let h = c.unwrap_or-heard.result in
+    let slot = get_or c.args.site.now.slots.now c.args.batch.i c.index-site-batch.result in
+    let served : (reach_at rs i).served ≡ slot.served = sym (ap (λ (r : Reach). r.served) (reach_there c.args.site.now.windows.now c.args.site.now.slots.now i (omega (arith, c.requires.there, c.requires.slots)) slot (ap (get_or c.args.site.now.slots.now c.args.batch.i) c.index-site-batch.is))) in
     if_ok c.turn.result.1 _ _
     (λ x turned.
-    told_by (λ n a. goal.F-post g c.args.service.now n a) rs c.args.time i c.heard-answer.result h
-    (heard_then c.heard-answer.result h c.default.result c.unwrap_or.ensures c.default.ensures) before s c.heard-answer.ensures.asked
-    slot.served served n (λ is. let few = c.turn.ensures.within in let one = c.batch_of-batch.ensures.served is in omega arith) after left x.0 x.1
-    (subst (λ (y : Shared). HasBatch (HasTurnedOn rs (moment c.args.time h) i) n before y after left x.0 x.1)
+    told_by (λ n a. goal.F-post g c.args.service.now n a) rs c.args.batch.time i c.heard-answer.result h
+    (heard_then c.heard-answer.result h c.default.result c.unwrap_or-heard.ensures c.default.ensures) before s c.heard-answer.ensures.asked
+    slot.served served n (λ is. let few = c.turn.ensures.within in let one = c.batch_of.ensures.served is in omega arith) after left x.0 x.1
+    (subst (λ (y : Shared). HasBatch (HasTurnedOn rs (moment c.args.batch.time h) i) n before y after left x.0 x.1)
     (ap₂ (λ a v. shared_in a v.items) c.heard-answer.ensures.store c.heard-answer.ensures.places)
-    (subst (λ y. HasBatch (HasTurnedOn rs (moment c.args.time h) i) n y (shared_in c.heard-answer.new.store c.heard-answer.new.places.items) after left x.0 x.1)
+    (subst (λ y. HasBatch (HasTurnedOn rs (moment c.args.batch.time h) i) n y (shared_in c.heard-answer.new.store c.heard-answer.new.places.items) after left x.0 x.1)
     c.heard-answer.ensures.seats turned)))
     c.turn.ensures.turned
 
 pub returns-clause-err : goal.returns-clause-err
 returns-clause-err g c =
-    let rs = reaches_in c.args.windows.now c.args.slots.now in
+    let rs = reaches_in c.args.site.now.windows.now c.args.site.now.slots.now in
     let before = seats_in c.args.programs.now.items in
     let s = shared_in c.args.store.now c.args.places.now.items in
     let after = seats_in c.turn.new.programs.items in
     let left = shared_in c.turn.new.store c.turn.new.places.items in
-    let i = c.args.i in
+    let i = c.args.batch.i in
     let n = c.turn.result.0 in
-    let h = c.unwrap_or.result in
-    let slot = c.index-slots-i.result in
-    let served : (reach_at rs i).served ≡ slot.served = sym (ap (λ (r : Reach). r.served) (reach_there c.args.windows.now c.args.slots.now i (omega (arith, c.requires.there, c.requires.slots)) slot c.index-slots-i.is)) in
+    let h = c.unwrap_or-heard.result in
+    let slot = get_or c.args.site.now.slots.now c.args.batch.i c.index-site-batch.result in
+    let served : (reach_at rs i).served ≡ slot.served = sym (ap (λ (r : Reach). r.served) (reach_there c.args.site.now.windows.now c.args.site.now.slots.now i (omega (arith, c.requires.there, c.requires.slots)) slot (ap (get_or c.args.site.now.slots.now c.args.batch.i) c.index-site-batch.is))) in
     on_err c.turn.result.1 _ _
     (λ still.
-    told_still (λ n a. goal.F-post g c.args.service.now n a) rs c.args.time i c.heard-answer.result h
-    (heard_then c.heard-answer.result h c.default.result c.unwrap_or.ensures c.default.ensures) before s c.heard-answer.ensures.asked
-    slot.served served n (λ is. let few = c.turn.ensures.within in let one = c.batch_of-batch.ensures.served is in omega arith) after left
-    (subst (λ (y : Shared). AreQuiet (HasTurnedOn rs (moment c.args.time h) i) n before y after left)
+    told_still (λ n a. goal.F-post g c.args.service.now n a) rs c.args.batch.time i c.heard-answer.result h
+    (heard_then c.heard-answer.result h c.default.result c.unwrap_or-heard.ensures c.default.ensures) before s c.heard-answer.ensures.asked
+    slot.served served n (λ is. let few = c.turn.ensures.within in let one = c.batch_of.ensures.served is in omega arith) after left
+    (subst (λ (y : Shared). AreQuiet (HasTurnedOn rs (moment c.args.batch.time h) i) n before y after left)
     (ap₂ (λ a v. shared_in a v.items) c.heard-answer.ensures.store c.heard-answer.ensures.places)
-    (subst (λ y. AreQuiet (HasTurnedOn rs (moment c.args.time h) i) n y (shared_in c.heard-answer.new.store c.heard-answer.new.places.items) after left)
+    (subst (λ y. AreQuiet (HasTurnedOn rs (moment c.args.batch.time h) i) n y (shared_in c.heard-answer.new.store c.heard-answer.new.places.items) after left)
     c.heard-answer.ensures.seats still)))
     c.turn.ensures.err

@@ -1,18 +1,11 @@
-use Rattle.std.proofs.Common.{◌≡◌, map, true, ap, subst}
+use Rattle.std.proofs.Common.{◌≡◌, true, ap}
 use Rattle.kdf_processor.specs.Lone.{is_live}
-use Rattle.kdf_director.specs.Fields.Batches.{AreQuiet, HasBatch}
-use Rattle.kdf_director.specs.Fields.Parts.{Reach, Seat, reach, reach_of, seat, seat_of}
+use Rattle.kdf_director.specs.Fields.Parts.{Seat, reach_of, seat_of}
 use Rattle.kdf_places.specs.Shared.{Shared, shared_in}
-use Rattle.kdf_director.specs.Fields.Stints.{keeping_of}
-use Rattle.kdf_director.specs.Fields.Turned.{HasTried}
 use Rattle.kdf_director.proofs.Turns.Batching.{runs_by, runs_still}
 use Rattle.kdf_director.proofs.Turns.AfterTheTry.{if_ok, on_err}
 use Rattle.kdf_director.proofs.dispatch.run.Goals as goal
 use Rattle.kdf_director.proofs.dispatch.run.Goals.{After-settle}
-
--- what the slot reaches
-reached : (c : After-settle) → reach c.window_of-window.result c.args.slot.now ≡ reach_of c.args.windows.now c.args.slot.now
-reached c = ap (λ w. reach w c.args.slot.now) c.window_of-window.ensures
 
 -- the program and what is shared: before, and after its orders
 abbrev before : After-settle → Seat
@@ -22,8 +15,7 @@ abbrev s : After-settle → Shared
 s c = shared_in c.args.store.now c.args.places.now.items
 
 abbrev mid : After-settle → Seat
-mid c =
-    seat c.args.program.now.p c.try_next-tried.new.registers c.try_next-tried.new.claimed c.try_next-tried.new.spooled.items (map keeping_of c.try_next-tried.new.stints.items)
+mid c = seat_of c.try_next-tried.new.program
 
 abbrev between : After-settle → Shared
 between c = shared_in c.try_next-tried.new.store c.try_next-tried.new.places.items
@@ -35,8 +27,8 @@ pub returns-clause-ran : goal.returns-clause-ran
 returns-clause-ran c =
     let at = (goal.at.returns-clause-ran c).After-settle in
     if_ok c.try_next-tried.result.1 _ _
-    (λ x h. runs_by (reach_of c.args.windows.now c.args.slot.now) c.args.moment c.try_next-tried.result.0 (before at) (s at) (mid at) (between at) _ _ x.0 x.1 (live at)
-    (subst (λ (r : Reach). HasBatch (HasTried r c.args.moment) c.try_next-tried.result.0 (before at) (s at) (mid at) (between at) x.0 x.1) (reached at) h)
+    (λ x h. runs_by (reach_of c.args.stand.now.windows.now c.args.stand.now.slot.now) c.args.moment c.try_next-tried.result.0 (before at) (s at) (mid at) (between at) _ _ x.0 x.1 (live at)
+    h
     (c.settle.ensures.both c.try_next-tried.new.store))
     c.try_next-tried.ensures.tried
 
@@ -44,7 +36,7 @@ pub returns-clause-err : goal.returns-clause-err
 returns-clause-err c =
     let at = (goal.at.returns-clause-err c).After-settle in
     on_err c.try_next-tried.result.1 _ _
-    (λ h. runs_still (reach_of c.args.windows.now c.args.slot.now) c.args.moment c.try_next-tried.result.0 (before at) (s at) (mid at) (between at) _ _ (live at)
-    (subst (λ (r : Reach). AreQuiet (HasTried r c.args.moment) c.try_next-tried.result.0 (before at) (s at) (mid at) (between at)) (reached at) h)
+    (λ h. runs_still (reach_of c.args.stand.now.windows.now c.args.stand.now.slot.now) c.args.moment c.try_next-tried.result.0 (before at) (s at) (mid at) (between at) _ _ (live at)
+    h
     (c.settle.ensures.both c.try_next-tried.new.store))
     c.try_next-tried.ensures.err

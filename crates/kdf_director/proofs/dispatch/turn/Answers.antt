@@ -1,4 +1,4 @@
-use Rattle.std.proofs.Common.{◌≡◌, ◌+◌, ◌*◌, ◌%◌, ◌<◌, ◌≤◌, true, length, set, sym, ap, ◌∙◌, subst, arith}
+use Rattle.std.proofs.Common.{◌≡◌, ◌+◌, ◌*◌, ◌%◌, ◌<◌, ◌≤◌, true, length, set, sym, ap, ◌∙◌, subst, arith, get_or}
 use Rattle.std.proofs.lemmas.List.{length-map}
 use Rattle.kdf_processor.specs.Lone.{is_live}
 use Rattle.kdf_director.specs.Fields.Batches.{AreQuiet, HasTurnedOn}
@@ -7,6 +7,7 @@ use Rattle.kdf_director.specs.Fields.Parts.{Reach, Seat, part_in, reach_of, seat
 use Rattle.kdf_places.specs.Shared.{Shared, shared_in}
 use Rattle.kdf_director.specs.Fields.Running.{reach_at, reaches_in, seat_at, seats_in}
 use Rattle.kdf_places.specs.Spots.{spot_of}
+use Rattle.kdf_director.specs.Fields.Shared.{moment}
 use Rattle.kdf_director.specs.Fields.Turned.{HasRun}
 use Rattle.kdf_director.proofs.Turns.Batching.{still_all, still_running, turns_all}
 use Rattle.kdf_director.proofs.Turns.OneProgram.{reach_is, seat_is, within, holds_all}
@@ -18,23 +19,23 @@ use Rattle.kdf_director.proofs.dispatch.turn.Goals.{After-index_mut, After-run}
 abbrev s : After-index_mut → Shared
 s c = shared_in c.args.store.now c.args.places.now.items
 
-reach : (c : After-index_mut) → reach_of c.args.windows.now c.index-slots-i.result ≡ reach_at (reaches_in c.args.windows.now c.args.slots.now) c.args.i
+reach : (c : After-index_mut) → reach_of c.args.site.now.windows.now (get_or c.args.site.now.slots.now c.args.batch.i c.index-site-batch.result) ≡ reach_at (reaches_in c.args.site.now.windows.now c.args.site.now.slots.now) c.args.batch.i
 reach c =
-    reach_is c.args.windows.now c.args.slots.now c.args.programs.now.items c.args.i c.requires.there c.requires.slots c.index-slots-i.result c.index_mut.result.now c.index-slots-i.is c.index_mut.ensures.value
+    reach_is c.args.site.now.windows.now c.args.site.now.slots.now c.args.programs.now.items c.args.batch.i c.requires.there c.requires.slots (get_or c.args.site.now.slots.now c.args.batch.i c.index-site-batch.result) c.index_mut.result.now (ap (get_or c.args.site.now.slots.now c.args.batch.i) c.index-site-batch.is) c.index_mut.ensures.value
 
-inside : (c : After-index_mut) → c.args.i < length (seats_in c.args.programs.now.items)
+inside : (c : After-index_mut) → c.args.batch.i < length (seats_in c.args.programs.now.items)
 inside c =
-    within c.args.windows.now c.args.slots.now c.args.programs.now.items c.args.i c.requires.there c.requires.slots c.index-slots-i.result c.index_mut.result.now c.index-slots-i.is c.index_mut.ensures.value
+    within c.args.site.now.windows.now c.args.site.now.slots.now c.args.programs.now.items c.args.batch.i c.requires.there c.requires.slots (get_or c.args.site.now.slots.now c.args.batch.i c.index-site-batch.result) c.index_mut.result.now (ap (get_or c.args.site.now.slots.now c.args.batch.i) c.index-site-batch.is) c.index_mut.ensures.value
 
 pub run-requires-clause-at_group : goal.run-requires-clause-at_group
 run-requires-clause-at_group c =
     let at = (goal.at.run-requires-clause-at_group c).After-index_mut in
-    subst (λ (r : Reach). r.base % 32 ≡ 0) (sym (reach at)) (c.requires.running.at_group c.args.i (inside at))
+    subst (λ (r : Reach). r.base % 32 ≡ 0) (sym (reach at)) (c.requires.running.at_group c.args.batch.i (inside at))
 
 pub run-requires-clause-in_store : goal.run-requires-clause-in_store
 run-requires-clause-in_store c =
     let at = (goal.at.run-requires-clause-in_store c).After-index_mut in
-    subst (λ (r : Reach). r.base + r.size ≤ 32 * length c.args.store.now) (sym (reach at)) (c.requires.running.in_store c.args.i (inside at))
+    subst (λ (r : Reach). r.base + r.size ≤ 32 * length c.args.store.now) (sym (reach at)) (c.requires.running.in_store c.args.batch.i (inside at))
 
 pub run-requires-clause-sixteen : goal.run-requires-clause-sixteen
 run-requires-clause-sixteen c =
@@ -43,11 +44,11 @@ run-requires-clause-sixteen c =
     omega (arith, limit_is, length-map c.args.places.now.items spot_of)
 
 -- the program keeps what it has, and is live
-seat : (c : After-index_mut) → seat_of c.index_mut.result.now ≡ seat_at (seats_in c.args.programs.now.items) c.args.i
+seat : (c : After-index_mut) → seat_of c.index_mut.result.now ≡ seat_at (seats_in c.args.programs.now.items) c.args.batch.i
 seat c =
-    seat_is c.args.windows.now c.args.slots.now c.args.programs.now.items c.args.i c.requires.there c.requires.slots c.index-slots-i.result c.index_mut.result.now c.index-slots-i.is c.index_mut.ensures.value
+    seat_is c.args.site.now.windows.now c.args.site.now.slots.now c.args.programs.now.items c.args.batch.i c.requires.there c.requires.slots (get_or c.args.site.now.slots.now c.args.batch.i c.index-site-batch.result) c.index_mut.result.now (ap (get_or c.args.site.now.slots.now c.args.batch.i) c.index-site-batch.is) c.index_mut.ensures.value
 
-on : (c : After-index_mut) → is_live (seat_at (seats_in c.args.programs.now.items) c.args.i).registers.state ≡ true
+on : (c : After-index_mut) → is_live (seat_at (seats_in c.args.programs.now.items) c.args.batch.i).registers.state ≡ true
 on c = ap is_live c.requires.live
 
 pub run-requires-clause-live : goal.run-requires-clause-live
@@ -58,21 +59,21 @@ run-requires-clause-live c =
 pub run-requires-clause-ran : goal.run-requires-clause-ran
 run-requires-clause-ran c =
     let at = (goal.at.run-requires-clause-ran c).After-index_mut in
-    subst (λ (x : Seat). x.registers.ran + c.args.most ≤ 4294967295) (sym (seat at)) c.requires.ran
+    subst (λ (x : Seat). x.registers.ran + c.args.batch.most ≤ 4294967295) (sym (seat at)) c.requires.ran
 
 pub run-requires-clause-kept : goal.run-requires-clause-kept
 run-requires-clause-kept c =
     let at = (goal.at.run-requires-clause-kept c).After-index_mut in
     subst (λ (r : Reach). IsKept (part_in (seat_of c.index_mut.result.now) r) (s at)) (sym (reach at))
-    (subst (λ x. IsKept (part_in x (reach_at (reaches_in c.args.windows.now c.args.slots.now) c.args.i)) (s at)) (sym (seat at))
-    (c.requires.running.kept c.args.i (inside at)))
+    (subst (λ x. IsKept (part_in x (reach_at (reaches_in c.args.site.now.windows.now c.args.site.now.slots.now) c.args.batch.i)) (s at)) (sym (seat at))
+    (c.requires.running.kept c.args.batch.i (inside at)))
 
 pub run-requires-clause-active : goal.run-requires-clause-active
 run-requires-clause-active c =
     let at = (goal.at.run-requires-clause-active c).After-index_mut in
     subst (λ (r : Reach). IsActive (part_in (seat_of c.index_mut.result.now) r) (s at)) (sym (reach at))
-    (subst (λ x. IsActive (part_in x (reach_at (reaches_in c.args.windows.now c.args.slots.now) c.args.i)) (s at)) (sym (seat at))
-    (c.requires.running.active c.args.i (inside at) (on at)))
+    (subst (λ x. IsActive (part_in x (reach_at (reaches_in c.args.site.now.windows.now c.args.site.now.slots.now) c.args.batch.i)) (s at)) (sym (seat at))
+    (c.requires.running.active c.args.batch.i (inside at) (on at)))
 
 -- what its orders leave
 abbrev left : After-run → Shared
@@ -83,28 +84,28 @@ returns-clause-turned c =
     let at = (goal.at.returns-clause-turned c).After-index_mut in
     let ended = (goal.at.returns-clause-turned c).After-run in
     if_ok c.run.result.1 _ _
-    (λ x h. turns_all c.args.windows.now c.args.slots.now c.args.programs.now.items c.args.i c.requires.there c.requires.slots c.index-slots-i.result c.index_mut.result.now c.index-slots-i.is c.index_mut.ensures.value
-    c.args.moment (s at) (left ended) c.run.new.program c.run.result.0 c.requires.running (on at) x.0 x.1 h)
+    (λ x h. turns_all c.args.site.now.windows.now c.args.site.now.slots.now c.args.programs.now.items c.args.batch.i c.requires.there c.requires.slots (get_or c.args.site.now.slots.now c.args.batch.i c.index-site-batch.result) c.index_mut.result.now (ap (get_or c.args.site.now.slots.now c.args.batch.i) c.index-site-batch.is) c.index_mut.ensures.value
+    (moment c.args.batch.time c.args.heard) (s at) (left ended) c.run.new.program c.run.result.0 c.requires.running (on at) x.0 x.1 h)
     c.run.ensures.ran
 
-still : (c : After-run) → AreQuiet (HasRun (reach_of c.args.windows.now c.index-slots-i.result) c.args.moment) c.run.result.0 (seat_of c.index_mut.result.now) (shared_in c.args.store.now c.args.places.now.items) (seat_of c.run.new.program) (left c)
-    → AreQuiet (HasTurnedOn (reaches_in c.args.windows.now c.args.slots.now) c.args.moment c.args.i) c.run.result.0 (seats_in c.args.programs.now.items) (shared_in c.args.store.now c.args.places.now.items) (seats_in (set c.args.programs.now.items c.args.i c.run.new.program)) (left c)
+still : (c : After-run) → AreQuiet (HasRun (reach_of c.args.site.now.windows.now (get_or c.args.site.now.slots.now c.args.batch.i c.index-site-batch.result)) (moment c.args.batch.time c.args.heard)) c.run.result.0 (seat_of c.index_mut.result.now) (shared_in c.args.store.now c.args.places.now.items) (seat_of c.run.new.program) (left c)
+    → AreQuiet (HasTurnedOn (reaches_in c.args.site.now.windows.now c.args.site.now.slots.now) (moment c.args.batch.time c.args.heard) c.args.batch.i) c.run.result.0 (seats_in c.args.programs.now.items) (shared_in c.args.store.now c.args.places.now.items) (seats_in (set c.args.programs.now.items c.args.batch.i c.run.new.program)) (left c)
 still c h =
-    still_all c.args.windows.now c.args.slots.now c.args.programs.now.items c.args.i c.requires.there c.requires.slots c.index-slots-i.result c.index_mut.result.now c.index-slots-i.is c.index_mut.ensures.value
-    c.args.moment (shared_in c.args.store.now c.args.places.now.items) (left c) c.run.new.program c.run.result.0 c.requires.running (ap is_live c.requires.live) h
+    still_all c.args.site.now.windows.now c.args.site.now.slots.now c.args.programs.now.items c.args.batch.i c.requires.there c.requires.slots (get_or c.args.site.now.slots.now c.args.batch.i c.index-site-batch.result) c.index_mut.result.now (ap (get_or c.args.site.now.slots.now c.args.batch.i) c.index-site-batch.is) c.index_mut.ensures.value
+    (moment c.args.batch.time c.args.heard) (shared_in c.args.store.now c.args.places.now.items) (left c) c.run.new.program c.run.result.0 c.requires.running (ap is_live c.requires.live) h
 
 pub returns-clause-running : goal.returns-clause-running
 returns-clause-running c =
     let at = (goal.at.returns-clause-running c).After-index_mut in
     let ended = (goal.at.returns-clause-running c).After-run in
     on_either c.run.result.1 _ _ _ c.run.ensures.ran c.run.ensures.err
-    (λ x h. (turns_all c.args.windows.now c.args.slots.now c.args.programs.now.items c.args.i c.requires.there c.requires.slots c.index-slots-i.result c.index_mut.result.now c.index-slots-i.is c.index_mut.ensures.value
-    c.args.moment (s at) (left ended) c.run.new.program c.run.result.0 c.requires.running (on at) x.0 x.1 h).last.1)
-    (λ h. still_running (reaches_in c.args.windows.now c.args.slots.now) c.args.moment c.args.i c.run.result.0 (seats_in c.args.programs.now.items) (s at) _ (left ended) c.requires.running (still ended h))
+    (λ x h. (turns_all c.args.site.now.windows.now c.args.site.now.slots.now c.args.programs.now.items c.args.batch.i c.requires.there c.requires.slots (get_or c.args.site.now.slots.now c.args.batch.i c.index-site-batch.result) c.index_mut.result.now (ap (get_or c.args.site.now.slots.now c.args.batch.i) c.index-site-batch.is) c.index_mut.ensures.value
+    (moment c.args.batch.time c.args.heard) (s at) (left ended) c.run.new.program c.run.result.0 c.requires.running (on at) x.0 x.1 h).last.1)
+    (λ h. still_running (reaches_in c.args.site.now.windows.now c.args.site.now.slots.now) (moment c.args.batch.time c.args.heard) c.args.batch.i c.run.result.0 (seats_in c.args.programs.now.items) (s at) _ (left ended) c.requires.running (still ended h))
 
 pub returns-clause-err : goal.returns-clause-err
 returns-clause-err c = on_err c.run.result.1 _ _ (still (goal.at.returns-clause-err c).After-run) c.run.ensures.err
 
 pub returns-clause-holds : goal.returns-clause-holds
 returns-clause-holds c =
-    holds_all c.args.windows.now c.args.slots.now c.args.programs.now.items c.args.i c.requires.there c.requires.slots c.index-slots-i.result c.index_mut.result.now c.index-slots-i.is c.index_mut.ensures.value c.run.new.program c.run.ensures.hold
+    holds_all c.args.site.now.windows.now c.args.site.now.slots.now c.args.programs.now.items c.args.batch.i c.requires.there c.requires.slots (get_or c.args.site.now.slots.now c.args.batch.i c.index-site-batch.result) c.index_mut.result.now (ap (get_or c.args.site.now.slots.now c.args.batch.i) c.index-site-batch.is) c.index_mut.ensures.value c.run.new.program c.run.ensures.hold

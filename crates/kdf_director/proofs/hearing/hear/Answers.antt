@@ -9,7 +9,7 @@ use Rattle.kdf_director.proofs.hearing.hear.Goals as goal
 pub returns-then-is_none-clause-asked : goal.returns-then-is_none-clause-asked
 returns-then-is_none-clause-asked g c =
     let x = seat_of c.args.program.now in
-    let r = reach_of c.args.windows.now c.args.slot.now in
+    let r = reach_of c.args.stand.now.windows.now c.args.stand.now.slot.now in
     let s = shared_in c.args.store.now c.args.places.now.items in
     has_none (λ n a. goal.F-post g c.args.service.now n a) (word_over x r s)
     (none_told x r s (sym c.word_ahead.ensures ∙ none_if c.word_ahead.result (c.is_none.ensures ∙ ap not c.if-is_none.true)))

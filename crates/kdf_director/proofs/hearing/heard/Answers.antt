@@ -1,4 +1,4 @@
-use Rattle.std.proofs.Common.{◌<◌, length, sym, ap, ◌∙◌, subst, arith}
+use Rattle.std.proofs.Common.{◌<◌, length, sym, ap, ◌∙◌, subst, arith, get_or}
 use Rattle.std.proofs.lemmas.List.{length-map}
 use Rattle.kdf_transfer.proofs.Numbers.{limit_is}
 use Rattle.kdf_director.specs.Fields.Keeping.{IsKept}
@@ -20,33 +20,33 @@ hear-requires-clause-sixteen g c =
 pub hear-requires-clause-kept : goal.hear-requires-clause-kept
 hear-requires-clause-kept g c =
     let s = shared_in c.args.store.now c.args.places.now.items in
-    let r = reach_at (reaches_in c.args.windows.now c.args.slots.now) c.args.i in
+    let r = reach_at (reaches_in c.args.site.now.windows.now c.args.site.now.slots.now) c.args.i in
     subst (λ (x : Reach). IsKept (part_in (seat_of c.index_mut.result.now) x) s)
-    (sym (reach_is c.args.windows.now c.args.slots.now c.args.programs.now.items c.args.i c.requires.there c.requires.slots c.index-slots-i.result c.index_mut.result.now c.index-slots-i.is c.index_mut.ensures.value))
+    (sym (reach_is c.args.site.now.windows.now c.args.site.now.slots.now c.args.programs.now.items c.args.i c.requires.there c.requires.slots (get_or c.args.site.now.slots.now c.args.i c.index-site-i.result) c.index_mut.result.now (ap (get_or c.args.site.now.slots.now c.args.i) c.index-site-i.is) c.index_mut.ensures.value))
     (subst (λ x. IsKept (part_in x r) s)
-    (sym (seat_is c.args.windows.now c.args.slots.now c.args.programs.now.items c.args.i c.requires.there c.requires.slots c.index-slots-i.result c.index_mut.result.now c.index-slots-i.is c.index_mut.ensures.value))
+    (sym (seat_is c.args.site.now.windows.now c.args.site.now.slots.now c.args.programs.now.items c.args.i c.requires.there c.requires.slots (get_or c.args.site.now.slots.now c.args.i c.index-site-i.result) c.index_mut.result.now (ap (get_or c.args.site.now.slots.now c.args.i) c.index-site-i.is) c.index_mut.ensures.value))
     (c.requires.running.kept c.args.i
-    (within c.args.windows.now c.args.slots.now c.args.programs.now.items c.args.i c.requires.there c.requires.slots c.index-slots-i.result c.index_mut.result.now c.index-slots-i.is c.index_mut.ensures.value)))
+    (within c.args.site.now.windows.now c.args.site.now.slots.now c.args.programs.now.items c.args.i c.requires.there c.requires.slots (get_or c.args.site.now.slots.now c.args.i c.index-site-i.result) c.index_mut.result.now (ap (get_or c.args.site.now.slots.now c.args.i) c.index-site-i.is) c.index_mut.ensures.value)))
 
 pub returns-then-slot-clause-asked : goal.returns-then-slot-clause-asked
 returns-then-slot-clause-asked g c =
-    asked_at c.args.windows.now c.args.slots.now c.args.programs.now.items c.args.i c.requires.there c.requires.slots c.index-slots-i.result c.index_mut.result.now c.index-slots-i.is c.index_mut.ensures.value
+    asked_at c.args.site.now.windows.now c.args.site.now.slots.now c.args.programs.now.items c.args.i c.requires.there c.requires.slots (get_or c.args.site.now.slots.now c.args.i c.index-site-i.result) c.index_mut.result.now (ap (get_or c.args.site.now.slots.now c.args.i) c.index-site-i.is) c.index_mut.ensures.value
     (shared_in c.args.store.now c.args.places.now.items) (λ n a. goal.F-post g c.args.service.now n a) c.hear.result c.hear.ensures.asked
 
 pub returns-then-slot-clause-seats : goal.returns-then-slot-clause-seats
 returns-then-slot-clause-seats g c =
-    unturned_all c.args.windows.now c.args.slots.now c.args.programs.now.items c.args.i c.requires.there c.requires.slots c.index-slots-i.result c.index_mut.result.now c.index-slots-i.is c.index_mut.ensures.value c.hear.new.program c.hear.ensures.seat
+    unturned_all c.args.site.now.windows.now c.args.site.now.slots.now c.args.programs.now.items c.args.i c.requires.there c.requires.slots (get_or c.args.site.now.slots.now c.args.i c.index-site-i.result) c.index_mut.result.now (ap (get_or c.args.site.now.slots.now c.args.i) c.index-site-i.is) c.index_mut.ensures.value c.hear.new.program c.hear.ensures.seat
 
 pub returns-then-slot-clause-holds : goal.returns-then-slot-clause-holds
 returns-then-slot-clause-holds g c =
-    holds_all c.args.windows.now c.args.slots.now c.args.programs.now.items c.args.i c.requires.there c.requires.slots c.index-slots-i.result c.index_mut.result.now c.index-slots-i.is c.index_mut.ensures.value c.hear.new.program c.hear.ensures.hold
+    holds_all c.args.site.now.windows.now c.args.site.now.slots.now c.args.programs.now.items c.args.i c.requires.there c.requires.slots (get_or c.args.site.now.slots.now c.args.i c.index-site-i.result) c.index_mut.result.now (ap (get_or c.args.site.now.slots.now c.args.i) c.index-site-i.is) c.index_mut.ensures.value c.hear.new.program c.hear.ensures.hold
 
 pub returns-else-slot-clause-asked : goal.returns-else-slot-clause-asked
 returns-else-slot-clause-asked g c =
-    let there : c.args.i < length c.args.slots.now = omega (arith, c.requires.there, c.requires.slots) in
+    let there : c.args.i < length c.args.site.now.slots.now = omega (arith, c.requires.there, c.requires.slots) in
     let s = shared_in c.args.store.now c.args.places.now.items in
     let x = seat_at (seats_in c.args.programs.now.items) c.args.i in
-    let r = reach_at (reaches_in c.args.windows.now c.args.slots.now) c.args.i in
+    let r = reach_at (reaches_in c.args.site.now.windows.now c.args.site.now.slots.now) c.args.i in
     has_none (λ n a. goal.F-post g c.args.service.now n a) (word_over x r s)
     (none_served x r s
-    (sym (ap (λ (y : Reach). y.served) (reach_there c.args.windows.now c.args.slots.now c.args.i there c.index-slots-i.result c.index-slots-i.is)) ∙ c.if-slot.false))
+    (sym (ap (λ (y : Reach). y.served) (reach_there c.args.site.now.windows.now c.args.site.now.slots.now c.args.i there (get_or c.args.site.now.slots.now c.args.i c.index-site-i.result) (ap (get_or c.args.site.now.slots.now c.args.i) c.index-site-i.is))) ∙ c.if-slot.false))
