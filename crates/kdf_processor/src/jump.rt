@@ -10,6 +10,7 @@ use crate::syllable_number::behind;
 use crate::{Failure, Registers};
 
 /// A jump on the condition `c`.
+#[inline(always)]
 pub fn jump(registers: &mut Registers, c: u8, target: u16) -> Result<(), Failure>
     requires { IsOrder (order.Jump c target) }
     ensures { Comes (jump_row registers.old c target) registers.old registers.new result }
@@ -20,6 +21,7 @@ pub fn jump(registers: &mut Registers, c: u8, target: u16) -> Result<(), Failure
 }
 
 /// Goes to the target, or on after the jump.
+#[inline(always)]
 fn go(registers: &mut Registers, jumps: bool, target: u16)
     ensures { registers.new ≡ goes registers.old jumps target }
 {

@@ -6,13 +6,14 @@
 
 mod acting;
 mod arithmetic;
-mod change;
 mod claims;
+mod classes;
 mod conditions;
 mod copies;
 mod counting;
 pub mod examples;
 mod exit;
+mod failing;
 mod fetch;
 mod jump;
 pub mod laws;
@@ -34,6 +35,7 @@ mod shift;
 mod single;
 mod spooled;
 mod step;
+mod storing;
 mod syllable_number;
 mod transfers;
 mod waits;
