@@ -4,16 +4,16 @@
 //! otherwise does its row of the table: new registers and at most one acting call on the port.
 #![tactic(auto)]
 
+mod access;
 mod acting;
 mod arithmetic;
+mod change;
 mod claims;
-mod classes;
 mod conditions;
 mod copies;
 mod counting;
 pub mod examples;
 mod exit;
-mod failing;
 mod fetch;
 mod jump;
 pub mod laws;
@@ -28,6 +28,7 @@ mod port;
 mod push;
 mod q_store;
 mod queries;
+mod quick;
 mod registers;
 mod reserve;
 mod room;
@@ -35,7 +36,6 @@ mod shift;
 mod single;
 mod spooled;
 mod step;
-mod storing;
 mod syllable_number;
 mod transfers;
 mod waits;

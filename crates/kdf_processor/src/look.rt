@@ -115,7 +115,7 @@ fn look_at_order<P: Port>(registers: &Registers, port: &P, order: Order) -> Ahea
 pub fn may_want_memory(first: u8, second: u8, third: u8) -> bool
     ensures { result ≡ may_begin first }
 {
-    first < 0x80 && matches!((first, second, third), (0x21 | 0x70..=0x7d, _, _))
+    matches!((first, second, third), (0x21 | 0x70..=0x7d, _, _))
 }
 
 /// The word of which the next order may ask the service, as its registers tell: the one below the number 64. An order that asks it asks of this

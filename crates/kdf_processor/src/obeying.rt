@@ -18,17 +18,29 @@ use crate::acting::{
     ask_area, ask_busy, ask_service, ask_time, begin, count_orders, examine, give_back, pass,
     spool, take_number, take_pool,
 };
-use crate::classes::obey_spelt;
+use crate::change::change;
 use crate::counting::count;
-use crate::failing::{fail, fail_or_wait};
 use crate::fetch::{Fetched, fetch_order};
 use crate::moves::{merged, pop_kept, push_fetched};
-use crate::plan::{Access, Plan};
+use crate::plan::{Access, Plan, plan_of};
 use crate::syllable_number::behind;
 use crate::waits::first_need;
 use crate::{Failure, Life, Need, Port, Registers, Step};
+use kdf_decode::{BadCode, decode_jump, decode_one, decode_store, decode_two};
 use kdf_journal::Kind;
+use kdf_syllable::Order;
 use kdf_word::Word;
+
+/// Fails.
+fn fail(registers: &mut Registers, kind: Failure) -> Step
+    requires { registers.old.ran < u32.MAX }
+    ensures step { result ≡ Step.Fails kind }
+    ensures registers { registers.new ≡ counted registers.old (Life.Failed kind) registers.old }
+{
+    registers.state = Life::Failed(kind);
+    count(registers);
+    Step::Fails(kind)
+}
 
 /// Takes the top, and ends the program.
 fn end(registers: &mut Registers) -> Step
@@ -193,9 +205,9 @@ fn obey_kind<P: Port>(registers: &mut Registers, port: &mut P, kind: Kind) -> St
     }
 }
 
-/// Obeys a plan. Few orders have one: this stays out of the way of the others.
-#[inline(never)]
-pub fn obey_plan<P: Port>(registers: &mut Registers, port: &mut P, plan: Plan) -> Step
+/// Obeys a plan.
+#[inline(always)]
+fn obey_plan<P: Port>(registers: &mut Registers, port: &mut P, plan: Plan) -> Step
     requires ran { registers.old.ran < u32.MAX }
     requires sound { IsSound (P.shows port.old).claims plan }
     requires operands { HasOperands registers.old.nest plan }
@@ -207,6 +219,91 @@ pub fn obey_plan<P: Port>(registers: &mut Registers, port: &mut P, plan: Plan) -
         Plan::ClaimLabel { label } => obey_label(registers, port, label),
         Plan::ClaimKind { kind } => obey_kind(registers, port, kind),
         _ => obey_settled(registers, port, plan),
+    }
+}
+
+/// Obeys an order that changes registers alone.
+#[inline(always)]
+fn obey_change<P: Port>(registers: &mut Registers, port: &mut P, order: Order) -> Step
+    requires live { registers.old.state ≡ Life.Live }
+    requires ran { registers.old.ran < u32.MAX }
+    requires order { IsOrder order }
+    requires change { IsChange order }
+    requires room { P.room port.old (try_change (P.shows port.old) registers.old order).act }
+    ensures { Obeyed P.acts (try_change (P.shows port.old) registers.old order)
+        port.old port.new registers.new result }
+{
+    let ran = registers.ran;
+    match change(registers, order) {
+        Ok(()) => {
+            registers.ran = ran + 1;
+            registers.state = Life::Live;
+            Step::Done
+        }
+        Err(kind) => obey_plan(registers, port, Plan::Fail(kind)),
+    }
+}
+
+/// Obeys an order that was fetched.
+#[inline(always)]
+fn obey_order<P: Port>(registers: &mut Registers, port: &mut P, order: Order) -> Step
+    requires live { registers.old.state ≡ Life.Live }
+    requires ran { registers.old.ran < u32.MAX }
+    requires order { IsOrder order }
+    requires room { P.room port.old (try_order (P.shows port.old) registers.old order).act }
+    ensures { Obeyed P.acts (try_order (P.shows port.old) registers.old order)
+        port.old port.new registers.new result }
+{
+    match plan_of(registers, port, order) {
+        Some(plan) => obey_plan(registers, port, plan),
+        None => obey_change(registers, port, order),
+    }
+}
+
+/// Obeys an order that was decoded, or fails where there is none.
+#[inline(always)]
+fn obey_decoded<P: Port>(
+    registers: &mut Registers,
+    port: &mut P,
+    decoded: Result<Order, BadCode>,
+) -> Step
+    requires live { registers.old.state ≡ Life.Live }
+    requires ran { registers.old.ran < u32.MAX }
+    requires order { IfOk decoded (λ o. IsOrder o) }
+    requires room { P.room port.old
+        (try_decoded (P.shows port.old) registers.old (result_ok decoded)).act }
+    ensures { Obeyed P.acts (try_decoded (P.shows port.old) registers.old (result_ok decoded))
+        port.old port.new registers.new result }
+{
+    match decoded {
+        Ok(order) => obey_order(registers, port, order),
+        Err(_) => obey_plan(registers, port, Plan::Fail(Failure::Liv)),
+    }
+}
+
+/// Obeys the order that three syllables begin with, class by class.
+#[tactic(auto, unfolding(kdf_decode::specs::Decoding::decoded))]
+#[inline(always)]
+fn obey_spelt<P: Port>(
+    registers: &mut Registers,
+    port: &mut P,
+    first: u8,
+    second: u8,
+    third: u8,
+) -> Step
+    requires live { registers.old.state ≡ Life.Live }
+    requires ran { registers.old.ran < u32.MAX }
+    requires room { P.room port.old
+        (try_decoded (P.shows port.old) registers.old (first_decoded (first ∷ second ∷ third ∷ []))).act }
+    ensures { Obeyed P.acts
+        (try_decoded (P.shows port.old) registers.old (first_decoded (first ∷ second ∷ third ∷ [])))
+        port.old port.new registers.new result }
+{
+    match first {
+        0x00..=0x3f => obey_decoded(registers, port, decode_one(first)),
+        0x40..=0x7f => obey_decoded(registers, port, decode_two(first, second)),
+        0x80..=0xbf => obey_decoded(registers, port, decode_jump(first, second, third)),
+        0xc0..=0xff => obey_decoded(registers, port, decode_store(first, second, third)),
     }
 }
 
@@ -225,7 +322,7 @@ pub fn obey_fetched<P: Port>(registers: &mut Registers, port: &mut P, fetched: F
 {
     match fetched {
         Fetched::Held(group) => Step::Held(Need::Group(group)),
-        Fetched::Bad => fail_or_wait(registers, port, Failure::Liv),
+        Fetched::Bad => obey_plan(registers, port, Plan::Fail(Failure::Liv)),
         Fetched::Spelt {
             first,
             second,
