@@ -73,11 +73,13 @@ impl Alone {
         requires ran { self.old.registers.ran + n ≤ u32.MAX }
         ensures { OnOk result (self.new ≡ lone self.old answers.now n) }
     {
+        if !self.is_live() {
+            return Ok(());
+        }
         for _i in 0..n {
-            if !self.is_live() {
+            if let Step::Fails(_) | Step::Ends = self.order(answers)? {
                 return Ok(());
             }
-            self.order(answers)?;
         }
         Ok(())
     }

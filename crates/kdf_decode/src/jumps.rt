@@ -16,7 +16,7 @@ pub fn decode_jump(first: u8, second: u8, third: u8) -> Result<Order, BadCode>
     ensures decoded { result_ok result ≡ decoded_jump first second third }
     ensures order { IfOk result (λ o. IsOrder o) }
 {
-    let target = u16::from_be_bytes([second, third]);
+    let target = u16::from(second) * 256 + u16::from(third);
     match first {
         0x80..=0xb1 if target / WORDS < 6 => Ok(Order::Jump {
             c: first - 0x80,

@@ -14,9 +14,11 @@ pub fn decode_store(first: u8, second: u8, third: u8) -> Result<Order, BadCode>
     ensures order { IfOk result (λ o. IsOrder o) }
 {
     match first {
-        0xc0..=0xdf => Ok(direct(u32::from_be_bytes([0, first, second, third]))),
+        0xc0..=0xdf => Ok(direct(
+            u32::from(first) * 65536 + u32::from(second) * 256 + u32::from(third),
+        )),
         0xe0 => Ok(Order::Set {
-            constant: u16::from_be_bytes([second, third]),
+            constant: u16::from(second) * 256 + u16::from(third),
         }),
         _ => Err(BadCode),
     }

@@ -8,6 +8,7 @@ pub mod Finding
 pub mod Frees
 pub mod Pending
 pub mod Small
+pub mod Shifted
 pub mod Words
 pub mod EachEffect
 pub mod Fit

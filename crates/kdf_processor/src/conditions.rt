@@ -23,6 +23,7 @@ pub enum Sign {
 
 /// Whether a jump on the condition `c` is taken. Whether or not it is, the operand is erased, the
 /// flag cleared and the link pushed.
+#[inline(always)]
 pub fn decide(registers: &mut Registers, c: u8) -> Result<bool, Failure>
     requires { c ≤ 0x31 }
     ensures { Decides (decision registers.old c) registers.old registers.new result }
@@ -38,6 +39,7 @@ pub fn decide(registers: &mut Registers, c: u8) -> Result<bool, Failure>
 
 /// JrCqZ, JrCqNZ and Jr.
 #[tactic(auto, unfolding(crate::specs::Table::decision))]
+#[inline(always)]
 fn decide_by_counter(registers: &Registers, c: u8) -> bool
     requires { c ≤ 0x20 }
     ensures { decision registers.now c ≡ Decided result registers.now }

@@ -1,5 +1,5 @@
 //! The fetch of an order: the syllables that spell it.
-ghost use Rattle.std.specs.Prelude.{◌≡◌, ◌+◌, ◌<◌, ◌%◌, [], ◌∷◌, None};
+ghost use Rattle.std.specs.Prelude.{◌≡◌, ◌+◌, ◌<◌, ◌/◌, ◌%◌, ◌^◌, [], ◌∷◌, None};
 ghost use Rattle.kdf_decode.specs.Decoding.{first_decoded};
 ghost use Rattle.kdf_processor.specs.Fetch.{held_of, IsFetched, IsFetchedAt, syllable_read};
 ghost use Rattle.kdf_syllable.specs.Packing.{syllable};
@@ -140,11 +140,30 @@ fn spelt_within(word: Word, i: u8) -> Fetched
         (first_decoded (syllable word i ∷ syllable word (i + 1) ∷ syllable word (i + 2) ∷ [])) result }
     ensures held { held_of result ≡ None }
 {
-    spelt(
-        syllable(word, i),
-        syllable(word, i + 1),
-        syllable(word, i + 2),
-    )
+    let last = from_syllable(word, i);
+    spelt(syllable(last, 3), syllable(last, 4), syllable(last, 5))
+}
+
+/// A word that ends with the syllables of another one from `i` to `i + 2`.
+#[tactic(auto, using(crate::proofs::Shifted::first, crate::proofs::Shifted::second, crate::proofs::Shifted::third))]
+#[inline(always)]
+fn from_syllable(word: Word, i: u8) -> Word
+    requires { i < 4 }
+    ensures first { syllable result 3 ≡ syllable word i }
+    ensures second { syllable result 4 ≡ syllable word (i + 1) }
+    ensures third { syllable result 5 ≡ syllable word (i + 2) }
+{
+    without_last(word, 3 - i)
+}
+
+/// A word without its last syllables, so many.
+#[tactic(auto, using(std::proofs::lemmas::Grind::common_steps, kdf_syllable::proofs::Digits::pow_bytes))]
+#[inline(always)]
+fn without_last(word: Word, count: u8) -> Word
+    requires { count < 6 }
+    ensures { result ≡ word / 256 ^ count }
+{
+    Word::new(word.bits() >> (8 * count))
 }
 
 /// The order at a syllable, read syllable by syllable.

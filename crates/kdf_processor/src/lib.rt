@@ -4,6 +4,7 @@
 //! otherwise does its row of the table: new registers and at most one acting call on the port.
 #![tactic(auto)]
 
+mod access;
 mod acting;
 mod arithmetic;
 mod change;
@@ -27,6 +28,7 @@ mod port;
 mod push;
 mod q_store;
 mod queries;
+mod quick;
 mod registers;
 mod reserve;
 mod room;

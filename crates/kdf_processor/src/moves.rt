@@ -38,6 +38,18 @@ pub fn merged<P: Port>(port: &P, access: Access, word: Word) -> Word
     }
 }
 
+/// What is kept in place of a word: another, or its first half in a half of that which is there.
+#[inline(always)]
+pub fn kept_in(there: Word, half: Option<u8>, word: Word) -> Word
+    requires { IsHalf half }
+    ensures { result ≡ with_part half word there }
+{
+    match half {
+        Some(i) => there.with_half(i, word),
+        None => word,
+    }
+}
+
 /// Counts Qq on, where the order has the suffix Q.
 #[inline(always)]
 fn count_on(registers: &mut Registers, u: bool, q: u8)

@@ -15,6 +15,7 @@ use kdf_word::Word;
 
 /// An order of one syllable other than OUT.
 #[tactic(auto, unfolding(crate::specs::Table::plain_row))]
+#[inline(always)]
 pub fn plain(registers: &mut Registers, code: u8) -> Result<(), Failure>
     requires order { IsOrder (order.Plain code) }
     requires not_out { code ≢ 0x21 }

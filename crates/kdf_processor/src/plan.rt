@@ -5,13 +5,13 @@ ghost use Rattle.kdf_processor.specs.Effect.{of_change};
 ghost use Rattle.kdf_processor.specs.Plan.{IsPlanOf, IsHalf, IsChange};
 ghost use Rattle.kdf_processor.specs.Table.{effect, change_of, guarded, moves};
 
+use crate::access::{direct_access, indirect_access};
 use crate::outs::plan_out;
 use crate::queries::plan_query;
 use crate::transfers::plan_transfer;
 use crate::{Failure, Port, Registers, Test};
 use kdf_journal::Kind;
 use kdf_nest::DEPTH;
-use kdf_qstore::Part;
 use kdf_syllable::Order;
 use kdf_transfer::TransferOrder;
 use kdf_word::Word;
@@ -106,13 +106,7 @@ fn plan_direct<P: Port>(registers: &Registers, port: &P, t: bool, u: bool, q: u8
     ensures { IsPlanOf (P.shows port.now).claims registers.now
         (effect (P.shows port.now).claims registers.now (Order.Direct t u q a)) result }
 {
-    let access = Access {
-        size: 3,
-        address: a.wrapping_add(registers.q.part(q, Part::M)),
-        half: None,
-        u,
-        q,
-    };
+    let access = direct_access(registers, u, q, a);
     plan_move(registers, port, t, access)
 }
 
@@ -125,21 +119,7 @@ fn plan_indirect<P: Port>(registers: &Registers, port: &P, code: u8, k: u8, q: u
     ensures { IsPlanOf (P.shows port.now).claims registers.now
         (effect (P.shows port.now).claims registers.now (Order.Indirect code k q)) result }
 {
-    let modifier = registers.q.part(q, Part::M);
-    let (step, half) = if code / 2 % 2 == 1 {
-        (modifier / 2, Some((modifier % 2) as u8))
-    } else {
-        (modifier, None)
-    };
-    let base = registers.q.part(k, Part::M);
-    let sum = u32::from(base) + u32::from(step) + u32::from(code % 2);
-    let access = Access {
-        size: 2,
-        address: (sum % (1 << 16)) as u16,
-        half,
-        u: code / 4 % 2 == 1,
-        q,
-    };
+    let access = indirect_access(registers, code, k, q);
     plan_move(registers, port, code / 8 % 2 == 1, access)
 }
 

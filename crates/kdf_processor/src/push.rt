@@ -8,6 +8,7 @@ use kdf_nest::DEPTH;
 use kdf_word::Word;
 
 /// Pushes a word after an order of `size` syllables, or fails where there is no room.
+#[inline(always)]
 pub fn push(registers: &mut Registers, size: u16, word: Word) -> Result<(), Failure>
     ensures { Comes (pushes registers.old size word) registers.old registers.new result }
 {
@@ -20,6 +21,7 @@ pub fn push(registers: &mut Registers, size: u16, word: Word) -> Result<(), Fail
 }
 
 /// Pushes a part of 16 bits, its sign extended.
+#[inline(always)]
 pub fn push_part(registers: &mut Registers, size: u16, part: u16) -> Result<(), Failure>
     ensures { Comes (pushes registers.old size (extended part)) registers.old registers.new result }
 {
@@ -27,6 +29,7 @@ pub fn push_part(registers: &mut Registers, size: u16, part: u16) -> Result<(), 
 }
 
 /// SET.
+#[inline(always)]
 pub fn set(registers: &mut Registers, constant: u16) -> Result<(), Failure>
     ensures { Comes
         (pushes registers.old 3 (extended constant)) registers.old registers.new result }

@@ -10,6 +10,7 @@ ghost use Rattle.kdf_processor.specs.declared.fetch.Fetched.TheVariants.{Spelt};
 use crate::fetch::{Fetched, fetch_order};
 use crate::look::{Ahead, look_ahead, may_want_memory};
 use crate::obeying::obey_fetched;
+use crate::quick::obey_quickly;
 use crate::{Life, Registers, Reserve, Step};
 use std::alloc::AllocError;
 
@@ -20,6 +21,22 @@ pub fn obey_with_room<P: Reserve>(
     registers: &mut Registers,
     port: &mut P,
 ) -> Result<Step, AllocError>
+    requires live { registers.old.state ≡ Life.Live }
+    requires ran { registers.old.ran < u32.MAX }
+    requires ready { P.ready port.old }
+    ensures obeyed { IfOk result (λ step. WithRoom P.keeps P.acts
+        (outcome (P.shows port.old) registers.old) port.old port.new registers.new step) }
+    ensures err { OnErr result ((registers.new ≡ registers.old) × P.keeps port.old port.new) }
+{
+    match obey_quickly(registers, port) {
+        Some(()) => Ok(Step::Done),
+        None => obey_any(registers, port),
+    }
+}
+
+/// Obeys any order so. Few come here: this stays out of the way of the others.
+#[inline(never)]
+fn obey_any<P: Reserve>(registers: &mut Registers, port: &mut P) -> Result<Step, AllocError>
     requires live { registers.old.state ≡ Life.Live }
     requires ran { registers.old.ran < u32.MAX }
     requires ready { P.ready port.old }

@@ -14,6 +14,7 @@ use crate::{Failure, Registers};
 
 /// An order on Qq.
 #[tactic(auto, unfolding(crate::specs::Table::single_row))]
+#[inline(always)]
 pub fn single(registers: &mut Registers, code: u8, q: u8) -> Result<(), Failure>
     requires { IsOrder (order.Single code q) }
     ensures { Comes
@@ -21,14 +22,14 @@ pub fn single(registers: &mut Registers, code: u8, q: u8) -> Result<(), Failure>
 {
     let triple = registers.q.triple(q);
     match code {
-        0x50..=0x53 => push(registers, 2, brought(code, triple)),
-        0x54..=0x5e => set(registers, code, q),
-        0x5f..=0x62 => {
-            leave(registers, q, changed(code, triple));
+        0x6f => {
+            loop_back(registers, triple.c);
             Ok(())
         }
+        0x50..=0x53 => push(registers, 2, brought(code, triple)),
+        0x54..=0x5e => set(registers, code, q),
         _ => {
-            loop_back(registers, triple.c);
+            leave(registers, q, changed(code, triple));
             Ok(())
         }
     }
@@ -52,6 +53,7 @@ fn set(registers: &mut Registers, code: u8, q: u8) -> Result<(), Failure>
 }
 
 /// JCqNZS: to syllable 0 of the word before, where Cq isn't 0.
+#[inline(always)]
 fn loop_back(registers: &mut Registers, counter: u16)
     ensures { short_loop registers.old counter ≡ Going registers.new }
 {

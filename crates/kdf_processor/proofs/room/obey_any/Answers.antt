@@ -1,6 +1,6 @@
 use Rattle.std.proofs.Common.{ap, subst}
 use Rattle.kdf_processor.specs.Outcome.{Outcome, Obeyed, outcome}
-use Rattle.kdf_processor.proofs.room.obey_with_room.Goals as goal
+use Rattle.kdf_processor.proofs.room.obey_any.Goals as goal
 
 pub returns-clause-obeyed : goal.returns-clause-obeyed
 returns-clause-obeyed g c =
