@@ -1,5 +1,5 @@
 -- What is read in a store after groups were taken out.
-use Rattle.std.proofs.Common.{◌≡◌, ℕ, ◌+◌, ◌-◌, ◌<◌, ◌≤◌, List, ◌++◌, length, get_or, take, drop, map, replicate, Option, None, Some, ap, ◌∙◌, arith, refl, length-append, length-take, length-drop}
+use Rattle.std.proofs.Common.{◌≡◌, ℕ, ◌+◌, ◌-◌, ◌<◌, ◌≤◌, List, ◌++◌, length, take, drop, map, replicate, Option, None, Some, ap, ◌∙◌, arith, refl, length-append, length-take, length-drop}
 use Rattle.std.proofs.lemmas.List.{length-map, length-replicate, get_or-replicate, length-take-le, get_or-append_right, get_or_append_left}
 use Rattle.kdf_lockout.specs.Groups.{Cells, Lent, group_at, words_in, lent_groups, with_groups, without_groups, IsOut}
 
