@@ -78,7 +78,8 @@ pub fn next_of(
     priorities: &[u8; 4],
 ) -> Option<u8>
     ensures { result
-        ≡ find (λ (p : ℕ). goes (around_by table.now.places journal.now.entries 0) (place_at programs.now p)) priorities.now }
+        ≡ find (λ (p : ℕ). goes (around_by table.now.places journal.now.entries 0) (place_at programs.now p))
+        priorities.now }
 {
     for p in priorities {
         if goes_at(table, journal, programs, *p) {

@@ -41,7 +41,8 @@ pub fn follow<F: Fn(u64) -> u64>(
     requires few { order_count source.job.now.events.items ≤ CALL_LIMIT }
     requires rises { IsRising 0 source.job.now.events.items }
     requires in_range { All IsInRange source.job.now.events.items }
-    ensures { OnOk result (IsJournalFor (F.post service.now) slots source.entry.job.now.events.items journal.new.entries) }
+    ensures { OnOk result (IsJournalFor (F.post service.now) slots source.entry.job.now.events.items
+        journal.new.entries) }
 {
     follow_each(programs, table, journal, &source.job.events, service)?;
     Ok(())
@@ -64,7 +65,8 @@ fn follow_each<F: Fn(u64) -> u64>(
     requires in_range { All IsInRange events.now }
     ensures steps { OnOk result (Reaches (lone_dispatched slots) (steps journal.old.entries)
         (calls_made events.now) (steps journal.new.entries)) }
-    ensures keeps { OnOk result (Keeps (F.post service.now) slots journal.new.entries table.new.places programs.new.items) }
+    ensures keeps { OnOk result (Keeps (F.post service.now) slots journal.new.entries table.new.places
+        programs.new.items) }
 {
     for event in events {
         if !is_any_on(programs) {
@@ -93,7 +95,8 @@ fn make_calls<F: Fn(u64) -> u64>(
     requires in_range { IsInRange event }
     ensures steps { OnOk result (Reaches (lone_dispatched slots) (steps journal.old.entries)
         (calls_of event) (steps journal.new.entries)) }
-    ensures keeps { OnOk result (Keeps (F.post service.now) slots journal.new.entries table.new.places programs.new.items) }
+    ensures keeps { OnOk result (Keeps (F.post service.now) slots journal.new.entries table.new.places
+        programs.new.items) }
     ensures calls { OnOk result (calls journal.new.entries ≤ calls journal.old.entries + orders_in event) }
     ensures moves { OnOk result (moves journal.new.entries ≤ moves journal.old.entries + 4096) }
     ensures time { OnOk result (clock journal.new.entries ≡ time_behind (clock journal.old.entries) event) }
@@ -137,7 +140,8 @@ fn obey_orders<F: Fn(u64) -> u64>(
     requires few_moves { moves journal.old.entries ≤ MOVE_LIMIT }
     ensures steps { OnOk result (Reaches (lone_dispatched slots) (steps journal.old.entries)
         (replicate n AnOrder) (steps journal.new.entries)) }
-    ensures keeps { OnOk result (Keeps (F.post service.now) slots journal.new.entries table.new.places programs.new.items) }
+    ensures keeps { OnOk result (Keeps (F.post service.now) slots journal.new.entries table.new.places
+        programs.new.items) }
     ensures calls { OnOk result (calls journal.new.entries ≤ calls journal.old.entries + n) }
     ensures moves { OnOk result (moves journal.new.entries ≡ moves journal.old.entries) }
     ensures time { OnOk result (clock journal.new.entries ≡ clock journal.old.entries) }

@@ -47,7 +47,8 @@ pub fn try_next(
     requires live { registers.old.state ≡ Life.Live }
     requires ran { registers.old.ran < u32.MAX }
     requires asked { CanAsk bench.old }
-    ensures tried { (slots : List Slot) → IsPosed slots journal.now.entries p (around_by table.old.places journal.now.entries heard)
+    ensures tried { (slots : List Slot) → IsPosed slots journal.now.entries p
+        (around_by table.old.places journal.now.entries heard)
         registers.old bench.old
         → IfOk result (λ x. IsTried slots journal.now.entries p (around_by table.old.places journal.now.entries heard)
         (outcome_of slots journal.now.entries heard p) x.0 registers.new bench.new table.new.places x.1) }

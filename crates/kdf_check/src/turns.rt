@@ -62,7 +62,8 @@ fn hear<F: Fn(u64) -> u64>(
     requires service { IsService (F.pre service.now) (F.post service.now) }
     requires ran { registers.now.ran < u32.MAX }
     ensures asked { HasAsked (F.post service.now) (act_word (outcome
-        (shown_by p (around_by table.old.places journal.now.entries 0) (stock_of bench.old)) registers.now).act) result }
+        (shown_by p (around_by table.old.places journal.now.entries 0) (stock_of bench.old)) registers.now).act)
+        result }
     ensures bench { bench.new ≡ bench.old }
     ensures table { table.new ≡ table.old }
 {
@@ -86,7 +87,8 @@ fn heard<F: Fn(u64) -> u64>(
     requires service { IsService (F.pre service.now) (F.post service.now) }
     requires ran { registers.now.ran < u32.MAX }
     ensures asked { HasAsked (F.post service.now) (act_word (outcome
-        (shown_by p (around_by table.old.places journal.now.entries 0) (stock_of bench.old)) registers.now).act) result }
+        (shown_by p (around_by table.old.places journal.now.entries 0) (stock_of bench.old)) registers.now).act)
+        result }
     ensures bench { bench.new ≡ bench.old }
     ensures table { table.new ≡ table.old }
 {
@@ -116,7 +118,8 @@ fn turn<F: Fn(u64) -> u64>(
     requires room { 2 ≤ journal.old.spare }
     requires few_calls { calls journal.old.entries < CALL_LIMIT }
     requires few_moves { moves journal.old.entries ≤ MOVE_LIMIT }
-    ensures { OnOk result (IsTurned (F.post service.now) slots journal.old.entries program.old.p program.new table.new.places
+    ensures { OnOk result (IsTurned (F.post service.now) slots journal.old.entries program.old.p program.new
+        table.new.places
         journal.new.entries) }
 {
     let p = program.p;
@@ -158,7 +161,8 @@ fn take_turn<F: Fn(u64) -> u64>(
     requires few_calls { calls journal.old.entries < CALL_LIMIT }
     requires few_moves { moves journal.old.entries ≤ MOVE_LIMIT }
     ensures goes_on { OnOk result (GoesOn (F.post service.now) slots journal.old.entries AnOrder journal.new.entries) }
-    ensures keeps { OnOk result (Keeps (F.post service.now) slots journal.new.entries table.new.places programs.new.items) }
+    ensures keeps { OnOk result (Keeps (F.post service.now) slots journal.new.entries table.new.places
+        programs.new.items) }
 {
     match &mut programs[usize::from(p)] {
         Some(program) => turn(program, table, journal, service),
@@ -180,9 +184,11 @@ pub fn order<F: Fn(u64) -> u64>(
     requires few_calls { calls journal.old.entries < CALL_LIMIT }
     requires few_moves { moves journal.old.entries ≤ MOVE_LIMIT }
     ensures live { IfOk result (λ live. any_live slots journal.old.entries ≡ live) }
-    ensures goes_on { IfOk result (λ live. live ≡ true → GoesOn (F.post service.now) slots journal.old.entries AnOrder journal.new.entries) }
+    ensures goes_on { IfOk result (λ live. live ≡ true → GoesOn (F.post service.now) slots journal.old.entries AnOrder
+        journal.new.entries) }
     ensures none { IfOk result (λ live. live ≡ false → journal.new.entries ≡ journal.old.entries) }
-    ensures keeps { OnOk result (Keeps (F.post service.now) slots journal.new.entries table.new.places programs.new.items) }
+    ensures keeps { OnOk result (Keeps (F.post service.now) slots journal.new.entries table.new.places
+        programs.new.items) }
 {
     if !is_any_on(programs) {
         return Ok(false);

@@ -1,8 +1,8 @@
 //! The quick way of an order: from its class straight to what it does.
 //!
 //! It obeys orders that change registers alone, fetch a word or keep one. Whatever fails, is held up or acts otherwise
-//! it leaves to the general way, and then it has changed nothing. Each function here has one caller, so that all of it
-//! is inlined in the loop over the orders.
+//! it leaves to the general way, and then it has changed nothing. All of it is inlined in the loop over the orders, so
+//! these functions are small and have one caller each, or two.
 ghost use Rattle.std.specs.Prelude.{◌≡◌, ◌≢◌, ◌+◌, ◌<◌, [], ◌∷◌, IfNone, IfOk, IfSome};
 ghost use Rattle.std.specs.Result.{result_ok};
 ghost use Rattle.kdf_decode.specs.Decoding.{first_decoded};
@@ -89,7 +89,8 @@ fn obey_copies<P: Port>(registers: &mut Registers, port: &P, code: u8, q: u8, k:
     requires ran { registers.old.ran < u32.MAX }
     requires order { IsOrder (order.Copies code q k) }
     ensures obeyed { IfSome result (λ _. Obeyed P.acts
-        (try_order (P.shows port.now) registers.old (order.Copies code q k)) port.now port.now registers.new Step.Done) }
+        (try_order (P.shows port.now) registers.old (order.Copies code q k)) port.now port.now registers.new
+        Step.Done) }
     ensures left { IfNone result (registers.new ≡ registers.old) }
 {
     let ran = registers.ran;
@@ -275,7 +276,8 @@ fn obey_indirect<P: Port>(
     requires q { IsQ q }
     requires small { (act : Act) → IsSmall act → P.room port.old act }
     ensures obeyed { IfSome result (λ _. Obeyed P.acts
-        (try_order (P.shows port.old) registers.old (order.Indirect code k q)) port.old port.new registers.new Step.Done) }
+        (try_order (P.shows port.old) registers.old (order.Indirect code k q)) port.old port.new registers.new
+        Step.Done) }
     ensures left { IfNone result ((registers.new ≡ registers.old) × (port.new ≡ port.old)) }
 {
     let access = indirect_access(registers, code, k, q);

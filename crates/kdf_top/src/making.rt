@@ -62,7 +62,8 @@ fn run<F: Fn(u64) -> u64>(
 ) -> Result<Made, MakeError>
     requires service { IsService (F.pre service.now) (F.post service.now) }
     requires within { length job_bytes.now ≤ TEXT_LIMIT }
-    ensures made { IfOk result (λ made. IsMade (F.post service.now) command.Run job_bytes.now made.text.items made.machine) }
+    ensures made { IfOk result (λ made. IsMade (F.post service.now) command.Run job_bytes.now made.text.items
+        made.machine) }
     ensures reason { IfErr result (IsReason (IsCalled (F.post service.now) command.Run job_bytes.now)) }
 {
     let (job, images) = load(alloc, job_bytes)?;
@@ -79,7 +80,8 @@ fn save<F: Fn(u64) -> u64>(
 ) -> Result<Made, MakeError>
     requires service { IsService (F.pre service.now) (F.post service.now) }
     requires within { length job_bytes.now ≤ TEXT_LIMIT }
-    ensures made { IfOk result (λ made. IsMade (F.post service.now) command.Save job_bytes.now made.text.items made.machine) }
+    ensures made { IfOk result (λ made. IsMade (F.post service.now) command.Save job_bytes.now made.text.items
+        made.machine) }
     ensures reason { IfErr result (IsReason (IsCalled (F.post service.now) command.Save job_bytes.now)) }
 {
     let (job, images) = load(alloc, job_bytes)?;
@@ -97,7 +99,8 @@ fn sum<F: Fn(u64) -> u64>(
 ) -> Result<Made, MakeError>
     requires service { IsService (F.pre service.now) (F.post service.now) }
     requires within { length job_bytes.now ≤ TEXT_LIMIT }
-    ensures made { IfOk result (λ made. IsMade (F.post service.now) (command.Make n) job_bytes.now made.text.items made.machine) }
+    ensures made { IfOk result (λ made. IsMade (F.post service.now) (command.Make n) job_bytes.now made.text.items
+        made.machine) }
     ensures reason { IfErr result (IsReason (IsCalled (F.post service.now) (command.Make n) job_bytes.now)) }
 {
     let (job, images) = load(alloc, job_bytes)?;
@@ -117,8 +120,10 @@ fn watch<F: Fn(u64) -> u64>(
     requires service { IsService (F.pre service.now) (F.post service.now) }
     requires within { length job_bytes.now ≤ TEXT_LIMIT }
     requires address { address < 8192 }
-    ensures made { IfOk result (λ made. IsMade (F.post service.now) (command.Watch slot address) job_bytes.now made.text.items made.machine) }
-    ensures reason { IfErr result (IsReason (IsCalled (F.post service.now) (command.Watch slot address) job_bytes.now)) }
+    ensures made { IfOk result (λ made. IsMade (F.post service.now) (command.Watch slot address) job_bytes.now
+        made.text.items made.machine) }
+    ensures reason { IfErr result (IsReason (IsCalled (F.post service.now) (command.Watch slot address)
+        job_bytes.now)) }
 {
     let (job, images) = load(alloc, job_bytes)?;
     let (machine, stops) = watch_job(alloc, &job, &images, slot, address, service)?;

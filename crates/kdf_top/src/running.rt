@@ -24,7 +24,8 @@ pub fn run_job<F: Fn(u64) -> u64>(
     requires job { IsJob (shown_job job.now) }
     requires images { HasImages (shown_job job.now).slots images.now }
     ensures slots { IfOk result (λ m. m.slots ≡ slots_of (shown_job job.now)) }
-    ensures journal { IfOk result (λ m. IsJournalFor (F.post service.now) m.slots (shown_job job.now).events m.journal) }
+    ensures journal { IfOk result (λ m. IsJournalFor (F.post service.now) m.slots (shown_job job.now).events
+        m.journal) }
     ensures seen { IfOk result ShowsSeen }
 {
     let mut machine = Machine::load(alloc, job, images)?;

@@ -42,7 +42,8 @@ pub fn run_with<S: Source, K: Sink, F: Fn(u64) -> u64>(
     ensures answer { let read_failed = HasRisen (S.faults source.old) (S.faults source.new) in
         let write_failed = HasRisen (K.faults sink.old) (K.faults sink.new) in
         IfSome (S.left source.old)
-        (λ bytes. Answers (IsCalledFor (F.post service.now) (map string_bytes words.now) bytes) result.status read_failed write_failed) }
+        (λ bytes. Answers (IsCalledFor (F.post service.now) (map string_bytes words.now) bytes) result.status
+        read_failed write_failed) }
 
     // Where nothing fails, a command over a text without a fault, no deck of whose job has one, is done, and other words are told how
     // to use the program; or there was no memory. A snapshot has to be that of its job, too.
@@ -88,7 +89,8 @@ pub fn run_with<S: Source, K: Sink, F: Fn(u64) -> u64>(
         (K.written sink.old) (K.written sink.new) }
 
     // What is written at the other answers.
-    ensures wrote { Wrote (command (map string_bytes words.now)) result.status (K.written sink.old) (K.written sink.new) }
+    ensures wrote { Wrote (command (map string_bytes words.now)) result.status (K.written sink.old)
+        (K.written sink.new) }
     ensures front { result.status ≡ Status.WriteFault → IfSome (S.left source.old)
         (λ bytes. WroteFrontBy (F.post service.now) (command (map string_bytes words.now)) bytes
         (K.written sink.old) (K.written sink.new)) }
@@ -194,7 +196,8 @@ fn answer_made<K: Sink, F: Fn(u64) -> u64>(
 ) -> Outcome
     requires service { IsService (F.pre service.now) (F.post service.now) }
     requires address { HasAddress command }
-    ensures { IsGiven (F.post service.now) (IsCalled (F.post service.now) command (made_text n)) (Some command) (made_text n) result.status result.machine
+    ensures { IsGiven (F.post service.now) (IsCalled (F.post service.now) command (made_text n)) (Some command)
+        (made_text n) result.status result.machine
         (outlet (K.written sink.old) (K.faults sink.old) (K.room sink.old))
         (outlet (K.written sink.new) (K.faults sink.new) (K.room sink.new)) }
 {
@@ -242,7 +245,8 @@ fn answer_text<K: Sink, F: Fn(u64) -> u64>(
     requires within { length text.items ≤ TEXT_LIMIT }
     requires service { IsService (F.pre service.now) (F.post service.now) }
     requires address { HasAddress command }
-    ensures { IsGiven (F.post service.now) (IsCalled (F.post service.now) command text.items) (Some command) text.items result.status result.machine
+    ensures { IsGiven (F.post service.now) (IsCalled (F.post service.now) command text.items) (Some command)
+        text.items result.status result.machine
         (outlet (K.written sink.old) (K.faults sink.old) (K.room sink.old))
         (outlet (K.written sink.new) (K.faults sink.new) (K.room sink.new)) }
 {

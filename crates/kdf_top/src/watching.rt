@@ -39,7 +39,8 @@ pub fn watch_job<F: Fn(u64) -> u64>(
     requires images { HasImages (shown_job job.now).slots images.now }
     requires address { address < 8192 }
     ensures slots { IfOk result (λ x. x.0.slots ≡ slots_of (shown_job job.now)) }
-    ensures journal { IfOk result (λ x. IsJournalFor (F.post service.now) x.0.slots (shown_job job.now).events x.0.journal) }
+    ensures journal { IfOk result (λ x. IsJournalFor (F.post service.now) x.0.slots (shown_job job.now).events
+        x.0.journal) }
     ensures seen { IfOk result (λ x. ShowsSeen x.0) }
     ensures stops { IfOk result (λ x. x.1.items ≡ stops_of x.0.slots x.0.journal slot (6 * address)) }
 {
@@ -66,7 +67,8 @@ pub fn watched_text(
 ) -> Result<Vec<u8>, AllocError>
     requires { All (HasProgram machine.now) (map shown_slot job.now.slots.items) }
     ensures { IfOk result (λ bytes. bytes.items
-        ≡ stops_text slot address stops.now ++ report_text (shown_job job.now) machine.now.journal (state_at machine.now)) }
+        ≡ stops_text slot address stops.now ++ report_text (shown_job job.now) machine.now.journal
+        (state_at machine.now)) }
 {
     let mut out = stops_text(alloc, slot, address, stops)?;
     out.extend_from_slice(&report(alloc, job, machine)?)?;

@@ -13,25 +13,28 @@ use Rattle.kdf_director.specs.Runs.{HasTriedAt}
 use Rattle.kdf_director.specs.Fields.Turned.{HasTurned}
 
 -- so many orders were obeyed, of which nothing is noted
-abbrev pub AreQuiet : {X : Type 0} → (tries : X → Shared → X → Shared → Step → Note → Type 0) → ℕ → X → Shared → X → Shared → Type 0
+abbrev pub AreQuiet : {X : Type 0} → (tries : X → Shared → X → Shared → Step → Note → Type 0) → ℕ
+    → X → Shared → X → Shared → Type 0
 AreQuiet tries zero before s after left = (after ≡ before) × (left ≡ s)
 AreQuiet {X} tries (suc n) before s after left =
     (mid : X) × (between : Shared) × AreQuiet tries n before s mid between × tries mid between after left Done Quiet
 
 -- and after them one more was tried
-pub record HasBatch {X : Type 0} (tries : X → Shared → X → Shared → Step → Note → Type 0) (quiet : ℕ) (before : X) (s : Shared)
-    (after : X) (left : Shared) (ended : Step) (noted : Note) : Type 0 where
+pub record HasBatch {X : Type 0} (tries : X → Shared → X → Shared → Step → Note → Type 0) (quiet : ℕ)
+    (before : X) (s : Shared) (after : X) (left : Shared) (ended : Step) (noted : Note) : Type 0 where
   pub mid : X
   pub between : Shared
   pub earlier : AreQuiet tries quiet before s mid between
   pub last : tries mid between after left ended noted
 
 -- program i of all tried its next order, and the programs are over what they share as before
-abbrev pub HasTurnedOn : List Reach → Moment → ℕ → List Seat → Shared → List Seat → Shared → Step → Note → Type 0
+abbrev pub HasTurnedOn : List Reach → Moment → ℕ → List Seat → Shared → List Seat → Shared
+    → Step → Note → Type 0
 HasTurnedOn reaches m i before s after left ended noted =
     HasTurned reaches m i before s after left ended noted × IsRunning reaches after left
 
 -- and at this time, at which the service was heard where the order asked it
-abbrev pub HasTriedOn : (answers : ℕ → ℕ → Type 0) → List Reach → (time i : ℕ) → List Seat → Shared → List Seat → Shared → Step → Note → Type 0
+abbrev pub HasTriedOn : (answers : ℕ → ℕ → Type 0) → List Reach → (time i : ℕ)
+    → List Seat → Shared → List Seat → Shared → Step → Note → Type 0
 HasTriedOn answers reaches time i before s after left ended noted =
     HasTriedAt answers reaches time i before s after left ended noted × IsRunning reaches after left
