@@ -47,8 +47,8 @@ comes_back w ws (x ∷ s) (suc g) spare full fits =
     let f : 32 * suc g + 32 ≡ 32 + (32 * g + 32) = omega arith in
     let front : length (take 32 w) ≡ 32 = length-take-le 32 w (omega arith) in
     let cut : take (32 * suc g) w ++ (ws ++ drop (32 * suc g + 32) w) ≡ take 32 w ++ rest =
-        ap₂ (λ a b. a ++ (ws ++ b)) (ap (λ n. take n w) e ∙ take-add 32 (32 * g) w) (ap (λ n. drop n w) f ∙ sym (drop-drop (32 * g + 32) 32 w))
-        ∙ append_assoc (take 32 w) (take (32 * g) (drop 32 w)) (ws ++ drop (32 * g + 32) (drop 32 w)) in
+    ap₂ (λ a b. a ++ (ws ++ b)) (ap (λ n. take n w) e ∙ take-add 32 (32 * g) w) (ap (λ n. drop n w) f ∙ sym (drop-drop (32 * g + 32) 32 w))
+    ∙ append_assoc (take 32 w) (take (32 * g) (drop 32 w)) (ws ++ drop (32 * g + 32) (drop 32 w)) in
     ap (λ v. cells_of v (x ∷ set s g (Some spare))) cut
     ∙ ap₂ (λ a b. option_map (λ _. a) x ∷ cells_of b (set s g (Some spare))) (take_at (take 32 w) rest 32 front) (drop_at (take 32 w) rest 32 front)
     ∙ ap (λ cs. option_map (λ _. take 32 w) x ∷ cs) (comes_back (drop 32 w) ws s g spare full (omega (arith, length-drop 32 w)))

@@ -215,12 +215,7 @@ fn put_groups(
 }
 
 /// Puts group `g` into its place; None stays out.
-fn put_group(
-    spares: &mut [Option<Group>],
-    words: &mut [Word],
-    g: usize,
-    group: Option<Group>,
-)
+fn put_group(spares: &mut [Option<Group>], words: &mut [Word], g: usize, group: Option<Group>)
     requires inside { g < length spares.old }
     requires words { length words.old ≡ 32 * length spares.old }
     ensures put { cells_of words.new spares.new ≡ slice_set (cells_of words.old spares.old) g group }

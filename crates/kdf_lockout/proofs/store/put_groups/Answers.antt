@@ -14,7 +14,7 @@ loop-group-preserved c =
     let k : c.len.result ≡ array_vec_len c.pop.new.self = c.len.ensures.value in
     let lt : first + array_vec_len c.pop.new.self < length was = omega (arith, popped.len, c.loop-group.invariant.inside, count c.loop-group.words c.loop-group.spares) in
     let put : cells_of c.put_group.new.words c.put_group.new.spares ≡ set was (first + array_vec_len c.pop.new.self) c.in-Some.group =
-        c.put_group.ensures.put ∙ ap (λ n. set was (first + n) c.in-Some.group) k in
+    c.put_group.ensures.put ∙ ap (λ n. set was (first + n) c.in-Some.group) k in
     let more : first + (array_vec_len c.pop.new.self + 1) ≡ first + array_vec_len c.loop-group.back = omega (arith, popped.len) in
     record {
       inside = omega (arith, popped.len, c.loop-group.invariant.inside, c.put_group.ensures.count);

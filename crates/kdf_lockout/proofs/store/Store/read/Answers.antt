@@ -23,7 +23,7 @@ returns-in-Some c =
     let at = (goal.at.returns-in-Some c).After-index in
     let here = ap (λ b. cond b (Err (record { group = c.args.place / 32 })) (Ok (word_here c.args.self.now c.args.place))) (out at ∙ ap is_none c.in-Some.is) in
     let word = reads c.self.inside.words.items c.self.inside.spares.items c.args.self.now c.args.place c.index-in-Some.result.now c.index.result.now c.in-Some.field-0 c.self.view_is (inside (goal.at.returns-in-Some c).After-self)
-        (omega (arith, inside (goal.at.returns-in-Some c).After-self, c.self.invariant)) c.index.ensures c.in-Some.is c.index-in-Some.ensures in
+    (omega (arith, inside (goal.at.returns-in-Some c).After-self, c.self.invariant)) c.index.ensures c.in-Some.is c.index-in-Some.ensures in
     ap Ok word ∙ sym here
 
 pub returns-in-None : goal.returns-in-None
