@@ -172,6 +172,26 @@ pub fn end_at(places: &mut Vec<Place>, d: usize, store: &mut Store)
     ensures store { store.new
         ≡ back_cells (last_lease (spot_at (map spot_of places.old.items) d).flight) store.old }
 {
+    if places[d].is_busy() {
+        end_busy_at(places, d, store);
+    }
+}
+
+/// Ends the transfer on a device. A place is large, and a function pays at entry for the size of its locals: so one
+/// that has no transfer never comes here.
+#[inline(never)]
+fn end_busy_at(places: &mut Vec<Place>, d: usize, store: &mut Store)
+    requires there { d < length places.old.items }
+    requires back { IsBack store.old
+        (last_lease (spot_at (map spot_of places.old.items) d).flight) }
+    requires dry { AreDry places.old.items }
+    ensures spots { map spot_of places.new.items ≡ slice_set (map spot_of places.old.items) d
+        (ended_spot (spot_at (map spot_of places.old.items) d)) }
+    ensures dry { AreDry places.new.items }
+    ensures len { length places.new.items ≡ length places.old.items }
+    ensures store { store.new
+        ≡ back_cells (last_lease (spot_at (map spot_of places.old.items) d).flight) store.old }
+{
     let place = mem::replace(&mut places[d], Place::Absent);
     let ended = end_place(place, store);
     let absent = mem::replace(&mut places[d], ended);

@@ -4,7 +4,7 @@ use Rattle.kdf_places.specs.declared.place.Place.TheVariants.{Absent}
 use Rattle.kdf_places.specs.Spots.{spot_of}
 use Rattle.kdf_places.specs.Transfers.{ended_spot}
 use Rattle.kdf_places.proofs.OnePlaceChanges.{spot_there}
-use Rattle.kdf_places.proofs.starting.end_at.Goals as goal
+use Rattle.kdf_places.proofs.starting.end_busy_at.Goals as goal
 
 pub returns-clause-spots : goal.returns-clause-spots
 returns-clause-spots c =
