@@ -1,3 +1,4 @@
 pub mod Ranges
 pub mod Readings
 pub mod Flat
+pub mod GroupsWritten

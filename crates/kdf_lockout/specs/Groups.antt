@@ -1,6 +1,7 @@
 -- A store of groups, each here or out, and a lease of those that are out.
 use Rattle.std.specs.Prelude.{◌≡◌, ℕ, ◌+◌, ◌-◌, ◌/◌, ◌%◌, ◌<◌, ◌≤◌, nat_le, nat_lt, ◌&&◌, Bool, false, Option, Some, None, is_none, unwrap_or}
-use Rattle.std.specs.Prelude.{List, [], ◌++◌, length, map, take, drop, replicate, find, slice_index, slice_index_or, slice_set}
+use Rattle.std.specs.Prelude.{List, [], ◌∷◌, ◌++◌, length, map, take, drop, replicate, find}
+use Rattle.std.specs.Prelude.{slice_index, slice_index_or, slice_set}
 use Rattle.std.specs.List.{range_with_len}
 
 -- the words of a group that is here, and nothing where it is out
@@ -64,6 +65,16 @@ with_lent_word l place w =
           slice_set l.groups (place / 32 - l.first)
           (slice_set (slice_index_or l.groups (place / 32 - l.first) []) (place % 32) w);
     }
+
+-- a group with words one after the other from one on
+abbrev pub with_words : List ℕ → ℕ → List ℕ → List ℕ
+with_words group i [] = group
+with_words group i (w ∷ ws) = with_words (slice_set group i w) (i + 1) ws
+
+-- the lease with words one after the other from a place on
+abbrev pub with_lent_words : Lent → ℕ → List ℕ → Lent
+with_lent_words l place [] = l
+with_lent_words l place (w ∷ ws) = with_lent_words (with_lent_word l place w) (place + 1) ws
 
 -- the place's group is in the lease, as a test
 abbrev pub is_lent : Lent → ℕ → Bool

@@ -1,5 +1,8 @@
 //! A group of words.
-ghost use Rattle.std.specs.Prelude.{◌≡◌, ℕ, ◌<◌, List, length, replicate, slice_index, slice_set, IfOk};
+ghost use Rattle.std.specs.Prelude.{◌≡◌, ℕ, ◌+◌, ◌*◌, ◌<◌, ◌≤◌, IfOk};
+ghost use Rattle.std.specs.Prelude.{All, List, length, replicate, slice_index, slice_set, take};
+ghost use Rattle.kdf_word.specs.Characters.{words_of};
+ghost use Rattle.kdf_lockout.specs.Groups.{with_words};
 
 use kdf_word::Word;
 use std::alloc::{AllocError, Global};
@@ -62,5 +65,17 @@ impl Group {
         ensures { self.new ≡ slice_set self.old i word }
     {
         self.words[i] = word;
+    }
+
+    /// Puts the first `count` words that these characters make in the place of the words from word `i` on.
+    pub(crate) fn set_codes(&mut self, i: usize, codes: &[u8], count: usize)
+        requires room { i + count ≤ 32 }
+        requires small { All (λ c. c < 64) codes.now }
+        requires given { 8 * count < length codes.now + 8 }
+        ensures { self.new ≡ with_words self.old i (take count (words_of codes.now)) }
+    {
+        for k in 0..count {
+            self.set_word(i + k, Word::of_codes(&codes[8 * k..]));
+        }
     }
 }

@@ -1,6 +1,9 @@
 //! A lease.
-ghost use Rattle.std.specs.Prelude.{◌≡◌, ℕ, ◌+◌, ◌-◌, ◌/◌, ◌%◌, ◌<◌, ◌≤◌, nat_le, nat_lt, ◌&&◌, [], length, map, slice_index_or};
-ghost use Rattle.kdf_lockout.specs.Groups.{Lent, lent_word, with_lent_word, is_lent, IsLent, words_in, AreAllHere};
+ghost use Rattle.std.specs.Prelude.{◌≡◌, ℕ, ◌+◌, ◌-◌, ◌*◌, ◌/◌, ◌%◌, ◌<◌, ◌≤◌, nat_le, nat_lt, ◌&&◌};
+ghost use Rattle.std.specs.Prelude.{[], All, length, map, slice_index_or, take};
+ghost use Rattle.kdf_word.specs.Characters.{words_of};
+ghost use Rattle.kdf_lockout.specs.Groups.{Lent, lent_word, with_lent_word, with_lent_words};
+ghost use Rattle.kdf_lockout.specs.Groups.{is_lent, IsLent, words_in, AreAllHere};
 
 use crate::Group;
 use arrayvec::ArrayVec;
@@ -85,6 +88,24 @@ impl Lease {
     {
         match &mut self.groups[place / 32 - self.first] {
             Some(group) => group.set_word(place % 32, word),
+            None => unreachable!(),
+        }
+    }
+
+    /// Writes the first `count` words that these characters make from a place on, all of them in one group, which is
+    /// in the lease.
+    pub fn write_codes(&mut self, place: usize, codes: &[u8], count: usize)
+        requires lent { IsLent self.old place }
+        requires group { place % 32 + count ≤ 32 }
+        requires small { All (λ c. c < 64) codes.now }
+        requires given { 8 * count < length codes.now + 8 }
+        ensures written { self.new
+            ≡ with_lent_words self.old place (take count (words_of codes.now)) }
+        ensures first { self.new.first ≡ self.old.first }
+        ensures count { length self.new.groups ≡ length self.old.groups }
+    {
+        match &mut self.groups[place / 32 - self.first] {
+            Some(group) => group.set_codes(place % 32, codes, count),
             None => unreachable!(),
         }
     }

@@ -1,21 +1,21 @@
 -- Words that move in one run.
-use Rattle.std.proofs.Common.{◌≡◌, ℕ, suc, ◌+◌, ◌-◌, ◌*◌, ◌/◌, ◌<◌, ◌≤◌, ◌++◌, min, Bool, true, false, List, [], ◌∷◌, length, get_or, take, drop, map, replicate, Option, Some, None, is_some, cond, refl, sym, ap, ◌∙◌, ⊎_elim, arith, append_assoc, length-append, length-take, length-drop}
+use Rattle.std.proofs.Common.{◌≡◌, ℕ, zero, suc, ◌+◌, ◌-◌, ◌*◌, ◌/◌, ◌%◌, ◌<◌, ◌≤◌, ◌++◌, min, Bool, true, false, List, [], ◌∷◌, length, get_or, take, drop, map, replicate, Option, Some, None, is_some, cond, refl, sym, ap, ap₂, ◌∙◌, ⊎_elim, arith, append_assoc, length-append, length-take, length-drop}
 use Rattle.std.specs.Prelude.{◌||◌, reverse}
 use Rattle.std.specs.List.{range_with_len}
 use Rattle.std.specs.Option.{option_map}
 use Rattle.std.proofs.lemmas.Bool.{cases_Bool, cases_lt}
-use Rattle.std.proofs.lemmas.List.{drop-drop, drop_all, ext_get_or, get_or-reverse, get_or-take, length-reverse, take_all, take_at, take_min}
+use Rattle.std.proofs.lemmas.List.{drop-drop, drop_all, ext_get_or, get_or-drop, get_or-reverse, get_or-take, length-reverse, take_all, take_at, take_min}
 use Rattle.std.proofs.lemmas.List.FromFn.{length-map-range_with_len, get_or-map-range_with_len}
 use Rattle.kdf_word.specs.Characters.{codes_of, codes_of_all, first_word, words_of}
 use Rattle.kdf_word.proofs.Packing.{get_or-words_of, length-words_of}
-use Rattle.kdf_lockout.specs.Groups.{Lent, lent_word, with_lent_word}
+use Rattle.kdf_lockout.specs.Groups.{Lent, lent_word, with_lent_word, with_lent_words}
 use Rattle.kdf_media.specs.Media.{through_end_word}
 use Rattle.kdf_transfer.specs.declared.order.TransferOrder.{TransferOrder}
 use Rattle.kdf_transfer.specs.Devices.{Fixture, Progress}
 use Rattle.kdf_transfer.specs.AtOnce.{at_addresses, down_addresses, area_len, filled, given, has_area, is_backward, is_input, is_output, stopped, stops_at_end}
 use Rattle.kdf_transfer.specs.InFlight.{Motion, all_words, lease_by, lent_at, moved_by, moves_of, put_words, total_of, words_of as words_in_flight}
 use Rattle.kdf_transfer.specs.Runs.{IsRun, lent_words, run_words}
-use Rattle.kdf_transfer.proofs.Addresses.{at-drop, down-drop, length-addressed, length-at, length-down, take_two}
+use Rattle.kdf_transfer.proofs.Addresses.{down-drop, length-addressed, length-at, length-down, take_two}
 use Rattle.kdf_transfer.proofs.Areas.{area_has, input_has, len_is, output_has}
 use Rattle.kdf_transfer.proofs.Codes.{codes_more, length-codes}
 use Rattle.kdf_transfer.proofs.Moving.{put_words-append}
@@ -116,14 +116,6 @@ put_next ms from i place w l le is =
     ∙ ap (λ xs. put_words xs l) (take_two k 1 (drop from ms))
     ∙ ap (λ j. put_words (take j (drop from ms)) l) more
 
-pub up_next : (codes : List ℕ) (first total from i w : ℕ) (l : Lent) → from ≤ i → i < total → total ≤ length (words_of codes) → w ≡ first_word (drop (8 * i) codes) → with_lent_word (put_words (take (i - from) (drop from (at_addresses first (take total (words_of codes))))) l) (first + i) w ≡ put_words (take (i + 1 - from) (drop from (at_addresses first (take total (words_of codes))))) l
-up_next codes first total from i w l le lt few is =
-    let ws = take total (words_of codes) in
-    let inside : i < length ws = omega (arith, length-take total (words_of codes)) in
-    let within : i < (length codes + 7) / 8 = omega (arith, length-words_of codes) in
-    let same : get_or ws i 0 ≡ w = get_or-take total (words_of codes) i 0 lt ∙ get_or-words_of codes i 0 within ∙ sym is in
-    put_next (at_addresses first ws) from i (first + i) w l le (at-drop first i ws inside ∙ ap (λ x. (first + i, x) ∷ drop (suc i) (at_addresses first ws)) same)
-
 pub down_next : (codes : List ℕ) (last total from i w : ℕ) (l : Lent) → from ≤ i → i < total → total ≤ length (words_of codes) → w ≡ first_word (drop (8 * ((length codes + 7) / 8 - 1 - i)) codes) → with_lent_word (put_words (take (i - from) (drop from (down_addresses last (take total (reverse (words_of codes)))))) l) (last - i) w ≡ put_words (take (i + 1 - from) (drop from (down_addresses last (take total (reverse (words_of codes)))))) l
 down_next codes last total from i w l le lt few is =
     let rs = reverse (words_of codes) in
@@ -136,6 +128,66 @@ down_next codes last total from i w l le lt few is =
     get_or-take total rs i 0 lt ∙ get_or-reverse (words_of codes) i 0 low ∙ ap (λ k. get_or (words_of codes) (k - 1 - i) 0) n
     ∙ get_or-words_of codes ((length codes + 7) / 8 - 1 - i) 0 within ∙ sym is in
     put_next (down_addresses last ws) from i (last - i) w l le (down-drop last i ws inside ∙ ap (λ x. (last - i, x) ∷ drop (suc i) (down_addresses last ws)) same)
+
+-- the words of a group more in a lease
+drop_at : (a n : ℕ) (ws : List ℕ) → drop n (at_addresses a ws) ≡ at_addresses (a + n) (drop n ws)
+drop_at a zero ws = ap (λ b. at_addresses b ws) (let e : a ≡ a + 0 = omega arith in e)
+drop_at a (suc n) [] = refl
+drop_at a (suc n) (w ∷ ws) = drop_at (a + 1) n ws ∙ ap (λ b. at_addresses b (drop n ws)) (let e : a + 1 + n ≡ a + suc n = omega arith in e)
+
+take_at_addresses : (a n : ℕ) (ws : List ℕ) → take n (at_addresses a ws) ≡ at_addresses a (take n ws)
+take_at_addresses a zero ws = refl
+take_at_addresses a (suc n) [] = refl
+take_at_addresses a (suc n) (w ∷ ws) = ap (λ xs. (a, w) ∷ xs) (take_at_addresses (a + 1) n ws)
+
+put_lent : (a : ℕ) (ws : List ℕ) (l : Lent) → put_words (at_addresses a ws) l ≡ with_lent_words l a ws
+put_lent a [] l = refl
+put_lent a (w ∷ ws) l = put_lent (a + 1) ws (with_lent_word l a w)
+
+take_in_take : {X : Type 0} (i n m : ℕ) (xs : List X) → i + n ≤ m → take n (drop i (take m xs)) ≡ take n (drop i xs)
+take_in_take i n zero xs le =
+    let none : n ≡ 0 = omega arith in
+    ap (λ k. take k (drop i (take 0 xs))) none ∙ sym (ap (λ k. take k (drop i xs)) none)
+take_in_take i n (suc m) [] le = refl
+take_in_take zero zero (suc m) (x ∷ xs) le = refl
+take_in_take zero (suc n) (suc m) (x ∷ xs) le = ap (λ ys. x ∷ ys) (take_in_take 0 n m xs (omega arith))
+take_in_take (suc i) n (suc m) (x ∷ xs) le = take_in_take i n m xs (omega arith)
+
+words_from : (codes : List ℕ) (i : ℕ) → 8 * i ≤ length codes → words_of (drop (8 * i) codes) ≡ drop i (words_of codes)
+words_from codes i le =
+    let ws = words_of codes in
+    let count : length (words_of (drop (8 * i) codes)) ≡ length (drop i ws) = omega (arith, length-words_of codes, length-words_of (drop (8 * i) codes), length-drop (8 * i) codes, length-drop i ws) in
+    ext_get_or 0 (words_of (drop (8 * i) codes)) (drop i ws) count (λ k h.
+    let at : 8 * i + 8 * k ≡ 8 * (i + k) = omega arith in
+    let here : k < (length (drop (8 * i) codes) + 7) / 8 = omega (arith, length-words_of (drop (8 * i) codes)) in
+    let there : i + k < (length codes + 7) / 8 = omega (arith, length-drop (8 * i) codes) in
+    get_or-words_of (drop (8 * i) codes) k 0 here
+    ∙ ap first_word (drop-drop (8 * k) (8 * i) codes ∙ ap (λ n. drop n codes) at)
+    ∙ sym (get_or-drop i ws k 0 ∙ get_or-words_of codes (i + k) 0 there))
+
+pub group_next : (codes : List ℕ) (first total from i n : ℕ) (l : Lent) → from ≤ i → i + n ≤ total → 8 * i ≤ length codes → with_lent_words (put_words (take (i - from) (drop from (at_addresses first (take total (words_of codes))))) l) (first + i) (take n (words_of (drop (8 * i) codes))) ≡ put_words (take (i + n - from) (drop from (at_addresses first (take total (words_of codes))))) l
+group_next codes first total from i n l le fits given =
+    let ws = words_of codes in
+    let ms = at_addresses first (take total ws) in
+    let k : ℕ = i - from in
+    let at : from + k ≡ i = omega arith in
+    let more : k + n ≡ i + n - from = omega arith in
+    let part : take n (drop k (drop from ms)) ≡ at_addresses (first + i) (take n (words_of (drop (8 * i) codes))) =
+    ap (take n) (drop-drop k from ms ∙ ap (λ j. drop j ms) at ∙ drop_at first i (take total ws))
+    ∙ take_at_addresses (first + i) n (drop i (take total ws))
+    ∙ ap (at_addresses (first + i)) (take_in_take i n total ws fits ∙ ap (take n) (sym (words_from codes i given))) in
+    sym (put_lent (first + i) (take n (words_of (drop (8 * i) codes))) (put_words (take k (drop from ms)) l))
+    ∙ ap (λ xs. put_words xs (put_words (take k (drop from ms)) l)) (sym part)
+    ∙ sym (put_words-append (take k (drop from ms)) (take n (drop k (drop from ms))) l)
+    ∙ ap (λ xs. put_words xs l) (take_two k n (drop from ms))
+    ∙ ap (λ j. put_words (take j (drop from ms)) l) more
+
+-- a word of a group of a lease
+pub word_of_group : (l : Lent) (first from k : ℕ) → l.first ≡ first / 32 → (first + from) % 32 + k < 32 → get_or (get_or l.groups ((first + from) / 32 - first / 32) []) ((first + from) % 32 + k) 0 ≡ lent_word l (first + (from + k))
+word_of_group l first from k is one =
+    let at : (first + from) / 32 - first / 32 ≡ (first + (from + k)) / 32 - l.first = omega arith in
+    let rem : (first + from) % 32 + k ≡ (first + (from + k)) % 32 = omega arith in
+    ap₂ (λ g j. get_or (get_or l.groups g []) j 0) at rem
 
 -- and all of them
 pub up_all : (words : List ℕ) (first total from : ℕ) (l : Lent) → put_words (take (total - from) (drop from (at_addresses first (take total words)))) l ≡ put_words (drop from (at_addresses first (take total words))) l

@@ -52,8 +52,12 @@ fn put_up(codes: &[u8], area: Area, lease: &mut Lease, from: u16, total: u16)
     ensures { lease.new ≡ put_words (drop from
         (at_addresses area.first (take total (words_of codes.now)))) lease.old }
 {
-    for i in usize::from(from)..usize::from(total) {
-        lease.write(area.first + i, Word::of_codes(&codes[8 * i..]));
+    let end = usize::from(total);
+    let mut i = usize::from(from);
+    while i < end {
+        let count = left_in_group(area.first + i).min(end - i);
+        lease.write_codes(area.first + i, &codes[8 * i..], count);
+        i += count;
     }
 }
 
@@ -101,9 +105,40 @@ fn put_area(lease: &Lease, area: Area, block: &mut [u8], from: usize)
         ≡ codes_of_all (take from (lent_words lease.now area.first (length block.old / 8))) }
     ensures { block.new ≡ codes_of_all (lent_words lease.now area.first (length block.old / 8)) }
 {
-    for i in from..block.len() / 8 {
-        put_codes(block, i, lease.read(area.first + i));
+    let end = block.len() / 8;
+    let mut i = from;
+    while i < end {
+        let count = left_in_group(area.first + i).min(end - i);
+        put_group(lease, area, block, i, count);
+        i += count;
     }
+}
+
+/// Puts the characters of `count` words from one on, all of them in one group, in their places.
+fn put_group(lease: &Lease, area: Area, block: &mut [u8], from: usize, count: usize)
+    requires area { Covers (Some lease.now) area.first area.last }
+    requires more { from < length block.old / 8 }
+    requires inside { length block.old / 8 ≤ area.last + 1 - area.first }
+    requires fits { from + count ≤ length block.old / 8 }
+    requires group { (area.first + from) % 32 + count ≤ 32 }
+    requires block { take (8 * from) block.old
+        ≡ codes_of_all (take from (lent_words lease.now area.first (length block.old / 8))) }
+    ensures block { take (8 * (from + count)) block.new
+        ≡ codes_of_all (take (from + count) (lent_words lease.now area.first (length block.old / 8))) }
+    ensures size { length block.new ≡ length block.old }
+{
+    let place = area.first + from;
+    let group = lease.group(place / 32 - area.first / 32);
+    for k in 0..count {
+        put_codes(block, from + k, group.word(place % 32 + k));
+    }
+}
+
+/// How many words there are from a place to the end of its group.
+fn left_in_group(place: usize) -> usize
+    ensures { result ≡ 32 - place % 32 }
+{
+    32 - place % 32
 }
 
 /// Puts the characters of word `i` in their place.

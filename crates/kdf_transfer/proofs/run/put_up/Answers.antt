@@ -1,12 +1,10 @@
-use Rattle.std.proofs.Common.{◌≡◌, ℕ, ◌+◌, ◌-◌, ◌*◌, ◌<◌, ◌≤◌, ◌∙◌, true, Some, length, take, drop, ap, sym, subst, arith, length-drop}
+use Rattle.std.proofs.Common.{◌≡◌, ℕ, ◌+◌, ◌-◌, ◌*◌, ◌≤◌, ◌∙◌, length, take, drop, ap, arith, length-drop}
 use Rattle.std.proofs.lemmas.List.{take_all}
-use Rattle.kdf_word.specs.Characters.{first_word, words_of}
-use Rattle.kdf_word.proofs.Packing.{length-words_of}
-use Rattle.kdf_lockout.specs.Groups.{with_lent_word}
+use Rattle.kdf_word.specs.Characters.{words_of}
+use Rattle.kdf_lockout.specs.Groups.{with_lent_words}
 use Rattle.kdf_transfer.specs.AtOnce.{at_addresses}
-use Rattle.kdf_transfer.specs.InFlight.{Covers, put_words}
-use Rattle.kdf_transfer.proofs.Runs.{up_next, up_all}
-use Rattle.kdf_transfer.proofs.Words.{covers-written}
+use Rattle.kdf_transfer.specs.InFlight.{put_words}
+use Rattle.kdf_transfer.proofs.Runs.{group_next, up_all}
 use Rattle.kdf_transfer.proofs.run.put_up.Goals as goal
 
 pub loop-i-preserved : goal.loop-i-preserved
@@ -16,16 +14,19 @@ loop-i-preserved c =
     let from : ℕ = c.args.from in
     let total : ℕ = c.args.total in
     let i = c.loop-i.i in
-    let w = c.of_codes.result in
-    let below : i < total = omega (arith, c.loop-i-test.true, c.from-i-end.ensures) in
-    let above : from ≤ i = omega (arith, c.loop-i.auto.i, c.from-i.ensures) in
-    let given : total ≤ length (words_of codes) = omega (arith, length-words_of codes, c.requires.given) in
+    let n = c.min-count.result in
+    let fits : i + n ≤ total = omega arith in
+    let given : 8 * i ≤ length codes = omega (arith, c.requires.given, c.loop-i-test.true) in
+    let h = c.loop-i.invariant.covers in
     record {
       lease =
-          c.write.ensures.written
-          ∙ ap (λ k. with_lent_word k (first + i) w) c.loop-i.invariant.lease
-          ∙ up_next codes first total from i w c.args.lease.now above below given (c.of_codes.ensures ∙ ap first_word (take_all (length codes - 8 * i) (drop (8 * i) codes) (omega (arith, length-drop (8 * i) codes))));
-      covers = subst (λ k. Covers (Some k) c.args.area.first c.args.area.last) (sym c.write.ensures.written) (covers-written true (first + i) w c.args.area.first c.args.area.last (Some c.loop-i.lease) c.loop-i.invariant.covers);
+          c.write_codes.ensures.written
+          ∙ ap (λ k. with_lent_words k (first + i) (take n (words_of (take (length codes - 8 * i) (drop (8 * i) codes))))) c.loop-i.invariant.lease
+          ∙ ap (λ xs. with_lent_words (put_words (take (i - from) (drop from (at_addresses first (take total (words_of codes))))) c.args.lease.now) (first + i) (take n (words_of xs))) (take_all (length codes - 8 * i) (drop (8 * i) codes) (omega (arith, length-drop (8 * i) codes)))
+          ∙ group_next codes first total from i n c.args.lease.now c.loop-i.invariant.begun fits given;
+      covers = record { rising = h.rising; first_group = c.write_codes.ensures.first ∙ h.first_group; count = c.write_codes.ensures.count ∙ h.count; few = h.few };
+      begun = omega arith;
+      within = omega arith;
     }
 
 pub returns : goal.returns
@@ -34,7 +35,7 @@ returns c =
     let first = c.args.area.first in
     let from : ℕ = c.args.from in
     let total : ℕ = c.args.total in
-    let all : c.loop-i.i ≡ total = omega (arith, c.loop-i-test.false, c.loop-i.auto.i-end, c.loop-i.auto.i, c.from-i-end.ensures, c.from-i.ensures, c.requires.from) in
+    let all : c.loop-i.i ≡ total = omega (arith, c.loop-i-test.false, c.loop-i.invariant.within) in
     c.loop-i.invariant.lease
     ∙ ap (λ k. put_words (take (k - from) (drop from (at_addresses first (take total (words_of codes))))) c.args.lease.now) all
     ∙ up_all (words_of codes) first total from c.args.lease.now
