@@ -1,7 +1,7 @@
 -- Words are written into a group of a lease, one after the other.
-use Rattle.std.proofs.Common.{◌≡◌, ℕ, suc, ◌+◌, ◌-◌, ◌*◌, ◌/◌, ◌%◌, ◌<◌, ◌≤◌, List, [], ◌∷◌, ◌++◌, length, get_or, set, take, drop, map, Option, Some, refl, sym, ap, ap₂, ◌∙◌, arith, length-set, length-take}
+use Rattle.std.proofs.Common.{◌≡◌, ℕ, suc, ◌+◌, ◌-◌, ◌*◌, ◌^◌, ◌/◌, ◌%◌, ◌<◌, ◌≤◌, List, [], ◌∷◌, ◌++◌, length, get_or, set, take, drop, map, Option, Some, refl, sym, ap, ap₂, ◌∙◌, arith, length-set, length-take}
 use Rattle.std.specs.List.{refill}
-use Rattle.std.proofs.lemmas.List.{get_or-map, get_or-set_same, length-map, map-set, set-get_or, set-set, take_more}
+use Rattle.std.proofs.lemmas.List.{get_or-map, get_or-set_same, get_or-take, length-map, map-set, set-get_or, set-set, take_more}
 use Rattle.kdf_word.specs.Characters.{first_word, words_of}
 use Rattle.kdf_word.proofs.Packing.{get_or-words_of, length-words_of}
 use Rattle.kdf_lockout.specs.Groups.{Cells, Lent, words_in, with_lent_word, with_lent_words, with_words}
@@ -24,6 +24,16 @@ with_more codes group i k w lt is =
     ∙ sym (with_one (take k ws) group i w)
     ∙ ap (λ x. with_words group i (take k ws ++ x ∷ [])) (sym word)
     ∙ ap (with_words group i) (sym (take_more ws k 0 lt))
+
+-- a word is that of its eight characters
+pub first_eight : (codes : List ℕ) → first_word (take 8 codes) ≡ first_word codes
+unfolding first_word
+first_eight codes =
+    λ j. at 0 (omega arith) j * 2 ^ 42 + at 1 (omega arith) j * 2 ^ 36 + at 2 (omega arith) j * 2 ^ 30 + at 3 (omega arith) j * 2 ^ 24
+    + at 4 (omega arith) j * 2 ^ 18 + at 5 (omega arith) j * 2 ^ 12 + at 6 (omega arith) j * 2 ^ 6 + at 7 (omega arith) j
+  where
+    at : (i : ℕ) → i < 8 → get_or (take 8 codes) i 0 ≡ get_or codes i 0
+    at i lt = get_or-take 8 codes i 0 lt
 
 -- the lease has the group with the words
 lent_group : (l : Lent) (g i : ℕ) (ws : List ℕ) → g - l.first < length l.groups → i + length ws ≤ 32 → with_lent_words l (32 * g + i) ws ≡ (let k : Lent = record { first = l.first; groups = set l.groups (g - l.first) (with_words (get_or l.groups (g - l.first) []) i ws) } in k)

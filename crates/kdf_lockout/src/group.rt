@@ -74,8 +74,13 @@ impl Group {
         requires given { 8 * count < length codes.now + 8 }
         ensures { self.new ≡ with_words self.old i (take count (words_of codes.now)) }
     {
-        for k in 0..count {
-            self.set_word(i + k, Word::of_codes(&codes[8 * k..]));
+        // Words of eight characters need no look at how many are left: the last one, which may have fewer, is apart.
+        let whole = count.min(codes.len() / 8);
+        for k in 0..whole {
+            self.set_word(i + k, Word::of_codes(&codes[8 * k..8 * k + 8]));
+        }
+        if whole < count {
+            self.set_word(i + whole, Word::of_codes(&codes[8 * whole..]));
         }
     }
 }
