@@ -2,24 +2,25 @@
 ghost use Rattle.std.specs.Prelude.{◌≡◌, ◌<◌, ◌≤◌, [], ◌∷◌, length, slice_index};
 
 use crate::DEPTH;
-use arrayvec::ArrayVec;
 use kdf_word::Word;
 use std::marker::Model;
 
-/// The nesting store: at most sixteen words, the top first. The top stands last in `words`.
+/// The nesting store: at most sixteen words, the top first. The top stands last of the first `depth` of `words`; those
+/// after it don't count.
 #[derive(Drop)]
 pub struct Nest {
-    words: ArrayVec<Word, DEPTH>,
+    words: [Word; DEPTH],
+    depth: usize,
 }
 
 impl Model for Nest {
-    ghost use Rattle.std.specs.Prelude.{◌≤◌, List, ℕ, length, reverse};
+    ghost use Rattle.std.specs.Prelude.{◌≡◌, ◌≤◌, List, ℕ, length, reverse, take};
 
     ghost Value = { List ℕ };
 
-    ghost view = { λ n. reverse n.words.items };
+    ghost view = { λ n. reverse (take n.depth n.words) };
 
-    ghost invariant = { λ n. length n.words.items ≤ 16 };
+    ghost invariant = { λ n. (n.depth ≤ 16) × (length n.words ≡ 16) };
 }
 
 impl Nest {
@@ -28,7 +29,8 @@ impl Nest {
         ensures { result ≡ [] }
     {
         Nest {
-            words: ArrayVec::new(),
+            words: [Word::default(); DEPTH],
+            depth: 0,
         }
     }
 
@@ -37,7 +39,7 @@ impl Nest {
         ensures value { result ≡ length self.now }
         ensures most { length self.now ≤ 16 }
     {
-        self.words.len()
+        self.depth
     }
 
     /// Puts a word on top of fewer than sixteen.
@@ -45,7 +47,9 @@ impl Nest {
         requires { length self.old < 16 }
         ensures { self.new ≡ item ∷ self.old }
     {
-        self.words.push(item);
+        let depth = self.depth;
+        self.words[depth] = item;
+        self.depth = depth + 1;
     }
 
     /// Takes the top off.
@@ -54,7 +58,22 @@ impl Nest {
         ensures item { self.old ≡ result ∷ self.new }
         ensures most { length self.new < 16 }
     {
-        self.words.pop().unwrap()
+        let depth = self.depth - 1;
+        let item = self.words[depth];
+        self.depth = depth;
+        item
+    }
+
+    /// Takes the first two off, the top first.
+    pub fn pop_two(&mut self) -> (Word, Word)
+        requires { 1 < length self.old }
+        ensures items { self.old ≡ result.0 ∷ result.1 ∷ self.new }
+        ensures most { length self.new ≤ 14 }
+    {
+        let depth = self.depth - 2;
+        let items = (self.words[depth + 1], self.words[depth]);
+        self.depth = depth;
+        items
     }
 
     /// Item `i` from the top, which is item 0.
@@ -62,7 +81,6 @@ impl Nest {
         requires { i < length self.now }
         ensures { result ≡ slice_index self.now i }
     {
-        let words = self.words.as_slice();
-        words[words.len() - 1 - i]
+        self.words[self.depth - 1 - i]
     }
 }
