@@ -12,9 +12,12 @@ pub struct Flags {
 
 impl Flags {
     /// Sets V where a value didn't fit, and leaves it otherwise.
+    #[inline(always)]
     pub(crate) fn note(&mut self, overflow: bool)
         ensures { self.new ≡ record self.old { v = self.old.v || overflow } }
     {
-        self.v = self.v || overflow;
+        if overflow {
+            self.v = true;
+        }
     }
 }

@@ -17,5 +17,5 @@ mod words;
 
 pub use flags::Flags;
 pub use nouv::Nouv;
-pub use obey::obey_arith;
+pub use obey::{obey_arith, obey_plain, obey_shift};
 pub use order::ArithOrder;

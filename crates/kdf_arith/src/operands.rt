@@ -7,6 +7,7 @@ use kdf_nest::{DEPTH, Nest};
 use kdf_word::Word;
 
 /// Takes the top, a.
+#[inline(always)]
 pub(crate) fn take_one(nest: &mut Nest) -> Result<Word, Nouv>
     ensures { Takes 1 (λ a. a ∷ []) nest.old nest.new result }
 {
@@ -17,15 +18,14 @@ pub(crate) fn take_one(nest: &mut Nest) -> Result<Word, Nouv>
 }
 
 /// Takes a and b, the top first.
+#[inline(always)]
 pub(crate) fn take_two(nest: &mut Nest) -> Result<(Word, Word), Nouv>
     ensures { Takes 2 (λ w. w.0 ∷ w.1 ∷ []) nest.old nest.new result }
 {
     if nest.depth() < 2 {
         return Err(Nouv);
     }
-    let a = nest.pop();
-    let b = nest.pop();
-    Ok((a, b))
+    Ok(nest.pop_two())
 }
 
 /// Takes a, b and c, the top first.
@@ -56,6 +56,7 @@ pub(crate) fn take_four(nest: &mut Nest) -> Result<(Word, Word, Word, Word), Nou
 }
 
 /// Tells whether so many words more have room.
+#[inline(always)]
 pub(crate) fn need_room(nest: &Nest, more: usize) -> Result<(), Nouv>
     requires { more ≤ 2 }
     ensures ok { OnOk result (length nest.now + more ≤ 16) }

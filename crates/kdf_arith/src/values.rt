@@ -1,8 +1,7 @@
 //! The orders that take words as values. Each tells whether it sets V.
 #![tactic(auto, unfolding(crate::specs::Rows::plain_row))]
 
-ghost use Rattle.std.specs.Prelude.{◌≡◌, ◌≢◌, ◌≤◌, ◌∷◌, length};
-ghost use Rattle.std.specs.Int.{IsInRange};
+ghost use Rattle.std.specs.Prelude.{◌≡◌, ◌≤◌, ◌∷◌, length};
 ghost use Rattle.kdf_word.specs.Doubles.{upper_of, lower_of};
 ghost use Rattle.kdf_arith.specs.Arith.{plain};
 ghost use Rattle.kdf_arith.specs.Outcome.{Makes};
@@ -13,30 +12,6 @@ use crate::division::divide;
 use crate::operands::{need_room, take_four, take_one, take_two};
 use kdf_nest::Nest;
 use kdf_word::{Double, Word};
-
-/// An order with a code from 0F to 12 or from 14 to 1C.
-#[tactic(auto)]
-pub(crate) fn obey_values(nest: &mut Nest, code: u8) -> Result<bool, Nouv>
-    requires codes { IsInRange 0x0F 0x1C code }
-    requires some { code ≢ 0x13 }
-    ensures { Makes (plain code nest.old) nest.old nest.new result }
-{
-    match code {
-        0x0f => neg(nest),
-        0x10 => abs(nest),
-        0x11 => plus(nest),
-        0x12 => minus(nest),
-        0x14 => xd(nest),
-        0x15 => cont(nest),
-        0x16 => stretch(nest),
-        0x17 => plus_d(nest),
-        0x18 => minus_d(nest),
-        0x19 => negd(nest),
-        0x1a => divi(nest),
-        0x1b => tob(nest),
-        _ => frb(nest),
-    }
-}
 
 /// Puts a double value on top.
 #[tactic(auto)]
@@ -50,7 +25,8 @@ pub(crate) fn push_double(nest: &mut Nest, value: Double)
 }
 
 /// NEG.
-fn neg(nest: &mut Nest) -> Result<bool, Nouv>
+#[inline(always)]
+pub(crate) fn neg(nest: &mut Nest) -> Result<bool, Nouv>
     ensures { Makes (plain 0x0F nest.old) nest.old nest.new result }
 {
     let a = take_one(nest)?;
@@ -60,7 +36,8 @@ fn neg(nest: &mut Nest) -> Result<bool, Nouv>
 }
 
 /// ABS.
-fn abs(nest: &mut Nest) -> Result<bool, Nouv>
+#[inline(always)]
+pub(crate) fn abs(nest: &mut Nest) -> Result<bool, Nouv>
     ensures { Makes (plain 0x10 nest.old) nest.old nest.new result }
 {
     let a = take_one(nest)?;
@@ -70,7 +47,8 @@ fn abs(nest: &mut Nest) -> Result<bool, Nouv>
 }
 
 /// +.
-fn plus(nest: &mut Nest) -> Result<bool, Nouv>
+#[inline(always)]
+pub(crate) fn plus(nest: &mut Nest) -> Result<bool, Nouv>
     ensures { Makes (plain 0x11 nest.old) nest.old nest.new result }
 {
     let (a, b) = take_two(nest)?;
@@ -80,7 +58,8 @@ fn plus(nest: &mut Nest) -> Result<bool, Nouv>
 }
 
 /// -.
-fn minus(nest: &mut Nest) -> Result<bool, Nouv>
+#[inline(always)]
+pub(crate) fn minus(nest: &mut Nest) -> Result<bool, Nouv>
     ensures { Makes (plain 0x12 nest.old) nest.old nest.new result }
 {
     let (a, b) = take_two(nest)?;
@@ -90,7 +69,8 @@ fn minus(nest: &mut Nest) -> Result<bool, Nouv>
 }
 
 /// XD.
-fn xd(nest: &mut Nest) -> Result<bool, Nouv>
+#[inline(never)]
+pub(crate) fn xd(nest: &mut Nest) -> Result<bool, Nouv>
     ensures { Makes (plain 0x14 nest.old) nest.old nest.new result }
 {
     let (a, b) = take_two(nest)?;
@@ -100,7 +80,8 @@ fn xd(nest: &mut Nest) -> Result<bool, Nouv>
 }
 
 /// CONT.
-fn cont(nest: &mut Nest) -> Result<bool, Nouv>
+#[inline(never)]
+pub(crate) fn cont(nest: &mut Nest) -> Result<bool, Nouv>
     ensures { Makes (plain 0x15 nest.old) nest.old nest.new result }
 {
     let (a, b) = take_two(nest)?;
@@ -110,7 +91,8 @@ fn cont(nest: &mut Nest) -> Result<bool, Nouv>
 }
 
 /// STR. A word always fits a double value.
-fn stretch(nest: &mut Nest) -> Result<bool, Nouv>
+#[inline(never)]
+pub(crate) fn stretch(nest: &mut Nest) -> Result<bool, Nouv>
     ensures { Makes (plain 0x16 nest.old) nest.old nest.new result }
 {
     need_room(nest, 1)?;
@@ -120,7 +102,8 @@ fn stretch(nest: &mut Nest) -> Result<bool, Nouv>
 }
 
 /// +D.
-fn plus_d(nest: &mut Nest) -> Result<bool, Nouv>
+#[inline(never)]
+pub(crate) fn plus_d(nest: &mut Nest) -> Result<bool, Nouv>
     ensures { Makes (plain 0x17 nest.old) nest.old nest.new result }
 {
     let (a, b, c, d) = take_four(nest)?;
@@ -130,7 +113,8 @@ fn plus_d(nest: &mut Nest) -> Result<bool, Nouv>
 }
 
 /// -D.
-fn minus_d(nest: &mut Nest) -> Result<bool, Nouv>
+#[inline(never)]
+pub(crate) fn minus_d(nest: &mut Nest) -> Result<bool, Nouv>
     ensures { Makes (plain 0x18 nest.old) nest.old nest.new result }
 {
     let (a, b, c, d) = take_four(nest)?;
@@ -140,7 +124,8 @@ fn minus_d(nest: &mut Nest) -> Result<bool, Nouv>
 }
 
 /// NEGD.
-fn negd(nest: &mut Nest) -> Result<bool, Nouv>
+#[inline(never)]
+pub(crate) fn negd(nest: &mut Nest) -> Result<bool, Nouv>
     ensures { Makes (plain 0x19 nest.old) nest.old nest.new result }
 {
     let (a, b) = take_two(nest)?;
@@ -150,7 +135,8 @@ fn negd(nest: &mut Nest) -> Result<bool, Nouv>
 }
 
 /// DIVI. Where the divisor is 0, V is set and both words stay.
-fn divi(nest: &mut Nest) -> Result<bool, Nouv>
+#[inline(never)]
+pub(crate) fn divi(nest: &mut Nest) -> Result<bool, Nouv>
     ensures { Makes (plain 0x1A nest.old) nest.old nest.new result }
 {
     let (a, b) = take_two(nest)?;
@@ -167,7 +153,8 @@ fn divi(nest: &mut Nest) -> Result<bool, Nouv>
 }
 
 /// TOB.
-fn tob(nest: &mut Nest) -> Result<bool, Nouv>
+#[inline(never)]
+pub(crate) fn tob(nest: &mut Nest) -> Result<bool, Nouv>
     ensures { Makes (plain 0x1B nest.old) nest.old nest.new result }
 {
     let (a, b) = take_two(nest)?;
@@ -177,7 +164,8 @@ fn tob(nest: &mut Nest) -> Result<bool, Nouv>
 }
 
 /// FRB.
-fn frb(nest: &mut Nest) -> Result<bool, Nouv>
+#[inline(never)]
+pub(crate) fn frb(nest: &mut Nest) -> Result<bool, Nouv>
     ensures { Makes (plain 0x1C nest.old) nest.old nest.new result }
 {
     let (a, b) = take_two(nest)?;

@@ -15,6 +15,7 @@ const ALL: u64 = (1 << 48) - 1;
 
 /// An order with a code from 02 to 0E.
 #[tactic(auto)]
+#[inline(always)]
 pub(crate) fn obey_words(nest: &mut Nest, code: u8) -> Result<(), Nouv>
     requires { IsInRange 0x02 0x0E code }
     ensures { Leaves (plain code nest.old) nest.old nest.new result }
@@ -37,6 +38,7 @@ pub(crate) fn obey_words(nest: &mut Nest, code: u8) -> Result<(), Nouv>
 }
 
 /// ERASE.
+#[inline(always)]
 fn erase(nest: &mut Nest) -> Result<(), Nouv>
     ensures { Leaves (plain 0x02 nest.old) nest.old nest.new result }
 {
@@ -45,6 +47,7 @@ fn erase(nest: &mut Nest) -> Result<(), Nouv>
 }
 
 /// DUP.
+#[inline(always)]
 fn dup(nest: &mut Nest) -> Result<(), Nouv>
     ensures { Leaves (plain 0x03 nest.old) nest.old nest.new result }
 {
@@ -56,6 +59,7 @@ fn dup(nest: &mut Nest) -> Result<(), Nouv>
 }
 
 /// DUPD.
+#[inline(never)]
 fn dupd(nest: &mut Nest) -> Result<(), Nouv>
     ensures { Leaves (plain 0x04 nest.old) nest.old nest.new result }
 {
@@ -69,6 +73,7 @@ fn dupd(nest: &mut Nest) -> Result<(), Nouv>
 }
 
 /// REV.
+#[inline(always)]
 fn rev(nest: &mut Nest) -> Result<(), Nouv>
     ensures { Leaves (plain 0x05 nest.old) nest.old nest.new result }
 {
@@ -79,6 +84,7 @@ fn rev(nest: &mut Nest) -> Result<(), Nouv>
 }
 
 /// REVD.
+#[inline(never)]
 fn revd(nest: &mut Nest) -> Result<(), Nouv>
     ensures { Leaves (plain 0x06 nest.old) nest.old nest.new result }
 {
@@ -91,6 +97,7 @@ fn revd(nest: &mut Nest) -> Result<(), Nouv>
 }
 
 /// CAB.
+#[inline(never)]
 fn cab(nest: &mut Nest) -> Result<(), Nouv>
     ensures { Leaves (plain 0x07 nest.old) nest.old nest.new result }
 {
@@ -102,6 +109,7 @@ fn cab(nest: &mut Nest) -> Result<(), Nouv>
 }
 
 /// PERM.
+#[inline(never)]
 fn perm(nest: &mut Nest) -> Result<(), Nouv>
     ensures { Leaves (plain 0x08 nest.old) nest.old nest.new result }
 {
@@ -113,6 +121,7 @@ fn perm(nest: &mut Nest) -> Result<(), Nouv>
 }
 
 /// ZERO.
+#[inline(always)]
 fn zero(nest: &mut Nest) -> Result<(), Nouv>
     ensures { Leaves (plain 0x09 nest.old) nest.old nest.new result }
 {
@@ -122,6 +131,7 @@ fn zero(nest: &mut Nest) -> Result<(), Nouv>
 }
 
 /// AND.
+#[inline(always)]
 fn and(nest: &mut Nest) -> Result<(), Nouv>
     ensures { Leaves (plain 0x0A nest.old) nest.old nest.new result }
 {
@@ -131,6 +141,7 @@ fn and(nest: &mut Nest) -> Result<(), Nouv>
 }
 
 /// OR.
+#[inline(always)]
 fn or(nest: &mut Nest) -> Result<(), Nouv>
     ensures { Leaves (plain 0x0B nest.old) nest.old nest.new result }
 {
@@ -140,6 +151,7 @@ fn or(nest: &mut Nest) -> Result<(), Nouv>
 }
 
 /// NOT.
+#[inline(always)]
 fn not(nest: &mut Nest) -> Result<(), Nouv>
     ensures { Leaves (plain 0x0C nest.old) nest.old nest.new result }
 {
@@ -149,6 +161,7 @@ fn not(nest: &mut Nest) -> Result<(), Nouv>
 }
 
 /// NEV.
+#[inline(always)]
 fn nev(nest: &mut Nest) -> Result<(), Nouv>
     ensures { Leaves (plain 0x0D nest.old) nest.old nest.new result }
 {
@@ -158,6 +171,7 @@ fn nev(nest: &mut Nest) -> Result<(), Nouv>
 }
 
 /// BITS.
+#[inline(never)]
 fn bits(nest: &mut Nest) -> Result<(), Nouv>
     ensures { Leaves (plain 0x0E nest.old) nest.old nest.new result }
 {

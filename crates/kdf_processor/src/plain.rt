@@ -5,11 +5,10 @@ ghost use Rattle.kdf_syllable.specs.Spelling.{IsOrder};
 ghost use Rattle.kdf_processor.specs.Effect.{Comes};
 ghost use Rattle.kdf_processor.specs.Table.{plain_row, link_row, keep_link_row};
 
-use crate::arithmetic::obey_arithmetic;
+use crate::arithmetic::plain_arithmetic;
 use crate::q_store::low;
 use crate::syllable_number::behind;
 use crate::{Failure, Registers};
-use kdf_arith::ArithOrder;
 use kdf_nest::DEPTH;
 use kdf_word::Word;
 
@@ -28,7 +27,7 @@ pub fn plain(registers: &mut Registers, code: u8) -> Result<(), Failure>
         }
         0x1d => link(registers),
         0x1e => keep_link(registers),
-        _ => obey_arithmetic(registers, 1, ArithOrder::Plain { code }),
+        _ => plain_arithmetic(registers, code),
     }
 }
 

@@ -7,9 +7,8 @@ ghost use Rattle.kdf_arith.specs.declared.order.ArithOrder.TheVariants as arithm
 ghost use Rattle.kdf_processor.specs.Effect.{Comes};
 ghost use Rattle.kdf_processor.specs.Table.{arith_changes, places_of};
 
-use crate::arithmetic::obey_arithmetic;
+use crate::arithmetic::shift_arithmetic;
 use crate::{Failure, Registers};
-use kdf_arith::ArithOrder;
 use kdf_qstore::Part;
 use kdf_syllable::Amount;
 
@@ -33,5 +32,5 @@ pub fn shift(registers: &mut Registers, code: u8, by: Amount) -> Result<(), Fail
         registers.old registers.new result }
 {
     let n = places(registers, by);
-    obey_arithmetic(registers, 2, ArithOrder::Shift { code, n })
+    shift_arithmetic(registers, code, n)
 }
