@@ -25,15 +25,20 @@ pub data Decision : Type 0 where
   Undecided : (kind : Failure) → Decision
   Decided : (jumps : Bool) (after : Registers) → Decision
 
+-- Registers after an order that isn't counted yet.
+abbrev pub IsUncounted : (old new : Registers) → Type 0
+IsUncounted old new = (new.ran ≡ old.ran) × (new.state ≡ old.state)
+
 -- A change comes out so: it went to these registers, or it was refused, and they are as they were.
 abbrev pub Comes : Change → (old new : Registers) → Result (Unit {0}) Failure → Type 0
 Comes change old new result =
-    MatchResult result (λ _. change ≡ Going new) (λ kind. (change ≡ Refused kind) × (new ≡ old))
+    MatchResult result (λ _. (change ≡ Going new) × IsUncounted old new)
+    (λ kind. (change ≡ Refused kind) × (new ≡ old))
 
 -- A decision comes out so: it was made, with these registers, or it was refused, and they are as they were.
 abbrev pub Decides : Decision → (old new : Registers) → Result Bool Failure → Type 0
 Decides decision old new result =
-    MatchResult result (λ jumps. decision ≡ Decided jumps new)
+    MatchResult result (λ jumps. (decision ≡ Decided jumps new) × IsUncounted old new)
     (λ kind. (decision ≡ Undecided kind) × (new ≡ old))
 
 -- What an order does. The registers that a constructor carries are those after it, not yet counted.

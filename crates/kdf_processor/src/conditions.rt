@@ -1,7 +1,7 @@
 //! The conditions of jumps.
 ghost use Rattle.std.specs.Prelude.{◌≡◌, ◌≤◌, ◌==◌, false};
 ghost use Rattle.std.specs.Int.{IsInRange};
-ghost use Rattle.kdf_processor.specs.Effect.{Decided, Decides};
+ghost use Rattle.kdf_processor.specs.Effect.{Decided, Decides, IsUncounted};
 ghost use Rattle.kdf_processor.specs.Jumps.{has_sign, is_so};
 ghost use Rattle.kdf_processor.specs.Table.{decision, by_top, by_two, with_link, with_v, with_tr};
 
@@ -84,7 +84,8 @@ fn decide_by_top(registers: &mut Registers, c: u8) -> Result<bool, Failure>
 #[tactic(auto, unfolding(crate::specs::Table::decision))]
 fn decide_by_flag(registers: &mut Registers, c: u8) -> bool
     requires { IsInRange 0x2A 0x2D c }
-    ensures { decision registers.old c ≡ Decided result registers.new }
+    ensures decision { decision registers.old c ≡ Decided result registers.new }
+    ensures uncounted { IsUncounted registers.old registers.new }
 {
     match c {
         0x2a => take_v(registers),

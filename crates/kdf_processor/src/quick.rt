@@ -26,25 +26,14 @@ use crate::plan::Access;
 use crate::push::set;
 use crate::shift::shift;
 use crate::single::single;
-use crate::{Life, Port, Registers, Step};
+use crate::{Port, Registers, Step};
 use kdf_decode::{BadCode, decode_jump, decode_one, decode_store, decode_two};
 use kdf_nest::DEPTH;
 use kdf_syllable::{Amount, Order};
 
-/// Counts an order that changed registers alone: it was the first after so many.
-#[inline(always)]
-fn go_on(registers: &mut Registers, ran: u32)
-    requires { ran < u32.MAX }
-    ensures { registers.new ≡ record registers.old { ran = ran + 1; state = Life.Live } }
-{
-    registers.ran = ran + 1;
-    registers.state = Life::Live;
-}
-
 /// An order of one syllable other than OUT.
 #[inline(always)]
 fn obey_plain<P: Port>(registers: &mut Registers, port: &P, code: u8) -> Option<()>
-    requires live { registers.old.state ≡ Life.Live }
     requires ran { registers.old.ran < u32.MAX }
     requires order { IsOrder (order.Plain code) }
     requires not_out { code ≢ 0x21 }
@@ -52,10 +41,9 @@ fn obey_plain<P: Port>(registers: &mut Registers, port: &P, code: u8) -> Option<
         (try_order (P.shows port.now) registers.old (order.Plain code)) port.now port.now registers.new Step.Done) }
     ensures left { IfNone result (registers.new ≡ registers.old) }
 {
-    let ran = registers.ran;
     match plain(registers, code) {
         Ok(()) => {
-            go_on(registers, ran);
+            count(registers);
             Some(())
         }
         Err(_) => None,
@@ -65,17 +53,15 @@ fn obey_plain<P: Port>(registers: &mut Registers, port: &P, code: u8) -> Option<
 /// An order on one Q-store.
 #[inline(always)]
 fn obey_single<P: Port>(registers: &mut Registers, port: &P, code: u8, q: u8) -> Option<()>
-    requires live { registers.old.state ≡ Life.Live }
     requires ran { registers.old.ran < u32.MAX }
     requires order { IsOrder (order.Single code q) }
     ensures obeyed { IfSome result (λ _. Obeyed P.acts
         (try_order (P.shows port.now) registers.old (order.Single code q)) port.now port.now registers.new Step.Done) }
     ensures left { IfNone result (registers.new ≡ registers.old) }
 {
-    let ran = registers.ran;
     match single(registers, code, q) {
         Ok(()) => {
-            go_on(registers, ran);
+            count(registers);
             Some(())
         }
         Err(_) => None,
@@ -85,7 +71,6 @@ fn obey_single<P: Port>(registers: &mut Registers, port: &P, code: u8, q: u8) ->
 /// A copy of parts of a Q-store.
 #[inline(always)]
 fn obey_copies<P: Port>(registers: &mut Registers, port: &P, code: u8, q: u8, k: u8) -> Option<()>
-    requires live { registers.old.state ≡ Life.Live }
     requires ran { registers.old.ran < u32.MAX }
     requires order { IsOrder (order.Copies code q k) }
     ensures obeyed { IfSome result (λ _. Obeyed P.acts
@@ -93,10 +78,9 @@ fn obey_copies<P: Port>(registers: &mut Registers, port: &P, code: u8, q: u8, k:
         Step.Done) }
     ensures left { IfNone result (registers.new ≡ registers.old) }
 {
-    let ran = registers.ran;
     match copy(registers, code, q, k) {
         Ok(()) => {
-            go_on(registers, ran);
+            count(registers);
             Some(())
         }
         Err(_) => None,
@@ -106,17 +90,15 @@ fn obey_copies<P: Port>(registers: &mut Registers, port: &P, code: u8, q: u8, k:
 /// A shift.
 #[inline(always)]
 fn obey_shift<P: Port>(registers: &mut Registers, port: &P, code: u8, by: Amount) -> Option<()>
-    requires live { registers.old.state ≡ Life.Live }
     requires ran { registers.old.ran < u32.MAX }
     requires order { IsOrder (order.Shift code by) }
     ensures obeyed { IfSome result (λ _. Obeyed P.acts
         (try_order (P.shows port.now) registers.old (order.Shift code by)) port.now port.now registers.new Step.Done) }
     ensures left { IfNone result (registers.new ≡ registers.old) }
 {
-    let ran = registers.ran;
     match shift(registers, code, by) {
         Ok(()) => {
-            go_on(registers, ran);
+            count(registers);
             Some(())
         }
         Err(_) => None,
@@ -126,17 +108,15 @@ fn obey_shift<P: Port>(registers: &mut Registers, port: &P, code: u8, by: Amount
 /// A jump.
 #[inline(always)]
 fn obey_jump<P: Port>(registers: &mut Registers, port: &P, c: u8, target: u16) -> Option<()>
-    requires live { registers.old.state ≡ Life.Live }
     requires ran { registers.old.ran < u32.MAX }
     requires order { IsOrder (order.Jump c target) }
     ensures obeyed { IfSome result (λ _. Obeyed P.acts
         (try_order (P.shows port.now) registers.old (order.Jump c target)) port.now port.now registers.new Step.Done) }
     ensures left { IfNone result (registers.new ≡ registers.old) }
 {
-    let ran = registers.ran;
     match jump(registers, c, target) {
         Ok(()) => {
-            go_on(registers, ran);
+            count(registers);
             Some(())
         }
         Err(_) => None,
@@ -146,17 +126,15 @@ fn obey_jump<P: Port>(registers: &mut Registers, port: &P, c: u8, target: u16) -
 /// EXIT.
 #[inline(always)]
 fn obey_exit<P: Port>(registers: &mut Registers, port: &P, n: u8) -> Option<()>
-    requires live { registers.old.state ≡ Life.Live }
     requires ran { registers.old.ran < u32.MAX }
     requires order { IsOrder (order.Exit n) }
     ensures obeyed { IfSome result (λ _. Obeyed P.acts
         (try_order (P.shows port.now) registers.old (order.Exit n)) port.now port.now registers.new Step.Done) }
     ensures left { IfNone result (registers.new ≡ registers.old) }
 {
-    let ran = registers.ran;
     match exit(registers, n) {
         Ok(()) => {
-            go_on(registers, ran);
+            count(registers);
             Some(())
         }
         Err(_) => None,
@@ -166,17 +144,15 @@ fn obey_exit<P: Port>(registers: &mut Registers, port: &P, n: u8) -> Option<()>
 /// SET.
 #[inline(always)]
 fn obey_set<P: Port>(registers: &mut Registers, port: &P, constant: u16) -> Option<()>
-    requires live { registers.old.state ≡ Life.Live }
     requires ran { registers.old.ran < u32.MAX }
     requires order { IsOrder (order.Set constant) }
     ensures obeyed { IfSome result (λ _. Obeyed P.acts
         (try_order (P.shows port.now) registers.old (order.Set constant)) port.now port.now registers.new Step.Done) }
     ensures left { IfNone result (registers.new ≡ registers.old) }
 {
-    let ran = registers.ran;
     match set(registers, constant) {
         Ok(()) => {
-            go_on(registers, ran);
+            count(registers);
             Some(())
         }
         Err(_) => None,
@@ -295,7 +271,6 @@ fn obey_one<P: Port>(
     port: &P,
     decoded: Result<Order, BadCode>,
 ) -> Option<()>
-    requires live { registers.old.state ≡ Life.Live }
     requires ran { registers.old.ran < u32.MAX }
     requires order { IfOk decoded (λ o. IsOrder o) }
     ensures obeyed { IfSome result (λ _. Obeyed P.acts
@@ -315,7 +290,6 @@ fn obey_two<P: Port>(
     port: &mut P,
     decoded: Result<Order, BadCode>,
 ) -> Option<()>
-    requires live { registers.old.state ≡ Life.Live }
     requires ran { registers.old.ran < u32.MAX }
     requires order { IfOk decoded (λ o. IsOrder o) }
     requires small { (act : Act) → IsSmall act → P.room port.old act }
@@ -339,7 +313,6 @@ fn obey_going<P: Port>(
     port: &P,
     decoded: Result<Order, BadCode>,
 ) -> Option<()>
-    requires live { registers.old.state ≡ Life.Live }
     requires ran { registers.old.ran < u32.MAX }
     requires order { IfOk decoded (λ o. IsOrder o) }
     ensures obeyed { IfSome result (λ _. Obeyed P.acts
@@ -360,7 +333,6 @@ fn obey_store<P: Port>(
     port: &mut P,
     decoded: Result<Order, BadCode>,
 ) -> Option<()>
-    requires live { registers.old.state ≡ Life.Live }
     requires ran { registers.old.ran < u32.MAX }
     requires order { IfOk decoded (λ o. IsOrder o) }
     requires small { (act : Act) → IsSmall act → P.room port.old act }
@@ -385,7 +357,6 @@ fn obey_spelt<P: Port>(
     second: u8,
     third: u8,
 ) -> Option<()>
-    requires live { registers.old.state ≡ Life.Live }
     requires ran { registers.old.ran < u32.MAX }
     requires small { (act : Act) → IsSmall act → P.room port.old act }
     ensures obeyed { IfSome result (λ _. Obeyed P.acts
@@ -404,7 +375,6 @@ fn obey_spelt<P: Port>(
 /// Obeys the next order of a live program, or answers None and changes nothing: then it is for the general way.
 #[inline(always)]
 pub fn obey_quickly<P: Port>(registers: &mut Registers, port: &mut P) -> Option<()>
-    requires live { registers.old.state ≡ Life.Live }
     requires ran { registers.old.ran < u32.MAX }
     requires small { (act : Act) → IsSmall act → P.room port.old act }
     ensures obeyed { IfSome result (λ _. Obeyed P.acts (outcome (P.shows port.old) registers.old)

@@ -4,7 +4,7 @@ ghost use Rattle.std.specs.Int.{IsInRange};
 ghost use Rattle.kdf_syllable.specs.declared.order.Order.TheVariants as order;
 ghost use Rattle.kdf_syllable.specs.Spelling.{IsOrder, IsQ};
 ghost use Rattle.kdf_qstore.specs.Triples.{triple_at};
-ghost use Rattle.kdf_processor.specs.Effect.{Comes, Going};
+ghost use Rattle.kdf_processor.specs.Effect.{Comes, Going, IsUncounted};
 ghost use Rattle.kdf_processor.specs.Table.{from_top, sets_q, short_loop, single_row};
 
 use crate::push::push;
@@ -55,7 +55,8 @@ fn set(registers: &mut Registers, code: u8, q: u8) -> Result<(), Failure>
 /// JCqNZS: to syllable 0 of the word before, where Cq isn't 0.
 #[inline(always)]
 fn loop_back(registers: &mut Registers, counter: u16)
-    ensures { short_loop registers.old counter ≡ Going registers.new }
+    ensures row { short_loop registers.old counter ≡ Going registers.new }
+    ensures uncounted { IsUncounted registers.old registers.new }
 {
     registers.at = if counter == 0 {
         behind(registers.at, 2)

@@ -1,5 +1,5 @@
 //! Syllable numbers: six for each of 8,192 words, counted around.
-ghost use Rattle.std.specs.Prelude.{◌≡◌};
+ghost use Rattle.std.specs.Prelude.{◌≡◌, ◌%◌};
 ghost use Rattle.kdf_processor.specs.Table.{on};
 
 /// How many syllable numbers there are.
@@ -10,5 +10,18 @@ const SYLLABLES: u32 = 49_152;
 pub fn behind(at: u16, count: u16) -> u16
     ensures { result ≡ on at count }
 {
-    ((u32::from(at) + u32::from(count)) % SYLLABLES) as u16
+    let number = u32::from(at) + u32::from(count);
+    if number < SYLLABLES {
+        number as u16
+    } else {
+        around(number)
+    }
+}
+
+/// The syllable number of one that has come to the end. It is a call, since it is seldom made.
+#[inline(never)]
+fn around(number: u32) -> u16
+    ensures { result ≡ number % 49152 }
+{
+    (number % SYLLABLES) as u16
 }
