@@ -1,0 +1,48 @@
+-- The sum and the difference of two words as they come out where each stands in the first 48 of 64 bits.
+use Rattle.std.proofs.Common.{◌≡◌, ℕ, ℤ, ◌+◌, ◌-◌, ◌*◌, ◌/◌, ◌%◌, ◌^◌, ◌<◌, ◌+ℤ◌, ◌-ℤ◌, arith, ap, ap₂, sym, ◌∙◌}
+use Rattle.std.specs.Int.{cast_signed, cast_unsigned, int_wrapping_add, int_wrapping_sub, w64}
+use Rattle.std.proofs.lemmas.Int.{ints, of_z-to_z}
+use Rattle.std.proofs.lemmas.Grind.{common_steps}
+use Rattle.kdf_word.specs.Words.{signed, word_of}
+
+word_sum : (a b : ℕ) → a < 2 ^ 48 → b < 2 ^ 48 → word_of (signed a +ℤ signed b) ≡ (a + b) % 2 ^ 48
+word_sum a b small less = grind (arith, ints, common_steps)
+
+word_difference : (a b : ℕ) → a < 2 ^ 48 → b < 2 ^ 48 → word_of (signed a -ℤ signed b) ≡ (a + (2 ^ 48 - b)) % 2 ^ 48
+word_difference a b small less = grind (arith, ints, common_steps)
+
+-- the bits of a word in the first places
+bits : (a : ℕ) (x : ℤ) → a < 2 ^ 48 → x ≡ cast_signed w64 (a * 65536 % 2 ^ 64) → cast_unsigned w64 x ≡ a * 65536
+bits a x small e =
+    let same : a * 65536 % 2 ^ 64 ≡ a * 65536 = omega arith in
+    ap (cast_unsigned w64) e ∙ of_z-to_z w64 (a * 65536 % 2 ^ 64) (omega arith) ∙ same
+
+-- and those of a number that was cast twice
+again : (p : ℕ) (x : ℤ) → p < 2 ^ 64 → cast_unsigned w64 x ≡ p → cast_unsigned w64 (cast_signed w64 (cast_unsigned w64 x)) ≡ p
+again p x small e = of_z-to_z w64 (cast_unsigned w64 x) (omega (arith, e)) ∙ e
+
+pub sum_of_words : (a b : ℕ) (x y s : ℤ) (n : ℕ) → a < 2 ^ 48 → b < 2 ^ 48 →
+    x ≡ cast_signed w64 (a * 65536 % 2 ^ 64) → y ≡ cast_signed w64 (b * 65536 % 2 ^ 64) →
+    s ≡ int_wrapping_add w64 (cast_signed w64 (cast_unsigned w64 x)) (cast_signed w64 (cast_unsigned w64 y)) →
+    n ≡ cast_unsigned w64 (cast_signed w64 (cast_unsigned w64 s)) →
+    n / 65536 ≡ word_of (signed a +ℤ signed b)
+sum_of_words a b x y s n small less ex ey es en =
+    let m : ℕ = (a * 65536 + b * 65536) % 2 ^ 64 in
+    let parts = ap₂ (λ u v. (u + v) % 2 ^ 64) (again (a * 65536) x (omega arith) (bits a x small ex)) (again (b * 65536) y (omega arith) (bits b y less ey)) in
+    let whole : cast_unsigned w64 s ≡ m = ap (cast_unsigned w64) es ∙ of_z-to_z w64 _ (omega arith) ∙ parts in
+    let all : n ≡ m = en ∙ again m s (omega arith) whole in
+    let first : n / 65536 ≡ (a + b) % 2 ^ 48 = omega (arith, all) in
+    first ∙ sym (word_sum a b small less)
+
+pub difference_of_words : (a b : ℕ) (x y s : ℤ) (n : ℕ) → a < 2 ^ 48 → b < 2 ^ 48 →
+    x ≡ cast_signed w64 (a * 65536 % 2 ^ 64) → y ≡ cast_signed w64 (b * 65536 % 2 ^ 64) →
+    s ≡ int_wrapping_sub w64 (cast_signed w64 (cast_unsigned w64 x)) (cast_signed w64 (cast_unsigned w64 y)) →
+    n ≡ cast_unsigned w64 (cast_signed w64 (cast_unsigned w64 s)) →
+    n / 65536 ≡ word_of (signed a -ℤ signed b)
+difference_of_words a b x y s n small less ex ey es en =
+    let m : ℕ = (a * 65536 + (2 ^ 64 - b * 65536)) % 2 ^ 64 in
+    let parts = ap₂ (λ u v. (u + (2 ^ 64 - v)) % 2 ^ 64) (again (a * 65536) x (omega arith) (bits a x small ex)) (again (b * 65536) y (omega arith) (bits b y less ey)) in
+    let whole : cast_unsigned w64 s ≡ m = ap (cast_unsigned w64) es ∙ of_z-to_z w64 _ (omega arith) ∙ parts in
+    let all : n ≡ m = en ∙ again m s (omega arith) whole in
+    let first : n / 65536 ≡ (a + (2 ^ 48 - b)) % 2 ^ 48 = omega (arith, all) in
+    first ∙ sym (word_difference a b small less)
