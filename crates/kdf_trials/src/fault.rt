@@ -1,6 +1,7 @@
 //! The order of faults at a type of their own.
 
 use kdf_fault::{Found, Numbered, earlier, is_before, laws};
+use std::process::Abort;
 
 /// A fault that is nothing but its number.
 #[derive(Clone, Copy, PartialEq, Eq)]
@@ -38,14 +39,18 @@ fn found((code, place): (u8, u32)) -> Found<Wrong> {
     }
 }
 
+/// The first of two faults is the earlier one, or isn't.
+fn are_in_order(rt: &impl Abort, x: Found<Wrong>, y: Found<Wrong>, before: bool) {
+    assert!(rt; is_before(x, y) == before);
+    let first = if before { x } else { y };
+    assert!(rt; earlier(Some(y), x) == Some(first));
+    assert!(rt; earlier(None, x) == Some(x));
+}
+
 #[test]
 fn place_then_number(rt: HostRuntime) {
     for (x, y, before) in PAIRS {
-        let (x, y) = (found(x), found(y));
-        assert!(rt; is_before(x, y) == before);
-        let first = if before { x } else { y };
-        assert!(rt; earlier(Some(y), x) == Some(first));
-        assert!(rt; earlier(None, x) == Some(x));
+        are_in_order(&rt, found(x), found(y), before);
     }
     laws::least_is_first::<Wrong>();
     laws::lesser_is_associative::<Wrong>();

@@ -90,9 +90,11 @@ type OfProgram = (u8, u32, &'static [u64]);
 /// A device, its transfer, how many words of that have moved, and its holder.
 type OfDevice = (u8, Option<(u8, u32)>, u32, Option<u8>);
 
-/// How many entries are added; how many are kept of them, the calls, the clock and the
-/// priorities; and what they tell of a program and of a device.
-type Row = (usize, (usize, u32, u64, [u8; 4]), OfProgram, OfDevice);
+/// How many entries are kept, the calls, the clock and the priorities.
+type Told = (usize, u32, u64, [u8; 4]);
+
+/// How many entries are added, and what these tell, also of a program and of a device.
+type Row = (usize, Told, OfProgram, OfDevice);
 
 const NEW: [u8; 4] = [0, 1, 2, 3];
 
@@ -184,7 +186,54 @@ fn journal_of(
     Ok(journal)
 }
 
-/// Adds entries to journals, and fails unless these tell what the rows say.
+/// A journal has so many entries and calls, a clock and priorities.
+fn tells(rt: &impl Abort, journal: &Journal, told: Told) {
+    let (kept, calls, clock, priorities) = told;
+    assert!(rt; journal.entries().len() == kept);
+    assert!(rt; journal.calls() == calls);
+    assert!(rt; journal.clock() == clock);
+    assert!(rt; journal.priorities() == priorities);
+}
+
+/// A journal tells the orders and the answers of a program.
+fn tells_program(
+    rt: &impl Abort,
+    alloc: Global,
+    journal: &Journal,
+    of_program: OfProgram,
+) -> Result<(), AllocError> {
+    let (p, ran, answers) = of_program;
+    assert!(rt; journal.ran(p) == ran);
+    let given = journal.answers(alloc, p)?;
+    assert!(rt; given.as_slice() == answers);
+    Ok(())
+}
+
+/// A journal tells the transfer and the holder of a device.
+fn tells_device(rt: &impl Abort, journal: &Journal, of_device: OfDevice) {
+    let (d, pending, moved, holder) = of_device;
+    assert!(rt; journal.pending(d) == pending);
+    assert!(rt; journal.moved(d) == moved);
+    assert!(rt; journal.holder(d) == holder);
+}
+
+/// Adds entries to a journal, which tells what the row says.
+fn check_row(
+    rt: &impl Abort,
+    alloc: Global,
+    entries: &[Entry],
+    row: Row,
+) -> Result<(), AllocError> {
+    let (count, told, of_program, of_device) = row;
+    assert!(rt; count < 100);
+    let journal = journal_of(rt, alloc, entries, count)?;
+    tells(rt, &journal, told);
+    tells_program(rt, alloc, &journal, of_program)?;
+    tells_device(rt, &journal, of_device);
+    Ok(())
+}
+
+/// Adds entries to journals, which tell what the rows say.
 fn check(
     rt: &impl Abort,
     alloc: Global,
@@ -192,33 +241,48 @@ fn check(
     rows: &[Row],
 ) -> Result<(), AllocError> {
     for row in rows {
-        let (count, told, of_program, of_device) = *row;
-        let (p, ran, answers) = of_program;
-        let d = of_device.0;
-        assert!(rt; count < 100);
-        let journal = journal_of(rt, alloc, entries, count)?;
-        let kept = journal.entries().len();
-        let given = journal.answers(alloc, p)?;
-        assert!(rt; (kept, journal.calls(), journal.clock(), journal.priorities()) == told);
-        assert!(rt; journal.ran(p) == ran && given.as_slice() == answers);
-        assert!(rt; (d, journal.pending(d), journal.moved(d), journal.holder(d)) == of_device);
+        check_row(rt, alloc, entries, *row)?;
     }
+    Ok(())
+}
+
+/// Entries with their rows.
+const JOURNALS: &[(&[Entry], &[Row])] = &[
+    (JOINED, OF_JOINED),
+    (IDLE, OF_IDLE),
+    (TRANSFERS, OF_TRANSFERS),
+    (ENDED, OF_ENDED),
+    (ANSWERS, OF_ANSWERS),
+    (SWAPS, OF_SWAPS),
+    (POOL, OF_POOL),
+];
+
+/// What the first two entries of `JOINED` are together, and the first three of `IDLE`.
+const FIRST_JOINED: &[Entry] = &[Entry::Ran { p: 0, n: 7 }];
+
+const FIRST_IDLE: &[Entry] = &[Entry::Lov { p: 0, group: 1 }, Entry::Idle { n: 3 }];
+
+/// The first few of these entries are joined to those.
+fn check_joined(
+    rt: &impl Abort,
+    alloc: Global,
+    entries: &[Entry],
+    count: usize,
+    joined: &[Entry],
+) -> Result<(), AllocError> {
+    assert!(rt; count < 100);
+    let journal = journal_of(rt, alloc, entries, count)?;
+    assert!(rt; journal.entries() == joined);
     Ok(())
 }
 
 #[test]
 fn entries_are_joined_and_counted(rt: HostRuntime) -> Result<(), Fail> {
-    check(&rt, rt.alloc(), JOINED, OF_JOINED)?;
-    check(&rt, rt.alloc(), IDLE, OF_IDLE)?;
-    check(&rt, rt.alloc(), TRANSFERS, OF_TRANSFERS)?;
-    check(&rt, rt.alloc(), ENDED, OF_ENDED)?;
-    check(&rt, rt.alloc(), ANSWERS, OF_ANSWERS)?;
-    check(&rt, rt.alloc(), SWAPS, OF_SWAPS)?;
-    check(&rt, rt.alloc(), POOL, OF_POOL)?;
-    let joined = journal_of(&rt, rt.alloc(), JOINED, 2)?;
-    assert!(rt; joined.entries() == [Entry::Ran { p: 0, n: 7 }].as_slice());
-    let idle = journal_of(&rt, rt.alloc(), IDLE, 3)?;
-    assert!(rt; idle.entries().last() == Some(&Entry::Idle { n: 3 }));
+    for (entries, rows) in JOURNALS {
+        check(&rt, rt.alloc(), entries, rows)?;
+    }
+    check_joined(&rt, rt.alloc(), JOINED, 2, FIRST_JOINED)?;
+    check_joined(&rt, rt.alloc(), IDLE, 3, FIRST_IDLE)?;
     Ok(())
 }
 

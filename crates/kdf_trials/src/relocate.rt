@@ -1,5 +1,6 @@
 //! Windows of stores that fit, and of stores that don't.
 use kdf_relocate::{Outside, Window, windows};
+use std::process::Abort;
 
 /// The windows of 8,192, of no, of 32 and of 23,520 words, the rest of the store.
 const LAID: [Window; 4] = [
@@ -39,16 +40,26 @@ const PLACES: [(u32, u16, u16, Result<usize, Outside>); 5] = [
     (u32::MAX, u16::MAX, 65_535, Err(Outside)),
 ];
 
-#[test]
-fn slots_and_places(rt: HostRuntime) {
-    assert!(rt; windows(&[8_192, 0, 32, 23_520]) == Some(LAID));
+/// Sizes that don't fit have no windows.
+fn are_refused(rt: &impl Abort) {
     for sizes in REFUSED {
         assert!(rt; windows(&sizes).is_none(), "{sizes:?}");
     }
+}
+
+/// Addresses have their places.
+fn have_places(rt: &impl Abort) {
     for (base, size, address, place) in PLACES {
         assert!(rt;
             Window { base, size }.real(address) == place,
             "{address} of {size}"
         );
     }
+}
+
+#[test]
+fn slots_and_places(rt: HostRuntime) {
+    assert!(rt; windows(&[8_192, 0, 32, 23_520]) == Some(LAID));
+    are_refused(&rt);
+    have_places(&rt);
 }

@@ -1,6 +1,7 @@
 //! Lines of schedules, each form at the bounds of its numbers, and what is wrong with others.
 
 use kdf_schedule::{Event, EventFault, read_event};
+use std::process::Abort;
 
 /// Lines, with the events that they tell.
 const EVENTS: &[(&str, Event)] = &[
@@ -72,17 +73,18 @@ const WITHOUT_NUMBER: &[&str] = &[
     "SWAP 0 01",
 ];
 
+/// Each line has this fault.
+fn have_fault(rt: &impl Abort, lines: &[&str], fault: EventFault) {
+    for line in lines {
+        assert!(rt; read_event(line.as_bytes()) == Err(fault), "of {line:?}");
+    }
+}
+
 #[test]
 fn lines_tell_events_or_a_fault(rt: HostRuntime) {
     for (line, event) in EVENTS {
         assert!(rt; read_event(line.as_bytes()) == Ok(*event), "of {line:?}");
     }
-    for (lines, fault) in [
-        (WITHOUT_FORM, EventFault::Form),
-        (WITHOUT_NUMBER, EventFault::Number),
-    ] {
-        for line in lines {
-            assert!(rt; read_event(line.as_bytes()) == Err(fault), "of {line:?}");
-        }
-    }
+    have_fault(&rt, WITHOUT_FORM, EventFault::Form);
+    have_fault(&rt, WITHOUT_NUMBER, EventFault::Number);
 }

@@ -109,16 +109,30 @@ fn device(alloc: Global, kind: Kind) -> Result<Device, AllocError> {
     }
 }
 
+/// A copy of a device of a kind.
+fn copied(alloc: Global, kind: Kind) -> Result<Device, AllocError> {
+    let device = device(alloc, kind)?;
+    device.copy(alloc)
+}
+
+/// A device is of the kind that an order has, and has passed few blocks.
+fn suits(rt: &impl Abort, device: &Device, order: TransferOrder)
+    ensures kind { (fixture_of device.now).kind ≡ kind_of order }
+    ensures few { (progress_of device.now).place < 9 }
+{
+    assert!(rt; device.kind() == order.kind());
+    assert!(rt; device.place() < 9);
+}
+
 /// A copied device for an order, with room for a block more.
 fn ready(rt: &impl Abort, alloc: Global, order: TransferOrder) -> Result<Device, AllocError>
     ensures kind { IfOk result (λ d. (fixture_of d).kind ≡ kind_of order) }
     ensures room { IfOk result (λ d. 0 < room_of d) }
     ensures few { IfOk result (λ d. (progress_of d).place < 9) }
 {
-    let mut device = device(alloc, order.kind())?.copy(alloc)?;
+    let mut device = copied(alloc, order.kind())?;
     device.reserve()?;
-    assert!(rt; device.kind() == order.kind());
-    assert!(rt; device.place() < 9);
+    suits(rt, &device, order);
     Ok(device)
 }
 
@@ -165,26 +179,74 @@ fn put_back(rt: &impl Abort, store: &mut Store, lease: Option<Lease>)
     }
 }
 
-/// Moves the first three words of an order over a store and then the rest, or cancels it.
+/// A store of two groups, with the word that has an End Message.
+fn with_end(rt: &impl Abort, alloc: Global) -> Result<Store, AllocError>
+    ensures { IfOk result (λ store. length store ≡ 2) }
+{
+    let mut store = Store::new(alloc, 2)?;
+    assert!(rt; store.write(32, Word::new(END)).is_ok());
+    Ok(store)
+}
+
+/// A transfer has moved its first three words, if it has so many, and up to eight more are ahead.
+fn is_at_three(rt: &impl Abort, transfer: &Transfer, total: u16, i: usize) {
+    assert!(rt; transfer.moved() == total.min(3), "of row {i}");
+    assert!(rt; transfer.total() == total, "of row {i}");
+    let ahead = total.saturating_sub(3).min(8);
+    assert!(rt; transfer.ring().len() == usize::from(ahead), "of row {i}");
+}
+
+/// A device is at a place, with a flag.
+fn is_at(rt: &impl Abort, device: &Device, state: (u32, bool), i: usize) {
+    assert!(rt; device.place() == state.0, "of row {i}");
+    assert!(rt; device.flag() == state.1, "of row {i}");
+}
+
+/// Ends a transfer, whose device is in this state then.
+fn end(rt: &impl Abort, store: &mut Store, transfer: Transfer, state: (u32, bool), i: usize)
+    requires { length store.old ≡ 2 }
+    ensures { length store.new ≡ 2 }
+{
+    let (device, lease, ring) = transfer.end();
+    put_back(rt, store, lease);
+    is_at(rt, &device, state, i);
+    assert!(rt; ring.is_empty());
+}
+
+/// Moves the first three words of an order over a store and then the rest.
 fn check(rt: &impl Abort, alloc: Global, i: usize, row: Row) -> Result<(), AllocError> {
     let (order, total, state, word) = row;
     assert!(rt; word < 0x1_0000_0000_0000);
-    let mut store = Store::new(alloc, 2)?;
-    assert!(rt; store.write(32, Word::new(END)).is_ok());
+    let mut store = with_end(rt, alloc)?;
     let mut transfer = begun(rt, alloc, order, &mut store)?;
     transfer.move_words(3);
-    let moved = (transfer.moved(), transfer.total());
-    let ahead = transfer.ring().len();
-    let (device, lease, ring) = transfer.end();
-    put_back(rt, &mut store, lease);
-    assert!(rt; moved == (total.min(3), total), "of row {i}");
-    assert!(rt;
-        ahead == usize::from(total.saturating_sub(3).min(8)),
-        "of row {i}"
-    );
-    assert!(rt; (device.place(), device.flag()) == state, "of row {i}");
+    is_at_three(rt, &transfer, total, i);
+    end(rt, &mut store, transfer, state, i);
     assert!(rt; store.read(33) == Ok(Word::new(word)), "of row {i}");
-    assert!(rt; ring.is_empty());
+    Ok(())
+}
+
+/// The row of the order that is cancelled too.
+const CANCELLED: usize = 7;
+
+/// Cancels a transfer, whose device is in this state then.
+fn cancel(rt: &impl Abort, store: &mut Store, transfer: Transfer, state: (u32, bool))
+    requires { length store.old ≡ 2 }
+    ensures { length store.new ≡ 2 }
+{
+    let (device, lease, _) = transfer.cancel();
+    put_back(rt, store, lease);
+    is_at(rt, &device, state, CANCELLED);
+}
+
+/// Moves seven words of a block, and cancels the order.
+fn check_cancelled(rt: &impl Abort, alloc: Global) -> Result<(), AllocError> {
+    let mut store = Store::new(alloc, 2)?;
+    let mut transfer = begun(rt, alloc, TransferOrder::Mfrq, &mut store)?;
+    transfer.move_words(7);
+    cancel(rt, &mut store, transfer, (1, false));
+    assert!(rt; store.read(33) == Ok(Word::new(0x04e1_3d04_e805)));
+    assert!(rt; store.read(34) == Ok(Word::default()));
     Ok(())
 }
 
@@ -193,28 +255,27 @@ fn orders_move_words_in_pieces(rt: HostRuntime) -> Result<(), Fail> {
     for (i, row) in ROWS.iter().enumerate() {
         check(&rt, rt.alloc(), i, *row)?;
     }
-    let mut store = Store::new(rt.alloc(), 2)?;
-    let mut transfer = begun(&rt, rt.alloc(), TransferOrder::Mfrq, &mut store)?;
-    transfer.move_words(7);
-    let (device, lease, _) = transfer.cancel();
-    put_back(&rt, &mut store, lease);
-    assert!(rt; (device.place(), device.flag()) == (1, false));
-    assert!(rt; store.read(33) == Ok(Word::new(0x04e1_3d04_e805)));
-    assert!(rt; store.read(34) == Ok(Word::default()));
+    check_cancelled(&rt, rt.alloc())?;
+    Ok(())
+}
+
+/// Moves all words of an order in one step.
+fn check_at_once(rt: &impl Abort, alloc: Global, i: usize, row: Row) -> Result<(), AllocError> {
+    let (order, _, state, word) = row;
+    let mut device = ready(rt, alloc, order)?;
+    let mut words = [Word::default(); 64];
+    words[32] = Word::new(END);
+    let block = Vec::with_capacity(alloc, 80)?;
+    at_once(&mut device, order, AREA, &mut words, block);
+    is_at(rt, &device, state, i);
+    assert!(rt; words[33].bits() == word, "of row {i}");
     Ok(())
 }
 
 #[test]
 fn orders_move_words_at_once(rt: HostRuntime) -> Result<(), Fail> {
     for (i, row) in ROWS.iter().enumerate() {
-        let (order, _, state, word) = *row;
-        let mut device = ready(&rt, rt.alloc(), order)?;
-        let mut words = [Word::default(); 64];
-        words[32] = Word::new(END);
-        let block = Vec::with_capacity(rt.alloc(), 80)?;
-        at_once(&mut device, order, AREA, &mut words, block);
-        assert!(rt; (device.place(), device.flag()) == state, "of row {i}");
-        assert!(rt; words[33].bits() == word, "of row {i}");
+        check_at_once(&rt, rt.alloc(), i, *row)?;
     }
     Ok(())
 }
