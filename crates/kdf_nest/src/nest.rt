@@ -64,7 +64,8 @@ impl Nest {
         item
     }
 
-    /// Takes the first two off, the top first.
+    /// Takes the first two off, the top first. Both are read before the depth is written, so that with a word that is
+    /// then pushed it is written once.
     pub fn pop_two(&mut self) -> (Word, Word)
         requires { 1 < length self.old }
         ensures items { self.old ≡ result.0 ∷ result.1 ∷ self.new }
