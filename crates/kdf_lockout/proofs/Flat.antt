@@ -1,5 +1,5 @@
 -- A store whose words lie in one row, as it is read and changed.
-use Rattle.std.proofs.Common.{◌≡◌, ℕ, zero, suc, ◌+◌, ◌-◌, ◌*◌, ◌/◌, ◌%◌, ◌<◌, ◌≤◌, List, [], ◌∷◌, ◌++◌, length, get_or, set, take, drop, replicate, Option, Some, None, is_none, cond, refl, sym, ap, ap₂, ◌∙◌, arith, subst, append_assoc, length-drop}
+use Rattle.std.proofs.Common.{◌≡◌, ℕ, zero, suc, ◌+◌, ◌-◌, ◌*◌, ◌/◌, ◌%◌, ◌<◌, ◌≤◌, List, [], ◌∷◌, ◌++◌, length, get_or, set, take, drop, replicate, Option, Some, None, is_none, false, cond, refl, sym, ap, ap₂, ◌∙◌, arith, subst, append_assoc, length-drop}
 use Rattle.std.specs.Option.{option_map}
 use Rattle.std.proofs.Math.Seq.{take-add, take-set-lt}
 use Rattle.std.proofs.lemmas.List.{take_at, drop_at, drop-drop, take-set-le, drop-set-lt, drop-set-add, take-replicate, drop-replicate, get_or-take, get_or-drop, length-take-le, get_or_default}
@@ -19,7 +19,7 @@ group_of w (x ∷ s) (suc g) =
     group_of (drop 32 w) s g
     ∙ ap (λ ws. option_map (λ _. take 32 ws) (group_at s g)) (drop-drop (32 * g) 32 w ∙ ap (λ n. drop n w) e)
 
-none_same : {X Y : Type 0} (f : X → Y) (o : Option X) → is_none (option_map f o) ≡ is_none o
+pub none_same : {X Y : Type 0} (f : X → Y) (o : Option X) → is_none (option_map f o) ≡ is_none o
 none_same f None = refl
 none_same f (Some x) = refl
 
@@ -107,17 +107,26 @@ pub seen_out : (w : List ℕ) (s now : Cells) (g : ℕ) (read : Option (List ℕ
 seen_out w s now g read same lt is =
     subst (λ (t : Cells). is_out t g ≡ is_none read) same (out_same w s g ∙ ap is_none (here_at s g read lt is))
 
+-- a group that isn't out is kept
+some_of : (o : Option (List ℕ)) → is_none o ≡ false → o ≡ Some (words_in o)
+some_of None is = cc
+some_of (Some ws) is = refl
+
+kept : (w : List ℕ) (s now : Cells) (g : ℕ) → cells_of w s ≡ now → is_out now g ≡ false → group_at s g ≡ Some (words_in (group_at s g))
+kept w s now g same here = some_of (group_at s g) (sym (out_same w s g) ∙ ap (λ (t : Cells). is_out t g) same ∙ here)
+
 -- a word that was read of a group that is here
-pub reads : (w : List ℕ) (s now : Cells) (place x : ℕ) (read : Option (List ℕ)) (spare : List ℕ) → cells_of w s ≡ now → place / 32 < length s → place < length w → read ≡ get_or s (place / 32) read → read ≡ Some spare → x ≡ get_or w place x → x ≡ word_here now place
-reads w s now place x read spare same lt inside is some value =
+pub reads : (w : List ℕ) (s now : Cells) (place x : ℕ) → cells_of w s ≡ now → place < length w → is_out now (place / 32) ≡ false → x ≡ get_or w place x → x ≡ word_here now place
+reads w s now place x same inside here value =
     value ∙ sym (get_or_default w place 0 x inside)
-    ∙ word_at w s place spare (here_at s (place / 32) read lt is ∙ some)
+    ∙ word_at w s place (words_in (group_at s (place / 32))) (kept w s now (place / 32) same here)
     ∙ ap (λ (t : Cells). word_here t place) same
 
 -- and one that was written
-pub writes : (w : List ℕ) (s now : Cells) (place x : ℕ) (read : Option (List ℕ)) (spare : List ℕ) → cells_of w s ≡ now → place / 32 < length s → read ≡ get_or s (place / 32) read → read ≡ Some spare → cells_of (set w place x) s ≡ with_word now place x
-writes w s now place x read spare same lt is some =
-    with_place w s place x spare (here_at s (place / 32) read lt is ∙ some) ∙ ap (λ (t : Cells). with_word t place x) same
+pub writes : (w : List ℕ) (s now : Cells) (place x : ℕ) → cells_of w s ≡ now → is_out now (place / 32) ≡ false → cells_of (set w place x) s ≡ with_word now place x
+writes w s now place x same here =
+    with_place w s place x (words_in (group_at s (place / 32))) (kept w s now (place / 32) same here)
+    ∙ ap (λ (t : Cells). with_word t place x) same
 
 pub many : (w : List ℕ) (s now : Cells) → cells_of w s ≡ now → length now ≡ length s
 many w s now same = sym (ap length same) ∙ count w s

@@ -1,5 +1,6 @@
 -- A store whose words lie in one row.
-use Rattle.std.specs.Prelude.{ℕ, List, [], ◌∷◌, take, drop}
+use Rattle.std.specs.Prelude.{ℕ, List, [], ◌∷◌, take, drop, is_none}
+use Rattle.std.specs.List.{count_by}
 use Rattle.std.specs.Option.{option_map}
 use Rattle.kdf_lockout.specs.Groups.{Cells}
 
@@ -7,3 +8,7 @@ use Rattle.kdf_lockout.specs.Groups.{Cells}
 abbrev pub cells_of : List ℕ → (spares : Cells) → Cells
 cells_of words [] = []
 cells_of words (spare ∷ more) = option_map (λ _. take 32 words) spare ∷ cells_of (drop 32 words) more
+
+-- how many groups are out
+abbrev pub outs : Cells → ℕ
+outs spares = count_by is_none spares

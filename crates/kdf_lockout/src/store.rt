@@ -1,8 +1,8 @@
 //! The store.
 ghost use Rattle.std.specs.Prelude.{◌≡◌, ℕ, ◌+◌, ◌*◌, ◌/◌, ◌<◌, ◌≤◌, ◌++◌, List, length, take, drop, replicate, map, slice_set};
-ghost use Rattle.std.specs.Prelude.{Option, Some, None, IfOk, IfErr, IfSome, if◌then◌else◌};
+ghost use Rattle.std.specs.Prelude.{Option, Some, None, IfOk, IfErr, IfSome, if◌then◌else◌, not};
 ghost use Rattle.std.specs.Option.{option_map};
-ghost use Rattle.kdf_lockout.specs.Flat.{cells_of};
+ghost use Rattle.kdf_lockout.specs.Flat.{cells_of, outs};
 ghost use Rattle.kdf_lockout.specs.Groups.{is_out, word_here, with_word, first_out_of, without_groups, lent_groups, with_groups, touched, IsOut};
 ghost use Rattle.arrayvec.specs.ArrayVec.{array_vec_len};
 
@@ -21,11 +21,13 @@ pub struct Locked {
 /// A store of groups, which contracts see as a list: the words of a group that is here, and None for one that is out.
 ///
 /// All words lie in one row, so that a word is found by its place alone. For each group that is here, the memory is kept
-/// in which its words go out; so neither going out nor coming back takes any.
+/// in which its words go out; so neither going out nor coming back takes any. The groups that are out are counted: while
+/// there is none, as mostly, a word is read without a look at its group.
 #[derive(Drop)]
 pub struct Store {
     words: Vec<Word>,
     spares: Vec<Option<Group>>,
+    out: usize,
 }
 
 impl Model for Store {
@@ -33,7 +35,7 @@ impl Model for Store {
 
     ghost view = { λ s. cells_of s.words.items s.spares.items };
 
-    ghost invariant = { λ s. length s.words.items ≡ 32 * length s.spares.items };
+    ghost invariant = { λ s. (length s.words.items ≡ 32 * length s.spares.items) × (s.out ≡ outs s.spares.items) };
 }
 
 impl Store {
@@ -46,7 +48,11 @@ impl Store {
         for _i in 0..groups {
             spares.push(Some(Group::zeros(alloc)?))?;
         }
-        Ok(Store { words, spares })
+        Ok(Store {
+            words,
+            spares,
+            out: 0,
+        })
     }
 
     /// The word at a place, unless its group is out.
@@ -56,10 +62,10 @@ impl Store {
             (if is_out self.now (place / 32) then Err (record { group = place / 32 })
             else Ok (word_here self.now place)) }
     {
-        match &self.spares[place / 32] {
-            Some(_) => Ok(self.words[place]),
-            None => Err(Locked { group: place / 32 }),
+        if !self.is_here(place / 32) {
+            return Err(Locked { group: place / 32 });
         }
+        Ok(self.words[place])
     }
 
     /// Writes a word, unless its group is out.
@@ -71,13 +77,20 @@ impl Store {
             (if is_out self.old (place / 32) then self.old else with_word self.old place word) }
         ensures size { length self.new ≡ length self.old }
     {
-        match &self.spares[place / 32] {
-            Some(_) => {
-                self.words[place] = word;
-                Ok(())
-            }
-            None => Err(Locked { group: place / 32 }),
+        if !self.is_here(place / 32) {
+            return Err(Locked { group: place / 32 });
         }
+        self.words[place] = word;
+        Ok(())
+    }
+
+    /// Whether a group is here.
+    #[inline(always)]
+    fn is_here(&self, group: usize) -> bool
+        requires { group < length self.now }
+        ensures { result ≡ not (is_out self.now group) }
+    {
+        self.out == 0 || self.spares[group].is_some()
     }
 
     /// The least group of the places from `from` to `to` that is out.
@@ -113,10 +126,11 @@ impl Store {
         let count = to / 32 + 1 - first;
         match first_empty(&self.spares, first, count) {
             Some(group) => Err(Locked { group }),
-            None => Ok(Lease::new(
-                first,
-                take_groups(&mut self.spares, &self.words, first, count),
-            )),
+            None => {
+                self.out += count;
+                let groups = take_groups(&mut self.spares, &self.words, first, count);
+                Ok(Lease::new(first, groups))
+            }
         }
     }
 
@@ -127,6 +141,7 @@ impl Store {
         ensures size { length self.new ≡ length self.old }
     {
         let (first, groups) = lease.parts();
+        self.out -= groups.len();
         put_groups(&mut self.spares, &mut self.words, first, groups);
     }
 }
