@@ -1,6 +1,7 @@
 //! Bytes with the orders that the tables of orders give them.
 use kdf_decode::{BadCode, decode};
 use kdf_syllable::{Amount, Order};
+use std::process::Abort;
 
 /// One and two syllables, and what stands after them.
 const SHORT: &[([u8; 3], Result<Order, BadCode>)] = &[
@@ -177,11 +178,16 @@ const LONG: &[([u8; 3], Result<Order, BadCode>)] = &[
     ([0xff, 0xff, 0xff], Err(BadCode)),
 ];
 
+/// Each row's bytes are its order.
+fn are_decoded(rt: &impl Abort, rows: &[([u8; 3], Result<Order, BadCode>)]) {
+    for (bytes, order) in rows {
+        assert!(rt; decode(bytes) == *order);
+    }
+}
+
 #[test]
 fn orders(rt: HostRuntime) {
-    for rows in [SHORT, SHIFTS, LONG] {
-        for (bytes, order) in rows {
-            assert!(rt; decode(bytes) == *order);
-        }
-    }
+    are_decoded(&rt, SHORT);
+    are_decoded(&rt, SHIFTS);
+    are_decoded(&rt, LONG);
 }

@@ -5,6 +5,7 @@ ghost use Rattle.kdf_syllable.specs.Spelling.{IsAmount, IsOrder};
 mod tables;
 
 use kdf_syllable::{Amount, Order, encode, pack, size, size_of_first, syllable};
+use std::process::Abort;
 use tables::{COPIES, DEVICES, INDIRECT, JUMPS, ONE_SYLLABLE, SHIFTS, SINGLE, STORES};
 
 /// Whether each field of the order is in its range.
@@ -34,6 +35,35 @@ fn is_amount(by: Amount) -> bool
     }
 }
 
+/// An order is spelt by these bytes, the first of which tells how many there are.
+fn is_spelt(rt: &impl Abort, name: &str, order: &Order, bytes: &[u8]) {
+    assert!(rt; in_range(*order), "{name}");
+    let syllables = encode(order);
+    let spelt = &syllables.bytes[..usize::from(syllables.size)];
+    assert!(rt; spelt == bytes, "{name}");
+    assert!(rt; size(order) == syllables.size, "{name}");
+    assert!(rt;
+        size_of_first(syllables.bytes[0]) == syllables.size,
+        "{name}"
+    );
+}
+
+/// Each order is spelt by its bytes.
+fn are_spelt(rt: &impl Abort, rows: &[(&str, Order, &[u8])]) {
+    for (name, order, bytes) in rows {
+        is_spelt(rt, name, order, bytes);
+    }
+}
+
+/// Six syllables make a word, and are in it again.
+fn are_packed(rt: &impl Abort) {
+    let word = pack(&[0x80, 0x20, 0x02, 0x01, 0x00, 0xfe]);
+    assert!(rt; word.bits() == 0x8020_0201_00fe);
+    assert!(rt; syllable(word, 0) == 0x80);
+    assert!(rt; syllable(word, 2) == 0x02);
+    assert!(rt; syllable(word, 5) == 0xfe);
+}
+
 #[test]
 fn names_and_bytes(rt: HostRuntime) {
     for rows in [
@@ -46,21 +76,7 @@ fn names_and_bytes(rt: HostRuntime) {
         JUMPS,
         STORES,
     ] {
-        for (name, order, bytes) in rows {
-            assert!(rt; in_range(*order), "{name}");
-            let syllables = encode(order);
-            let spelt = &syllables.bytes[..usize::from(syllables.size)];
-            assert!(rt; spelt == *bytes, "{name}");
-            assert!(rt; size(order) == syllables.size, "{name}");
-            assert!(rt;
-                size_of_first(syllables.bytes[0]) == syllables.size,
-                "{name}"
-            );
-        }
+        are_spelt(&rt, rows);
     }
-    let word = pack(&[0x80, 0x20, 0x02, 0x01, 0x00, 0xfe]);
-    assert!(rt; word.bits() == 0x8020_0201_00fe);
-    assert!(rt; syllable(word, 0) == 0x80);
-    assert!(rt; syllable(word, 2) == 0x02);
-    assert!(rt; syllable(word, 5) == 0xfe);
+    are_packed(&rt);
 }
