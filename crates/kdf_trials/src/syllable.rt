@@ -66,17 +66,13 @@ fn are_packed(rt: &impl Abort) {
 
 #[test]
 fn names_and_bytes(rt: HostRuntime) {
-    for rows in [
-        ONE_SYLLABLE,
-        INDIRECT,
-        SINGLE,
-        COPIES,
-        SHIFTS,
-        DEVICES,
-        JUMPS,
-        STORES,
-    ] {
-        are_spelt(&rt, rows);
-    }
+    are_spelt(&rt, ONE_SYLLABLE);
+    are_spelt(&rt, INDIRECT);
+    are_spelt(&rt, SINGLE);
+    are_spelt(&rt, COPIES);
+    are_spelt(&rt, SHIFTS);
+    are_spelt(&rt, DEVICES);
+    are_spelt(&rt, JUMPS);
+    are_spelt(&rt, STORES);
     are_packed(&rt);
 }
