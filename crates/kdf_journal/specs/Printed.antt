@@ -94,6 +94,21 @@ abbrev pub of_all : (ℕ → ℕ → ℕ → Entry) → Option ℕ → Option �
 of_all make (Some a) b c = of_both (make a) b c
 of_all make None b c = None
 
+-- by a name that tells what the schedule did, after which stand two words
+abbrev pub of_event : (name a b : List ℕ) → Option Entry
+of_event name a b =
+    if is_text (codes "MOVE") name then of_both Move (number_8 a) (number_16 b)
+    else (if is_text (codes "SWAP") name then of_both Swap (number_8 a) (number_8 b)
+    else None)
+
+-- by one that tells what holds a program, or what the schedule did
+abbrev pub of_hold : (name a b : List ℕ) → Option Entry
+of_hold name a b =
+    if is_text (codes "LOV") name then of_both Lov (number_8 a) (number_16 b)
+    else (if is_text (codes "BUSY") name then of_both Busy (number_8 a) (number_8 b)
+    else (if is_text (codes "WAIT") name then of_both Wait (number_8 a) (kind_named b)
+    else of_event name a b))
+
 -- by the name, after which stand one, two and three words
 abbrev pub of_one : (name a : List ℕ) → Option Entry
 of_one name a =
@@ -110,12 +125,7 @@ of_two name a b =
     else (if is_text (codes "TAKE") name then of_both Take (number_8 a) (number_8 b)
     else (if is_text (codes "GIVE") name then of_both Give (number_8 a) (number_8 b)
     else (if is_text (codes "FAIL") name then of_both Fail (number_8 a) (failure_named b)
-    else (if is_text (codes "LOV") name then of_both Lov (number_8 a) (number_16 b)
-    else (if is_text (codes "BUSY") name then of_both Busy (number_8 a) (number_8 b)
-    else (if is_text (codes "WAIT") name then of_both Wait (number_8 a) (kind_named b)
-    else (if is_text (codes "MOVE") name then of_both Move (number_8 a) (number_16 b)
-    else (if is_text (codes "SWAP") name then of_both Swap (number_8 a) (number_8 b)
-    else None)))))))))
+    else of_hold name a b))))
 
 abbrev pub of_three : (name a b c : List ℕ) → Option Entry
 of_three name a b c =

@@ -1,7 +1,7 @@
 //! Reading a line of a journal.
-ghost use Rattle.std.specs.Prelude.{◌≡◌, ◌≤◌, ◌^◌, IfSome};
+ghost use Rattle.std.specs.Prelude.{◌≡◌, ◌≤◌, ◌^◌, ℕ, IfSome, List, Some};
 ghost use Rattle.kdf_text.specs.Numbers.{number_in};
-ghost use Rattle.kdf_journal.specs.Printed.{entry_in, failure_named, kind_named, number_8, number_16, number_32, number_64, of_one, of_three, of_two, IsEntry};
+ghost use Rattle.kdf_journal.specs.Printed.{entry_in, failure_named, kind_named, number_8, number_16, number_32, number_64, of_event, of_hold, of_one, of_three, of_two, IsEntry};
 
 use crate::{Entry, Failure, Kind};
 use kdf_text::{cut_word, number_in};
@@ -45,36 +45,73 @@ fn of_one(name: &[u8], a: &[u8]) -> Option<Entry>
 fn of_two(name: &[u8], a: &[u8], b: &[u8]) -> Option<Entry>
     ensures { result ≡ of_two name.now a.now b.now }
 {
+    let first = number_8(a)?;
+    after_number(name, first, b)
+}
+
+/// The entry of a name, a number that was read, and a word.
+fn after_number(name: &[u8], p: u8, b: &[u8]) -> Option<Entry>
+    ensures { (a : List ℕ) → number_8 a ≡ Some p → result ≡ of_two name.now a b.now }
+{
     if name == b"RAN".as_slice() {
-        let (p, n) = (number_8(a)?, number_32(b)?);
-        Some(Entry::Ran { p, n })
+        Some(Entry::Ran {
+            p,
+            n: number_32(b)?,
+        })
     } else if name == b"ANSWER".as_slice() {
-        let (p, v) = (number_8(a)?, number_64(b)?);
-        Some(Entry::Answer { p, v })
+        Some(Entry::Answer {
+            p,
+            v: number_64(b)?,
+        })
     } else if name == b"TAKE".as_slice() {
-        let (p, d) = (number_8(a)?, number_8(b)?);
-        Some(Entry::Take { p, d })
+        Some(Entry::Take { p, d: number_8(b)? })
     } else if name == b"GIVE".as_slice() {
-        let (p, d) = (number_8(a)?, number_8(b)?);
-        Some(Entry::Give { p, d })
+        Some(Entry::Give { p, d: number_8(b)? })
     } else if name == b"FAIL".as_slice() {
-        let (p, kind) = (number_8(a)?, failure_named(b)?);
-        Some(Entry::Fail { p, kind })
-    } else if name == b"LOV".as_slice() {
-        let (p, group) = (number_8(a)?, number_16(b)?);
-        Some(Entry::Lov { p, group })
+        Some(Entry::Fail {
+            p,
+            kind: failure_named(b)?,
+        })
+    } else {
+        of_hold(name, p, b)
+    }
+}
+
+/// The entry of a name that tells what holds a program.
+fn of_hold(name: &[u8], p: u8, b: &[u8]) -> Option<Entry>
+    ensures { (a : List ℕ) → number_8 a ≡ Some p → result ≡ of_hold name.now a b.now }
+{
+    if name == b"LOV".as_slice() {
+        Some(Entry::Lov {
+            p,
+            group: number_16(b)?,
+        })
     } else if name == b"BUSY".as_slice() {
-        let (p, d) = (number_8(a)?, number_8(b)?);
-        Some(Entry::Busy { p, d })
+        Some(Entry::Busy { p, d: number_8(b)? })
     } else if name == b"WAIT".as_slice() {
-        let (p, kind) = (number_8(a)?, kind_named(b)?);
-        Some(Entry::Wait { p, kind })
-    } else if name == b"MOVE".as_slice() {
-        let (d, n) = (number_8(a)?, number_16(b)?);
-        Some(Entry::Move { d, n })
+        Some(Entry::Wait {
+            p,
+            kind: kind_named(b)?,
+        })
+    } else {
+        of_event(name, p, b)
+    }
+}
+
+/// The entry of a name that tells what the schedule did.
+fn of_event(name: &[u8], first: u8, b: &[u8]) -> Option<Entry>
+    ensures { (a : List ℕ) → number_8 a ≡ Some first → result ≡ of_event name.now a b.now }
+{
+    if name == b"MOVE".as_slice() {
+        Some(Entry::Move {
+            d: first,
+            n: number_16(b)?,
+        })
     } else if name == b"SWAP".as_slice() {
-        let (p, q) = (number_8(a)?, number_8(b)?);
-        Some(Entry::Swap { p, q })
+        Some(Entry::Swap {
+            p: first,
+            q: number_8(b)?,
+        })
     } else {
         None
     }
