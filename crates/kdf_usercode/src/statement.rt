@@ -13,14 +13,14 @@ pub struct Deck {
 }
 
 /// A statement and the offset in the deck, from 0, of its first byte.
-#[derive(Clone, Copy, PartialEq, Eq)]
+#[derive(Clone, Copy)]
 pub struct Statement {
     pub place: u32,
     pub what: What,
 }
 
 /// What a statement says.
-#[derive(Clone, Copy, PartialEq, Eq)]
+#[derive(Clone, Copy)]
 pub enum What {
     /// The stores 0 to n of a group, which is 0 for Y and 1 to 26 for YA to YZ. n is at most 32767.
     Declare { group: u8, n: u16 },
@@ -51,7 +51,7 @@ pub enum What {
 }
 
 /// A store by its name. n is at most 32767.
-#[derive(Clone, Copy, PartialEq, Eq)]
+#[derive(Clone, Copy)]
 pub enum Named {
     /// Of a group, which is 0 for Y and 1 to 26 for YA to YZ.
     Y { group: u8, n: u16 },
@@ -63,14 +63,14 @@ pub enum Named {
 
 /// Where a jump goes: at least one of the reference r, 1 to 9999, and the part p, at most 999. Without p it is this
 /// part, and without r the part's first order.
-#[derive(Clone, Copy, PartialEq, Eq)]
+#[derive(Clone, Copy)]
 pub struct Target {
     pub r: Option<u16>,
     pub p: Option<u16>,
 }
 
 /// The value of a constant.
-#[derive(Clone, Copy, PartialEq, Eq)]
+#[derive(Clone, Copy)]
 pub enum Value {
     Number { word: Word },
     /// The three parts of a Q-store.
@@ -78,7 +78,7 @@ pub enum Value {
 }
 
 /// A part of a constant for a Q-store.
-#[derive(Clone, Copy, PartialEq, Eq)]
+#[derive(Clone, Copy)]
 pub enum Item {
     Bits { bits: u16 },
     /// The address of a store, which isn't an E.
