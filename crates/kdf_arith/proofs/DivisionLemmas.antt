@@ -1,11 +1,11 @@
 -- The remainder by a negative divisor.
-use Rattle.std.proofs.Common.{◌≡◌, ℕ, suc, ◌^◌, ◌<◌, ◌≤◌, ℤ, pos, negsuc, neg_ℤ, ◌+ℤ◌, ◌-ℤ◌, ◌*ℤ◌, ◌<ℤ◌, FitsSigned, w64, to_z, of_z, ap, ◌∙◌, arith}
+use Rattle.std.proofs.Common.{◌≡◌, ℕ, zero, suc, ◌^◌, ◌<◌, ◌≤◌, ℤ, pos, negsuc, neg_ℤ, ◌+ℤ◌, ◌-ℤ◌, ◌*ℤ◌, ◌<ℤ◌, FitsSigned, w64, to_z, of_z, ap, ◌∙◌, arith}
 use Rattle.std.specs.Prelude.{unsigned_abs}
-use Rattle.std.specs.Int.{int_rem_euclid, IsNonNegative}
+use Rattle.std.specs.Int.{int_div_euclid, int_rem_euclid, IsNonNegative}
 use Rattle.std.proofs.lemmas.Int.{ints, to_z-of_z}
 use Rattle.std.proofs.lemmas.Nat.{mod_below, div-add-mod'}
 use Rattle.kdf_word.specs.Doubles.{floor_div, modulo}
-use Rattle.kdf_word.proofs.Wide.{remainder}
+use Rattle.kdf_word.proofs.Wide.{quotient as quotient_of, remainder}
 use Rattle.kdf_arith.specs.Rows.{quotient}
 
 -- what a quotient leaves
@@ -56,3 +56,27 @@ remainder_by_negative v (negsuc k) r h fv fd fr gv gd gr e =
     let value : r ≡ pos (modulo (neg_ℤ v) (suc k)) =
     e ∙ first ∙ second ∙ remainder (neg_ℤ v) (suc k) in
     negated r fr gr ∙ ap neg_ℤ value ∙ remainder_down v k
+
+-- a call gets numbers as they are cast
+as_passed : (f : ℤ → ℤ → ℤ) (v d r : ℤ) → FitsSigned w64 v → FitsSigned w64 d → r ≡ f (to_z w64 (of_z w64 v)) (to_z w64 (of_z w64 d)) → r ≡ f v d
+as_passed f v d r fv fd e = e ∙ ap (λ (x : ℤ). f x (to_z w64 (of_z w64 d))) (to_z-of_z w64 v fv) ∙ ap (f v) (to_z-of_z w64 d fd)
+
+-- by a positive divisor the machine rounds down
+quotient_down : (v d : ℤ) → pos 0 <ℤ d → int_div_euclid v d ≡ quotient v d
+quotient_down v (pos n) h = quotient_of v n
+quotient_down v (negsuc k) h = absurd (omega (arith, ints))
+
+remainder_left : (v d : ℤ) → pos 0 <ℤ d → int_rem_euclid v d ≡ v -ℤ quotient v d *ℤ d
+remainder_left v (pos zero) h = absurd (omega (arith, ints))
+remainder_left v (pos (suc k)) h =
+    let whole = parts v k in
+    remainder v (suc k) ∙ omega (arith, ints, whole)
+remainder_left v (negsuc k) h = absurd (omega (arith, ints))
+
+pub quotient_by_positive : (v d q : ℤ) → pos 0 <ℤ d → FitsSigned w64 v → FitsSigned w64 d →
+    q ≡ int_div_euclid (to_z w64 (of_z w64 v)) (to_z w64 (of_z w64 d)) → q ≡ quotient v d
+quotient_by_positive v d q h fv fd e = as_passed int_div_euclid v d q fv fd e ∙ quotient_down v d h
+
+pub remainder_by_positive : (v d r : ℤ) → pos 0 <ℤ d → FitsSigned w64 v → FitsSigned w64 d →
+    r ≡ int_rem_euclid (to_z w64 (of_z w64 v)) (to_z w64 (of_z w64 d)) → r ≡ v -ℤ quotient v d *ℤ d
+remainder_by_positive v d r h fv fd e = as_passed int_rem_euclid v d r fv fd e ∙ remainder_left v d h

@@ -15,10 +15,19 @@ pub(crate) fn divide(a: Word, divisor: Word) -> (i64, i64)
     let value = a.signed();
     let by = divisor.signed();
     if by > 0 {
-        (value.div_euclid(by), value.rem_euclid(by))
+        divide_by_positive(value, by)
     } else {
         divide_by_negative(value, by)
     }
+}
+
+/// The same of numbers, where the divisor is positive.
+fn divide_by_positive(value: i64, by: i64) -> (i64, i64)
+    requires { pos 0 <ℤ by }
+    ensures quotient { result.0 ≡ quotient value by }
+    ensures remainder { result.1 ≡ value -ℤ quotient value by *ℤ by }
+{
+    (value.div_euclid(by), value.rem_euclid(by))
 }
 
 /// The same of numbers, where the divisor is negative.
