@@ -1,3 +1,4 @@
+mod Grown
 mod Said
 mod Stable
 mod Firsts

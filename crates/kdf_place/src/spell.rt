@@ -196,6 +196,25 @@ fn push_first_word(syllables: &mut Vec<u8>, meanings: &Meanings) -> Result<(), A
     push_copies(syllables, 3, DUMMY)
 }
 
+/// Puts the syllables of all statements after the others, up to a full word.
+fn push_statements(
+    bytes: &mut Vec<u8>,
+    meanings: &Meanings,
+    statements: &[Statement],
+) -> Result<(), AllocError>
+    requires few { length statements.now < 2 ^ 40 }
+    requires in_range { AreInRange statements.now }
+    ensures { OnOk result (bytes.new.items
+        ≡ bytes.old.items ++ syllables (meaning meanings.now) front statements.now) }
+{
+    let mut here = Here::front();
+    for statement in statements {
+        push_statement(bytes, meanings, here, &statement.what)?;
+        here = here.after(statement);
+    }
+    push_filling(bytes, here.at)
+}
+
 /// The syllables of a deck, up to a full word.
 pub fn syllables(
     alloc: Global,
@@ -209,11 +228,6 @@ pub fn syllables(
 {
     let mut syllables = Vec::new(alloc);
     push_first_word(&mut syllables, meanings)?;
-    let mut here = Here::front();
-    for statement in statements {
-        push_statement(&mut syllables, meanings, here, &statement.what)?;
-        here = here.after(statement);
-    }
-    push_filling(&mut syllables, here.at)?;
+    push_statements(&mut syllables, meanings, statements)?;
     Ok(syllables)
 }
