@@ -1,7 +1,7 @@
 -- References whose order is found.
 use Rattle.std.proofs.Common.{◌≡◌, ℕ, ◌+◌, ◌<◌, ◌≤◌, ◌||◌, if◌then◌else◌, List, [], ◌∷◌, ◌++◌, length, get_or, set, take, drop, map, append_assoc, refl, sym, ap, ap₂, ◌∙◌, add-one, length-append, arith}
 use Rattle.std.proofs.Math.Seq.{set-append_seam, get_or-append_seam, drop-cons}
-use Rattle.std.proofs.lemmas.List.{at_drop_more, drop-append-le, map-append, length-map, take_more, length-take-le, take-append-le}
+use Rattle.std.proofs.lemmas.List.{append-nil, at_drop_all, at_drop_more, drop-append-le, map-append, length-map, take_more, length-take-le, take-append-le}
 use Rattle.kdf_usercode.specs.declared.statement.Statement.{Statement}
 use Rattle.kdf_usercode.specs.declared.statement.What.{What}
 use Rattle.kdf_usercode.specs.declared.statement.What.TheVariants.{Reference}
@@ -71,3 +71,10 @@ labels-step ls now out known k here here' i ss s all lt is h within told pushed 
     ∙ append_assoc old one (labels (after here s) rest)
     ∙ sym split
     ∙ before
+
+-- behind the last statement they wait no more
+pub labels-end : (ls : List (Entry Mark)) (known : ℕ) (here : Here) (i : ℕ) (ss : List Statement) (all : List (Entry Mark)) → length ss ≤ i
+    → waiting known ls (next_order here.at (drop i ss)) ++ labels here (drop i ss) ≡ all → waiting known ls here.at ≡ all
+labels-end ls known here i ss all past before =
+    let f : List Statement → List (Entry Mark) = λ (xs : List Statement). waiting known ls (next_order here.at xs) ++ labels here xs in
+    sym (append-nil (waiting known ls here.at)) ∙ sym (at_drop_all f ss i past) ∙ before

@@ -1,5 +1,5 @@
 //! What the statements of a deck give a meaning to, in the order of the deck.
-ghost use Rattle.std.specs.Prelude.{ℕ, ◌≡◌, ◌<◌, ◌≤◌, ◌^◌, ◌||◌, ◌++◌, if◌then◌else◌, length, take, drop, IfOk, OnOk};
+ghost use Rattle.std.specs.Prelude.{ℕ, ◌≡◌, ◌<◌, ◌≤◌, ◌^◌, ◌||◌, ◌++◌, if◌then◌else◌, length, IfOk, OnOk};
 ghost use Rattle.kdf_place.specs.Layout.{end_of, is_order, is_opening, next_order, front};
 ghost use Rattle.kdf_place.specs.Names.{part_opened, opening, openings, label_at, labels, constant_at, constants, with_group, groups};
 ghost use Rattle.kdf_place.specs.Pending.{settled, waiting};
@@ -87,9 +87,9 @@ fn settle(labels: &mut [Entry<Mark>], at: u64)
 }
 
 /// The order of the references from number `known` on stands at `at`.
-fn settle_from(labels: &mut [Entry<Mark>], known: usize, at: u64)
-    requires { known ≤ length labels.old }
-    ensures { labels.new ≡ take known labels.old ++ settled (drop known labels.old) at }
+fn settle_from(labels: &mut Vec<Entry<Mark>>, known: usize, at: u64)
+    requires { known ≤ length labels.old.items }
+    ensures { labels.new.items ≡ waiting known labels.old.items at }
 {
     settle(&mut labels[known..], at);
 }

@@ -1,7 +1,7 @@
 //! The listing of a deck.
 ghost use Rattle.std.specs.Prelude.{◌≡◌, ◌++◌, [], ◌∷◌, length, map, IfOk, OnOk, string_bytes};
 ghost use Rattle.kdf_text.specs.Text.{text, Adds, end_line};
-ghost use Rattle.kdf_place.specs.Listing.{absent_listing, head_line, listing_text, place, reference_line, start_line, word_lines};
+ghost use Rattle.kdf_place.specs.Listing.{absent_listing, head_line, listing_text, reference_line, start_line, word_lines};
 ghost use Rattle.kdf_place.specs.Placement.{shown_image};
 
 use crate::image::{Image, Label};
@@ -54,18 +54,9 @@ fn ended(out: String) -> Result<Vec<u8>, AllocError>
 fn write_start(out: &mut String, start: u16) -> Result<(), AllocError>
     ensures { OnOk result (Adds out.old out.new (start_line start ∷ [])) }
 {
-    write!(out, "START ")?;
-    write_place(out, start)
-}
-
-/// The word and the syllable of a syllable number, at the end of a line.
-#[tactic(auto, unfolding(kdf_text::specs::Text::text))]
-fn write_place(out: &mut String, at: u16) -> Result<(), AllocError>
-    ensures { OnOk result (Adds out.old out.new (place at ∷ [])) }
-{
-    let word = at / 6;
-    let syllable = at % 6;
-    writeln!(out, "{word} {syllable}")
+    let word = start / 6;
+    let syllable = start % 6;
+    writeln!(out, "START {word} {syllable}")
 }
 
 /// Each word after its address.
@@ -96,6 +87,7 @@ fn write_reference(out: &mut String, label: &Label) -> Result<(), AllocError>
     ensures { OnOk result (Adds out.old out.new (reference_line label.now ∷ [])) }
 {
     let Label { part, number, at } = *label;
-    write!(out, "REF {part} {number} ")?;
-    write_place(out, at)
+    let word = at / 6;
+    let syllable = at % 6;
+    writeln!(out, "REF {part} {number} {word} {syllable}")
 }

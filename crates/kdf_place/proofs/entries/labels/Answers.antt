@@ -1,5 +1,5 @@
-use Rattle.std.proofs.Common.{arith}
-use Rattle.kdf_place.proofs.Settled.{labels-step, within-more}
+use Rattle.std.proofs.Common.{arith, ◌∙◌}
+use Rattle.kdf_place.proofs.Settled.{labels-end, labels-step, within-more}
 use Rattle.kdf_place.proofs.entries.labels.Goals as goal
 
 pub loop-statement-preserved : goal.loop-statement-preserved
@@ -14,3 +14,9 @@ loop-statement-preserved c =
           c.loop-statement-test.true c.statement-item.is c.after-here.ensures.value before.ensures.within before.ensures.settled
           c.in_ok-push_label.ensures c.loop-statement.invariant.all;
     }
+
+pub returns : goal.returns
+returns c =
+    c.settle_from.ensures
+    ∙ labels-end c.loop-statement.labels.items c.loop-statement.known c.loop-statement.here c.loop-statement.statement-index c.args.statements.now _
+    c.loop-statement-test.false c.loop-statement.invariant.all
