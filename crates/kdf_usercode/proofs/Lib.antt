@@ -1,5 +1,6 @@
 pub mod Least
 pub mod Numbers
+pub mod Shapes
 pub mod OctalDigits
 pub mod Ranges
 pub mod Capped

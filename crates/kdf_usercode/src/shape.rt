@@ -1,6 +1,7 @@
 //! The shape of a statement and its numbers.
 
-ghost use Rattle.std.specs.Prelude.{◌≡◌, ◌^◌, ◌≤◌, OnOk, map};
+ghost use Rattle.std.specs.Prelude.{◌≡◌, ◌^◌, ◌≤◌, ◌&&◌, ◌++◌, [], ◌∷◌, if◌then◌else◌, OnOk, map};
+ghost use Rattle.kdf_usercode.specs.Bytes.{digit_0};
 ghost use Rattle.kdf_usercode.specs.Capped.{capped};
 ghost use Rattle.kdf_usercode.specs.Shape.{is_digit, begins_with_digit, ends_number, shape, value_after, numbers};
 
@@ -31,17 +32,27 @@ fn begins_with_digit(rest: &[u8]) -> bool
     }
 }
 
+/// Puts a byte of the statement after the others, or `0` where it is the last digit of a number. Its other digits are
+/// left out.
+fn push_shape(room: &mut Vec<u8>, byte: u8, rest: &[u8]) -> Result<(), AllocError>
+    ensures { OnOk result (room.new.items ≡ room.old.items
+        ++ (if is_digit byte && begins_with_digit rest.now then [] else (if is_digit byte then digit_0 else byte) ∷ [])) }
+{
+    if !is_digit(byte) {
+        room.push(byte)?;
+    } else if !begins_with_digit(rest) {
+        room.push(b'0')?;
+    }
+    Ok(())
+}
+
 /// Puts the statement with `0` in place of each number into `room`, instead of what was there.
 pub fn shape_into(text: &[u8], room: &mut Vec<u8>) -> Result<(), AllocError>
     ensures { OnOk result (room.new.items ≡ shape text.now) }
 {
     room.clear();
     for (i, byte) in text.iter().enumerate() {
-        if !is_digit(*byte) {
-            room.push(*byte)?;
-        } else if !begins_with_digit(&text[i + 1..]) {
-            room.push(b'0')?;
-        }
+        push_shape(room, *byte, &text[i + 1..])?;
     }
     Ok(())
 }
