@@ -1,7 +1,7 @@
 -- The places of the devices, of which one changes.
 use Rattle.std.proofs.Common.{◌≡◌, ℕ, ◌<◌, ◌≤◌, List, length, get_or, map, sym, ap, ◌∙◌, ⊎_elim, arith, set, Some}
 use Rattle.std.proofs.lemmas.Bool.{cases_lt}
-use Rattle.std.proofs.lemmas.List.{get_or_past, get_or-map, length-map, map-set, set-get_or}
+use Rattle.std.proofs.lemmas.List.{get_or_past, get_or-map, length-map, map-set, set-get_or, set-set, get_or-set_same}
 use Rattle.kdf_places.specs.declared.place.Place.{Place}
 use Rattle.kdf_places.specs.declared.place.Place.TheVariants.{Absent, Busy}
 use Rattle.kdf_places.specs.Spots.{spot_at, spot_of, no_spot, Spot}
@@ -33,3 +33,13 @@ same_spots places d old new was same =
     map-set spot_of places d new
     ∙ ap (set (map spot_of places) d) (same ∙ ap spot_of was ∙ sym (spot_there places d))
     ∙ set-get_or (map spot_of places) d no_spot
+
+-- a place is taken out, and another is put in its stead
+pub nothing_there : (places now : List Place) (d : ℕ) (x : Place) → d < length places → now ≡ set places d Absent → x ≡ get_or now d Absent → x ≡ Absent
+nothing_there places now d x there out is = is ∙ ap (λ (xs : List Place). get_or xs d Absent) out ∙ get_or-set_same places d Absent Absent there
+
+pub exchanged : (places between after : List Place) (d : ℕ) (old new : Place) (f : Spot → Spot) → between ≡ set places d Absent → after ≡ set between d new → old ≡ get_or places d Absent
+    → spot_of new ≡ f (spot_of old) → map spot_of after ≡ set (map spot_of places) d (f (spot_at (map spot_of places) d))
+exchanged places between after d old new f out put was is =
+    ap (map spot_of) (put ∙ ap (λ (xs : List Place). set xs d new) out ∙ set-set places d Absent new)
+    ∙ set_spot places d old new f was is

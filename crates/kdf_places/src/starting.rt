@@ -7,7 +7,7 @@ ghost use Rattle.kdf_lockout.specs.Groups.{is_out};
 ghost use Rattle.kdf_places.specs.Shared.{shared_in, IsSound};
 ghost use Rattle.kdf_places.specs.Transfers.{start_lease, start_cells, start_spot, IsFreeArea, IsBack, back_cells, last_lease, ended_spot, moved_spot};
 ghost use Rattle.kdf_places.specs.Spots.{spot_of, spot_at, spot_kind, is_flying, lease_held, ring_in, AreDry, IsReady};
-ghost use Rattle.kdf_places.specs.declared.place.Place.TheVariants.{Absent, Busy};
+ghost use Rattle.kdf_places.specs.declared.place.Place.TheVariants.{Absent};
 ghost use Rattle.std.specs.Prelude.{ℕ};
 
 use crate::Place;
@@ -82,22 +82,24 @@ fn begin_place(place: Place, start: Start, store: &mut Store, block: Vec<u8>) ->
     }
 }
 
-/// Gives a place up: a transfer is cancelled, and its groups come back.
-fn give_up(place: Place, store: &mut Store)
-    requires { (p : _) (t : _) → place ≡ Busy p t → IsBack store.old t.lease }
-    ensures { place ≡ Absent → store.new ≡ store.old }
+/// Puts a place there, and answers the one that was there.
+#[inline(always)]
+fn exchange(places: &mut Vec<Place>, d: usize, place: Place) -> Place
+    requires { d < length places.old.items }
+    ensures was { result ≡ slice_index_or places.old.items d Absent }
+    ensures put { places.new.items ≡ slice_set places.old.items d place }
 {
-    match place {
+    mem::replace(&mut places[d], place)
+}
+
+/// Lets a place go in which there is nothing.
+#[inline(always)]
+fn leave(absent: Place)
+    requires { absent ≡ Absent }
+{
+    match absent {
         Place::Absent => {}
-        Place::Idle {
-            device: _,
-            ring: _,
-            holder: _,
-        } => {}
-        Place::Busy { p: _, transfer } => {
-            let (_, lease, _) = transfer.cancel();
-            put_back(store, lease);
-        }
+        Place::Idle { .. } | Place::Busy { .. } => unreachable!(),
     }
 }
 
@@ -122,10 +124,10 @@ pub fn start_at(places: &mut Vec<Place>, d: usize, start: Start, store: &mut Sto
     ensures store { store.new
         ≡ start_cells start.order start.area.first start.area.last store.old }
 {
-    let place = mem::replace(&mut places[d], Place::Absent);
+    let place = exchange(places, d, Place::Absent);
     let begun = begin_place(place, start, store, block);
-    let absent = mem::replace(&mut places[d], begun);
-    give_up(absent, store);
+    let absent = exchange(places, d, begun);
+    leave(absent);
 }
 
 /// Ends the transfer of a device, if it has one.
@@ -192,10 +194,10 @@ fn end_busy_at(places: &mut Vec<Place>, d: usize, store: &mut Store)
     ensures store { store.new
         ≡ back_cells (last_lease (spot_at (map spot_of places.old.items) d).flight) store.old }
 {
-    let place = mem::replace(&mut places[d], Place::Absent);
+    let place = exchange(places, d, Place::Absent);
     let ended = end_place(place, store);
-    let absent = mem::replace(&mut places[d], ended);
-    give_up(absent, store);
+    let absent = exchange(places, d, ended);
+    leave(absent);
 }
 
 /// Moves the next `n` words of the transfer on a device, if it has one.
@@ -210,6 +212,15 @@ pub fn move_at(places: &mut Vec<Place>, d: usize, n: u16)
     place.move_words(n);
 }
 
+/// Cancels a transfer: its groups come back.
+fn cancel_transfer(transfer: Transfer, store: &mut Store)
+    requires { IsBack store.old transfer.lease }
+    ensures { store.new ≡ back_cells transfer.lease store.old }
+{
+    let (_, lease, _) = transfer.cancel();
+    put_back(store, lease);
+}
+
 /// Gives a device up: its transfer is cancelled, and its groups come back.
 fn cancel(place: Place, store: &mut Store)
     requires { IsBack store.old (lease_held (spot_of place).flight) }
@@ -222,10 +233,7 @@ fn cancel(place: Place, store: &mut Store)
             ring: _,
             holder: _,
         } => {}
-        Place::Busy { p: _, transfer } => {
-            let (_, lease, _) = transfer.cancel();
-            put_back(store, lease);
-        }
+        Place::Busy { p: _, transfer } => cancel_transfer(transfer, store),
     }
 }
 
