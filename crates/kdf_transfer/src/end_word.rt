@@ -1,7 +1,7 @@
 //! The characters of words that move, and the word in which an order stops.
-ghost use Rattle.std.specs.Prelude.{◌≡◌, ◌+◌, ◌<◌, ◌≤◌, ◌++◌, All, vec_len};
+ghost use Rattle.std.specs.Prelude.{◌≡◌, ◌+◌, ◌<◌, ◌≤◌, [], ◌∷◌, ◌++◌, All, vec_len};
 ghost use Rattle.std.specs.Vec.{vec_capacity};
-ghost use Rattle.kdf_word.specs.Characters.{codes_of, first_word};
+ghost use Rattle.kdf_word.specs.Characters.{character_of, codes_of, first_word};
 ghost use Rattle.kdf_media.specs.Media.{has_end, through_end};
 ghost use Rattle.kdf_transfer.specs.AtOnce.{fill, is_last};
 
@@ -52,14 +52,24 @@ pub fn push_codes(block: &mut Vec<u8>, word: Word)
     ensures len { vec_len block.new ≡ vec_len block.old + 8 }
     ensures capacity { vec_capacity block.new ≡ vec_capacity block.old }
 {
-    block.push_reserved(word.character(0));
-    block.push_reserved(word.character(1));
-    block.push_reserved(word.character(2));
-    block.push_reserved(word.character(3));
-    block.push_reserved(word.character(4));
-    block.push_reserved(word.character(5));
-    block.push_reserved(word.character(6));
-    block.push_reserved(word.character(7));
+    push_four(block, word, 0);
+    push_four(block, word, 4);
+}
+
+/// Appends four characters of a word, from number `i` on, for which there is room.
+#[inline(always)]
+fn push_four(block: &mut Vec<u8>, word: Word, i: u8)
+    requires four { i ≤ 4 }
+    requires room { vec_len block.old + 4 ≤ vec_capacity block.old }
+    ensures items { block.new.items ≡ block.old.items ++ character_of i word ∷ character_of (i + 1) word
+        ∷ character_of (i + 2) word ∷ character_of (i + 3) word ∷ [] }
+    ensures len { vec_len block.new ≡ vec_len block.old + 4 }
+    ensures capacity { vec_capacity block.new ≡ vec_capacity block.old }
+{
+    block.push_reserved(word.character(i));
+    block.push_reserved(word.character(i + 1));
+    block.push_reserved(word.character(i + 2));
+    block.push_reserved(word.character(i + 3));
 }
 
 /// Cuts characters after their first End Message.
