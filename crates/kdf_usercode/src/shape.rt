@@ -36,7 +36,8 @@ fn begins_with_digit(rest: &[u8]) -> bool
 /// left out.
 fn push_shape(room: &mut Vec<u8>, byte: u8, rest: &[u8]) -> Result<(), AllocError>
     ensures { OnOk result (room.new.items ≡ room.old.items
-        ++ (if is_digit byte && begins_with_digit rest.now then [] else (if is_digit byte then digit_0 else byte) ∷ [])) }
+        ++ (if is_digit byte && begins_with_digit rest.now then []
+        else (if is_digit byte then digit_0 else byte) ∷ [])) }
 {
     if !is_digit(byte) {
         room.push(byte)?;
