@@ -1,5 +1,5 @@
 -- A job of which all lines are read.
-use Rattle.std.proofs.Common.{◌≡◌, ℕ, ◌≤◌, List, None, length, map, sym, ap, subst, ◌∙◌, arith}
+use Rattle.std.proofs.Common.{◌≡◌, ℕ, ◌≤◌, List, length, map, sym, ap, subst, ◌∙◌, arith}
 use Rattle.std.proofs.lemmas.List.{length-map, length_push}
 use Rattle.kdf_job.specs.declared.place.Place.{Place}
 use Rattle.kdf_job.specs.declared.place.Place.TheVariants.{BehindEnd}
@@ -10,7 +10,7 @@ use Rattle.kdf_job.specs.WellFormed.{IsJob}
 use Rattle.kdf_job.proofs.Pools.{are_slots, shared}
 use Rattle.kdf_job.proofs.Told.{some_slot}
 
-pub finished : (words : ℕ) (numbers : List ℕ) (d : Draft) → IsKept words numbers d → d.place ≡ BehindEnd → IsJob (job_of d)
+finished : (words : ℕ) (numbers : List ℕ) (d : Draft) → IsKept words numbers d → d.place ≡ BehindEnd → IsJob (job_of d)
 finished words numbers d was place =
     let there : IsPlaced BehindEnd d.slot = subst (λ (x : Place). IsPlaced x d.slot) place was.placed in
     let s = some_slot d.slot there in
@@ -26,7 +26,7 @@ abbrev made : List SlotJob → Draft → Job
 made slots d = record { slots = slots; events = d.events; pool = d.pool }
 
 -- its last slot is put after the others, and each slot has the pool
-pub with_slots : (d e : Draft) (slots : List SlotJob) → e ≡ record d { slots = slots_told d; slot = None } → slots ≡ map (with_pool e.pool) e.slots → IsJob (job_of d)
-    → IsJob (record { slots = slots; events = e.events; pool = e.pool })
-with_slots d e slots shown shared job =
-    subst IsJob (sym (ap (λ (ss : List SlotJob). made ss e) shared ∙ ap (λ (x : Draft). made (map (with_pool x.pool) x.slots) x) shown)) job
+pub well_formed : (words : ℕ) (numbers : List ℕ) (d : Draft) (slots : List SlotJob) (j : Job) → IsKept words numbers d → d.place ≡ BehindEnd → slots ≡ slots_told d
+    → j ≡ made (map (with_pool d.pool) slots) d → IsJob j
+well_formed words numbers d slots j was place told is =
+    subst IsJob (sym (is ∙ ap (λ (ss : List SlotJob). made (map (with_pool d.pool) ss) d) told)) (finished words numbers d was place)

@@ -18,6 +18,9 @@ use Rattle.kdf_job.specs.More.{events_in, joined, more_events, more_fault, one_e
 use Rattle.kdf_job.specs.Reading.{at_line, behind_line, draft_of, end_fault, fault_from, job, job_fault, or_fault, or_same, read_line, with_told}
 use Rattle.kdf_job.proofs.ScheduleLines.{IsInSchedule, same_end, same_slot}
 
+a_fault : (x : JobFault × ℕ) → Some x ≡ None → ⊥
+a_fault x h = cc
+
 -- lines that are read, and more after them
 told_through : (d : Draft) (ls more : List (List ℕ)) → draft_of d (ls ++ more) ≡ draft_of (draft_of d ls) more
 told_through d [] more = refl
@@ -30,7 +33,7 @@ read_through n d (l ∷ ls) others more none = step (read_line d l) (λ (e : Dra
     step : (r : Result Draft JobFault) → ((e : Draft) → fault_from (n + 1) e (ls ++ others) ≡ None → fault_from (n + 1) e (ls ++ more) ≡ fault_from (n + 1 + length ls) (draft_of e ls) more)
         → behind_line n r (λ e. fault_from (n + 1) e (ls ++ others)) ≡ None
         → behind_line n r (λ e. fault_from (n + 1) e (ls ++ more)) ≡ fault_from (n + length (l ∷ ls)) (draft_of (or_same d r) ls) more
-    step (Err fault) rest h = absurd cc
+    step (Err fault) rest h = absurd (a_fault _ h)
     step (Ok e) rest h = let m : n + 1 + length ls ≡ n + length (l ∷ ls) = omega arith in rest e h ∙ ap (λ (m : ℕ). fault_from m (draft_of e ls) more) m
 
 -- a line after the end of a job
@@ -76,7 +79,7 @@ in_place_told d l ls at = ap (λ (place : Place). draft_of (or_same d (with_told
 -- lines of a schedule without a fault tell their events, and nothing else
 pub told_joined : (n : ℕ) (place : Place) (d : Draft) (ls : List (List ℕ)) → d.place ≡ place → IsInSchedule place → fault_from n d ls ≡ None → job_of (draft_of d ls) ≡ joined (job_of d) (events_in ls)
 told_joined n place d [] at s none = ap (job_with d d.slot) (sym (append-nil d.events))
-told_joined n BehindEnd d (l ∷ ls) at s none = let bad = after_end n d l ls at in absurd cc
+told_joined n BehindEnd d (l ∷ ls) at s none = absurd (a_fault _ (sym (after_end n d l ls at) ∙ none))
 told_joined n InSchedule d (l ∷ ls) at s none =
     ap job_of (in_place_told d l ls at)
     ∙ by_event (event l) (is_text (codes "ENDJOB") l) (λ (x : Place) (e : Draft). told_joined (n + 1) x e ls) (sym (in_place n d l ls at) ∙ none)
@@ -84,7 +87,7 @@ told_joined n InSchedule d (l ∷ ls) at s none =
     by_fault : (what : Event) (f : Option JobFault) → ((x : Place) (e : Draft) → e.place ≡ x → IsInSchedule x → fault_from (n + 1) e ls ≡ None → job_of (draft_of e ls) ≡ joined (job_of e) (events_in ls))
         → behind_line n (or_fault (AnEvent what) d f) (λ e. fault_from (n + 1) e ls) ≡ None
         → job_of (draft_of (or_same d (or_fault (AnEvent what) d f)) ls) ≡ joined (job_of d) (what ∷ events_in ls)
-    by_fault what (Some f) rest h = absurd cc
+    by_fault what (Some f) rest h = absurd (a_fault _ h)
     by_fault what None rest h =
         rest InSchedule (with_line (AnEvent what) d) refl (tt {0}) h
         ∙ ap (λ (o : Option SlotDraft). job_with d o ((d.events ++ what ∷ []) ++ events_in ls)) (same_slot what d.slot)
@@ -94,8 +97,8 @@ told_joined n InSchedule d (l ∷ ls) at s none =
         → behind_line n (with_told d (first_told (of_event r ∷ cond b (Some (Ok AnEndJob)) None ∷ []))) (λ e. fault_from (n + 1) e ls) ≡ None
         → job_of (draft_of (or_same d (with_told d (first_told (of_event r ∷ cond b (Some (Ok AnEndJob)) None ∷ [])))) ls) ≡ joined (job_of d) (one_event r ++ events_in ls)
     by_event (Ok what) b rest h = by_fault what (event_fault what d.events) rest h
-    by_event (Err fault_of_event.Number) b rest h = absurd cc
-    by_event (Err fault_of_event.Form) false rest h = absurd cc
+    by_event (Err fault_of_event.Number) b rest h = absurd (a_fault _ h)
+    by_event (Err fault_of_event.Form) false rest h = absurd (a_fault _ h)
     by_event (Err fault_of_event.Form) true rest h =
         rest BehindEnd (with_line AnEndJob d) refl (tt {0}) h ∙ ap (λ (o : Option SlotDraft). job_with d o (d.events ++ events_in ls)) (same_end d.slot)
 told_joined n _ d (l ∷ ls) at s none = absurd s
@@ -108,7 +111,7 @@ ends_there n place d at none =
   where
     here : (x : Place) → behind_line n (with_told d (told_at x (codes "ENDJOB"))) (λ e. at_line (n + 1) (end_fault e.place)) ≡ None → x ≡ InSchedule
     here InSchedule h = refl
-    here _ h = absurd cc
+    here _ h = absurd (a_fault _ h)
 
 no_event : events_in (codes "ENDJOB" ∷ []) ≡ []
 unfolding event words

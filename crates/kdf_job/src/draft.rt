@@ -1,12 +1,13 @@
 //! What the lines so far tell of a job.
 ghost use Rattle.std.specs.Prelude.{◌≡◌, ◌==◌, ◌+◌, ◌≤◌, ◌<◌, ◌^◌, ◌++◌, [], ◌∷◌, None, IfOk, OnOk, length, map};
 ghost use Rattle.std.specs.List.{list_any};
+ghost use Rattle.std.specs.Option.{option_map, option_to_list};
 ghost use Rattle.kdf_job.specs.Adding.{IsChecked};
-ghost use Rattle.kdf_job.specs.Draft.{blank, device_fault, device_so_far, job_of, label_fault, labels_so_far, lent_fault, medium_fault, numbers_told, pool_fault, show_fault, size_so_far, slot_fault, slots_told, store_fault, tape_fault, tells, with_line, with_pool};
+ghost use Rattle.kdf_job.specs.Draft.{blank, device_fault, device_so_far, job_of, label_fault, labels_so_far, lent_fault, medium_fault, numbers_told, pool_fault, show_fault, size_so_far, slot_fault, slot_of, slots_told, store_fault, tape_fault, tells, with_line, with_pool};
 ghost use Rattle.kdf_job.specs.Forms.{ADeckLine, ADevice, AMedium, APoolDevice, AService, AShow, AStore, told_at};
 ghost use Rattle.kdf_job.specs.Lengths.{kept_length};
 ghost use Rattle.kdf_job.specs.Media.{word_of_text};
-ghost use Rattle.kdf_job.specs.Shows.{shown_draft, shown_job, shown_slot};
+ghost use Rattle.kdf_job.specs.Shows.{shown_draft, shown_job, shown_slot, shown_slot_draft};
 ghost use Rattle.kdf_job.specs.Taking.{IsSound, Takes};
 ghost use Rattle.kdf_job.specs.WellFormed.{IsJob};
 ghost use Rattle.kdf_job.specs.declared.place.Place.TheVariants.{BehindEnd, BehindSlot, InSchedule};
@@ -17,6 +18,7 @@ use crate::schedule::Schedule;
 use crate::slot_draft::SlotDraft;
 use crate::{Job, JobFault, LineError, Place, SlotJob};
 use kdf_journal::Kind;
+use kdf_schedule::Event;
 use kdf_word::Word;
 use std::alloc::{AllocError, Global};
 
@@ -112,10 +114,7 @@ impl Draft {
         ensures words { self.new.words ≡ self.old.words }
         ensures numbers { self.new.numbers.items ≡ self.old.numbers.items }
     {
-        if let Some(slot) = self.slot.take() {
-            self.slots.push(slot.finish(alloc)?)?;
-        }
-        Ok(())
+        push_last(alloc, &mut self.slots, self.slot.take())
     }
 
     /// Adds a line of a deck.
@@ -308,12 +307,9 @@ impl Draft {
         ensures shown { IfOk result (λ j. shown_job j ≡ job_of (shown_draft self)) }
         ensures well_formed { IfOk result (λ j. IsJob (shown_job j)) }
     {
-        self.finish_slot(alloc)?;
-        Ok(Job {
-            slots: share(alloc, self.slots, &self.pool)?,
-            events: self.schedule.events,
-            pool: self.pool,
-        })
+        let last = self.slot;
+        push_last(alloc, &mut self.slots, last)?;
+        job_with(alloc, self.slots, self.schedule.events, self.pool)
     }
 }
 
@@ -326,6 +322,41 @@ fn lent_fault(kind: Kind, label: &[u8]) -> Option<JobFault>
         Kind::Mt if !is_label(label) => Some(JobFault::BadLabel),
         _ => Some(JobFault::PoolKind),
     }
+}
+
+/// Puts the last slot, of which all lines are read, after the others.
+fn push_last(
+    alloc: Global,
+    slots: &mut Vec<SlotJob>,
+    last: Option<SlotDraft>,
+) -> Result<(), AllocError>
+    ensures { OnOk result (map shown_slot slots.new.items ≡ map shown_slot slots.old.items
+        ++ option_to_list (option_map slot_of (option_map shown_slot_draft last))) }
+{
+    if let Some(slot) = last {
+        slots.push(slot.finish(alloc)?)?;
+    }
+    Ok(())
+}
+
+/// The job of these slots, each of which gets the pool.
+fn job_with(
+    alloc: Global,
+    slots: Vec<SlotJob>,
+    events: Vec<Event>,
+    pool: Vec<(u8, Kind)>,
+) -> Result<Job, AllocError>
+    ensures { IfOk result (λ j. shown_job j ≡ record {
+      slots = map (with_pool pool.items) (map shown_slot slots.items);
+      events = events.items;
+      pool = pool.items;
+    }) }
+{
+    Ok(Job {
+        slots: share(alloc, slots, &pool)?,
+        events,
+        pool,
+    })
 }
 
 /// The slots, each with the pool of their job.

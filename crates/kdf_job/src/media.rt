@@ -15,7 +15,6 @@ const WORD_LENGTH: usize = 8;
 const LONGEST_LABEL: usize = 8;
 
 /// The codes of a text's bytes, None where one has none.
-#[tactic(auto, using(crate::proofs::CodesRead::codes_more, crate::proofs::CodesRead::codes_end, crate::proofs::CodesRead::codes_none, crate::proofs::CodesRead::codes_begin))]
 pub fn codes_in(alloc: Global, text: &[u8]) -> Result<Option<Vec<u8>>, AllocError>
     ensures value { IfOk result (λ o. option_map (λ v. v.items) o ≡ codes_in text.now) }
     ensures small { IfOk result (λ o. IfSome o (λ v. All (λ c. c < 64) v.items)) }

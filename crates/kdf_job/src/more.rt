@@ -13,6 +13,7 @@ ghost use Rattle.kdf_job.specs.declared.place.Place.TheVariants.{InSchedule};
 use crate::front::goes_on;
 use crate::schedule::Schedule;
 use crate::{Job, JobError, JobFault, Place};
+use kdf_schedule::Event;
 use kdf_text::Lines;
 use std::alloc::Global;
 
@@ -46,10 +47,23 @@ pub fn read_more(
         rest: bytes,
         number: first_line,
     };
-    let mut schedule = Schedule::of(alloc, &job.events)?;
-    read_to_end(lines, &mut schedule)?;
-    job.events = schedule.events;
+    job.events = read_behind(alloc, &job.events, lines)?;
     Ok(())
+}
+
+/// Reads lines up to the end of a schedule that has these events already. The answer is all its events.
+fn read_behind(alloc: Global, events: &[Event], lines: Lines) -> Result<Vec<Event>, JobError>
+    requires sound { IsSchedule events.now }
+    ensures ok { OnOk result (fault_from lines.entry.number
+        (scheduled InSchedule events.now) (ahead lines.entry) ≡ None) }
+    ensures fault { IfErr result (λ e. Says e (fault_from lines.entry.number
+        (scheduled InSchedule events.now) (ahead lines.entry))) }
+    ensures events { IfOk result (λ all. all.items ≡ events.now ++ events_in (ahead lines.entry)) }
+    ensures sound { IfOk result (λ all. IsSchedule all.items) }
+{
+    let mut schedule = Schedule::of(alloc, events)?;
+    read_to_end(lines, &mut schedule)?;
+    Ok(schedule.events)
 }
 
 /// Reads lines up to the end of a schedule, after which no line may stand.

@@ -10,6 +10,7 @@ ghost use Rattle.kdf_job.specs.Shows.{shown_draft, shown_job};
 ghost use Rattle.kdf_job.specs.Taking.{IsSound};
 ghost use Rattle.kdf_job.specs.WellFormed.{IsJob};
 ghost use Rattle.kdf_job.specs.declared.job.TheConstants.{TEXT_LIMIT};
+ghost use Rattle.kdf_job.specs.declared.place.Place.TheVariants.{BehindEnd};
 
 use crate::draft::Draft;
 use crate::{Job, JobError, JobFault, Place};
@@ -37,7 +38,6 @@ pub fn read_job(alloc: Global, bytes: &[u8]) -> Result<Job, JobError>
 }
 
 /// Reads the next line. The answer is how many bytes it has, with the one that ends it, which the last line may lack.
-#[tactic(auto, using(crate::proofs::Passing::short_ahead))]
 pub fn read_line(alloc: Global, lines: &mut Lines, draft: &mut Draft) -> Result<usize, JobError>
     requires sound { IsSound draft.old }
     requires some { 0 < length lines.old.rest.now }
@@ -65,8 +65,18 @@ pub fn finish(alloc: Global, draft: Draft, number: u32) -> Result<Job, JobError>
     ensures shown { IfOk result (λ j. shown_job j ≡ job_of (shown_draft draft)) }
     ensures well_formed { IfOk result (λ j. IsJob (shown_job j)) }
 {
-    match draft.place {
-        Place::BehindEnd => Ok(draft.finish(alloc)?),
+    check_end(draft.place, number)?;
+    Ok(draft.finish(alloc)?)
+}
+
+/// The text may end where a line of this number would stand at this place.
+fn check_end(place: Place, number: u32) -> Result<(), JobError>
+    ensures ok { OnOk result (at_line number (end_fault place) ≡ None) }
+    ensures fault { IfErr result (λ e. Says e (at_line number (end_fault place))) }
+    ensures place { OnOk result (place ≡ BehindEnd) }
+{
+    match place {
+        Place::BehindEnd => Ok(()),
         Place::First => Err(JobError::Fault(JobFault::Header, number)),
         _ => Err(JobError::Fault(JobFault::BadLine, number)),
     }

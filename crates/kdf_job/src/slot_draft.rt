@@ -114,10 +114,7 @@ impl SlotDraft {
           device = None;
         }) }
     {
-        if let Some(device) = self.device.take() {
-            self.devices.push(device.finish(alloc))?;
-        }
-        Ok(())
+        push_last(alloc, &mut self.devices, self.device.take())
     }
 
     /// Keeps a tape's label.
@@ -151,7 +148,8 @@ impl SlotDraft {
     pub fn finish(mut self, alloc: Global) -> Result<SlotJob, AllocError>
         ensures { IfOk result (λ s. shown_slot s ≡ slot_of (shown_slot_draft self)) }
     {
-        self.settle(alloc)?;
+        let last = self.device;
+        push_last(alloc, &mut self.devices, last)?;
         Ok(SlotJob {
             p: self.p,
             size: self.size,
@@ -162,4 +160,19 @@ impl SlotDraft {
             served: self.served,
         })
     }
+}
+
+/// Puts the last device, whose medium was read, after the others.
+fn push_last(
+    alloc: Global,
+    devices: &mut Vec<(u8, Device)>,
+    last: Option<DeviceDraft>,
+) -> Result<(), AllocError>
+    ensures { OnOk result (map shown_device devices.new.items
+        ≡ map shown_device devices.old.items ++ option_to_list (option_map shown_device_draft last)) }
+{
+    if let Some(device) = last {
+        devices.push(device.finish(alloc))?;
+    }
+    Ok(())
 }
