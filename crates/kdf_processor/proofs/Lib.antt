@@ -4,6 +4,7 @@ pub mod LoneLemmas
 pub mod RowFacts
 pub mod ByItself
 pub mod Syllables
+pub mod Classes
 pub mod Finding
 pub mod Frees
 pub mod Pending

@@ -25,7 +25,7 @@ count_is v n a k p s =
     ap (λ b. cond b (size_of_first (syllable_at v.word n)) 1) first.0 ∙ ap size_of_first first.1 ∙ s
 
 -- the order is that of its syllables, whatever stands after them
-by_size : (a b c k : ℕ) → size_of_first a ≡ k → decoded (take k (a ∷ b ∷ c ∷ [])) ≡ first_decoded (a ∷ b ∷ c ∷ [])
+pub by_size : (a b c k : ℕ) → size_of_first a ≡ k → decoded (take k (a ∷ b ∷ c ∷ [])) ≡ first_decoded (a ∷ b ∷ c ∷ [])
 by_size a b c k s = ap (λ n. decoded (take n (a ∷ b ∷ c ∷ []))) (sym s)
 
 pub order_of_one : (v : View) (n a : ℕ) → Byte a ≡ syllable_read v n → size_of_first a ≡ 1 → order_at v.claims.size v.word n ≡ first_decoded (a ∷ 0 ∷ 0 ∷ [])

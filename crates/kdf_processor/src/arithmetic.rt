@@ -1,12 +1,13 @@
 //! The orders of arithmetic, over registers.
+ghost use Rattle.std.specs.Prelude.{◌≡◌, OnErr, OnOk};
 ghost use Rattle.kdf_arith.specs.declared.order.ArithOrder.TheVariants as arithmetic;
 ghost use Rattle.kdf_arith.specs.Arith.{arith, IsPlainCode, IsShiftCode};
 ghost use Rattle.kdf_processor.specs.Effect.{Comes};
-ghost use Rattle.kdf_processor.specs.Table.{arith_changes};
+ghost use Rattle.kdf_processor.specs.Table.{arith_changes, on};
 
 use crate::syllable_number::behind;
 use crate::{Failure, Registers};
-use kdf_arith::{obey_plain, obey_shift};
+use kdf_arith::{Nouv, obey_plain, obey_shift};
 
 /// An order of arithmetic of one syllable.
 #[inline(always)]
@@ -16,13 +17,8 @@ pub fn plain_arithmetic(registers: &mut Registers, code: u8) -> Result<(), Failu
         (arith_changes 1 registers.old (arith (arithmetic.Plain code) registers.old.nest registers.old.flags))
         registers.old registers.new result }
 {
-    match obey_plain(&mut registers.nest, &mut registers.flags, code) {
-        Ok(()) => {
-            registers.at = behind(registers.at, 1);
-            Ok(())
-        }
-        Err(_) => Err(Failure::Nouv),
-    }
+    let obeyed = obey_plain(&mut registers.nest, &mut registers.flags, code);
+    settle(registers, 1, obeyed)
 }
 
 /// A shift by `n` places.
@@ -33,9 +29,19 @@ pub fn shift_arithmetic(registers: &mut Registers, code: u8, n: i16) -> Result<(
         (arith_changes 2 registers.old (arith (arithmetic.Shift code n) registers.old.nest registers.old.flags))
         registers.old registers.new result }
 {
-    match obey_shift(&mut registers.nest, &mut registers.flags, code, n) {
+    let obeyed = obey_shift(&mut registers.nest, &mut registers.flags, code, n);
+    settle(registers, 2, obeyed)
+}
+
+/// Goes on behind an order of so many syllables that was obeyed, or fails.
+#[inline(always)]
+fn settle(registers: &mut Registers, size: u16, obeyed: Result<(), Nouv>) -> Result<(), Failure>
+    ensures ok { OnOk obeyed ((result ≡ Ok tt) × (registers.new ≡ record registers.old { at = on registers.old.at size })) }
+    ensures err { OnErr obeyed ((result ≡ Err Failure.Nouv) × (registers.new ≡ registers.old)) }
+{
+    match obeyed {
         Ok(()) => {
-            registers.at = behind(registers.at, 2);
+            registers.at = behind(registers.at, size);
             Ok(())
         }
         Err(_) => Err(Failure::Nouv),

@@ -1,8 +1,11 @@
 //! The fetch of an order: the syllables that spell it.
-ghost use Rattle.std.specs.Prelude.{◌≡◌, ◌+◌, ◌<◌, ◌/◌, ◌%◌, ◌^◌, [], ◌∷◌, None};
+ghost use Rattle.std.specs.Prelude.{◌≡◌, ◌≢◌, ◌+◌, ◌<◌, ◌/◌, ◌%◌, ◌^◌, [], ◌∷◌, None, false};
 ghost use Rattle.kdf_decode.specs.Decoding.{first_decoded};
 ghost use Rattle.kdf_processor.specs.Fetch.{held_of, IsFetched, IsFetchedAt, syllable_read};
+ghost use Rattle.kdf_processor.specs.Needs.{group_of, syllable_at};
+ghost use Rattle.kdf_processor.specs.Table.{on};
 ghost use Rattle.kdf_syllable.specs.Packing.{syllable};
+ghost use Rattle.kdf_syllable.specs.Spelling.{size_of_first};
 
 use crate::Port;
 use crate::syllable_number::behind;
@@ -87,15 +90,27 @@ fn fetch_fifth<P: Port>(port: &P, at: u16) -> Fetched
     if address >= port.size() {
         return Fetched::Bad;
     }
-    let word = match port.read(address) {
-        Ok(word) => word,
-        Err(group) => return Fetched::Held(group),
-    };
+    match port.read(address) {
+        Ok(word) => fetch_from_fifth(port, at, word),
+        Err(group) => Fetched::Held(group),
+    }
+}
+
+/// The order at syllable 4 of this word.
+#[inline(always)]
+fn fetch_from_fifth<P: Port>(port: &P, at: u16, word: Word) -> Fetched
+    requires least { at < 49152 }
+    requires place { at % 6 ≡ 4 }
+    requires inside { at / 6 < (P.shows port.now).claims.size }
+    requires free { (P.shows port.now).is_out (group_of (at / 6)) ≡ false }
+    requires word { word ≡ (P.shows port.now).word (at / 6) }
+    ensures { IsFetchedAt (P.shows port.now) at result }
+{
     let (first, second) = (syllable(word, 4), syllable(word, 5));
     if size_of_first(first) < 3 {
         return spelt(first, second, 0);
     }
-    let next = (address + 1) % 8192;
+    let next = (at / 6 + 1) % 8192;
     if next >= port.size() {
         return Fetched::Bad;
     }
@@ -115,14 +130,26 @@ fn fetch_sixth<P: Port>(port: &P, at: u16) -> Fetched
     if address >= port.size() {
         return Fetched::Bad;
     }
-    let first = match port.read(address) {
-        Ok(word) => syllable(word, 5),
-        Err(group) => return Fetched::Held(group),
-    };
+    match port.read(address) {
+        Ok(word) => fetch_from_sixth(port, at, syllable(word, 5)),
+        Err(group) => Fetched::Held(group),
+    }
+}
+
+/// The order at syllable 5 of a word, which is this syllable.
+#[inline(always)]
+fn fetch_from_sixth<P: Port>(port: &P, at: u16, first: u8) -> Fetched
+    requires least { at < 49152 }
+    requires place { at % 6 ≡ 5 }
+    requires inside { at / 6 < (P.shows port.now).claims.size }
+    requires free { (P.shows port.now).is_out (group_of (at / 6)) ≡ false }
+    requires first { first ≡ syllable_at (P.shows port.now).word at }
+    ensures { IsFetchedAt (P.shows port.now) at result }
+{
     if size_of_first(first) == 1 {
         return spelt(first, 0, 0);
     }
-    let next = (address + 1) % 8192;
+    let next = (at / 6 + 1) % 8192;
     if next >= port.size() {
         return Fetched::Bad;
     }
@@ -170,25 +197,41 @@ fn without_last(word: Word, count: u8) -> Word
 fn fetch_across<P: Port>(port: &P, at: u16) -> Fetched
     ensures { IsFetchedAt (P.shows port.now) at result }
 {
-    let first = match read_syllable(port, at) {
-        Syllable::Byte(byte) => byte,
-        Syllable::Outside => return Fetched::Bad,
-        Syllable::Held(group) => return Fetched::Held(group),
-    };
+    match read_syllable(port, at) {
+        Syllable::Byte(first) => fetch_behind_first(port, at, first),
+        Syllable::Outside => Fetched::Bad,
+        Syllable::Held(group) => Fetched::Held(group),
+    }
+}
+
+/// The order at a syllable, which is this one.
+fn fetch_behind_first<P: Port>(port: &P, at: u16, first: u8) -> Fetched
+    requires { Syllable.Byte first ≡ syllable_read (P.shows port.now) at }
+    ensures { IsFetchedAt (P.shows port.now) at result }
+{
     let size = size_of_first(first);
     if size == 1 {
         return spelt(first, 0, 0);
     }
-    let place = behind(at, 1);
-    let second = match read_syllable(port, place) {
-        Syllable::Byte(byte) => byte,
-        Syllable::Outside => return Fetched::Bad,
-        Syllable::Held(group) => return Fetched::Held(group),
-    };
+    match read_syllable(port, behind(at, 1)) {
+        Syllable::Byte(second) => fetch_behind_second(port, at, first, second),
+        Syllable::Outside => Fetched::Bad,
+        Syllable::Held(group) => Fetched::Held(group),
+    }
+}
+
+/// The order at a syllable, which begins with these two.
+fn fetch_behind_second<P: Port>(port: &P, at: u16, first: u8, second: u8) -> Fetched
+    requires first { Syllable.Byte first ≡ syllable_read (P.shows port.now) at }
+    requires second { Syllable.Byte second ≡ syllable_read (P.shows port.now) (on at 1) }
+    requires longer { size_of_first first ≢ 1 }
+    ensures { IsFetchedAt (P.shows port.now) at result }
+{
+    let size = size_of_first(first);
     if size == 2 {
         return spelt(first, second, 0);
     }
-    match read_syllable(port, behind(place, 1)) {
+    match read_syllable(port, behind(behind(at, 1), 1)) {
         Syllable::Byte(third) => spelt(first, second, third),
         Syllable::Outside => Fetched::Bad,
         Syllable::Held(group) => Fetched::Held(group),

@@ -282,7 +282,6 @@ fn obey_decoded<P: Port>(
 }
 
 /// Obeys the order that three syllables begin with, class by class.
-#[tactic(auto, unfolding(kdf_decode::specs::Decoding::decoded))]
 #[inline(always)]
 fn obey_spelt<P: Port>(
     registers: &mut Registers,

@@ -348,7 +348,6 @@ fn obey_store<P: Port>(
 }
 
 /// The order that three syllables begin with.
-#[tactic(auto, unfolding(kdf_decode::specs::Decoding::decoded))]
 #[inline(always)]
 fn obey_spelt<P: Port>(
     registers: &mut Registers,
