@@ -36,7 +36,8 @@ pub fn shift_arithmetic(registers: &mut Registers, code: u8, n: i16) -> Result<(
 /// Goes on behind an order of so many syllables that was obeyed, or fails.
 #[inline(always)]
 fn settle(registers: &mut Registers, size: u16, obeyed: Result<(), Nouv>) -> Result<(), Failure>
-    ensures ok { OnOk obeyed ((result ≡ Ok tt) × (registers.new ≡ record registers.old { at = on registers.old.at size })) }
+    ensures ok { OnOk obeyed ((result ≡ Ok tt)
+        × (registers.new ≡ record registers.old { at = on registers.old.at size })) }
     ensures err { OnErr obeyed ((result ≡ Err Failure.Nouv) × (registers.new ≡ registers.old)) }
 {
     match obeyed {
