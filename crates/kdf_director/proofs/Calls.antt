@@ -6,5 +6,6 @@ pub mod FoundLive
 pub mod GoingFurther
 pub mod NoneGoesOn
 pub mod OneCall
+pub mod OnlyCall
 pub mod OrdersInARow
 pub mod ProgramGoesOn

@@ -1,7 +1,8 @@
-use Rattle.std.proofs.Common.{◌<◌, length, sym, ap, ◌∙◌, subst, arith, get_or}
+use Rattle.std.proofs.Common.{◌≡◌, ◌+◌, ◌*◌, ◌%◌, ◌<◌, ◌≤◌, length, sym, ap, ◌∙◌, subst, arith, get_or}
 use Rattle.std.proofs.lemmas.List.{length-map}
 use Rattle.kdf_transfer.proofs.Numbers.{limit_is}
-use Rattle.kdf_director.specs.Fields.Keeping.{IsKept}
+use Rattle.kdf_processor.specs.Lone.{is_live}
+use Rattle.kdf_director.specs.Fields.Keeping.{IsActive, IsKept}
 use Rattle.kdf_director.specs.Fields.Parts.{Reach, part_in, seat_of}
 use Rattle.kdf_places.specs.Shared.{shared_in}
 use Rattle.kdf_director.specs.Fields.Running.{reach_at, reaches_in, seat_at, seats_in}
@@ -27,6 +28,32 @@ hear-requires-clause-kept g c =
     (sym (seat_is c.args.site.now.windows.now c.args.site.now.slots.now c.args.programs.now.items c.args.i c.requires.there c.requires.slots (get_or c.args.site.now.slots.now c.args.i c.index-site-i.result) c.index_mut.result.now (ap (get_or c.args.site.now.slots.now c.args.i) c.index-site-i.is) c.index_mut.ensures.value))
     (c.requires.running.kept c.args.i
     (within c.args.site.now.windows.now c.args.site.now.slots.now c.args.programs.now.items c.args.i c.requires.there c.requires.slots (get_or c.args.site.now.slots.now c.args.i c.index-site-i.result) c.index_mut.result.now (ap (get_or c.args.site.now.slots.now c.args.i) c.index-site-i.is) c.index_mut.ensures.value)))
+
+pub hear-requires-clause-at_group : goal.hear-requires-clause-at_group
+hear-requires-clause-at_group g c =
+    subst (λ (x : Reach). x.base % 32 ≡ 0)
+    (sym (reach_is c.args.site.now.windows.now c.args.site.now.slots.now c.args.programs.now.items c.args.i c.requires.there c.requires.slots (get_or c.args.site.now.slots.now c.args.i c.index-site-i.result) c.index_mut.result.now (ap (get_or c.args.site.now.slots.now c.args.i) c.index-site-i.is) c.index_mut.ensures.value))
+    (c.requires.running.at_group c.args.i
+    (within c.args.site.now.windows.now c.args.site.now.slots.now c.args.programs.now.items c.args.i c.requires.there c.requires.slots (get_or c.args.site.now.slots.now c.args.i c.index-site-i.result) c.index_mut.result.now (ap (get_or c.args.site.now.slots.now c.args.i) c.index-site-i.is) c.index_mut.ensures.value))
+
+pub hear-requires-clause-in_store : goal.hear-requires-clause-in_store
+hear-requires-clause-in_store g c =
+    subst (λ (x : Reach). x.base + x.size ≤ 32 * length c.args.store.now)
+    (sym (reach_is c.args.site.now.windows.now c.args.site.now.slots.now c.args.programs.now.items c.args.i c.requires.there c.requires.slots (get_or c.args.site.now.slots.now c.args.i c.index-site-i.result) c.index_mut.result.now (ap (get_or c.args.site.now.slots.now c.args.i) c.index-site-i.is) c.index_mut.ensures.value))
+    (c.requires.running.in_store c.args.i
+    (within c.args.site.now.windows.now c.args.site.now.slots.now c.args.programs.now.items c.args.i c.requires.there c.requires.slots (get_or c.args.site.now.slots.now c.args.i c.index-site-i.result) c.index_mut.result.now (ap (get_or c.args.site.now.slots.now c.args.i) c.index-site-i.is) c.index_mut.ensures.value))
+
+pub hear-requires-clause-active : goal.hear-requires-clause-active
+hear-requires-clause-active g c =
+    let s = shared_in c.args.store.now c.args.places.now.items in
+    let r = reach_at (reaches_in c.args.site.now.windows.now c.args.site.now.slots.now) c.args.i in
+    subst (λ (x : Reach). IsActive (part_in (seat_of c.index_mut.result.now) x) s)
+    (sym (reach_is c.args.site.now.windows.now c.args.site.now.slots.now c.args.programs.now.items c.args.i c.requires.there c.requires.slots (get_or c.args.site.now.slots.now c.args.i c.index-site-i.result) c.index_mut.result.now (ap (get_or c.args.site.now.slots.now c.args.i) c.index-site-i.is) c.index_mut.ensures.value))
+    (subst (λ x. IsActive (part_in x r) s)
+    (sym (seat_is c.args.site.now.windows.now c.args.site.now.slots.now c.args.programs.now.items c.args.i c.requires.there c.requires.slots (get_or c.args.site.now.slots.now c.args.i c.index-site-i.result) c.index_mut.result.now (ap (get_or c.args.site.now.slots.now c.args.i) c.index-site-i.is) c.index_mut.ensures.value))
+    (c.requires.running.active c.args.i
+    (within c.args.site.now.windows.now c.args.site.now.slots.now c.args.programs.now.items c.args.i c.requires.there c.requires.slots (get_or c.args.site.now.slots.now c.args.i c.index-site-i.result) c.index_mut.result.now (ap (get_or c.args.site.now.slots.now c.args.i) c.index-site-i.is) c.index_mut.ensures.value)
+    (ap is_live c.requires.live)))
 
 pub returns-then-slot-clause-asked : goal.returns-then-slot-clause-asked
 returns-then-slot-clause-asked g c =
