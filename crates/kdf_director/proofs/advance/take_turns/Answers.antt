@@ -1,8 +1,10 @@
 use Rattle.std.specs.Prelude.{IfOk, OnErr}
 use Rattle.std.proofs.Common.{◌+◌, List, set, sym, ap, ◌∙◌, refl, subst, arith}
 use Rattle.kdf_journal.specs.declared.entry.Entry.{Entry}
-use Rattle.kdf_journal.specs.Counts.{clock}
+use Rattle.kdf_journal.specs.Counts.{calls, clock, moves}
+use Rattle.std.proofs.lemmas.List.{length-map}
 use Rattle.kdf_director.specs.Fields.Batches.{AreQuiet, HasBatch, HasTriedOn}
+use Rattle.kdf_director.specs.Fields.Parts.{seat_of}
 use Rattle.kdf_places.specs.Shared.{shared_in}
 use Rattle.kdf_director.specs.Fields.Running.{reaches_in, seats_in}
 use Rattle.kdf_director.specs.Runs.{HasEntered, HasMadeButFewer, HasMadeOn}
@@ -24,6 +26,37 @@ loop-quiet-init g c =
       spare = c.in_ok-reserve.ensures.room;
       time = c.clock-time.ensures ∙ ap clock c.reserve.ensures.entries;
     }
+
+pub try_at-more-requires-clause-service : goal.try_at-more-requires-clause-service
+try_at-more-requires-clause-service g c = c.requires.service
+
+pub try_at-more-requires-clause-there : goal.try_at-more-requires-clause-there
+try_at-more-requires-clause-there g c = omega (arith, c.loop-quiet.invariant.going.there, length-map c.loop-quiet.programs.items seat_of)
+
+pub try_at-more-requires-clause-slots : goal.try_at-more-requires-clause-slots
+try_at-more-requires-clause-slots g c = c.requires.ready.many ∙ sym c.loop-quiet.invariant.many
+
+pub try_at-more-requires-clause-some : goal.try_at-more-requires-clause-some
+try_at-more-requires-clause-some g c = omega (arith, c.loop-quiet.invariant.left)
+
+pub try_at-more-requires-clause-running : goal.try_at-more-requires-clause-running
+try_at-more-requires-clause-running g c = c.loop-quiet.invariant.going.agrees.running
+
+pub try_at-more-requires-clause-dry : goal.try_at-more-requires-clause-dry
+try_at-more-requires-clause-dry g c = c.loop-quiet.invariant.dry
+
+pub index_mut-requires : goal.index_mut-requires
+index_mut-requires g c = omega (arith, c.loop-quiet.invariant.going.there, length-map c.loop-quiet.programs.items seat_of, c.try_at-more.ensures.many)
+
+pub enter_tried-requires-clause-room : goal.enter_tried-requires-clause-room
+enter_tried-requires-clause-room g c = omega (arith, c.loop-quiet.invariant.spare)
+
+pub enter_tried-requires-clause-few_calls : goal.enter_tried-requires-clause-few_calls
+enter_tried-requires-clause-few_calls g c =
+    omega (arith, ap calls c.loop-quiet.invariant.entries, c.requires.few, c.loop-quiet.invariant.left, c.try_at-more.ensures.within)
+
+pub enter_tried-requires-clause-few_moves : goal.enter_tried-requires-clause-few_moves
+enter_tried-requires-clause-few_moves g c = omega (arith, ap moves c.loop-quiet.invariant.entries, c.requires.ready.few_words)
 
 pub try_at-more-requires-clause-live : goal.try_at-more-requires-clause-live
 try_at-more-requires-clause-live g c = live (λ n a. goal.F-post g c.args.due.now.service.now n a) c.args.due.now.slots.now c.args.due.now.windows.now c.args.store.now c.args.programs.now.items c.args.places.now.items c.args.journal.now.entries c.args.journal.now.spare c.args.due.now.room c.requires.ready c.args.i c.requires.next c.loop-quiet.quiet (seats_in c.loop-quiet.programs.items) (shared_in c.loop-quiet.store c.loop-quiet.places.items) c.loop-quiet.invariant.going
