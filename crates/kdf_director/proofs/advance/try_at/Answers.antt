@@ -1,14 +1,54 @@
-use Rattle.std.proofs.Common.{◌≡◌, ap, ap₂, sym, subst, arith, get_or}
+use Rattle.std.proofs.Common.{◌≡◌, List, ap, ap₂, ◌∙◌, sym, subst, arith, get_or}
 use Rattle.kdf_director.specs.Fields.Batches.{AreQuiet, HasBatch, HasTurnedOn}
-use Rattle.kdf_director.specs.Fields.Parts.{Reach}
+use Rattle.kdf_director.specs.Fields.Parts.{Reach, Seat}
 use Rattle.kdf_places.specs.Shared.{Shared, shared_in}
-use Rattle.kdf_director.specs.Fields.Running.{reach_at, reaches_in, seats_in}
+use Rattle.kdf_director.specs.Fields.Running.{IsRunning, reach_at, reaches_in, seat_at, seats_in}
 use Rattle.kdf_director.specs.Fields.Shared.{moment}
 use Rattle.kdf_director.proofs.Turns.Batching.{told_by, told_still}
 use Rattle.kdf_director.proofs.Turns.HeardWords.{heard_then}
 use Rattle.kdf_director.proofs.Turns.OneProgram.{reach_there}
 use Rattle.kdf_director.proofs.Turns.AfterTheTry.{if_ok, on_err}
 use Rattle.kdf_director.proofs.advance.try_at.Goals as goal
+
+pub heard-answer-requires-clause-service : goal.heard-answer-requires-clause-service
+heard-answer-requires-clause-service g c = c.requires.service
+
+pub heard-answer-requires-clause-running : goal.heard-answer-requires-clause-running
+heard-answer-requires-clause-running g c = c.requires.running
+
+pub turn-requires-clause-there : goal.turn-requires-clause-there
+turn-requires-clause-there g c = omega (arith, c.requires.there, c.heard-answer.ensures.many)
+
+pub turn-requires-clause-slots : goal.turn-requires-clause-slots
+turn-requires-clause-slots g c = c.requires.slots ∙ sym c.heard-answer.ensures.many
+
+pub turn-requires-clause-live : goal.turn-requires-clause-live
+turn-requires-clause-live g c =
+    ap (λ (xs : List Seat). (seat_at xs c.args.batch.i).registers.state) c.heard-answer.ensures.seats ∙ c.requires.live
+
+pub turn-requires-clause-ran : goal.turn-requires-clause-ran
+turn-requires-clause-ran g c =
+    let same = ap (λ (xs : List Seat). (seat_at xs c.args.batch.i).registers.ran) c.heard-answer.ensures.seats in
+    omega (arith, same, c.requires.ran, c.batch_of.ensures.few)
+
+pub turn-requires-clause-running : goal.turn-requires-clause-running
+turn-requires-clause-running g c =
+    let rs = reaches_in c.args.site.now.windows.now c.args.site.now.slots.now in
+    let same = ap₂ (λ a v. shared_in a v.items) c.heard-answer.ensures.store c.heard-answer.ensures.places in
+    subst (λ (xs : List Seat). IsRunning rs xs (shared_in c.heard-answer.new.store c.heard-answer.new.places.items)) (sym c.heard-answer.ensures.seats)
+    (subst (λ (y : Shared). IsRunning rs (seats_in c.args.programs.now.items) y) (sym same) c.requires.running)
+
+pub returns-clause-running : goal.returns-clause-running
+returns-clause-running g c = c.turn.ensures.running
+
+pub returns-clause-holds : goal.returns-clause-holds
+returns-clause-holds g c = c.turn.ensures.holds ∙ c.heard-answer.ensures.holds
+
+pub returns-clause-many : goal.returns-clause-many
+returns-clause-many g c = c.turn.ensures.many ∙ c.heard-answer.ensures.many
+
+pub returns-clause-within : goal.returns-clause-within
+returns-clause-within g c = omega (arith, c.turn.ensures.within, c.batch_of.ensures.few)
 
 pub returns-clause-tried : goal.returns-clause-tried
 returns-clause-tried g c =
