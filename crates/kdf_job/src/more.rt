@@ -47,12 +47,12 @@ pub fn read_more(
         rest: bytes,
         number: first_line,
     };
-    job.events = read_behind(alloc, &job.events, lines)?;
+    job.events = read_after(alloc, &job.events, lines)?;
     Ok(())
 }
 
 /// Reads lines up to the end of a schedule that has these events already. The answer is all its events.
-fn read_behind(alloc: Global, events: &[Event], lines: Lines) -> Result<Vec<Event>, JobError>
+fn read_after(alloc: Global, events: &[Event], lines: Lines) -> Result<Vec<Event>, JobError>
     requires sound { IsSchedule events.now }
     ensures ok { OnOk result (fault_from lines.entry.number
         (scheduled InSchedule events.now) (ahead lines.entry) ≡ None) }

@@ -48,7 +48,7 @@ settled-label : (what : What) (section : Section) (at later place : ℕ) → set
 settled-label (Reference r) section at later place = refl
 settled-label what section at later place = refl
 
--- one statement more: what waited before it is settled where it is an order or opens a part, and a reference waits behind it
+-- one statement more: what waited before it is settled where it is an order or opens a part, and a reference waits after it
 pub labels-step : (ls now out : List (Entry Mark)) (known k : ℕ) (here here' : Here) (i : ℕ) (ss : List Statement) (s : Statement) (all : List (Entry Mark))
     → i < length ss → s ≡ get_or ss i s → here' ≡ after here s → k ≤ length now
     → ((later : ℕ) → waiting k now later ≡ waiting known ls (if is_order s.what || is_opening s.what then here.at else later))
@@ -72,7 +72,7 @@ labels-step ls now out known k here here' i ss s all lt is h within told pushed 
     ∙ sym split
     ∙ before
 
--- behind the last statement they wait no more
+-- after the last statement they wait no more
 pub labels-end : (ls : List (Entry Mark)) (known : ℕ) (here : Here) (i : ℕ) (ss : List Statement) (all : List (Entry Mark)) → length ss ≤ i
     → waiting known ls (next_order here.at (drop i ss)) ++ labels here (drop i ss) ≡ all → waiting known ls here.at ≡ all
 labels-end ls known here i ss all past before =

@@ -33,7 +33,7 @@ pub fn shift_arithmetic(registers: &mut Registers, code: u8, n: i16) -> Result<(
     settle(registers, 2, obeyed)
 }
 
-/// Goes on behind an order of so many syllables that was obeyed, or fails.
+/// Goes on after an order of so many syllables that was obeyed, or fails.
 #[inline(always)]
 fn settle(registers: &mut Registers, size: u16, obeyed: Result<(), Nouv>) -> Result<(), Failure>
     ensures ok { OnOk obeyed ((result ≡ Ok tt)

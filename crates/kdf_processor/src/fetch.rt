@@ -198,14 +198,14 @@ fn fetch_across<P: Port>(port: &P, at: u16) -> Fetched
     ensures { IsFetchedAt (P.shows port.now) at result }
 {
     match read_syllable(port, at) {
-        Syllable::Byte(first) => fetch_behind_first(port, at, first),
+        Syllable::Byte(first) => fetch_after_first(port, at, first),
         Syllable::Outside => Fetched::Bad,
         Syllable::Held(group) => Fetched::Held(group),
     }
 }
 
 /// The order at a syllable, which is this one.
-fn fetch_behind_first<P: Port>(port: &P, at: u16, first: u8) -> Fetched
+fn fetch_after_first<P: Port>(port: &P, at: u16, first: u8) -> Fetched
     requires { Syllable.Byte first ≡ syllable_read (P.shows port.now) at }
     ensures { IsFetchedAt (P.shows port.now) at result }
 {
@@ -214,14 +214,14 @@ fn fetch_behind_first<P: Port>(port: &P, at: u16, first: u8) -> Fetched
         return spelt(first, 0, 0);
     }
     match read_syllable(port, behind(at, 1)) {
-        Syllable::Byte(second) => fetch_behind_second(port, at, first, second),
+        Syllable::Byte(second) => fetch_after_second(port, at, first, second),
         Syllable::Outside => Fetched::Bad,
         Syllable::Held(group) => Fetched::Held(group),
     }
 }
 
 /// The order at a syllable, which begins with these two.
-fn fetch_behind_second<P: Port>(port: &P, at: u16, first: u8, second: u8) -> Fetched
+fn fetch_after_second<P: Port>(port: &P, at: u16, first: u8, second: u8) -> Fetched
     requires first { Syllable.Byte first ≡ syllable_read (P.shows port.now) at }
     requires second { Syllable.Byte second ≡ syllable_read (P.shows port.now) (on at 1) }
     requires longer { size_of_first first ≢ 1 }

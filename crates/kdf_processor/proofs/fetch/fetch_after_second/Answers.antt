@@ -3,7 +3,7 @@ use Rattle.kdf_processor.proofs.Syllables.{order_of_two, order_of_three, size_of
 use Rattle.kdf_processor.specs.Fetch.{syllable_read}
 use Rattle.kdf_processor.specs.Table.{on}
 use Rattle.kdf_processor.specs.declared.fetch.Syllable.TheVariants.{Byte}
-use Rattle.kdf_processor.proofs.fetch.fetch_behind_second.Goals as goal
+use Rattle.kdf_processor.proofs.fetch.fetch_after_second.Goals as goal
 
 pub returns-then-size-eq2 : goal.returns-then-size-eq2
 returns-then-size-eq2 g c =

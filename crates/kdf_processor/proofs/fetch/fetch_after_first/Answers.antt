@@ -1,6 +1,6 @@
 use Rattle.std.proofs.Common.{sym, ◌∙◌, rules}
 use Rattle.kdf_processor.proofs.Syllables.{order_of_one}
-use Rattle.kdf_processor.proofs.fetch.fetch_behind_first.Goals as goal
+use Rattle.kdf_processor.proofs.fetch.fetch_after_first.Goals as goal
 
 pub returns-then-size-eq1 : goal.returns-then-size-eq1
 returns-then-size-eq1 g c =
