@@ -18,3 +18,4 @@ pub mod TwoValues
 pub mod StopLines
 pub mod Hyphens
 pub mod Watches
+pub mod NamedCommands

@@ -24,7 +24,7 @@ watch_found : (found : Option (Bor (List ℕ) × Bor (List ℕ))) (r : Option Co
 watch_found None r P h = h
 watch_found (Some v) r P h = h.0
 
-pub watch_is : (name : List ℕ) (words : List (List ℕ)) (found : Option (Bor (List ℕ) × Bor (List ℕ))) (r : Option Command) (P : Type 0) → name ≡ codes "watch"
+pub watch_is : (words : List (List ℕ)) (found : Option (Bor (List ℕ) × Bor (List ℕ))) (r : Option Command) (P : Type 0)
     → option_map (λ (v : Bor (List ℕ) × Bor (List ℕ)). (v.0.now, v.1.now)) found ≡ both words
-    → MatchOption found (r ≡ None) (λ v. (r ≡ watch_at (slot_of_word v.0.now) (address_of_word v.1.now)) × P) → r ≡ command (name ∷ words)
-watch_is name words found r P is two h = watch_found found r P h ∙ ap watch_by two ∙ watch_words words ∙ ap (λ n. command (n ∷ words)) (sym is)
+    → MatchOption found (r ≡ None) (λ v. (r ≡ watch_at (slot_of_word v.0.now) (address_of_word v.1.now)) × P) → r ≡ command (codes "watch" ∷ words)
+watch_is words found r P two h = watch_found found r P h ∙ ap watch_by two ∙ watch_words words

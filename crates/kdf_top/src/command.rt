@@ -1,7 +1,7 @@
 //! The commands of the program.
-ghost use Rattle.std.specs.Prelude.{◌≡◌, ◌∷◌, true, false, IfOk, IfSome, is_some, map, string_bytes};
+ghost use Rattle.std.specs.Prelude.{◌≡◌, ◌∷◌, true, false, IfOk, IfSome, None, Some, codes, if◌then◌else◌, is_some, map, string_bytes};
 ghost use Rattle.kdf_top.specs.Commands.{HasAddress, HasSlot, address_of_word, command, input_of, limit_by, limit_of, made_of_word, slot_of_word, watch_at};
-ghost use Rattle.kdf_top.specs.Values.{any_hyphen};
+ghost use Rattle.kdf_top.specs.Values.{any_hyphen, is_empty};
 
 mod values;
 pub mod worked;
@@ -108,7 +108,7 @@ pub fn command_of(alloc: Global, words: &[String]) -> Result<Option<Command>, Al
     }
 }
 
-/// The commands: of each its name, the values that it takes, if any, and how they are read.
+/// The commands: of each its name, and the values that it takes, if any.
 #[tactic(auto, unfolding(crate::specs::Commands::command))]
 fn command_of_name(values: Values<'_>) -> Result<Option<Command>, AllocError>
     ensures value { IfOk result (λ c. c
@@ -117,16 +117,60 @@ fn command_of_name(values: Values<'_>) -> Result<Option<Command>, AllocError>
     ensures address { IfOk result (λ c. IfSome c HasAddress) }
 {
     match values.name {
-        "run" => Ok(values.none()?.then_some(Command::Run)),
-        "save" => Ok(values.none()?.then_some(Command::Save)),
-        "resume" => Ok(values.none()?.then_some(Command::Resume)),
-        "check" => Ok(values.none()?.then_some(Command::Check)),
-        "alone" => Ok(values.one()?.and_then(slot).map(Command::Alone)),
-        "asm" => Ok(values.one()?.and_then(slot).map(Command::Asm)),
-        "make" => Ok(values.one()?.and_then(made).map(Command::Make)),
-        "watch" => Ok(values.two()?.and_then(watch)),
+        "run" => bare(values, Command::Run),
+        "save" => bare(values, Command::Save),
+        "resume" => bare(values, Command::Resume),
+        "check" => bare(values, Command::Check),
+        "alone" => alone(values),
+        "asm" => asm(values),
+        "make" => make(values),
+        "watch" => watch(values),
         _ => Ok(None),
     }
+}
+
+/// A command that takes no value.
+fn bare(values: Values<'_>, asked: Command) -> Result<Option<Command>, AllocError>
+    ensures { IfOk result (λ c. c
+        ≡ (if is_empty (map string_bytes values.entry.words.now) then Some asked else None)) }
+{
+    Ok(values.none()?.then_some(asked))
+}
+
+#[tactic(auto, unfolding(crate::specs::Commands::command))]
+fn alone(values: Values<'_>) -> Result<Option<Command>, AllocError>
+    ensures value { IfOk result (λ c. c ≡ command (codes "alone" ∷ map string_bytes values.entry.words.now)) }
+    ensures slot { IfOk result (λ c. IfSome c HasSlot) }
+    ensures address { IfOk result (λ c. IfSome c HasAddress) }
+{
+    Ok(values.one()?.and_then(slot).map(Command::Alone))
+}
+
+#[tactic(auto, unfolding(crate::specs::Commands::command))]
+fn asm(values: Values<'_>) -> Result<Option<Command>, AllocError>
+    ensures value { IfOk result (λ c. c ≡ command (codes "asm" ∷ map string_bytes values.entry.words.now)) }
+    ensures slot { IfOk result (λ c. IfSome c HasSlot) }
+    ensures address { IfOk result (λ c. IfSome c HasAddress) }
+{
+    Ok(values.one()?.and_then(slot).map(Command::Asm))
+}
+
+#[tactic(auto, unfolding(crate::specs::Commands::command))]
+fn make(values: Values<'_>) -> Result<Option<Command>, AllocError>
+    ensures value { IfOk result (λ c. c ≡ command (codes "make" ∷ map string_bytes values.entry.words.now)) }
+    ensures slot { IfOk result (λ c. IfSome c HasSlot) }
+    ensures address { IfOk result (λ c. IfSome c HasAddress) }
+{
+    Ok(values.one()?.and_then(made).map(Command::Make))
+}
+
+#[tactic(auto, unfolding(crate::specs::Commands::command))]
+fn watch(values: Values<'_>) -> Result<Option<Command>, AllocError>
+    ensures value { IfOk result (λ c. c ≡ command (codes "watch" ∷ map string_bytes values.entry.words.now)) }
+    ensures slot { IfOk result (λ c. IfSome c HasSlot) }
+    ensures address { IfOk result (λ c. IfSome c HasAddress) }
+{
+    Ok(values.two()?.and_then(place))
 }
 
 /// The slot that a word names.
@@ -144,7 +188,7 @@ fn made(word: &str) -> Option<u16>
 }
 
 /// The watch that two words name.
-fn watch(words: (&str, &str)) -> Option<Command>
+fn place(words: (&str, &str)) -> Option<Command>
     ensures value { result ≡ watch_at (slot_of_word words.entry.0.now) (address_of_word words.entry.1.now) }
     ensures slot { IfSome result HasSlot }
     ensures address { IfSome result HasAddress }
