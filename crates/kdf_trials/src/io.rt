@@ -28,16 +28,26 @@ const READINGS: &[Reading] = &[
     (b"abcde", 100, &[3], 100, Ok(b"abcde")),
 ];
 
-/// What is read of a text is what the case says.
-fn reads(rt: &impl Abort, alloc: Global, case: Reading) -> Result<(), Fail> {
-    let (text, most, fail, limit, want) = case;
+/// A source over a text, of which a read gives at most so many bytes, and these reads fail.
+fn source_of(
+    rt: &impl Abort,
+    alloc: Global,
+    text: &[u8],
+    most: usize,
+    fail: &[u32],
+) -> Result<MemorySource, AllocError> {
     assert!(rt; most >= 1);
     let fail = fail.to_vec(alloc)?;
-    let mut source = MemorySource::new(text.to_vec(alloc)?, most, fail);
-    match (read_all(alloc, &mut source, limit), want) {
-        (Ok(bytes), Ok(want)) => assert!(rt; bytes.as_slice() == want, "of {limit}"),
-        (Err(end), Err(want)) => assert!(rt; end == want, "of {limit}"),
-        _ => panic!(rt; "of {limit}"),
+    Ok(MemorySource::new(text.to_vec(alloc)?, most, fail))
+}
+
+/// What is read of a text is what the case says.
+fn reads(rt: &impl Abort, alloc: Global, case: Reading) -> Result<(), AllocError> {
+    let (text, most, fail, limit, want) = case;
+    let mut source = source_of(rt, alloc, text, most, fail)?;
+    match read_all(alloc, &mut source, limit) {
+        Ok(bytes) => assert!(rt; want == Ok(bytes.as_slice()), "of {limit}"),
+        Err(end) => assert!(rt; want == Err(end), "of {limit}"),
     }
     Ok(())
 }
@@ -55,7 +65,7 @@ fn bytes_of(alloc: Global, count: u32) -> Result<Vec<u8>, AllocError> {
 const LONG_READINGS: [(usize, usize); 3] = [(10_000, 10_000), (3_000, 20_000), (4_096, 10_000)];
 
 /// A long text is read whole, or is too large by a byte.
-fn reads_long(rt: &impl Abort, alloc: Global, text: &[u8]) -> Result<(), Fail> {
+fn reads_long(rt: &impl Abort, alloc: Global, text: &[u8]) -> Result<(), AllocError> {
     for (most, limit) in LONG_READINGS {
         reads(rt, alloc, (text, most, &[], limit, Ok(text)))?;
     }
@@ -68,7 +78,8 @@ fn reads_to_the_end_of_memory(rt: HostRuntime) -> Result<(), Fail> {
         reads(&rt, rt.alloc(), *case)?;
     }
     let text = bytes_of(rt.alloc(), 10_000)?;
-    reads_long(&rt, rt.alloc(), &text)
+    reads_long(&rt, rt.alloc(), &text)?;
+    Ok(())
 }
 
 /// A text with the room, the most bytes of a put, the puts that fail, how it ends, and what is

@@ -3,6 +3,7 @@ ghost use Rattle.std.specs.Prelude.{◌≡◌, ◌+◌, ◌*◌, ◌/◌, ◌%�
 
 use kdf_service::Service;
 use kdf_word::Word;
+use std::process::Abort;
 
 /// How many numbers a half of a word tells apart.
 const HALF: u64 = 1 << 24;
@@ -36,11 +37,16 @@ const ANSWERS: [(u64, u64, u64); 4] = [
     (0o77777777_77777776, 0o77777776_77777777, 4),
 ];
 
+/// The services answer a word so.
+fn answer(rt: &impl Abort, word: Word, exchanged: u64, onward: u64) {
+    assert!(rt; exchange(word).bits() == exchanged);
+    assert!(rt; further(word, 6).bits() == onward);
+}
+
 #[test]
 fn services_answer_by_their_closures(rt: HostRuntime) {
     for (word, exchanged, onward) in ANSWERS {
         let word = Word::new(word % (1 << 48));
-        assert!(rt; exchange(word).bits() == exchanged);
-        assert!(rt; further(word, 6).bits() == onward);
+        answer(&rt, word, exchanged, onward);
     }
 }
