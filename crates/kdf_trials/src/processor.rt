@@ -3,6 +3,7 @@ mod bench;
 
 use self::bench::{Bench, Call};
 use kdf_journal::Kind;
+use kdf_nest::Nest;
 use kdf_processor::{
     Ahead, Failure, Life, Need, Registers, Step, fetch_order, look_ahead, obey, obey_fetched,
 };
@@ -423,62 +424,107 @@ fn registers(at: u16, nest: &[u64], q: (u16, u16, u16)) -> Registers {
     registers.q.keep(1, Triple { c, i, m });
     registers.at = at;
     registers.ran = 41;
-    for place in 0..nest.len() {
-        push(&mut registers, nest[nest.len() - 1 - place]);
-    }
+    fill(&mut registers.nest, nest);
     registers
 }
 
-/// Pushes a word, where there is room.
-fn push(registers: &mut Registers, bits: u64) {
-    if registers.nest.depth() < 16 {
-        registers.nest.push(Word::new(bits % (1 << 48)));
+/// Pushes words, the first of which comes to the top.
+fn fill(nest: &mut Nest, words: &[u64]) {
+    for place in 0..words.len() {
+        push(nest, words[words.len() - 1 - place]);
     }
 }
 
-/// Tries an order, and compares; and the same where it is fetched by itself.
+/// Pushes a word, where there is room.
+fn push(nest: &mut Nest, bits: u64) {
+    if nest.depth() < 16 {
+        nest.push(Word::new(bits % (1 << 48)));
+    }
+}
+
+/// Tries an order, and compares.
 fn check(rt: &impl Abort, case: &Case, reach: Reach, due: Step) {
     let mut bench = port(case.word, reach);
     let mut program = registers(case.at, case.nest, case.q);
     assert!(rt; program.state == Life::Live && program.ran == 41);
     let step = obey(&mut program, &mut bench);
-    compare(rt, case, due, step, &program, bench.call);
+    compare(rt, case, due, step, bench.call);
+    compare_registers(rt, case, due, &program);
+}
+
+/// And the same where it is fetched by itself.
+fn check_fetched(rt: &impl Abort, case: &Case, reach: Reach, due: Step) {
     let mut bench = port(case.word, reach);
     let mut program = registers(case.at, case.nest, case.q);
     assert!(rt; program.state == Life::Live && program.ran == 41);
     let fetched = fetch_order(&bench, program.at);
     let step = obey_fetched(&mut program, &mut bench, fetched);
-    compare(rt, case, due, step, &program, bench.call);
+    compare(rt, case, due, step, bench.call);
+    compare_registers(rt, case, due, &program);
 }
 
-/// Compares how an order went, its acting call, and the registers after it.
-fn compare(rt: &impl Abort, case: &Case, due: Step, step: Step, after: &Registers, call: Call) {
+/// The acting call of a case that goes so.
+fn call_of(case: &Case, due: Step) -> Call {
+    match due {
+        Step::Done => case.call,
+        Step::Held(_) | Step::Fails(_) | Step::Ends => Call::Nothing,
+    }
+}
+
+/// Compares how an order went, and its acting call.
+fn compare(rt: &impl Abort, case: &Case, due: Step, step: Step, call: Call) {
     let name = case.name;
-    let (goes_on, ran, state, acted) = match due {
-        Step::Done => (true, 42, Life::Live, case.call),
-        Step::Held(_) => (false, 41, Life::Live, Call::Nothing),
-        Step::Fails(failure) => (false, 42, Life::Failed(failure), Call::Nothing),
-        Step::Ends => (true, 42, Life::Ended, Call::Nothing),
-    };
     assert!(rt; step == due, "{name}");
-    assert!(rt; call == acted, "{name}");
+    assert!(rt; call == call_of(case, due), "{name}");
+}
+
+/// Whether a program goes on, how many orders it has obeyed, and its state, where the last one went so.
+fn life_after(due: Step) -> (bool, u32, Life) {
+    match due {
+        Step::Done => (true, 42, Life::Live),
+        Step::Held(_) => (false, 41, Life::Live),
+        Step::Fails(failure) => (false, 42, Life::Failed(failure)),
+        Step::Ends => (true, 42, Life::Ended),
+    }
+}
+
+/// Compares the registers after an order.
+fn compare_registers(rt: &impl Abort, case: &Case, due: Step, after: &Registers) {
+    let name = case.name;
+    let (goes_on, ran, state) = life_after(due);
     assert!(rt; after.state == state && after.ran == ran, "{name}");
     assert!(rt; goes_on == (after.at != case.at), "{name}");
     assert!(rt; goes_on || after.nest.depth() == case.nest.len(), "{name}");
 }
 
-#[test]
-fn orders_are_held_up_by_their_needs_in_order(rt: HostRuntime) {
-    for case in &ORDERS {
-        for (reach, due) in case.tries {
-            check(&rt, case, *reach, *due);
-        }
+/// Tries an order in both ways, with each thing out of reach.
+fn check_case(rt: &impl Abort, case: &Case) {
+    for (reach, due) in case.tries {
+        check(rt, case, *reach, *due);
+        check_fetched(rt, case, *reach, *due);
     }
+}
+
+/// What lies ahead is what the rows say.
+fn look(rt: &impl Abort) {
     for (word, nest, q, out, due) in LOOKS {
         let bench = port(word, (out, 16, 16, true));
         assert!(rt; look_ahead(&registers(0, nest, q), &bench) == due);
     }
+}
+
+/// An order that asks the service asks for its word.
+fn look_at_service(rt: &impl Abort) {
     let bench = port(0x2100_0000_0000, (6, 16, 16, true));
     let asks = look_ahead(&registers(0, &[64, 7], (0, 0, 0)), &bench);
     assert!(rt; asks == Ahead::Asks(Word::new(7)));
+}
+
+#[test]
+fn orders_are_held_up_by_their_needs_in_order(rt: HostRuntime) {
+    for case in &ORDERS {
+        check_case(&rt, case);
+    }
+    look(&rt);
+    look_at_service(&rt);
 }
