@@ -1,11 +1,15 @@
 //! Programs run alone, with answers: all orders at once, and order by order.
+ghost use Rattle.std.specs.Prelude.{◌≡◌, ◌<◌, true};
+ghost use Rattle.kdf_alone.specs.Program.{IsApart};
+ghost use Rattle.kdf_job.specs.Shows.{shown_slot};
+ghost use Rattle.kdf_processor.specs.Lone.{is_live};
+
+use crate::director::{image_of, job_of};
 use crate::pool::slot_at;
 use kdf_alone::Alone;
-use kdf_job::read_job;
+use kdf_job::SlotJob;
 use kdf_nest::Nest;
-use kdf_place::assemble;
 use kdf_processor::Life;
-use kdf_usercode::read_deck;
 use std::alloc::{AllocError, Global};
 use std::process::Abort;
 use std::test::Fail;
@@ -107,45 +111,49 @@ const CASES: &[Case] = &[
     (SPOOLS, "", &[], 23, (23, 24, false, (0, [0, 0, 0]), 5, 0)),
 ];
 
-/// A program as it is loaded from the slot of a job, whose deck has no fault.
-fn load(rt: &impl Abort, alloc: Global, case: &Case) -> Result<Alone, AllocError> {
+/// The job of a case.
+fn job_text(alloc: Global, case: &Case) -> Result<String, AllocError> {
     let (deck, line) = (case.0, case.1);
-    let text = format!(in alloc;
+    format!(in alloc;
         "KDF9 JOB 1\nSLOT 0\nSTORE 64\nDECK\n{deck}\nENDDECK\n{line}SCHEDULE\nENDJOB\n"
-    )?;
-    assert!(rt; text.len() < 1000);
-    let Ok(job) = read_job(alloc, text.as_bytes()) else {
-        return Err(AllocError);
-    };
-    assert!(rt; !job.slots.is_empty());
-    let slot = slot_at(&job, 0);
-    assert!(rt; slot.deck.len() < 1000 && slot.size <= 8192);
-    let Ok(deck) = read_deck(alloc, &slot.deck) else {
-        return Err(AllocError);
-    };
-    let Ok(image) = assemble(alloc, &deck, slot.size) else {
-        return Err(AllocError);
-    };
+    )
+}
+
+/// A program as it is loaded from a slot, whose deck has no fault.
+fn load_slot(rt: &impl Abort, alloc: Global, slot: &SlotJob) -> Result<Alone, AllocError>
+    requires { IsApart (shown_slot slot.now) }
+{
+    assert!(rt; slot.deck.len() < 1000);
+    let image = image_of(rt, alloc, slot)?;
     assert!(rt; image.words.len() <= usize::from(slot.size));
     Alone::load(alloc, slot, &image)
 }
 
+/// A program as it is loaded from the slot of a job.
+fn load(rt: &impl Abort, alloc: Global, case: &Case) -> Result<Alone, AllocError> {
+    let text = job_text(alloc, case)?;
+    assert!(rt; text.len() < 1000);
+    let job = job_of(rt, alloc, text.as_str())?;
+    assert!(rt; !job.slots.is_empty());
+    load_slot(rt, alloc, slot_at(&job, 0))
+}
+
 fn seen(program: &Alone) -> Seen {
     let registers = program.registers();
-    let nest = &registers.nest;
-    let words = [word_in(nest, 0), word_in(nest, 1), word_in(nest, 2)];
-    let place = match program.device(1) {
-        Some(device) => device.place(),
-        None => 0,
-    };
     (
         registers.ran,
         registers.at,
         registers.flags.tr,
-        (nest.depth(), words),
+        words_in(&registers.nest),
         program.spooled().len(),
-        place,
+        place_of(program),
     )
+}
+
+/// How deep a nest is, and its first three words.
+fn words_in(nest: &Nest) -> (usize, [u64; 3]) {
+    let words = [word_in(nest, 0), word_in(nest, 1), word_in(nest, 2)];
+    (nest.depth(), words)
 }
 
 /// The word at a place of a nest, or 0 where it isn't so deep.
@@ -157,35 +165,80 @@ fn word_in(nest: &Nest, i: usize) -> u64 {
     }
 }
 
-/// Obeys orders one by one, each by a second call where memory is refused to the first, which then
-/// changes nothing.
+/// The place of device 1, or 0 where there is none.
+fn place_of(program: &Alone) -> u32 {
+    match program.device(1) {
+        Some(device) => device.place(),
+        None => 0,
+    }
+}
+
+/// A program is live, and has obeyed few orders.
+fn is_ready(rt: &impl Abort, program: &Alone)
+    ensures live { is_live program.now.registers.state ≡ true }
+    ensures few { program.now.registers.ran < 1000 }
+{
+    assert!(rt; program.registers().state == Life::Live);
+    assert!(rt; program.registers().ran < 1000);
+}
+
+/// Obeys the order to which memory was refused, which then changed nothing.
+fn obey_again(
+    rt: &impl Abort,
+    program: &mut Alone,
+    answers: &[u64],
+    before: Seen,
+) -> Result<(), AllocError> {
+    assert!(rt; seen(program) == before);
+    is_ready(rt, program);
+    program.order(answers)?;
+    Ok(())
+}
+
+/// Obeys an order, by a second call where memory is refused to the first.
+fn obey_next(rt: &impl Abort, program: &mut Alone, answers: &[u64]) -> Result<(), AllocError> {
+    is_ready(rt, program);
+    let before = seen(program);
+    if program.order(answers).is_ok() {
+        return Ok(());
+    }
+    obey_again(rt, program, answers, before)
+}
+
+/// Obeys orders one by one.
 fn obey(rt: &impl Abort, program: &mut Alone, answers: &[u64], n: u32) -> Result<(), AllocError> {
     for _ in 0..n {
         if program.registers().state != Life::Live {
             return Ok(());
         }
-        assert!(rt; program.registers().ran < 1000);
-        let before = seen(program);
-        if program.order(answers).is_err() {
-            assert!(rt; seen(program) == before);
-            assert!(rt; program.registers().state == Life::Live && program.registers().ran < 1000);
-            program.order(answers)?;
-        }
+        obey_next(rt, program, answers)?;
     }
     Ok(())
 }
 
-/// Runs a program in both ways, and compares.
-fn check(rt: &impl Abort, alloc: Global, case: &Case) -> Result<(), AllocError> {
+/// Runs a program by all orders at once.
+fn check_at_once(rt: &impl Abort, alloc: Global, case: &Case) -> Result<(), AllocError> {
     let (deck, _, answers, n, due) = *case;
     let mut program = load(rt, alloc, case)?;
     assert!(rt; program.registers().ran == 0);
     program.orders(answers, n)?;
     assert!(rt; seen(&program) == due, "{deck}");
+    Ok(())
+}
+
+/// Runs a program order by order.
+fn check_one_by_one(rt: &impl Abort, alloc: Global, case: &Case) -> Result<(), AllocError> {
+    let (deck, _, answers, n, due) = *case;
     let mut program = load(rt, alloc, case)?;
     obey(rt, &mut program, answers, n)?;
     assert!(rt; seen(&program) == due, "{deck}, one by one");
     Ok(())
+}
+
+/// Runs a program in both ways, and compares.
+fn check(rt: &impl Abort, alloc: Global, case: &Case) -> Result<(), AllocError> {
+    check_at_once(rt, alloc, case)?;
+    check_one_by_one(rt, alloc, case)
 }
 
 /// It passes also where memory is refused once.

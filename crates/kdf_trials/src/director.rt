@@ -1,10 +1,13 @@
 //! A machine call by call: what each call answers, and what the journal tells then.
-ghost use Rattle.std.specs.Prelude.{◌≤◌, [], ◌∷◌, IfOk, length, map};
-ghost use Rattle.kdf_director.specs.Loading.{HaveImages, slots_of};
+ghost use Rattle.std.specs.Prelude.{◌+◌, ◌<◌, ◌≤◌, IfOk, length, map};
+ghost use Rattle.kdf_director.specs.Loading.{HaveImages};
 ghost use Rattle.kdf_job.specs.Shows.{shown_job, shown_slot};
 ghost use Rattle.kdf_job.specs.WellFormed.{IsJob};
 ghost use Rattle.kdf_place.specs.declared.image.Image.{Image as Made};
+ghost use Rattle.kdf_service.specs.Rules.{IsService};
+ghost use Rattle.kdf_usercode.specs.WellFormed.{IsWellFormed};
 
+use crate::pool::images_of;
 use kdf_director::{Machine, Progress};
 use kdf_job::{Job, SlotJob, read_job};
 use kdf_journal::CALL_LIMIT;
@@ -12,7 +15,7 @@ use kdf_place::{Image, assemble};
 use kdf_processor::Need;
 use kdf_report::journal_text;
 use kdf_service::Service;
-use kdf_usercode::read_deck;
+use kdf_usercode::{Deck, read_deck};
 use std::alloc::{AllocError, Global};
 use std::process::Abort;
 use std::test::Fail;
@@ -80,24 +83,53 @@ pub fn job_of(rt: &impl Abort, alloc: Global, text: &str) -> Result<Job, AllocEr
 pub fn image_of(rt: &impl Abort, alloc: Global, slot: &SlotJob) -> Result<Image, AllocError>
     ensures { IfOk result (λ image. length image.words.items ≤ slot.now.size) }
 {
-    assert!(rt; slot.deck.len() < 100_000 && slot.size <= 8192);
-    let Ok(deck) = read_deck(alloc, &slot.deck) else {
-        return Err(AllocError);
-    };
+    let deck = deck_of(rt, alloc, &slot.deck)?;
+    assert!(rt; slot.size <= 8192);
     match assemble(alloc, &deck, slot.size) {
         Ok(image) => Ok(image),
         Err(_) => Err(AllocError),
     }
 }
 
+/// A deck that is read, which has no fault.
+fn deck_of(rt: &impl Abort, alloc: Global, text: &[u8]) -> Result<Deck, AllocError>
+    ensures { IfOk result IsWellFormed }
+{
+    assert!(rt; text.len() < 100_000);
+    match read_deck(alloc, text) {
+        Ok(deck) => Ok(deck),
+        Err(_) => Err(AllocError),
+    }
+}
+
+/// A call has this answer.
+fn expect_one<F: Fn(u64) -> u64>(
+    rt: &impl Abort,
+    machine: &mut Machine,
+    service: &Service<F>,
+    due: Progress,
+) -> Result<(), AllocError>
+    requires { IsService (F.pre service.now) (F.post service.now) }
+{
+    assert!(rt; machine.journal().calls() < CALL_LIMIT);
+    let progress = machine.order_with(service)?;
+    assert!(rt; progress == due);
+    Ok(())
+}
+
 /// One call for each of these answers.
 fn expect(rt: &impl Abort, machine: &mut Machine, due: &[Progress]) -> Result<(), AllocError> {
     let service = Service::new(|word: u64| word);
     for progress in due {
-        assert!(rt; machine.journal().calls() < CALL_LIMIT);
-        assert!(rt; machine.order_with(&service)? == *progress);
+        expect_one(rt, machine, &service, *progress)?;
     }
     Ok(())
+}
+
+/// The transfer of device 3 ends.
+fn end_transfer(rt: &impl Abort, machine: &mut Machine) {
+    assert!(rt; machine.room() > 0);
+    machine.end(3);
 }
 
 /// Each call of the whole run has its answer, and the journal tells what happened.
@@ -107,10 +139,27 @@ fn answers_each_call(
     machine: &mut Machine,
 ) -> Result<(), AllocError> {
     expect(rt, machine, &BEFORE)?;
-    assert!(rt; machine.room() > 0);
-    machine.end(3);
+    end_transfer(rt, machine);
     expect(rt, machine, &AFTER)?;
     tells_what_happened(rt, alloc, machine)
+}
+
+/// After so many calls, these many in turn answer as the last of them would by itself.
+fn expect_in_turn(
+    rt: &impl Abort,
+    machine: &mut Machine,
+    calls: u32,
+    most: u32,
+    due: Progress,
+) -> Result<(), AllocError>
+    requires some { 0 < most }
+    requires few { calls + most ≤ CALL_LIMIT }
+{
+    let service = Service::new(|word: u64| word);
+    assert!(rt; machine.journal().calls() == calls);
+    let progress = machine.orders_with(most, &service)?;
+    assert!(rt; progress == due);
+    Ok(())
 }
 
 /// Calls in turn answer as the last of them would by itself, and end where no program is live.
@@ -119,13 +168,10 @@ fn answers_calls_in_turn(
     alloc: Global,
     machine: &mut Machine,
 ) -> Result<(), AllocError> {
-    let service = Service::new(|word: u64| word);
-    assert!(rt; machine.journal().calls() == 0);
-    assert!(rt; machine.orders_with(12, &service)? == Progress::Idle);
-    assert!(rt; machine.room() > 0 && machine.journal().calls() == 12);
-    machine.end(3);
+    expect_in_turn(rt, machine, 0, 12, Progress::Idle)?;
     assert!(rt; machine.journal().calls() == 12);
-    assert!(rt; machine.orders_with(CALL_LIMIT - 12, &service)? == Progress::AllEnded);
+    end_transfer(rt, machine);
+    expect_in_turn(rt, machine, 12, CALL_LIMIT - 12, Progress::AllEnded)?;
     tells_what_happened(rt, alloc, machine)
 }
 
@@ -140,8 +186,13 @@ fn tells_what_happened(
     Ok(())
 }
 
-/// The machine of a job goes call by call, and another one many calls in turn.
-fn check(rt: &impl Abort, alloc: Global, job: &Job, images: &[Image]) -> Result<(), AllocError>
+/// The machine of a job goes call by call.
+fn check_each_call(
+    rt: &impl Abort,
+    alloc: Global,
+    job: &Job,
+    images: &[Image],
+) -> Result<(), AllocError>
     requires job { IsJob (shown_job job.now) }
     requires images { HaveImages (map shown_slot job.now.slots.items)
         (map (λ (x : Made). x.words.items) images.now) }
@@ -149,21 +200,40 @@ fn check(rt: &impl Abort, alloc: Global, job: &Job, images: &[Image]) -> Result<
     let mut machine = Machine::load(alloc, job, images)?;
     let answered = answers_each_call(rt, alloc, &mut machine);
     machine.close();
-    answered?;
+    answered
+}
+
+/// The machine of a job goes many calls in turn.
+fn check_calls_in_turn(
+    rt: &impl Abort,
+    alloc: Global,
+    job: &Job,
+    images: &[Image],
+) -> Result<(), AllocError>
+    requires job { IsJob (shown_job job.now) }
+    requires images { HaveImages (map shown_slot job.now.slots.items)
+        (map (λ (x : Made). x.words.items) images.now) }
+{
     let mut machine = Machine::load(alloc, job, images)?;
     let answered = answers_calls_in_turn(rt, alloc, &mut machine);
     machine.close();
     answered
 }
 
+/// The machine of a job of one slot goes call by call, and another one many calls in turn.
+fn check(rt: &impl Abort, alloc: Global, job: &Job) -> Result<(), AllocError>
+    requires { IsJob (shown_job job.now) }
+{
+    assert!(rt; job.slots.len() == 1);
+    let images = images_of(rt, alloc, &job.slots)?;
+    check_each_call(rt, alloc, job, &images)?;
+    check_calls_in_turn(rt, alloc, job, &images)
+}
+
 #[test]
 fn each_call_has_its_answer(rt: HostRuntime) -> Result<(), Fail> {
     let alloc = rt.alloc();
     let job = job_of(&rt, alloc, READS_TAPE)?;
-    if let [slot] = job.slots.as_slice() {
-        let images = [image_of(&rt, alloc, slot)?];
-        check(&rt, alloc, &job, &images)?;
-    }
-    assert!(rt; job.slots.len() == 1);
+    check(&rt, alloc, &job)?;
     Ok(())
 }
