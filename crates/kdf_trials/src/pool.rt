@@ -32,22 +32,38 @@ const ORDERS: [u32; 8] = [1, 2, 3, 5, 7, 11, 20, 60];
 /// How many rounds a schedule has.
 const ROUNDS: u32 = 300;
 
-/// Round `i` of schedule `k`: an exchange, orders, and then of each device a word that moves or not, and its end in this round or in
-/// a later one.
-fn write_round(out: &mut String, k: u32, i: u32, devices: &[u8]) -> Result<(), AllocError> {
+/// An exchange and the orders of round `i` of schedule `k`.
+fn write_orders(out: &mut String, k: u32, i: u32) -> Result<(), AllocError> {
     let orders = ORDERS[(k % 8) as usize];
     let (p, q) = (i % 4, (i / 4 % 4 + k % 4) % 4);
-    writeln!(out, "SWAP {p} {q}\nORDERS {orders}")?;
+    writeln!(out, "SWAP {p} {q}\nORDERS {orders}")
+}
+
+/// The clock of round `i`, in each third schedule.
+fn write_clock(out: &mut String, k: u32, i: u32) -> Result<(), AllocError> {
     if k % 3 == 1 {
         writeln!(out, "CLOCK {i}")?;
     }
+    Ok(())
+}
+
+/// A word of a device that moves or not, and its end in round `i` or in a later one.
+fn write_device(out: &mut String, k: u32, i: u32, d: u8) -> Result<(), AllocError> {
+    if k % 4 == 2 {
+        writeln!(out, "MOVE {d} 1")?;
+    }
+    if i % (k % 5 + 1) == u32::from(d) % (k % 5 + 1) {
+        writeln!(out, "END {d}")?;
+    }
+    Ok(())
+}
+
+/// Round `i` of schedule `k`: an exchange, orders, and then what each device does.
+fn write_round(out: &mut String, k: u32, i: u32, devices: &[u8]) -> Result<(), AllocError> {
+    write_orders(out, k, i)?;
+    write_clock(out, k, i)?;
     for d in devices {
-        if k % 4 == 2 {
-            writeln!(out, "MOVE {d} 1")?;
-        }
-        if i % (k % 5 + 1) == u32::from(*d) % (k % 5 + 1) {
-            writeln!(out, "END {d}")?;
-        }
+        write_device(out, k, i, *d)?;
     }
     Ok(())
 }
@@ -101,28 +117,48 @@ fn obey(rt: &impl Abort, machine: &mut Machine, orders: u32) -> Result<(), Alloc
     Ok(())
 }
 
+fn move_words(rt: &impl Abort, machine: &mut Machine, d: u8, n: u16)
+    requires { 0 < machine.old.room }
+    ensures { machine.new.slots ≡ machine.old.slots }
+{
+    assert!(rt; d < 16 && n > 0 && n <= 4096);
+    machine.move_words(d, n);
+}
+
+fn end(rt: &impl Abort, machine: &mut Machine, d: u8)
+    requires { 0 < machine.old.room }
+    ensures { machine.new.slots ≡ machine.old.slots }
+{
+    assert!(rt; d < 16);
+    machine.end(d);
+}
+
+fn set_clock(rt: &impl Abort, machine: &mut Machine, t: u64)
+    requires { 0 < machine.old.room }
+    ensures { machine.new.slots ≡ machine.old.slots }
+{
+    assert!(rt; machine.journal().clock() <= t);
+    machine.clock(t);
+}
+
+fn swap(rt: &impl Abort, machine: &mut Machine, p: u8, q: u8)
+    requires { 0 < machine.old.room }
+    ensures { machine.new.slots ≡ machine.old.slots }
+{
+    assert!(rt; p < 4 && q < 4);
+    machine.swap(p, q);
+}
+
 fn enter(rt: &impl Abort, machine: &mut Machine, event: Event) -> Result<(), AllocError>
     ensures { machine.new.slots ≡ machine.old.slots }
 {
     assert!(rt; machine.room() > 0);
     match event {
-        Event::Orders(n) => obey(rt, machine, n)?,
-        Event::Move(d, n) => {
-            assert!(rt; d < 16 && n > 0 && n <= 4096);
-            machine.move_words(d, n);
-        }
-        Event::End(d) => {
-            assert!(rt; d < 16);
-            machine.end(d);
-        }
-        Event::Clock(t) => {
-            assert!(rt; machine.journal().clock() <= t);
-            machine.clock(t);
-        }
-        Event::Swap(p, q) => {
-            assert!(rt; p < 4 && q < 4);
-            machine.swap(p, q);
-        }
+        Event::Orders(n) => return obey(rt, machine, n),
+        Event::Move(d, n) => move_words(rt, machine, d, n),
+        Event::End(d) => end(rt, machine, d),
+        Event::Clock(t) => set_clock(rt, machine, t),
+        Event::Swap(p, q) => swap(rt, machine, p, q),
     }
     Ok(())
 }
@@ -155,6 +191,34 @@ fn alone_after(
     Ok(program)
 }
 
+/// The program of a slot, run alone as a machine ran it.
+fn lone(
+    rt: &impl Abort,
+    alloc: Global,
+    machine: &Machine,
+    slot: &SlotJob,
+    image: &Image,
+) -> Result<Alone, AllocError>
+    requires slot { IsSlot (shown_slot slot.now) }
+    requires apart { IsApart (shown_slot slot.now) }
+    ensures { IfOk result (λ program. IsProgramOf (shown_slot slot.now) program) }
+{
+    assert!(rt; image.words.len() <= usize::from(slot.size));
+    let answers = machine.journal().answers(alloc, slot.p)?;
+    let orders = machine.journal().ran(slot.p);
+    alone_after(alloc, slot, image, &answers, orders)
+}
+
+/// The section of a program that was run alone is among these.
+fn has_section(rt: &impl Abort, sections: &[u8], alone: &[u8], p: u8) {
+    assert!(rt; alone.len() > 24);
+    let section = &alone[13..alone.len() - 10];
+    assert!(rt;
+        sections.windows(section.len()).any(|part| part == section),
+        "slot {p}"
+    );
+}
+
 /// The program of a slot is over, and has the section that it has alone among these.
 fn compare(
     rt: &impl Abort,
@@ -167,19 +231,10 @@ fn compare(
     requires slot { IsSlot (shown_slot slot.now) }
     requires apart { IsApart (shown_slot slot.now) }
 {
-    assert!(rt; image.words.len() <= usize::from(slot.size));
-    let answers = machine.journal().answers(alloc, slot.p)?;
-    let orders = machine.journal().ran(slot.p);
-    let program = alone_after(alloc, slot, image, &answers, orders)?;
-    let p = slot.p;
-    assert!(rt; program.registers().state != Life::Live, "slot {p}");
+    let program = lone(rt, alloc, machine, slot, image)?;
+    assert!(rt; program.registers().state != Life::Live, "slot {}", slot.p);
     let alone = alone_text(alloc, slot, &program)?;
-    assert!(rt; alone.len() > 24);
-    let section = &alone[13..alone.len() - 10];
-    assert!(rt;
-        sections.windows(section.len()).any(|part| part == section),
-        "slot {p}"
-    );
+    has_section(rt, sections, &alone, slot.p);
     Ok(())
 }
 
@@ -224,27 +279,36 @@ fn compare_all(
     Ok(())
 }
 
+/// Compares the programs of a job.
+fn check_job(rt: &impl Abort, alloc: Global, job: &Job) -> Result<(), AllocError>
+    requires { IsJob (shown_job job.now) }
+{
+    let images = images_of(rt, alloc, &job.slots)?;
+    let mut machine = Machine::load(alloc, job, &images)?;
+    let compared = compare_all(rt, alloc, &mut machine, job, &images);
+    machine.close();
+    compared
+}
+
 /// Compares the programs of a job under schedule `k`.
 fn check(rt: &impl Abort, alloc: Global, shared: &Shared, k: u32) -> Result<(), AllocError> {
     let text = job_text(alloc, shared, k)?;
     let job = job_of(rt, alloc, text.as_str())?;
-    let images = images_of(rt, alloc, &job.slots)?;
-    let mut machine = Machine::load(alloc, &job, &images)?;
-    let compared = compare_all(rt, alloc, &mut machine, &job, &images);
-    machine.close();
-    compared
+    check_job(rt, alloc, &job)
+}
+
+/// Compares the programs of a job under twenty schedules.
+fn check_each(rt: &impl Abort, alloc: Global, shared: &Shared) {
+    let name = shared.name;
+    for k in 0..20u32 {
+        assert!(rt; check(rt, alloc, shared, k).is_ok(), "{name}, schedule {k}");
+    }
 }
 
 #[test]
 fn programs_of_a_pool_end_as_alone(rt: HostRuntime) -> Result<(), Fail> {
     for shared in &JOBS {
-        for k in 0..20u32 {
-            let name = shared.name;
-            assert!(rt;
-                check(&rt, rt.alloc(), shared, k).is_ok(),
-                "{name}, schedule {k}"
-            );
-        }
+        check_each(&rt, rt.alloc(), shared);
     }
     Ok(())
 }
