@@ -9,7 +9,7 @@ use crate::pool::images_of;
 use kdf_check::{Verdict, check_with};
 use kdf_job::Job;
 use kdf_service::Service;
-use printed::PRINTED;
+use printed::{PRINTED, Printed};
 use std::alloc::{AllocError, Global};
 use std::process::Abort;
 use std::test::Fail;
@@ -27,14 +27,19 @@ fn verdict(rt: &impl Abort, alloc: Global, job: &Job, report: &str) -> Result<Ve
     check_with(alloc, job, &images, report.as_bytes(), &service)
 }
 
+/// A printed report has its verdict.
+fn has_verdict(rt: &impl Abort, alloc: Global, printed: &Printed) -> Result<(), AllocError> {
+    let name = printed.name;
+    let job = job_of(rt, alloc, printed.job)?;
+    let verdict = verdict(rt, alloc, &job, printed.report)?;
+    assert!(rt; verdict == printed.verdict, "{name}: {verdict:?}");
+    Ok(())
+}
+
 #[test]
 fn each_report_has_its_verdict(rt: HostRuntime) -> Result<(), Fail> {
-    let alloc = rt.alloc();
     for printed in &PRINTED {
-        let name = printed.name;
-        let job = job_of(&rt, alloc, printed.job)?;
-        let verdict = verdict(&rt, alloc, &job, printed.report)?;
-        assert!(rt; verdict == printed.verdict, "{name}: {verdict:?}");
+        has_verdict(&rt, rt.alloc(), printed)?;
     }
     Ok(())
 }

@@ -6,7 +6,8 @@ ghost use Rattle.kdf_director.specs.Shown.{ShowsSeen};
 ghost use Rattle.kdf_job.specs.Shows.{shown_job, shown_slot};
 ghost use Rattle.kdf_job.specs.WellFormed.{IsJob};
 
-use crate::director::{image_of, job_of};
+use crate::director::job_of;
+use crate::pool::images_of;
 use kdf_director::Machine;
 use kdf_job::{Job, SlotJob};
 use kdf_journal::Entry;
@@ -86,22 +87,21 @@ const RUNS: [Run; 2] = [
 /// How many numbers a half of a word tells apart.
 const HALF: u64 = 1 << 24;
 
-/// What stands after a job of ten lines: how many entries it has, the offsets of what is sealed, of ENDSNAPSHOT and of the line after
-/// it, and the number of that line.
-const PARTS: &[(&str, usize, [usize; 3], u32)] = &[
-    ("JOURNAL\nSEAL\nENDSNAPSHOT\n", 0, [13, 13, 25], 14),
-    ("JOURNAL\nSEAL\nENDSNAPSHOT", 0, [13, 13, 24], 14),
+/// How many entries a snapshot has, the offsets of what is sealed, of ENDSNAPSHOT and of the line after it, and the number of that
+/// line.
+type Split = (usize, [usize; 3], u32);
+
+/// What stands after a job of ten lines, with its parts.
+const PARTS: &[(&str, Split)] = &[
+    ("JOURNAL\nSEAL\nENDSNAPSHOT\n", (0, [13, 13, 25], 14)),
+    ("JOURNAL\nSEAL\nENDSNAPSHOT", (0, [13, 13, 24], 14)),
     (
         "JOURNAL\nRAN 0 4\nSEAL\nSLOT 0\nENDSNAPSHOT\nORDERS 6\nENDJOB\n",
-        1,
-        [21, 28, 40],
-        16,
+        (1, [21, 28, 40], 16),
     ),
     (
         "JOURNAL\nRAN 0 4\nEND 3\nSEAL\nSEAL\nENDSNAPSHOT\nENDSNAPSHOT\n",
-        2,
-        [27, 32, 44],
-        17,
+        (2, [27, 32, 44], 17),
     ),
 ];
 
@@ -131,32 +131,39 @@ const FAULTS: &[(&str, SnapshotFault, u32)] = &[
     ("JOURNAL\nSEAL\nENDSNAPSHOT \n", SnapshotFault::NoEnd, 14),
 ];
 
-/// The parts of a text, or what is wrong with it, after a job of ten lines.
-fn expect_parts(
-    rt: &impl Abort,
-    alloc: Global,
-    text: &str,
-    entries: usize,
-    offsets: [usize; 3],
-    line: u32,
-) -> Result<(), AllocError> {
+/// The parts of a text after a job of ten lines, which has no fault.
+fn parts_of(rt: &impl Abort, alloc: Global, text: &str) -> Result<Split, AllocError> {
     assert!(rt; text.len() < 1_000);
     let Ok(parts) = split(alloc, text.as_bytes(), 11) else {
         return Err(AllocError);
     };
-    assert!(rt; parts.entries.len() == entries, "{text}");
-    let found = [parts.seal_from, parts.seal_to, parts.more_from];
-    assert!(rt; found == offsets && parts.more_line == line, "{text}");
+    let offsets = [parts.seal_from, parts.seal_to, parts.more_from];
+    Ok((parts.entries.len(), offsets, parts.more_line))
+}
+
+/// Each text has its parts.
+fn expect_parts(rt: &impl Abort, alloc: Global) -> Result<(), AllocError> {
+    for (text, due) in PARTS {
+        let found = parts_of(rt, alloc, text)?;
+        assert!(rt; found == *due, "{text}");
+    }
     Ok(())
 }
 
-fn expect_fault(rt: &impl Abort, alloc: Global, text: &str, fault: SnapshotFault, line: u32) {
+/// What is wrong with a text after a job of ten lines, if anything is, with the number of the line.
+fn fault_of(rt: &impl Abort, alloc: Global, text: &str) -> Option<(SnapshotFault, u32)> {
     assert!(rt; text.len() < 1_000);
     match split(alloc, text.as_bytes(), 11) {
-        Err(SplitError::Fault(found, place)) => {
-            assert!(rt; found == fault && place == line, "{text}");
-        }
-        _ => assert!(rt; false, "{text}"),
+        Err(SplitError::Fault(fault, line)) => Some((fault, line)),
+        _ => None,
+    }
+}
+
+/// Each of the others has its fault.
+fn expect_faults(rt: &impl Abort, alloc: Global) {
+    for (text, fault, line) in FAULTS {
+        let found = fault_of(rt, alloc, text);
+        assert!(rt; found == Some((*fault, *line)), "{text}");
     }
 }
 
@@ -208,6 +215,52 @@ fn are_unserved(slots: &[SlotJob]) -> bool
     slots.iter().all(|slot| !slot.served)
 }
 
+/// A machine has these words.
+fn expect_words(
+    rt: &impl Abort,
+    alloc: Global,
+    job: &Job,
+    images: &[Image],
+    machine: Machine,
+    due: &str,
+) -> Result<(), AllocError>
+    requires job { IsJob (shown_job job.now) }
+    requires images { HaveImages (map shown_slot job.now.slots.items)
+        (map (λ (x : Made). x.words.items) images.now) }
+    requires slots { machine.slots ≡ slots_of (map shown_slot job.now.slots.items)
+        (map (λ (x : Made). x.words.items) images.now) }
+    requires seen { ShowsSeen machine }
+{
+    let words = words_of(alloc, job, images, &machine);
+    machine.close();
+    assert_eq!(rt; words?.as_slice(), due.as_bytes());
+    Ok(())
+}
+
+/// The place where entries differ from the journal of a job's run, which else has these words.
+fn place_of(
+    rt: &impl Abort,
+    alloc: Global,
+    job: &Job,
+    images: &[Image],
+    words: &str,
+    entries: &[Entry],
+) -> Result<Option<u32>, AllocError>
+    requires job { IsJob (shown_job job.now) }
+    requires images { HaveImages (map shown_slot job.now.slots.items)
+        (map (λ (x : Made). x.words.items) images.now) }
+{
+    assert!(rt; job.events.len() == 1 && entries.len() < 10);
+    match rebuilt(alloc, job, images, entries) {
+        Ok(machine) => {
+            expect_words(rt, alloc, job, images, machine, words)?;
+            Ok(None)
+        }
+        Err(RebuildError::Differs(place)) => Ok(Some(place)),
+        Err(RebuildError::Memory) => Err(AllocError),
+    }
+}
+
 /// The run of a job is made again with these entries, or they differ there.
 fn expect_rebuilt(
     rt: &impl Abort,
@@ -221,37 +274,26 @@ fn expect_rebuilt(
         (map (λ (x : Made). x.words.items) images.now) }
 {
     for (entries, due) in run.journals {
-        assert!(rt; job.events.len() == 1 && entries.len() < 10);
-        match rebuilt(alloc, job, images, entries) {
-            Ok(machine) => {
-                let words = words_of(alloc, job, images, &machine);
-                machine.close();
-                assert_eq!(rt; words?.as_slice(), run.words.as_bytes());
-                assert!(rt; due.is_none());
-            }
-            Err(RebuildError::Differs(place)) => assert!(rt; *due == Some(place)),
-            Err(RebuildError::Memory) => return Err(AllocError),
-        }
+        let place = place_of(rt, alloc, job, images, run.words, entries)?;
+        assert!(rt; place == *due);
     }
     Ok(())
 }
 
+/// The run of a job of one slot is made again.
+fn check(rt: &impl Abort, alloc: Global, run: &Run) -> Result<(), AllocError> {
+    let job = job_of(rt, alloc, run.job)?;
+    assert!(rt; job.slots.len() == 1);
+    let images = images_of(rt, alloc, &job.slots)?;
+    expect_rebuilt(rt, alloc, &job, &images, run)
+}
+
 #[test]
 fn a_snapshot_is_split_and_a_run_is_made_again(rt: HostRuntime) -> Result<(), Fail> {
-    let alloc = rt.alloc();
-    for (text, entries, offsets, line) in PARTS {
-        expect_parts(&rt, alloc, text, *entries, *offsets, *line)?;
-    }
-    for (text, fault, line) in FAULTS {
-        expect_fault(&rt, alloc, text, *fault, *line);
-    }
+    expect_parts(&rt, rt.alloc())?;
+    expect_faults(&rt, rt.alloc());
     for run in &RUNS {
-        let job = job_of(&rt, alloc, run.job)?;
-        if let [slot] = job.slots.as_slice() {
-            let images = [image_of(&rt, alloc, slot)?];
-            expect_rebuilt(&rt, alloc, &job, &images, run)?;
-        }
-        assert!(rt; job.slots.len() == 1);
+        check(&rt, rt.alloc(), run)?;
     }
     Ok(())
 }
