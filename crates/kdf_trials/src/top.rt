@@ -8,7 +8,7 @@ mod services;
 
 use kdf_io::{MemorySink, MemorySource};
 use kdf_service::Service;
-use kdf_top::{Status, run_with};
+use kdf_top::{Outcome, Status, run_with};
 use std::alloc::{AllocError, Global};
 use std::process::Abort;
 
@@ -79,7 +79,48 @@ fn answer(rt: &impl Abort, alloc: Global, call: &Call) -> Result<(Status, Vec<u8
     answer_with(rt, alloc, call, &service)
 }
 
-/// What a call answers, and what it writes. Commands that run a job under Director keep the machine where they are done.
+/// A command line.
+fn line_of(alloc: Global, list: &[&str]) -> Result<Vec<String>, AllocError> {
+    let mut words = Vec::new(alloc);
+    for word in list {
+        words.push(String::from_str(alloc, word)?)?;
+    }
+    Ok(words)
+}
+
+/// The source of a call.
+fn source_of(rt: &impl Abort, alloc: Global, call: &Call) -> Result<MemorySource, AllocError> {
+    assert!(rt; call.most >= 1);
+    let bytes = Vec::from_slice(alloc, call.job)?;
+    let fail = Vec::from_slice(alloc, call.fail)?;
+    Ok(MemorySource::new(bytes, call.most, fail))
+}
+
+/// The sink of a call.
+fn sink_of(rt: &impl Abort, alloc: Global, call: &Call) -> Result<MemorySink, AllocError> {
+    assert!(rt; call.put_most >= 1);
+    let fail = Vec::from_slice(alloc, call.put_fail)?;
+    MemorySink::new(alloc, call.room, call.put_most, fail)
+}
+
+/// Whether a command runs a job under Director.
+fn runs(words: &[&str]) -> bool {
+    matches!(
+        words.first(),
+        Some(&"run" | &"save" | &"resume" | &"make" | &"watch")
+    )
+}
+
+/// The status of an outcome. Commands that run a job under Director keep the machine where they are done.
+fn status_of(rt: &impl Abort, call: &Call, outcome: Outcome) -> Status {
+    let status = outcome.status;
+    let keeps = runs(call.words) && status == Status::Done;
+    assert!(rt; outcome.machine.is_some() == keeps);
+    outcome.close();
+    status
+}
+
+/// What a call answers, and what it writes.
 fn answer_with<F: Fn(u64) -> u64>(
     rt: &impl Abort,
     alloc: Global,
@@ -88,23 +129,11 @@ fn answer_with<F: Fn(u64) -> u64>(
 ) -> Result<(Status, Vec<u8>), AllocError>
     requires { IsService (F.pre service.now) (F.post service.now) }
 {
-    let mut words = Vec::new(alloc);
-    for word in call.words {
-        words.push(String::from_str(alloc, word)?)?;
-    }
-    assert!(rt; call.most >= 1 && call.put_most >= 1);
-    let bytes = Vec::from_slice(alloc, call.job)?;
-    let mut source = MemorySource::new(bytes, call.most, Vec::from_slice(alloc, call.fail)?);
-    let put_fail = Vec::from_slice(alloc, call.put_fail)?;
-    let mut sink = MemorySink::new(alloc, call.room, call.put_most, put_fail)?;
+    let words = line_of(alloc, call.words)?;
+    let mut source = source_of(rt, alloc, call)?;
+    let mut sink = sink_of(rt, alloc, call)?;
     let outcome = run_with(alloc, &words, &mut source, &mut sink, service);
-    let status = outcome.status;
-    let keeps = matches!(
-        call.words.first(),
-        Some(&"run" | &"save" | &"resume" | &"make" | &"watch")
-    );
-    assert!(rt; outcome.machine.is_some() == (keeps && status == Status::Done));
-    outcome.close();
+    let status = status_of(rt, call, outcome);
     Ok((status, Vec::from_slice(alloc, sink.bytes())?))
 }
 

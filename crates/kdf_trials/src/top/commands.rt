@@ -1,6 +1,8 @@
 //! Lists of words, with the command that each is.
+use super::line_of;
 use kdf_top::{Command, Input, command_of};
 use std::alloc::{AllocError, Global};
+use std::process::Abort;
 use std::test::Fail;
 
 /// The commands.
@@ -146,11 +148,11 @@ const OTHER_COMMANDS: [&[&str]; 6] = [
     &["WATCH", "0", "2"],
 ];
 
+/// Lists that are no command.
+const OTHERS: [&[&[&str]]; 4] = [&OTHER_NAMES, &OTHER_LISTS, &OTHER_VALUES, &OTHER_COMMANDS];
+
 fn command(alloc: Global, list: &[&str]) -> Result<Option<Command>, AllocError> {
-    let mut words = Vec::new(alloc);
-    for word in list {
-        words.push(String::from_str(alloc, word)?)?;
-    }
+    let words = line_of(alloc, list)?;
     command_of(alloc, &words)
 }
 
@@ -166,22 +168,35 @@ const INPUTS: [(Command, Input); 8] = [
     (Command::Watch(0, 2), Input::Read(4_194_304)),
 ];
 
-#[test]
-fn words_are_commands(rt: HostRuntime) -> Result<(), Fail> {
+/// None of these lists is a command.
+fn are_none(rt: &impl Abort, alloc: Global, lists: &[&[&str]]) -> Result<(), AllocError> {
+    for words in lists {
+        assert!(rt; command(alloc, words)?.is_none(), "{words:?}");
+    }
+    Ok(())
+}
+
+/// The commands are these.
+fn are_commands(rt: &impl Abort, alloc: Global) -> Result<(), AllocError> {
     for (words, due) in COMMANDS {
-        assert!(rt; command(rt.alloc(), words)? == Some(due), "{words:?}");
+        assert!(rt; command(alloc, words)? == Some(due), "{words:?}");
     }
-    let lists = [
-        OTHER_NAMES.as_slice(),
-        OTHER_LISTS.as_slice(),
-        OTHER_VALUES.as_slice(),
-        OTHER_COMMANDS.as_slice(),
-    ];
-    for words in lists.into_iter().flatten() {
-        assert!(rt; command(rt.alloc(), words)?.is_none(), "{words:?}");
-    }
+    Ok(())
+}
+
+/// The commands read or make this.
+fn have_inputs(rt: &impl Abort) {
     for (command, input) in INPUTS {
         assert!(rt; command.input() == input);
     }
+}
+
+#[test]
+fn words_are_commands(rt: HostRuntime) -> Result<(), Fail> {
+    are_commands(&rt, rt.alloc())?;
+    for lists in OTHERS {
+        are_none(&rt, rt.alloc(), lists)?;
+    }
+    have_inputs(&rt);
     Ok(())
 }

@@ -8,7 +8,7 @@ use std::process::Abort;
 use std::test::Fail;
 
 /// What `make 0` writes.
-const SUMMARY: &[u8] = b"KDF9 MAKE 0\n\
+const SUMMARY: &str = "KDF9 MAKE 0\n\
     JOB 39175\n\
     ENTRIES 9229\n\
     SLOT 0 ENDED ORDERS 2218 BLOCKS 200 WORD 1315110432102430\n\
@@ -42,16 +42,29 @@ const CODES: [(Status, u8); 8] = [
     (Status::Memory, 7),
 ];
 
-/// Each read of a job by single bytes fails, and the one after its last byte.
+/// A read of a job by single bytes fails.
+fn read_fails(rt: &impl Abort, alloc: Global, words: &[&str], k: u32) -> Result<(), AllocError> {
+    let fails = [k];
+    let call = Call {
+        most: 1,
+        fail: &fails,
+        ..whole(words, JOB.as_bytes())
+    };
+    expect(rt, alloc, &call, Status::ReadFault, b"")
+}
+
+/// Each read of the job fails, and the one after its last byte.
+fn each_read_fails(rt: &impl Abort, alloc: Global, words: &[&str]) -> Result<(), AllocError> {
+    for k in 1..=JOB.len() as u32 + 1 {
+        read_fails(rt, alloc, words, k)?;
+    }
+    Ok(())
+}
+
+/// So it does under each command that reads a job.
 fn reads_fail(rt: &impl Abort, alloc: Global) -> Result<(), AllocError> {
     for words in READING {
-        for k in 1..=JOB.len() as u32 + 1 {
-            let fails = [k];
-            let mut call = whole(words, JOB.as_bytes());
-            call.most = 1;
-            call.fail = &fails;
-            expect(rt, alloc, &call, Status::ReadFault, b"")?;
-        }
+        each_read_fails(rt, alloc, words)?;
     }
     Ok(())
 }
@@ -63,22 +76,46 @@ const REPORTING: [(&[&str], &str); 3] = [
     (&["watch", "1", "0"], "KDF9 WATCH 1 0\n"),
 ];
 
+/// There is room for fewer bytes of a text than it has.
+fn room_ends(
+    rt: &impl Abort,
+    alloc: Global,
+    words: &[&str],
+    room: usize,
+    due: &[u8],
+) -> Result<(), AllocError> {
+    let call = Call {
+        room,
+        put_most: 7,
+        ..whole(words, JOB.as_bytes())
+    };
+    expect(rt, alloc, &call, Status::WriteFault, due)
+}
+
+/// A put of single bytes fails.
+fn put_fails(
+    rt: &impl Abort,
+    alloc: Global,
+    words: &[&str],
+    k: u32,
+    due: &[u8],
+) -> Result<(), AllocError> {
+    let fails = [k];
+    let call = Call {
+        put_most: 1,
+        put_fail: &fails,
+        ..whole(words, JOB.as_bytes())
+    };
+    expect(rt, alloc, &call, Status::WriteFault, due)
+}
+
 /// There is room for fewer bytes of a text than it has, and each put of single bytes fails.
 fn puts_fail(rt: &impl Abort, alloc: Global, words: &[&str], due: &[u8]) -> Result<(), AllocError> {
     assert!(rt; due.len() < 1000);
     expect(rt, alloc, &whole(words, JOB.as_bytes()), Status::Done, due)?;
     for room in 0..due.len() {
-        let mut call = whole(words, JOB.as_bytes());
-        call.room = room;
-        call.put_most = 7;
-        expect(rt, alloc, &call, Status::WriteFault, &due[..room])?;
-        let fails = [room as u32 + 1];
-        let call = Call {
-            put_most: 1,
-            put_fail: &fails,
-            ..whole(words, JOB.as_bytes())
-        };
-        expect(rt, alloc, &call, Status::WriteFault, &due[..room])?;
+        room_ends(rt, alloc, words, room, &due[..room])?;
+        put_fails(rt, alloc, words, room as u32 + 1, &due[..room])?;
     }
     Ok(())
 }
@@ -92,46 +129,104 @@ fn reports_fail(rt: &impl Abort, alloc: Global) -> Result<(), AllocError> {
     Ok(())
 }
 
-/// Words that are no command, and a command that makes its job, ask nothing of a source that fails
-/// at once; what they write may fail too.
-fn nothing_is_read(rt: &impl Abort, alloc: Global) -> Result<(), AllocError> {
-    for (words, status, text) in [
-        (["ran"].as_slice(), Status::Usage, USAGE.as_bytes()),
-        (&["make", "0"], Status::Done, SUMMARY),
-    ] {
-        let mut call = whole(words, JOB.as_bytes());
-        call.most = 1;
-        call.fail = &[1];
-        expect(rt, alloc, &call, status, text)?;
-        for room in [0, 7, 11] {
-            call.room = room;
-            expect(rt, alloc, &call, Status::WriteFault, &text[..room])?;
-        }
+/// A call asks nothing of a source that fails at once.
+fn reads_nothing(
+    rt: &impl Abort,
+    alloc: Global,
+    words: &[&str],
+    status: Status,
+    text: &[u8],
+) -> Result<(), AllocError> {
+    let call = Call {
+        most: 1,
+        fail: &[1],
+        ..whole(words, JOB.as_bytes())
+    };
+    expect(rt, alloc, &call, status, text)
+}
+
+/// And what it writes may fail too.
+fn writes_fewer(
+    rt: &impl Abort,
+    alloc: Global,
+    words: &[&str],
+    room: usize,
+    text: &[u8],
+) -> Result<(), AllocError> {
+    let call = Call {
+        most: 1,
+        fail: &[1],
+        room,
+        ..whole(words, JOB.as_bytes())
+    };
+    expect(rt, alloc, &call, Status::WriteFault, text)
+}
+
+/// There is room for none of a text, for 7 and for 11 bytes.
+fn writes_some(
+    rt: &impl Abort,
+    alloc: Global,
+    words: &[&str],
+    text: &[u8],
+) -> Result<(), AllocError> {
+    assert!(rt; text.len() > 11);
+    for room in [0, 7, 11] {
+        writes_fewer(rt, alloc, words, room, &text[..room])?;
     }
+    Ok(())
+}
+
+/// Words that are no command, and a command that makes its job, with what they answer and write.
+const READ_NOTHING: [(&[&str], Status, &str); 2] = [
+    (&["ran"], Status::Usage, USAGE),
+    (&["make", "0"], Status::Done, SUMMARY),
+];
+
+/// Those ask nothing of a source that fails at once; what they write may fail too.
+fn nothing_is_read(rt: &impl Abort, alloc: Global) -> Result<(), AllocError> {
+    for (words, status, text) in READ_NOTHING {
+        reads_nothing(rt, alloc, words, status, text.as_bytes())?;
+        writes_some(rt, alloc, words, text.as_bytes())?;
+    }
+    Ok(())
+}
+
+/// A call whose reads give many bytes.
+fn long(job: &[u8]) -> Call {
+    Call {
+        most: 5000,
+        ..whole(&["run"], job)
+    }
+}
+
+/// A job of the most bytes is read.
+fn is_not_too_long(rt: &impl Abort, alloc: Global, job: &[u8]) -> Result<(), AllocError> {
+    let (status, text) = super::answer(rt, alloc, &long(job))?;
+    assert!(rt; status.code() == 2);
+    assert!(rt; text.as_slice() == b"JOB Header 1\n".as_slice());
     Ok(())
 }
 
 /// A job has at most 4,194,304 bytes.
 fn a_job_has_a_limit(rt: &impl Abort, alloc: Global) -> Result<(), AllocError> {
     let bytes = vec![in alloc; b'\n'; 4_194_305]?;
-    let mut call = whole(&["run"], &bytes);
-    call.most = 5000;
-    expect(rt, alloc, &call, Status::Large, b"LARGE 4194304\n")?;
-    call.job = &bytes[1..];
-    let (status, text) = super::answer(rt, alloc, &call)?;
-    assert!(rt; status.code() == 2 && text.as_slice() == b"JOB Header 1\n".as_slice());
-    Ok(())
+    expect(rt, alloc, &long(&bytes), Status::Large, b"LARGE 4194304\n")?;
+    is_not_too_long(rt, alloc, &bytes[1..])
+}
+
+/// Each status has its code.
+fn have_codes(rt: &impl Abort) {
+    for (status, code) in CODES {
+        assert!(rt; status.code() == code);
+    }
 }
 
 #[test]
 fn source_and_sink_may_fail_at_every_call(rt: HostRuntime) -> Result<(), Fail> {
-    let alloc = rt.alloc();
-    reads_fail(&rt, alloc)?;
-    reports_fail(&rt, alloc)?;
-    nothing_is_read(&rt, alloc)?;
-    a_job_has_a_limit(&rt, alloc)?;
-    for (status, code) in CODES {
-        assert!(rt; status.code() == code);
-    }
+    reads_fail(&rt, rt.alloc())?;
+    reports_fail(&rt, rt.alloc())?;
+    nothing_is_read(&rt, rt.alloc())?;
+    a_job_has_a_limit(&rt, rt.alloc())?;
+    have_codes(&rt);
     Ok(())
 }

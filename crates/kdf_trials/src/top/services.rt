@@ -45,7 +45,39 @@ const EXCHANGED: Answers = (
     ["0000000700000000", "1234567076543210"],
 );
 
-/// The report of the job has these answers, and the words that come of them.
+/// What the report says of the journal.
+fn journal_of(alloc: Global, answers: [u64; 3]) -> Result<String, AllocError> {
+    let [one, two, three] = answers;
+    format!(in alloc;
+        "KDF9 REPORT 1\n\
+        RAN 0 4\nANSWER 0 {one}\nRAN 0 2\nENDED 0\n\
+        RAN 1 4\nFAIL 1 OUT\n\
+        RAN 3 4\nANSWER 3 {two}\nRAN 3 2\nANSWER 3 {three}\nRAN 3 2\nENDED 3\n"
+    )
+}
+
+/// What the report says of the slots.
+fn slots_of(alloc: Global, words: [&str; 2]) -> Result<String, AllocError> {
+    let [first, last] = words;
+    format!(in alloc;
+        "SLOT 0\nSTATE ENDED\nORDERS 6\nAT 2 3\nFLAGS 0 0\nNEST 1 {first}\nLINKS 0\n\
+        SLOT 1\nSTATE FAILED OUT\nORDERS 4\nAT 2 0\nFLAGS 0 0\n\
+        NEST 2 0000000000000100 0000000000000007\nLINKS 0\n\
+        SLOT 3\nSTATE ENDED\nORDERS 8\nAT 4 1\nFLAGS 0 0\nNEST 1 {last}\nLINKS 0\n\
+        ENDREPORT\n"
+    )
+}
+
+/// The report of the job with these answers, and the words that come of them.
+fn report_of(alloc: Global, due: Answers) -> Result<String, AllocError> {
+    let (answers, words) = due;
+    let mut report = journal_of(alloc, answers)?;
+    let slots = slots_of(alloc, words)?;
+    report.push_str(slots.as_str())?;
+    Ok(report)
+}
+
+/// The job has this report.
 fn expect<F: Fn(u64) -> u64>(
     rt: &impl Abort,
     alloc: Global,
@@ -54,40 +86,40 @@ fn expect<F: Fn(u64) -> u64>(
 ) -> Result<(), AllocError>
     requires { IsService (F.pre service.now) (F.post service.now) }
 {
-    let ([one, two, three], [first, last]) = due;
-    let report = format!(in alloc;
-        "KDF9 REPORT 1\n\
-        RAN 0 4\nANSWER 0 {one}\nRAN 0 2\nENDED 0\n\
-        RAN 1 4\nFAIL 1 OUT\n\
-        RAN 3 4\nANSWER 3 {two}\nRAN 3 2\nANSWER 3 {three}\nRAN 3 2\nENDED 3\n\
-        SLOT 0\nSTATE ENDED\nORDERS 6\nAT 2 3\nFLAGS 0 0\nNEST 1 {first}\nLINKS 0\n\
-        SLOT 1\nSTATE FAILED OUT\nORDERS 4\nAT 2 0\nFLAGS 0 0\n\
-        NEST 2 0000000000000100 0000000000000007\nLINKS 0\n\
-        SLOT 3\nSTATE ENDED\nORDERS 8\nAT 4 1\nFLAGS 0 0\nNEST 1 {last}\nLINKS 0\n\
-        ENDREPORT\n"
-    )?;
+    let report = report_of(alloc, due)?;
     let (status, text) = answer_with(rt, alloc, &whole(&["run"], JOB.as_bytes()), service)?;
     assert_eq!(rt; text.as_slice(), report.as_bytes());
     assert!(rt; status == Status::Done);
     Ok(())
 }
 
+/// A service that answers with the word itself.
+fn answers_the_same(rt: &impl Abort, alloc: Global) -> Result<(), AllocError> {
+    expect(rt, alloc, &Service::new(|word: u64| word), THE_SAME)
+}
+
+/// A service that answers by a table.
+fn answers_by_table(rt: &impl Abort, alloc: Global) -> Result<(), AllocError> {
+    let service = Service::new(|word: u64| TABLE[(word % 4) as usize] % WORDS);
+    expect(rt, alloc, &service, BY_TABLE)
+}
+
+/// A service that answers 0.
+fn answers_zero(rt: &impl Abort, alloc: Global) -> Result<(), AllocError> {
+    expect(rt, alloc, &Service::new(|_word: u64| 0), ZERO)
+}
+
+/// A service that exchanges the halves of a word.
+fn answers_exchanged(rt: &impl Abort, alloc: Global) -> Result<(), AllocError> {
+    let service = Service::new(|word: u64| word % HALF * HALF + word / HALF % HALF);
+    expect(rt, alloc, &service, EXCHANGED)
+}
+
 #[test]
 fn programs_have_what_their_service_answers(rt: HostRuntime) -> Result<(), Fail> {
-    let alloc = rt.alloc();
-    expect(&rt, alloc, &Service::new(|word: u64| word), THE_SAME)?;
-    expect(
-        &rt,
-        alloc,
-        &Service::new(|word: u64| TABLE[(word % 4) as usize] % WORDS),
-        BY_TABLE,
-    )?;
-    expect(&rt, alloc, &Service::new(|_word: u64| 0), ZERO)?;
-    expect(
-        &rt,
-        alloc,
-        &Service::new(|word: u64| word % HALF * HALF + word / HALF % HALF),
-        EXCHANGED,
-    )?;
+    answers_the_same(&rt, rt.alloc())?;
+    answers_by_table(&rt, rt.alloc())?;
+    answers_zero(&rt, rt.alloc())?;
+    answers_exchanged(&rt, rt.alloc())?;
     Ok(())
 }
