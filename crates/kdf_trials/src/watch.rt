@@ -1,7 +1,7 @@
 //! Runs that watches stop and that are continued: each comes to the report of the run that nobody watched, and tells how far it has come.
 ghost use Rattle.std.specs.Prelude.{◌≡◌, ◌%◌, ◌≤◌, ◌==◌, [], true, false, length, map, sum_by};
 ghost use Rattle.kdf_director.specs.Follows.{entries_in};
-ghost use Rattle.kdf_watch.specs.Cursors.{KeepsLimits};
+ghost use Rattle.kdf_watch.specs.Cursors.{IsUpTo, KeepsLimits};
 ghost use Rattle.kdf_place.specs.declared.image.Image.{Image as Made};
 ghost use Rattle.kdf_service.specs.Rules.{IsService};
 ghost use Rattle.kdf_director.specs.Loading.{HaveImages, slots_of};
@@ -32,8 +32,11 @@ const HALF: u64 = 1 << 24;
 /// No run here has so many stops.
 const MOST_STOPS: u32 = 1_000;
 
-/// After each order of the sum: its number, the place of the next one, the time, and the cursor there.
-const MOMENTS: [(u32, u16, u64, Cursor); 7] = [
+/// The number of an order, the place of the next one, the time, and the cursor there.
+type Moment = (u32, u16, u64, Cursor);
+
+/// The moments after each order of the sum.
+const MOMENTS: [Moment; 7] = [
     (1, 6, 0, Cursor { event: 0, calls: 1 }),
     (2, 9, 0, Cursor { event: 0, calls: 2 }),
     (3, 12, 0, Cursor { event: 0, calls: 3 }),
@@ -102,16 +105,14 @@ fn follow_watched<F: Fn(u64) -> u64, G: Fn(Look) -> bool>(
     Err(AllocError)
 }
 
-/// The run of a job under a watch has this report.
-fn expect_same<F: Fn(u64) -> u64, G: Fn(Look) -> bool>(
-    rt: &impl Abort,
+/// The report of a run that a watch stops.
+fn watched<F: Fn(u64) -> u64, G: Fn(Look) -> bool>(
     alloc: Global,
     job: &Job,
     images: &[Image],
     service: &Service<F>,
     watch: &Watch<G>,
-    due: &[u8],
-) -> Result<(), AllocError>
+) -> Result<Vec<u8>, AllocError>
     requires job { IsJob (shown_job job.now) }
     requires images { HaveImages (map shown_slot job.now.slots.items)
         (map (λ (x : Made). x.words.items) images.now) }
@@ -124,6 +125,95 @@ fn expect_same<F: Fn(u64) -> u64, G: Fn(Look) -> bool>(
         Err(error) => Err(error),
     };
     machine.close();
+    text
+}
+
+/// The report of a run that never stops.
+fn never_stopped<F: Fn(u64) -> u64>(
+    alloc: Global,
+    job: &Job,
+    images: &[Image],
+    service: &Service<F>,
+) -> Result<Vec<u8>, AllocError>
+    requires job { IsJob (shown_job job.now) }
+    requires images { HaveImages (map shown_slot job.now.slots.items)
+        (map (λ (x : Made). x.words.items) images.now) }
+    requires service { IsService (F.pre service.now) (F.post service.now) }
+{
+    let watch = Watch::new(
+        |_look: Look| -> bool
+            ensures { result ≡ false }
+        { false },
+    );
+    watched(alloc, job, images, service, &watch)
+}
+
+/// The report of a run that stops after each order.
+fn always_stopped<F: Fn(u64) -> u64>(
+    alloc: Global,
+    job: &Job,
+    images: &[Image],
+    service: &Service<F>,
+) -> Result<Vec<u8>, AllocError>
+    requires job { IsJob (shown_job job.now) }
+    requires images { HaveImages (map shown_slot job.now.slots.items)
+        (map (λ (x : Made). x.words.items) images.now) }
+    requires service { IsService (F.pre service.now) (F.post service.now) }
+{
+    let watch = Watch::new(
+        |_look: Look| -> bool
+            ensures { result ≡ true }
+        { true },
+    );
+    watched(alloc, job, images, service, &watch)
+}
+
+/// The report of a run that stops where the order's number divides by 3.
+fn stopped_by_number<F: Fn(u64) -> u64>(
+    alloc: Global,
+    job: &Job,
+    images: &[Image],
+    service: &Service<F>,
+) -> Result<Vec<u8>, AllocError>
+    requires job { IsJob (shown_job job.now) }
+    requires images { HaveImages (map shown_slot job.now.slots.items)
+        (map (λ (x : Made). x.words.items) images.now) }
+    requires service { IsService (F.pre service.now) (F.post service.now) }
+{
+    let watch = Watch::new(
+        |look: Look| -> bool
+            ensures { result ≡ (look.ran % 3 == 0) }
+        { look.ran % 3 == 0 },
+    );
+    watched(alloc, job, images, service, &watch)
+}
+
+/// The report of a run that stops at a place.
+fn stopped_at_place<F: Fn(u64) -> u64>(
+    alloc: Global,
+    job: &Job,
+    images: &[Image],
+    service: &Service<F>,
+) -> Result<Vec<u8>, AllocError>
+    requires job { IsJob (shown_job job.now) }
+    requires images { HaveImages (map shown_slot job.now.slots.items)
+        (map (λ (x : Made). x.words.items) images.now) }
+    requires service { IsService (F.pre service.now) (F.post service.now) }
+{
+    let watch = Watch::new(
+        |look: Look| -> bool
+            ensures { result ≡ is_at 0 6 look }
+        { look.p == 0 && look.at == 6 },
+    );
+    watched(alloc, job, images, service, &watch)
+}
+
+/// A run has this report.
+fn expect_same(
+    rt: &impl Abort,
+    text: Result<Vec<u8>, AllocError>,
+    due: &[u8],
+) -> Result<(), AllocError> {
     assert_eq!(rt; text?.as_slice(), due);
     Ok(())
 }
@@ -142,44 +232,114 @@ fn expect_each<F: Fn(u64) -> u64>(
         (map (λ (x : Made). x.words.items) images.now) }
     requires service { IsService (F.pre service.now) (F.post service.now) }
 {
-    let never = Watch::new(
-        |_look: Look| -> bool
-            ensures { result ≡ false }
-        { false },
-    );
-    expect_same(rt, alloc, job, images, service, &never, due)?;
-    let always = Watch::new(
+    expect_same(rt, never_stopped(alloc, job, images, service), due)?;
+    expect_same(rt, always_stopped(alloc, job, images, service), due)?;
+    expect_same(rt, stopped_by_number(alloc, job, images, service), due)?;
+    expect_same(rt, stopped_at_place(alloc, job, images, service), due)
+}
+
+/// The report of a job's run that nobody watches.
+fn unwatched<F: Fn(u64) -> u64>(
+    alloc: Global,
+    job: &Job,
+    images: &[Image],
+    service: &Service<F>,
+) -> Result<Vec<u8>, AllocError>
+    requires job { IsJob (shown_job job.now) }
+    requires images { HaveImages (map shown_slot job.now.slots.items)
+        (map (λ (x : Made). x.words.items) images.now) }
+    requires service { IsService (F.pre service.now) (F.post service.now) }
+{
+    let mut machine = Machine::load(alloc, job, images)?;
+    let text = match follow(&mut machine, events_of(job), service) {
+        Ok(()) => reported(alloc, job, images, &machine),
+        Err(error) => Err(error),
+    };
+    machine.close();
+    text
+}
+
+/// The report of a job's run, and its runs under watches.
+fn check_job(rt: &impl Abort, alloc: Global, job: &Job) -> Result<(), AllocError>
+    requires { IsJob (shown_job job.now) }
+{
+    let images = images_of(rt, alloc, &job.slots)?;
+    let service = Service::new(|word: u64| word % HALF * HALF + word / HALF);
+    let due = unwatched(alloc, job, &images, &service)?;
+    expect_each(rt, alloc, job, &images, &service, &due)
+}
+
+fn check(rt: &impl Abort, alloc: Global, text: &str) -> Result<(), AllocError> {
+    let job = job_of(rt, alloc, text)?;
+    check_job(rt, alloc, &job)
+}
+
+/// Where a run goes that a watch stops after each order.
+fn go_one<F: Fn(u64) -> u64>(
+    machine: &mut Machine,
+    events: &[Event],
+    cursor: &mut Cursor,
+    service: &Service<F>,
+) -> Result<Stop, AllocError>
+    requires service { IsService (F.pre service.now) (F.post service.now) }
+    requires limits { KeepsLimits events.now }
+    requires at { IsUpTo events.now cursor.old machine.old }
+    ensures { IsUpTo events.now cursor.new machine.new }
+{
+    let watch = Watch::new(
         |_look: Look| -> bool
             ensures { result ≡ true }
         { true },
     );
-    expect_same(rt, alloc, job, images, service, &always, due)?;
-    let third = Watch::new(
-        |look: Look| -> bool
-            ensures { result ≡ (look.ran % 3 == 0) }
-        { look.ran % 3 == 0 },
-    );
-    expect_same(rt, alloc, job, images, service, &third, due)?;
-    let place = Watch::new(
-        |look: Look| -> bool
-            ensures { result ≡ is_at 0 6 look }
-        { look.p == 0 && look.at == 6 },
-    );
-    expect_same(rt, alloc, job, images, service, &place, due)
+    go(machine, events, cursor, service, &watch)
 }
 
-/// The report of a job's run, and its runs under watches.
-fn check(rt: &impl Abort, alloc: Global, text: &str) -> Result<(), AllocError> {
-    let job = job_of(rt, alloc, text)?;
-    let images = images_of(rt, alloc, &job.slots)?;
-    let service = Service::new(|word: u64| word % HALF * HALF + word / HALF);
-    let mut machine = Machine::load(alloc, &job, &images)?;
-    let due = match follow(&mut machine, events_of(&job), &service) {
-        Ok(()) => reported(alloc, &job, &images, &machine),
-        Err(error) => Err(error),
-    };
-    machine.close();
-    expect_each(rt, alloc, &job, &images, &service, &due?)
+/// What slot 0 comes to at a moment.
+fn look_at((ran, at, clock, _): Moment) -> Look {
+    Look {
+        p: 0,
+        ran,
+        at,
+        clock,
+    }
+}
+
+/// The run stops at this moment.
+fn expect_moment<F: Fn(u64) -> u64>(
+    rt: &impl Abort,
+    machine: &mut Machine,
+    events: &[Event],
+    cursor: &mut Cursor,
+    service: &Service<F>,
+    moment: Moment,
+) -> Result<(), AllocError>
+    requires service { IsService (F.pre service.now) (F.post service.now) }
+    requires limits { KeepsLimits events.now }
+    requires at { IsUpTo events.now cursor.old machine.old }
+    ensures { IsUpTo events.now cursor.new machine.new }
+{
+    let stop = go_one(machine, events, cursor, service)?;
+    assert!(rt; stop == Stop::Watched(look_at(moment)));
+    assert!(rt; *cursor == moment.3);
+    Ok(())
+}
+
+/// The run stops no more.
+fn expect_end<F: Fn(u64) -> u64>(
+    rt: &impl Abort,
+    machine: &mut Machine,
+    events: &[Event],
+    cursor: &mut Cursor,
+    service: &Service<F>,
+) -> Result<(), AllocError>
+    requires service { IsService (F.pre service.now) (F.post service.now) }
+    requires limits { KeepsLimits events.now }
+    requires at { IsUpTo events.now cursor.old machine.old }
+{
+    let stop = go_one(machine, events, cursor, service)?;
+    assert!(rt; stop == Stop::Finished);
+    assert!(rt; *cursor == Cursor { event: 2, calls: 4 });
+    Ok(())
 }
 
 /// Under a watch that stops it after each order, the run of the sum stops at these moments, and then no more.
@@ -193,25 +353,11 @@ fn expect_moments(
     requires room { sum_by entries_in events.now ≤ machine.old.room }
 {
     let service = Service::new(|word: u64| word);
-    let watch = Watch::new(
-        |_look: Look| -> bool
-            ensures { result ≡ true }
-        { true },
-    );
     let mut cursor = Cursor { event: 0, calls: 0 };
-    for (ran, at, clock, place) in MOMENTS {
-        let look = Look {
-            p: 0,
-            ran,
-            at,
-            clock,
-        };
-        let stop = go(machine, events, &mut cursor, &service, &watch)?;
-        assert!(rt; stop == Stop::Watched(look) && cursor == place);
+    for moment in MOMENTS {
+        expect_moment(rt, machine, events, &mut cursor, &service, moment)?;
     }
-    let stop = go(machine, events, &mut cursor, &service, &watch)?;
-    assert!(rt; stop == Stop::Finished && cursor == Cursor { event: 2, calls: 4 });
-    Ok(())
+    expect_end(rt, machine, events, &mut cursor, &service)
 }
 
 /// The moments of the sum.
@@ -224,6 +370,18 @@ fn check_moments(rt: &impl Abort, alloc: Global) -> Result<(), AllocError> {
     expected
 }
 
+/// The orders after which the program of slot 0 comes to a place.
+fn stops(rt: &impl Abort, alloc: Global, job: &Job, at: u16) -> Result<Vec<u32>, AllocError>
+    requires { IsJob (shown_job job.now) }
+{
+    let images = images_of(rt, alloc, &job.slots)?;
+    let service = Service::new(|word: u64| word);
+    let mut machine = Machine::load(alloc, job, &images)?;
+    let numbers = stops_at(alloc, &mut machine, events_of(job), &service, 0, at);
+    machine.close();
+    numbers
+}
+
 /// The program of slot 0 comes to a place after these orders.
 fn check_place(
     rt: &impl Abort,
@@ -233,12 +391,8 @@ fn check_place(
     due: &[u32],
 ) -> Result<(), AllocError> {
     let job = job_of(rt, alloc, text)?;
-    let images = images_of(rt, alloc, &job.slots)?;
-    let service = Service::new(|word: u64| word);
-    let mut machine = Machine::load(alloc, &job, &images)?;
-    let numbers = stops_at(alloc, &mut machine, events_of(&job), &service, 0, at);
-    machine.close();
-    assert_eq!(rt; numbers?.as_slice(), due);
+    let numbers = stops(rt, alloc, &job, at)?;
+    assert_eq!(rt; numbers.as_slice(), due);
     Ok(())
 }
 
