@@ -2,7 +2,7 @@
 ghost use Rattle.std.specs.Prelude.{◌≡◌, ◌+◌, ◌-◌, ◌*◌, ◌^◌, ◌<◌, ◌≤◌, ◌++◌, ◌∷◌, [], length, take, drop, min, is_some, true, false};
 ghost use Rattle.std.specs.Prelude.{if◌then◌else◌, slice_index, slice_get, vec_len};
 ghost use Rattle.std.specs.Vec.{vec_capacity};
-ghost use Rattle.std.specs.Option.{option_map};
+ghost use Rattle.std.specs.Option.{option_map, option_to_list};
 ghost use Rattle.kdf_word.specs.Characters.{codes_of, words_of};
 ghost use Rattle.kdf_lockout.specs.Groups.{with_lent_word};
 ghost use Rattle.kdf_transfer.specs.AtOnce.{kind_of, is_input, has_area, offered, place_of};
@@ -162,30 +162,29 @@ pub(crate) fn deliver(
     }
 }
 
-/// Adds the word after those of the ring, if there is one.
-pub(crate) fn refill(
+/// The word of this number, if there is one.
+fn next_word(
     device: &Device,
     order: TransferOrder,
     area: Area,
     lease: &Option<Lease>,
-    ring: &mut Ring,
     next: u16,
     total: u16,
-)
+) -> Option<Word>
     requires kind { (fixture_of device.now).kind ≡ kind_of order }
     requires lease { is_some lease.now ≡ has_area order }
     requires area { has_area order ≡ true → Covers lease.now area.first area.last }
     requires total { total ≡ length
         (all_words order area.first area.last lease.now
         (fixture_of device.now) (progress_of device.now)) }
-    requires few { length ring.old < 8 }
-    ensures { ring.new ≡ ring.old ++ take 1 (drop next
+    ensures { option_to_list result ≡ take 1 (drop next
         (all_words order area.first area.last lease.now
         (fixture_of device.now) (progress_of device.now))) }
 {
     if next < total {
-        let word = word_at(device, order, area, lease, next);
-        ring.push(word);
+        Some(word_at(device, order, area, lease, next))
+    } else {
+        None
     }
 }
 
@@ -212,15 +211,15 @@ impl Flight {
             word,
         );
         self.moved += 1;
-        refill(
+        let next = next_word(
             &self.device,
             self.order,
             self.area,
             &self.lease,
-            &mut self.ring,
             self.moved + 7,
             self.total,
         );
+        self.ring.refill(next);
     }
 
     /// Moves the next `n` words, or those that remain.
@@ -358,6 +357,6 @@ pub(crate) fn fill(
         (fixture_of device.now) (progress_of device.now)) }
 {
     for i in 0..8 {
-        refill(device, order, area, lease, ring, i, total);
+        ring.refill(next_word(device, order, area, lease, i, total));
     }
 }

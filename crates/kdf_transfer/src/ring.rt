@@ -1,5 +1,6 @@
 //! The ring between a device and the store.
 ghost use Rattle.std.specs.Prelude.{◌≡◌, ◌==◌, ◌<◌, ◌++◌, ◌∷◌, ℕ, [], List, length, IfOk};
+ghost use Rattle.std.specs.Option.{option_to_list};
 
 use circular_buffer::HeapCircularBuffer;
 use kdf_word::Word;
@@ -53,6 +54,16 @@ impl Ring {
         ensures { self.new ≡ self.old ++ word ∷ [] }
     {
         self.words.push_back(word);
+    }
+
+    /// Adds the word after the others, if there is one.
+    pub(crate) fn refill(&mut self, word: Option<Word>)
+        requires { length self.old < 8 }
+        ensures { self.new ≡ self.old ++ option_to_list word }
+    {
+        if let Some(word) = word {
+            self.push(word);
+        }
     }
 
     /// Empties it.

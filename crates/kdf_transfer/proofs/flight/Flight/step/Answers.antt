@@ -49,19 +49,19 @@ same c =
     words-lease f.order f.area.first f.area.last c.deliver.new.lease f.lease (fixture_of f.device) (progress_of f.device)
     (λ not. c.deliver.ensures.lease ∙ ap (λ b. written_lease b (place_of f.order f.area.first f.area.last f.moved) c.pop-word.result f.lease) not)
 
-pub refill-requires-clause-lease : goal.refill-requires-clause-lease
-refill-requires-clause-lease c =
+pub next_word-next-requires-clause-lease : goal.next_word-next-requires-clause-lease
+next_word-next-requires-clause-lease c =
     let f = c.args.self.now in
     ap is_some c.deliver.ensures.lease ∙ some-written (is_input f.order) (place_of f.order f.area.first f.area.last f.moved) c.pop-word.result f.lease ∙ c.requires.flying.lease
 
-pub refill-requires-clause-area : goal.refill-requires-clause-area
-refill-requires-clause-area c = λ has.
+pub next_word-next-requires-clause-area : goal.next_word-next-requires-clause-area
+next_word-next-requires-clause-area c = λ has.
     let f = c.args.self.now in
     subst (λ l. Covers l f.area.first f.area.last) (sym c.deliver.ensures.lease)
     (covers-written (is_input f.order) (place_of f.order f.area.first f.area.last f.moved) c.pop-word.result f.area.first f.area.last f.lease (c.requires.flying.area has))
 
-pub refill-requires-clause-total : goal.refill-requires-clause-total
-refill-requires-clause-total c = c.requires.flying.total ∙ ap length (sym (same (goal.at.refill-requires-clause-total c).After-deliver))
+pub next_word-next-requires-clause-total : goal.next_word-next-requires-clause-total
+next_word-next-requires-clause-total c = c.requires.flying.total ∙ ap length (sym (same (goal.at.next_word-next-requires-clause-total c).After-deliver))
 
 pub returns-clause-motion : goal.returns-clause-motion
 returns-clause-motion c =
@@ -89,6 +89,7 @@ returns-clause-flying c =
       moved = omega (arith, c.requires.more);
       ring =
           c.refill.ensures
+          ∙ ap (λ xs. c.pop-word.new.self ++ xs) c.next_word-next.ensures
           ∙ ap (λ xs. xs ++ take 1 (drop (f.moved + 1 + 7) (all_words f.order f.area.first f.area.last c.deliver.new.lease (fixture_of f.device) (progress_of f.device)))) front.1
           ∙ ap (λ xs. take 7 (drop (f.moved + 1) ws) ++ take 1 (drop (f.moved + 1 + 7) xs)) (same later)
           ∙ ring_more ws f.moved
