@@ -62,15 +62,15 @@ reads_tape =
     ap (λ (slots : List SlotJob). map (λ (s : SlotJob). seen_after 11 s (image_words s.size s.deck)) slots) reads_tape_slot
     ∙ ap (λ (image : List ℕ). seen_after 11 (a_slot 64 (text (codes "PROGRAM V0; V0=Q0/32/33; SET 2; SET 5; OUT; V0; =Q1; =C1; PRQ1; E32; ZERO; OUT; FINISH;" ∷ [])) (reader 3 ((33 ∷ 34 ∷ 35 ∷ 36 ∷ 37 ∷ 38 ∷ 39 ∷ 40 ∷ 41 ∷ 42 ∷ 43 ∷ 44 ∷ 45 ∷ 46 ∷ 47 ∷ 48 ∷ [])) ∷ []) ((32, 33) ∷ [])) image ∷ []) reads_tape_image
 
-reader_flag_when_the_tape_ends_slot : (job (text (job_lines (codes "STORE 128") (codes "PROGRAM V1; V0=Q0/32/34; V1=B1; SET 2; SET 5; OUT; V0; =Q1; =C1; V1; =E34; PRQ1; PARQ1; ZERO; OUT; FINISH;" ∷ []) (codes "DEVICE 3 TR" ∷ codes "+ABCDEFGH" ∷ codes "+IJ" ∷ codes "SHOW 32 34" ∷ [])))).slots ≡ (a_slot 128 (text (codes "PROGRAM V1; V0=Q0/32/34; V1=B1; SET 2; SET 5; OUT; V0; =Q1; =C1; V1; =E34; PRQ1; PARQ1; ZERO; OUT; FINISH;" ∷ [])) (reader 3 (33 ∷ 34 ∷ 35 ∷ 36 ∷ 37 ∷ 38 ∷ 39 ∷ 40 ∷ 41 ∷ 42 ∷ []) ∷ []) ((32, 34) ∷ [])) ∷ []
+reader_flag_when_the_tape_ends_slot : (job (text (job_lines (codes "STORE 128") (codes "PROGRAM V1; V0=Q0/32/34; V1=B1; SET 2; SET 5; OUT; V0;" ∷ codes "=Q1; =C1; V1; =E34; PRQ1; PARQ1; ZERO; OUT; FINISH;" ∷ []) (codes "DEVICE 3 TR" ∷ codes "+ABCDEFGH" ∷ codes "+IJ" ∷ codes "SHOW 32 34" ∷ [])))).slots ≡ (a_slot 128 (text (codes "PROGRAM V1; V0=Q0/32/34; V1=B1; SET 2; SET 5; OUT; V0;" ∷ codes "=Q1; =C1; V1; =E34; PRQ1; PARQ1; ZERO; OUT; FINISH;" ∷ [])) (reader 3 (33 ∷ 34 ∷ 35 ∷ 36 ∷ 37 ∷ 38 ∷ 39 ∷ 40 ∷ 41 ∷ 42 ∷ []) ∷ []) ((32, 34) ∷ [])) ∷ []
 unfolding lines words value text event code_of first_word words_of codes_in read_line job
 reader_flag_when_the_tape_ends_slot = refl
 
-reader_flag_when_the_tape_ends_image : image_words 128 (text (codes "PROGRAM V1; V0=Q0/32/34; V1=B1; SET 2; SET 5; OUT; V0; =Q1; =C1; V1; =E34; PRQ1; PARQ1; ZERO; OUT; FINISH;" ∷ [])) ≡ 0xA00003010101 ∷ 0x000000200022 ∷ 1 ∷ 0xE00002E00005 ∷ 0x21C000015410 ∷ 0x5510C00002D0 ∷ 0x002270107E12 ∷ 0x092101010101 ∷ []
+reader_flag_when_the_tape_ends_image : image_words 128 (text (codes "PROGRAM V1; V0=Q0/32/34; V1=B1; SET 2; SET 5; OUT; V0;" ∷ codes "=Q1; =C1; V1; =E34; PRQ1; PARQ1; ZERO; OUT; FINISH;" ∷ [])) ≡ 0xA00003010101 ∷ 0x000000200022 ∷ 1 ∷ 0xE00002E00005 ∷ 0x21C000015410 ∷ 0x5510C00002D0 ∷ 0x002270107E12 ∷ 0x092101010101 ∷ []
 unfolding text assembled lettered store_name addressed suffix_of access_form address_form condition_of target_form subroutine_form test_form jump_form form_in address_item number_item item_form triple_form octal_value characters_value value_form constant_form start octal_order order_form formless statement_faults phase_after statements_of placed spelling code_of characters_word
 reader_flag_when_the_tape_ends_image = refl
 
-pub reader_flag_when_the_tape_ends : alone 13 (job_lines (codes "STORE 128") (codes "PROGRAM V1; V0=Q0/32/34; V1=B1; SET 2; SET 5; OUT; V0; =Q1; =C1; V1; =E34; PRQ1; PARQ1; ZERO; OUT; FINISH;" ∷ []) (codes "DEVICE 3 TR" ∷ codes "+ABCDEFGH" ∷ codes "+IJ" ∷ codes "SHOW 32 34" ∷ [])) ≡ record {
+pub reader_flag_when_the_tape_ends : alone 13 (job_lines (codes "STORE 128") (codes "PROGRAM V1; V0=Q0/32/34; V1=B1; SET 2; SET 5; OUT; V0;" ∷ codes "=Q1; =C1; V1; =E34; PRQ1; PARQ1; ZERO; OUT; FINISH;" ∷ []) (codes "DEVICE 3 TR" ∷ codes "+ABCDEFGH" ∷ codes "+IJ" ∷ codes "SHOW 32 34" ∷ [])) ≡ record {
   life = Ended;
   ran = 13;
   at = 44;
@@ -86,7 +86,7 @@ pub reader_flag_when_the_tape_ends : alone 13 (job_lines (codes "STORE 128") (co
 unfolding after_read after_card rewound after_skip after_write printed first_word words_of given offered finished decoded arith arith_row free_for unclaimed plain_row out_effect brought from_top changed single_row decision direct_effect transfer_of query_effect guarded device_numbers by_number device_count to_binary from_binary text
 reader_flag_when_the_tape_ends =
     ap (λ (slots : List SlotJob). map (λ (s : SlotJob). seen_after 13 s (image_words s.size s.deck)) slots) reader_flag_when_the_tape_ends_slot
-    ∙ ap (λ (image : List ℕ). seen_after 13 (a_slot 128 (text (codes "PROGRAM V1; V0=Q0/32/34; V1=B1; SET 2; SET 5; OUT; V0; =Q1; =C1; V1; =E34; PRQ1; PARQ1; ZERO; OUT; FINISH;" ∷ [])) (reader 3 (33 ∷ 34 ∷ 35 ∷ 36 ∷ 37 ∷ 38 ∷ 39 ∷ 40 ∷ 41 ∷ 42 ∷ []) ∷ []) ((32, 34) ∷ [])) image ∷ []) reader_flag_when_the_tape_ends_image
+    ∙ ap (λ (image : List ℕ). seen_after 13 (a_slot 128 (text (codes "PROGRAM V1; V0=Q0/32/34; V1=B1; SET 2; SET 5; OUT; V0;" ∷ codes "=Q1; =C1; V1; =E34; PRQ1; PARQ1; ZERO; OUT; FINISH;" ∷ [])) (reader 3 (33 ∷ 34 ∷ 35 ∷ 36 ∷ 37 ∷ 38 ∷ 39 ∷ 40 ∷ 41 ∷ 42 ∷ []) ∷ []) ((32, 34) ∷ [])) image ∷ []) reader_flag_when_the_tape_ends_image
 
 reader_just_to_the_end_slot : (job (text (job_lines (codes "STORE 128") (codes "PROGRAM V0; V0=Q0/32/33; SET 2; SET 5; OUT; V0; =Q1; =C1; PRQ1; PARQ1; ZERO; OUT; FINISH;" ∷ []) (codes "DEVICE 3 TR" ∷ codes "+ABCDEFGH" ∷ codes "+IJKLMNOP" ∷ codes "SHOW 32 33" ∷ [])))).slots ≡ (a_slot 128 (text (codes "PROGRAM V0; V0=Q0/32/33; SET 2; SET 5; OUT; V0; =Q1; =C1; PRQ1; PARQ1; ZERO; OUT; FINISH;" ∷ [])) (reader 3 ((33 ∷ 34 ∷ 35 ∷ 36 ∷ 37 ∷ 38 ∷ 39 ∷ 40 ∷ 41 ∷ 42 ∷ 43 ∷ 44 ∷ 45 ∷ 46 ∷ 47 ∷ 48 ∷ [])) ∷ []) ((32, 33) ∷ [])) ∷ []
 unfolding lines words value text event code_of first_word words_of codes_in read_line job
@@ -166,15 +166,15 @@ reads_into_its_own_group =
     ap (λ (slots : List SlotJob). map (λ (s : SlotJob). seen_after 12 s (image_words s.size s.deck)) slots) reads_into_its_own_group_slot
     ∙ ap (λ (image : List ℕ). seen_after 12 (a_slot 64 (text (codes "PROGRAM V0; V0=Q0/32/33; SET 2; SET 5; OUT; V0; =Q1; =C1; PRQ1; ZERO; =E40; ZERO; OUT; FINISH;" ∷ [])) (reader 3 ((33 ∷ 34 ∷ 35 ∷ 36 ∷ 37 ∷ 38 ∷ 39 ∷ 40 ∷ 41 ∷ 42 ∷ 43 ∷ 44 ∷ 45 ∷ 46 ∷ 47 ∷ 48 ∷ [])) ∷ []) ((32, 33) ∷ [])) image ∷ []) reads_into_its_own_group_image
 
-reads_nothing_behind_the_end_of_tape_slot : (job (text (job_lines (codes "STORE 64") (codes "PROGRAM V0; V0=Q0/32/33; SET 2; SET 5; OUT; V0; =Q1; =C1; PREQ1; PREQ1; PREQ1; E32; ZERO; OUT; FINISH;" ∷ []) (codes "DEVICE 3 TR" ∷ codes "+|ABC" ∷ codes "SHOW 32 33" ∷ [])))).slots ≡ (a_slot 64 (text (codes "PROGRAM V0; V0=Q0/32/33; SET 2; SET 5; OUT; V0; =Q1; =C1; PREQ1; PREQ1; PREQ1; E32; ZERO; OUT; FINISH;" ∷ [])) (reader 3 (61 ∷ 33 ∷ 34 ∷ 35 ∷ []) ∷ []) ((32, 33) ∷ [])) ∷ []
+reads_nothing_behind_the_end_of_tape_slot : (job (text (job_lines (codes "STORE 64") (codes "PROGRAM V0; V0=Q0/32/33; SET 2; SET 5; OUT; V0; =Q1;" ∷ codes "=C1; PREQ1; PREQ1; PREQ1; E32; ZERO; OUT; FINISH;" ∷ []) (codes "DEVICE 3 TR" ∷ codes "+|ABC" ∷ codes "SHOW 32 33" ∷ [])))).slots ≡ (a_slot 64 (text (codes "PROGRAM V0; V0=Q0/32/33; SET 2; SET 5; OUT; V0; =Q1;" ∷ codes "=C1; PREQ1; PREQ1; PREQ1; E32; ZERO; OUT; FINISH;" ∷ [])) (reader 3 (61 ∷ 33 ∷ 34 ∷ 35 ∷ []) ∷ []) ((32, 33) ∷ [])) ∷ []
 unfolding lines words value text event code_of first_word words_of codes_in read_line job
 reads_nothing_behind_the_end_of_tape_slot = refl
 
-reads_nothing_behind_the_end_of_tape_image : image_words 64 (text (codes "PROGRAM V0; V0=Q0/32/33; SET 2; SET 5; OUT; V0; =Q1; =C1; PREQ1; PREQ1; PREQ1; E32; ZERO; OUT; FINISH;" ∷ [])) ≡ 0xA00002010101 ∷ 0x000000200021 ∷ 0xE00002E00005 ∷ 0x21C000015410 ∷ 0x551071107110 ∷ 0x7110C0002009 ∷ 0x210101010101 ∷ []
+reads_nothing_behind_the_end_of_tape_image : image_words 64 (text (codes "PROGRAM V0; V0=Q0/32/33; SET 2; SET 5; OUT; V0; =Q1;" ∷ codes "=C1; PREQ1; PREQ1; PREQ1; E32; ZERO; OUT; FINISH;" ∷ [])) ≡ 0xA00002010101 ∷ 0x000000200021 ∷ 0xE00002E00005 ∷ 0x21C000015410 ∷ 0x551071107110 ∷ 0x7110C0002009 ∷ 0x210101010101 ∷ []
 unfolding text assembled lettered store_name addressed suffix_of access_form address_form condition_of target_form subroutine_form test_form jump_form form_in address_item number_item item_form triple_form octal_value characters_value value_form constant_form start octal_order order_form formless statement_faults phase_after statements_of placed spelling code_of characters_word
 reads_nothing_behind_the_end_of_tape_image = refl
 
-pub reads_nothing_behind_the_end_of_tape : alone 13 (job_lines (codes "STORE 64") (codes "PROGRAM V0; V0=Q0/32/33; SET 2; SET 5; OUT; V0; =Q1; =C1; PREQ1; PREQ1; PREQ1; E32; ZERO; OUT; FINISH;" ∷ []) (codes "DEVICE 3 TR" ∷ codes "+|ABC" ∷ codes "SHOW 32 33" ∷ [])) ≡ record {
+pub reads_nothing_behind_the_end_of_tape : alone 13 (job_lines (codes "STORE 64") (codes "PROGRAM V0; V0=Q0/32/33; SET 2; SET 5; OUT; V0; =Q1;" ∷ codes "=C1; PREQ1; PREQ1; PREQ1; E32; ZERO; OUT; FINISH;" ∷ []) (codes "DEVICE 3 TR" ∷ codes "+|ABC" ∷ codes "SHOW 32 33" ∷ [])) ≡ record {
   life = Ended;
   ran = 13;
   at = 37;
@@ -190,7 +190,7 @@ pub reads_nothing_behind_the_end_of_tape : alone 13 (job_lines (codes "STORE 64"
 unfolding after_read after_card rewound after_skip after_write printed first_word words_of given offered finished decoded arith arith_row free_for unclaimed plain_row out_effect brought from_top changed single_row decision direct_effect transfer_of query_effect guarded device_numbers by_number device_count to_binary from_binary text
 reads_nothing_behind_the_end_of_tape =
     ap (λ (slots : List SlotJob). map (λ (s : SlotJob). seen_after 13 s (image_words s.size s.deck)) slots) reads_nothing_behind_the_end_of_tape_slot
-    ∙ ap (λ (image : List ℕ). seen_after 13 (a_slot 64 (text (codes "PROGRAM V0; V0=Q0/32/33; SET 2; SET 5; OUT; V0; =Q1; =C1; PREQ1; PREQ1; PREQ1; E32; ZERO; OUT; FINISH;" ∷ [])) (reader 3 (61 ∷ 33 ∷ 34 ∷ 35 ∷ []) ∷ []) ((32, 33) ∷ [])) image ∷ []) reads_nothing_behind_the_end_of_tape_image
+    ∙ ap (λ (image : List ℕ). seen_after 13 (a_slot 64 (text (codes "PROGRAM V0; V0=Q0/32/33; SET 2; SET 5; OUT; V0; =Q1;" ∷ codes "=C1; PREQ1; PREQ1; PREQ1; E32; ZERO; OUT; FINISH;" ∷ [])) (reader 3 (61 ∷ 33 ∷ 34 ∷ 35 ∷ []) ∷ []) ((32, 33) ∷ [])) image ∷ []) reads_nothing_behind_the_end_of_tape_image
 
 reads_past_the_end_message_to_the_end_of_tape_slot : (job (text (job_lines (codes "STORE 64") (codes "PROGRAM V0; V0=Q0/32/33; SET 2; SET 5; OUT; V0; =Q1; =C1; PREQ1; PREQ1; E32; ZERO; OUT; FINISH;" ∷ []) (codes "DEVICE 3 TR" ∷ codes "+|ABC" ∷ codes "SHOW 32 33" ∷ [])))).slots ≡ (a_slot 64 (text (codes "PROGRAM V0; V0=Q0/32/33; SET 2; SET 5; OUT; V0; =Q1; =C1; PREQ1; PREQ1; E32; ZERO; OUT; FINISH;" ∷ [])) (reader 3 (61 ∷ 33 ∷ 34 ∷ 35 ∷ []) ∷ []) ((32, 33) ∷ [])) ∷ []
 unfolding lines words value text event code_of first_word words_of codes_in read_line job
@@ -322,15 +322,15 @@ one_that_isnt_claimed =
     ap (λ (slots : List SlotJob). map (λ (s : SlotJob). seen_after 4 s (image_words s.size s.deck)) slots) one_that_isnt_claimed_slot
     ∙ ap (λ (image : List ℕ). seen_after 4 (a_slot 32 (text (codes "PROGRAM; SET 3; SET 6; OUT; FINISH;" ∷ [])) (reader 3 ([]) ∷ []) ([])) image ∷ []) one_that_isnt_claimed_image
 
-is_answered_nought_slot : (job (text (job_lines (codes "STORE 64") (codes "PROGRAM V0; V0=Q0/32/33; SET 2; SET 5; OUT; V0; =Q1; =C1; PRQ1; BUSYQ1; SET 9; OUT; INTQ1; BUSYQ1; SET 9; OUT; ZERO; OUT; FINISH;" ∷ []) (codes "DEVICE 3 TR" ∷ codes "+ABCDEFGHIJKLMNOP" ∷ codes "SHOW 32 33" ∷ [])))).slots ≡ (a_slot 64 (text (codes "PROGRAM V0; V0=Q0/32/33; SET 2; SET 5; OUT; V0; =Q1; =C1; PRQ1; BUSYQ1; SET 9; OUT; INTQ1; BUSYQ1; SET 9; OUT; ZERO; OUT; FINISH;" ∷ [])) (reader 3 ((33 ∷ 34 ∷ 35 ∷ 36 ∷ 37 ∷ 38 ∷ 39 ∷ 40 ∷ 41 ∷ 42 ∷ 43 ∷ 44 ∷ 45 ∷ 46 ∷ 47 ∷ 48 ∷ [])) ∷ []) ((32, 33) ∷ [])) ∷ []
+is_answered_nought_slot : (job (text (job_lines (codes "STORE 64") (codes "PROGRAM V0; V0=Q0/32/33; SET 2; SET 5; OUT; V0; =Q1; =C1; PRQ1;" ∷ codes "BUSYQ1; SET 9; OUT; INTQ1; BUSYQ1; SET 9; OUT; ZERO; OUT; FINISH;" ∷ []) (codes "DEVICE 3 TR" ∷ codes "+ABCDEFGHIJKLMNOP" ∷ codes "SHOW 32 33" ∷ [])))).slots ≡ (a_slot 64 (text (codes "PROGRAM V0; V0=Q0/32/33; SET 2; SET 5; OUT; V0; =Q1; =C1; PRQ1;" ∷ codes "BUSYQ1; SET 9; OUT; INTQ1; BUSYQ1; SET 9; OUT; ZERO; OUT; FINISH;" ∷ [])) (reader 3 ((33 ∷ 34 ∷ 35 ∷ 36 ∷ 37 ∷ 38 ∷ 39 ∷ 40 ∷ 41 ∷ 42 ∷ 43 ∷ 44 ∷ 45 ∷ 46 ∷ 47 ∷ 48 ∷ [])) ∷ []) ((32, 33) ∷ [])) ∷ []
 unfolding lines words value text event code_of first_word words_of codes_in read_line job
 is_answered_nought_slot = refl
 
-is_answered_nought_image : image_words 64 (text (codes "PROGRAM V0; V0=Q0/32/33; SET 2; SET 5; OUT; V0; =Q1; =C1; PRQ1; BUSYQ1; SET 9; OUT; INTQ1; BUSYQ1; SET 9; OUT; ZERO; OUT; FINISH;" ∷ [])) ≡ 0xA00002010101 ∷ 0x000000200021 ∷ 0xE00002E00005 ∷ 0x21C000015410 ∷ 0x551070107E10 ∷ 0xE00009217E15 ∷ 0x7E10E0000921 ∷ 0x092101010101 ∷ []
+is_answered_nought_image : image_words 64 (text (codes "PROGRAM V0; V0=Q0/32/33; SET 2; SET 5; OUT; V0; =Q1; =C1; PRQ1;" ∷ codes "BUSYQ1; SET 9; OUT; INTQ1; BUSYQ1; SET 9; OUT; ZERO; OUT; FINISH;" ∷ [])) ≡ 0xA00002010101 ∷ 0x000000200021 ∷ 0xE00002E00005 ∷ 0x21C000015410 ∷ 0x551070107E10 ∷ 0xE00009217E15 ∷ 0x7E10E0000921 ∷ 0x092101010101 ∷ []
 unfolding text assembled lettered store_name addressed suffix_of access_form address_form condition_of target_form subroutine_form test_form jump_form form_in address_item number_item item_form triple_form octal_value characters_value value_form constant_form start octal_order order_form formless statement_faults phase_after statements_of placed spelling code_of characters_word
 is_answered_nought_image = refl
 
-pub is_answered_nought : alone 17 (job_lines (codes "STORE 64") (codes "PROGRAM V0; V0=Q0/32/33; SET 2; SET 5; OUT; V0; =Q1; =C1; PRQ1; BUSYQ1; SET 9; OUT; INTQ1; BUSYQ1; SET 9; OUT; ZERO; OUT; FINISH;" ∷ []) (codes "DEVICE 3 TR" ∷ codes "+ABCDEFGHIJKLMNOP" ∷ codes "SHOW 32 33" ∷ [])) ≡ record {
+pub is_answered_nought : alone 17 (job_lines (codes "STORE 64") (codes "PROGRAM V0; V0=Q0/32/33; SET 2; SET 5; OUT; V0; =Q1; =C1; PRQ1;" ∷ codes "BUSYQ1; SET 9; OUT; INTQ1; BUSYQ1; SET 9; OUT; ZERO; OUT; FINISH;" ∷ []) (codes "DEVICE 3 TR" ∷ codes "+ABCDEFGHIJKLMNOP" ∷ codes "SHOW 32 33" ∷ [])) ≡ record {
   life = Ended;
   ran = 17;
   at = 44;
@@ -346,4 +346,4 @@ pub is_answered_nought : alone 17 (job_lines (codes "STORE 64") (codes "PROGRAM 
 unfolding after_read after_card rewound after_skip after_write printed first_word words_of given offered finished decoded arith arith_row free_for unclaimed plain_row out_effect brought from_top changed single_row decision direct_effect transfer_of query_effect guarded device_numbers by_number device_count to_binary from_binary text
 is_answered_nought =
     ap (λ (slots : List SlotJob). map (λ (s : SlotJob). seen_after 17 s (image_words s.size s.deck)) slots) is_answered_nought_slot
-    ∙ ap (λ (image : List ℕ). seen_after 17 (a_slot 64 (text (codes "PROGRAM V0; V0=Q0/32/33; SET 2; SET 5; OUT; V0; =Q1; =C1; PRQ1; BUSYQ1; SET 9; OUT; INTQ1; BUSYQ1; SET 9; OUT; ZERO; OUT; FINISH;" ∷ [])) (reader 3 ((33 ∷ 34 ∷ 35 ∷ 36 ∷ 37 ∷ 38 ∷ 39 ∷ 40 ∷ 41 ∷ 42 ∷ 43 ∷ 44 ∷ 45 ∷ 46 ∷ 47 ∷ 48 ∷ [])) ∷ []) ((32, 33) ∷ [])) image ∷ []) is_answered_nought_image
+    ∙ ap (λ (image : List ℕ). seen_after 17 (a_slot 64 (text (codes "PROGRAM V0; V0=Q0/32/33; SET 2; SET 5; OUT; V0; =Q1; =C1; PRQ1;" ∷ codes "BUSYQ1; SET 9; OUT; INTQ1; BUSYQ1; SET 9; OUT; ZERO; OUT; FINISH;" ∷ [])) (reader 3 ((33 ∷ 34 ∷ 35 ∷ 36 ∷ 37 ∷ 38 ∷ 39 ∷ 40 ∷ 41 ∷ 42 ∷ 43 ∷ 44 ∷ 45 ∷ 46 ∷ 47 ∷ 48 ∷ [])) ∷ []) ((32, 33) ∷ [])) image ∷ []) is_answered_nought_image

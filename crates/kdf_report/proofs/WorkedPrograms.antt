@@ -426,15 +426,15 @@ rewind_without_a_claim =
     ap (λ (slots : List SlotJob). map (λ (s : SlotJob). seen_after 2 s (image_words s.size s.deck)) slots) rewind_without_a_claim_slot
     ∙ ap (λ (image : List ℕ). seen_after 2 (a_slot 32 (text (codes "PROGRAM; MRWDQ1; FINISH;" ∷ [])) ([]) ([])) image ∷ []) rewind_without_a_claim_image
 
-pushes_17_zeros_slot : (job (text (job_lines (codes "STORE 32") (codes "PROGRAM;ZERO;ZERO;ZERO;ZERO;ZERO;ZERO;ZERO;ZERO;ZERO;ZERO;ZERO;ZERO;ZERO;ZERO;ZERO;ZERO;ZERO;FINISH;" ∷ []) ([])))).slots ≡ (a_slot 32 (text (codes "PROGRAM;ZERO;ZERO;ZERO;ZERO;ZERO;ZERO;ZERO;ZERO;ZERO;ZERO;ZERO;ZERO;ZERO;ZERO;ZERO;ZERO;ZERO;FINISH;" ∷ [])) ([]) ([])) ∷ []
+pushes_17_zeros_slot : (job (text (job_lines (codes "STORE 32") (codes "PROGRAM;ZERO;ZERO;ZERO;ZERO;ZERO;ZERO;ZERO;ZERO;ZERO;" ∷ codes "ZERO;ZERO;ZERO;ZERO;ZERO;ZERO;ZERO;ZERO;FINISH;" ∷ []) ([])))).slots ≡ (a_slot 32 (text (codes "PROGRAM;ZERO;ZERO;ZERO;ZERO;ZERO;ZERO;ZERO;ZERO;ZERO;" ∷ codes "ZERO;ZERO;ZERO;ZERO;ZERO;ZERO;ZERO;ZERO;FINISH;" ∷ [])) ([]) ([])) ∷ []
 unfolding lines words value text event code_of first_word words_of codes_in read_line job
 pushes_17_zeros_slot = refl
 
-pushes_17_zeros_image : image_words 32 (text (codes "PROGRAM;ZERO;ZERO;ZERO;ZERO;ZERO;ZERO;ZERO;ZERO;ZERO;ZERO;ZERO;ZERO;ZERO;ZERO;ZERO;ZERO;ZERO;FINISH;" ∷ [])) ≡ 0xA00001010101 ∷ 0x090909090909 ∷ 0x090909090909 ∷ 0x090909090901 ∷ []
+pushes_17_zeros_image : image_words 32 (text (codes "PROGRAM;ZERO;ZERO;ZERO;ZERO;ZERO;ZERO;ZERO;ZERO;ZERO;" ∷ codes "ZERO;ZERO;ZERO;ZERO;ZERO;ZERO;ZERO;ZERO;FINISH;" ∷ [])) ≡ 0xA00001010101 ∷ 0x090909090909 ∷ 0x090909090909 ∷ 0x090909090901 ∷ []
 unfolding text assembled lettered store_name addressed suffix_of access_form address_form condition_of target_form subroutine_form test_form jump_form form_in address_item number_item item_form triple_form octal_value characters_value value_form constant_form start octal_order order_form formless statement_faults phase_after statements_of placed spelling code_of characters_word
 pushes_17_zeros_image = refl
 
-pub pushes_17_zeros : alone 18 (job_lines (codes "STORE 32") (codes "PROGRAM;ZERO;ZERO;ZERO;ZERO;ZERO;ZERO;ZERO;ZERO;ZERO;ZERO;ZERO;ZERO;ZERO;ZERO;ZERO;ZERO;ZERO;FINISH;" ∷ []) ([])) ≡ record {
+pub pushes_17_zeros : alone 18 (job_lines (codes "STORE 32") (codes "PROGRAM;ZERO;ZERO;ZERO;ZERO;ZERO;ZERO;ZERO;ZERO;ZERO;" ∷ codes "ZERO;ZERO;ZERO;ZERO;ZERO;ZERO;ZERO;ZERO;FINISH;" ∷ []) ([])) ≡ record {
   life = Failed Nouv;
   ran = 18;
   at = 22;
@@ -450,7 +450,7 @@ pub pushes_17_zeros : alone 18 (job_lines (codes "STORE 32") (codes "PROGRAM;ZER
 unfolding after_read after_card rewound after_skip after_write printed first_word words_of given offered finished decoded arith arith_row free_for unclaimed plain_row out_effect brought from_top changed single_row decision direct_effect transfer_of query_effect guarded device_numbers by_number device_count to_binary from_binary text
 pushes_17_zeros =
     ap (λ (slots : List SlotJob). map (λ (s : SlotJob). seen_after 18 s (image_words s.size s.deck)) slots) pushes_17_zeros_slot
-    ∙ ap (λ (image : List ℕ). seen_after 18 (a_slot 32 (text (codes "PROGRAM;ZERO;ZERO;ZERO;ZERO;ZERO;ZERO;ZERO;ZERO;ZERO;ZERO;ZERO;ZERO;ZERO;ZERO;ZERO;ZERO;ZERO;FINISH;" ∷ [])) ([]) ([])) image ∷ []) pushes_17_zeros_image
+    ∙ ap (λ (image : List ℕ). seen_after 18 (a_slot 32 (text (codes "PROGRAM;ZERO;ZERO;ZERO;ZERO;ZERO;ZERO;ZERO;ZERO;ZERO;" ∷ codes "ZERO;ZERO;ZERO;ZERO;ZERO;ZERO;ZERO;ZERO;FINISH;" ∷ [])) ([]) ([])) image ∷ []) pushes_17_zeros_image
 
 ends_nowhere_slot : (job (text (job_lines (codes "STORE 32") (codes "PROGRAM; FINISH;" ∷ []) ([])))).slots ≡ (a_slot 32 (text (codes "PROGRAM; FINISH;" ∷ [])) ([]) ([])) ∷ []
 unfolding lines words value text event code_of first_word words_of codes_in read_line job

@@ -37,15 +37,15 @@ use Rattle.kdf_transfer.specs.ByNumber.{by_number, device_count}
 use Rattle.kdf_report.specs.Devices.{device_numbers}
 use Rattle.kdf_report.specs.Worked.{a_slot, alone, job_lines, reader, seen_after, shown}
 
-punch_of_a_whole_word_slot : (job (text (job_lines (codes "STORE 128") (codes "PROGRAM V1; V0=Q0/32/32; V1=PAB|CD; SET 1; SET 5; OUT; V0; =Q1; =C1; V1; =E32; PWQ1; ZERO; OUT; FINISH;" ∷ []) (codes "DEVICE 1 TP" ∷ [])))).slots ≡ (a_slot 128 (text (codes "PROGRAM V1; V0=Q0/32/32; V1=PAB|CD; SET 1; SET 5; OUT; V0; =Q1; =C1; V1; =E32; PWQ1; ZERO; OUT; FINISH;" ∷ [])) (new_device 1 Tp 0 ∷ []) ([])) ∷ []
+punch_of_a_whole_word_slot : (job (text (job_lines (codes "STORE 128") (codes "PROGRAM V1; V0=Q0/32/32; V1=PAB|CD; SET 1; SET 5;" ∷ codes "OUT; V0; =Q1; =C1; V1; =E32; PWQ1; ZERO; OUT; FINISH;" ∷ []) (codes "DEVICE 1 TP" ∷ [])))).slots ≡ (a_slot 128 (text (codes "PROGRAM V1; V0=Q0/32/32; V1=PAB|CD; SET 1; SET 5;" ∷ codes "OUT; V0; =Q1; =C1; V1; =E32; PWQ1; ZERO; OUT; FINISH;" ∷ [])) (new_device 1 Tp 0 ∷ []) ([])) ∷ []
 unfolding lines words value text event code_of first_word words_of codes_in read_line job
 punch_of_a_whole_word_slot = refl
 
-punch_of_a_whole_word_image : image_words 128 (text (codes "PROGRAM V1; V0=Q0/32/32; V1=PAB|CD; SET 1; SET 5; OUT; V0; =Q1; =C1; V1; =E32; PWQ1; ZERO; OUT; FINISH;" ∷ [])) ≡ 0xA00003010101 ∷ 0x000000200020 ∷ 0x862F63900000 ∷ 0xE00001E00005 ∷ 0x21C000015410 ∷ 0x5510C00002D0 ∷ 0x002072100921 ∷ []
+punch_of_a_whole_word_image : image_words 128 (text (codes "PROGRAM V1; V0=Q0/32/32; V1=PAB|CD; SET 1; SET 5;" ∷ codes "OUT; V0; =Q1; =C1; V1; =E32; PWQ1; ZERO; OUT; FINISH;" ∷ [])) ≡ 0xA00003010101 ∷ 0x000000200020 ∷ 0x862F63900000 ∷ 0xE00001E00005 ∷ 0x21C000015410 ∷ 0x5510C00002D0 ∷ 0x002072100921 ∷ []
 unfolding text assembled lettered store_name addressed suffix_of access_form address_form condition_of target_form subroutine_form test_form jump_form form_in address_item number_item item_form triple_form octal_value characters_value value_form constant_form start octal_order order_form formless statement_faults phase_after statements_of placed spelling code_of characters_word
 punch_of_a_whole_word_image = refl
 
-pub punch_of_a_whole_word : alone 12 (job_lines (codes "STORE 128") (codes "PROGRAM V1; V0=Q0/32/32; V1=PAB|CD; SET 1; SET 5; OUT; V0; =Q1; =C1; V1; =E32; PWQ1; ZERO; OUT; FINISH;" ∷ []) (codes "DEVICE 1 TP" ∷ [])) ≡ record {
+pub punch_of_a_whole_word : alone 12 (job_lines (codes "STORE 128") (codes "PROGRAM V1; V0=Q0/32/32; V1=PAB|CD; SET 1; SET 5;" ∷ codes "OUT; V0; =Q1; =C1; V1; =E32; PWQ1; ZERO; OUT; FINISH;" ∷ []) (codes "DEVICE 1 TP" ∷ [])) ≡ record {
   life = Ended;
   ran = 12;
   at = 42;
@@ -61,17 +61,17 @@ pub punch_of_a_whole_word : alone 12 (job_lines (codes "STORE 128") (codes "PROG
 unfolding after_read after_card rewound after_skip after_write printed first_word words_of given offered finished decoded arith arith_row free_for unclaimed plain_row out_effect brought from_top changed single_row decision direct_effect transfer_of query_effect guarded device_numbers by_number device_count to_binary from_binary text
 punch_of_a_whole_word =
     ap (λ (slots : List SlotJob). map (λ (s : SlotJob). seen_after 12 s (image_words s.size s.deck)) slots) punch_of_a_whole_word_slot
-    ∙ ap (λ (image : List ℕ). seen_after 12 (a_slot 128 (text (codes "PROGRAM V1; V0=Q0/32/32; V1=PAB|CD; SET 1; SET 5; OUT; V0; =Q1; =C1; V1; =E32; PWQ1; ZERO; OUT; FINISH;" ∷ [])) (new_device 1 Tp 0 ∷ []) ([])) image ∷ []) punch_of_a_whole_word_image
+    ∙ ap (λ (image : List ℕ). seen_after 12 (a_slot 128 (text (codes "PROGRAM V1; V0=Q0/32/32; V1=PAB|CD; SET 1; SET 5;" ∷ codes "OUT; V0; =Q1; =C1; V1; =E32; PWQ1; ZERO; OUT; FINISH;" ∷ [])) (new_device 1 Tp 0 ∷ []) ([])) image ∷ []) punch_of_a_whole_word_image
 
-punch_without_an_end_message_slot : (job (text (job_lines (codes "STORE 128") (codes "PROGRAM V1; V0=Q0/32/33; V1=PAB; SET 1; SET 5; OUT; V0; =Q1; =C1; V1; =E32; PWEQ1; PWEQ1; ZERO; OUT; FINISH;" ∷ []) (codes "DEVICE 1 TP" ∷ [])))).slots ≡ (a_slot 128 (text (codes "PROGRAM V1; V0=Q0/32/33; V1=PAB; SET 1; SET 5; OUT; V0; =Q1; =C1; V1; =E32; PWEQ1; PWEQ1; ZERO; OUT; FINISH;" ∷ [])) (new_device 1 Tp 0 ∷ []) ([])) ∷ []
+punch_without_an_end_message_slot : (job (text (job_lines (codes "STORE 128") (codes "PROGRAM V1; V0=Q0/32/33; V1=PAB; SET 1; SET 5; OUT; V0;" ∷ codes "=Q1; =C1; V1; =E32; PWEQ1; PWEQ1; ZERO; OUT; FINISH;" ∷ []) (codes "DEVICE 1 TP" ∷ [])))).slots ≡ (a_slot 128 (text (codes "PROGRAM V1; V0=Q0/32/33; V1=PAB; SET 1; SET 5; OUT; V0;" ∷ codes "=Q1; =C1; V1; =E32; PWEQ1; PWEQ1; ZERO; OUT; FINISH;" ∷ [])) (new_device 1 Tp 0 ∷ []) ([])) ∷ []
 unfolding lines words value text event code_of first_word words_of codes_in read_line job
 punch_without_an_end_message_slot = refl
 
-punch_without_an_end_message_image : image_words 128 (text (codes "PROGRAM V1; V0=Q0/32/33; V1=PAB; SET 1; SET 5; OUT; V0; =Q1; =C1; V1; =E32; PWEQ1; PWEQ1; ZERO; OUT; FINISH;" ∷ [])) ≡ 0xA00003010101 ∷ 0x000000200021 ∷ 0x862000000000 ∷ 0xE00001E00005 ∷ 0x21C000015410 ∷ 0x5510C00002D0 ∷ 0x002073107310 ∷ 0x092101010101 ∷ []
+punch_without_an_end_message_image : image_words 128 (text (codes "PROGRAM V1; V0=Q0/32/33; V1=PAB; SET 1; SET 5; OUT; V0;" ∷ codes "=Q1; =C1; V1; =E32; PWEQ1; PWEQ1; ZERO; OUT; FINISH;" ∷ [])) ≡ 0xA00003010101 ∷ 0x000000200021 ∷ 0x862000000000 ∷ 0xE00001E00005 ∷ 0x21C000015410 ∷ 0x5510C00002D0 ∷ 0x002073107310 ∷ 0x092101010101 ∷ []
 unfolding text assembled lettered store_name addressed suffix_of access_form address_form condition_of target_form subroutine_form test_form jump_form form_in address_item number_item item_form triple_form octal_value characters_value value_form constant_form start octal_order order_form formless statement_faults phase_after statements_of placed spelling code_of characters_word
 punch_without_an_end_message_image = refl
 
-pub punch_without_an_end_message : alone 13 (job_lines (codes "STORE 128") (codes "PROGRAM V1; V0=Q0/32/33; V1=PAB; SET 1; SET 5; OUT; V0; =Q1; =C1; V1; =E32; PWEQ1; PWEQ1; ZERO; OUT; FINISH;" ∷ []) (codes "DEVICE 1 TP" ∷ [])) ≡ record {
+pub punch_without_an_end_message : alone 13 (job_lines (codes "STORE 128") (codes "PROGRAM V1; V0=Q0/32/33; V1=PAB; SET 1; SET 5; OUT; V0;" ∷ codes "=Q1; =C1; V1; =E32; PWEQ1; PWEQ1; ZERO; OUT; FINISH;" ∷ []) (codes "DEVICE 1 TP" ∷ [])) ≡ record {
   life = Ended;
   ran = 13;
   at = 44;
@@ -87,17 +87,17 @@ pub punch_without_an_end_message : alone 13 (job_lines (codes "STORE 128") (code
 unfolding after_read after_card rewound after_skip after_write printed first_word words_of given offered finished decoded arith arith_row free_for unclaimed plain_row out_effect brought from_top changed single_row decision direct_effect transfer_of query_effect guarded device_numbers by_number device_count to_binary from_binary text
 punch_without_an_end_message =
     ap (λ (slots : List SlotJob). map (λ (s : SlotJob). seen_after 13 s (image_words s.size s.deck)) slots) punch_without_an_end_message_slot
-    ∙ ap (λ (image : List ℕ). seen_after 13 (a_slot 128 (text (codes "PROGRAM V1; V0=Q0/32/33; V1=PAB; SET 1; SET 5; OUT; V0; =Q1; =C1; V1; =E32; PWEQ1; PWEQ1; ZERO; OUT; FINISH;" ∷ [])) (new_device 1 Tp 0 ∷ []) ([])) image ∷ []) punch_without_an_end_message_image
+    ∙ ap (λ (image : List ℕ). seen_after 13 (a_slot 128 (text (codes "PROGRAM V1; V0=Q0/32/33; V1=PAB; SET 1; SET 5; OUT; V0;" ∷ codes "=Q1; =C1; V1; =E32; PWEQ1; PWEQ1; ZERO; OUT; FINISH;" ∷ [])) (new_device 1 Tp 0 ∷ []) ([])) image ∷ []) punch_without_an_end_message_image
 
-least_number_of_the_kind_slot : (job (text (job_lines (codes "STORE 128") (codes "PROGRAM V0; V0=Q0/32/32; SET 1; SET 5; OUT; V0; =Q1; =C1; PWQ1; SET 1; SET 5; OUT; ZERO; OUT; FINISH;" ∷ []) (codes "DEVICE 7 TP" ∷ codes "DEVICE 2 TP" ∷ codes "DEVICE 9 TP" ∷ [])))).slots ≡ (a_slot 128 (text (codes "PROGRAM V0; V0=Q0/32/32; SET 1; SET 5; OUT; V0; =Q1; =C1; PWQ1; SET 1; SET 5; OUT; ZERO; OUT; FINISH;" ∷ [])) (new_device 7 Tp 0 ∷ new_device 2 Tp 0 ∷ new_device 9 Tp 0 ∷ []) ([])) ∷ []
+least_number_of_the_kind_slot : (job (text (job_lines (codes "STORE 128") (codes "PROGRAM V0; V0=Q0/32/32; SET 1; SET 5; OUT; V0;" ∷ codes "=Q1; =C1; PWQ1; SET 1; SET 5; OUT; ZERO; OUT; FINISH;" ∷ []) (codes "DEVICE 7 TP" ∷ codes "DEVICE 2 TP" ∷ codes "DEVICE 9 TP" ∷ [])))).slots ≡ (a_slot 128 (text (codes "PROGRAM V0; V0=Q0/32/32; SET 1; SET 5; OUT; V0;" ∷ codes "=Q1; =C1; PWQ1; SET 1; SET 5; OUT; ZERO; OUT; FINISH;" ∷ [])) (new_device 7 Tp 0 ∷ new_device 2 Tp 0 ∷ new_device 9 Tp 0 ∷ []) ([])) ∷ []
 unfolding lines words value text event code_of first_word words_of codes_in read_line job
 least_number_of_the_kind_slot = refl
 
-least_number_of_the_kind_image : image_words 128 (text (codes "PROGRAM V0; V0=Q0/32/32; SET 1; SET 5; OUT; V0; =Q1; =C1; PWQ1; SET 1; SET 5; OUT; ZERO; OUT; FINISH;" ∷ [])) ≡ 0xA00002010101 ∷ 0x000000200020 ∷ 0xE00001E00005 ∷ 0x21C000015410 ∷ 0x55107210E000 ∷ 0x01E000052109 ∷ 0x210101010101 ∷ []
+least_number_of_the_kind_image : image_words 128 (text (codes "PROGRAM V0; V0=Q0/32/32; SET 1; SET 5; OUT; V0;" ∷ codes "=Q1; =C1; PWQ1; SET 1; SET 5; OUT; ZERO; OUT; FINISH;" ∷ [])) ≡ 0xA00002010101 ∷ 0x000000200020 ∷ 0xE00001E00005 ∷ 0x21C000015410 ∷ 0x55107210E000 ∷ 0x01E000052109 ∷ 0x210101010101 ∷ []
 unfolding text assembled lettered store_name addressed suffix_of access_form address_form condition_of target_form subroutine_form test_form jump_form form_in address_item number_item item_form triple_form octal_value characters_value value_form constant_form start octal_order order_form formless statement_faults phase_after statements_of placed spelling code_of characters_word
 least_number_of_the_kind_image = refl
 
-pub least_number_of_the_kind : alone 13 (job_lines (codes "STORE 128") (codes "PROGRAM V0; V0=Q0/32/32; SET 1; SET 5; OUT; V0; =Q1; =C1; PWQ1; SET 1; SET 5; OUT; ZERO; OUT; FINISH;" ∷ []) (codes "DEVICE 7 TP" ∷ codes "DEVICE 2 TP" ∷ codes "DEVICE 9 TP" ∷ [])) ≡ record {
+pub least_number_of_the_kind : alone 13 (job_lines (codes "STORE 128") (codes "PROGRAM V0; V0=Q0/32/32; SET 1; SET 5; OUT; V0;" ∷ codes "=Q1; =C1; PWQ1; SET 1; SET 5; OUT; ZERO; OUT; FINISH;" ∷ []) (codes "DEVICE 7 TP" ∷ codes "DEVICE 2 TP" ∷ codes "DEVICE 9 TP" ∷ [])) ≡ record {
   life = Ended;
   ran = 13;
   at = 37;
@@ -113,7 +113,7 @@ pub least_number_of_the_kind : alone 13 (job_lines (codes "STORE 128") (codes "P
 unfolding after_read after_card rewound after_skip after_write printed first_word words_of given offered finished decoded arith arith_row free_for unclaimed plain_row out_effect brought from_top changed single_row decision direct_effect transfer_of query_effect guarded device_numbers by_number device_count to_binary from_binary text
 least_number_of_the_kind =
     ap (λ (slots : List SlotJob). map (λ (s : SlotJob). seen_after 13 s (image_words s.size s.deck)) slots) least_number_of_the_kind_slot
-    ∙ ap (λ (image : List ℕ). seen_after 13 (a_slot 128 (text (codes "PROGRAM V0; V0=Q0/32/32; SET 1; SET 5; OUT; V0; =Q1; =C1; PWQ1; SET 1; SET 5; OUT; ZERO; OUT; FINISH;" ∷ [])) (new_device 7 Tp 0 ∷ new_device 2 Tp 0 ∷ new_device 9 Tp 0 ∷ []) ([])) image ∷ []) least_number_of_the_kind_image
+    ∙ ap (λ (image : List ℕ). seen_after 13 (a_slot 128 (text (codes "PROGRAM V0; V0=Q0/32/32; SET 1; SET 5; OUT; V0;" ∷ codes "=Q1; =C1; PWQ1; SET 1; SET 5; OUT; ZERO; OUT; FINISH;" ∷ [])) (new_device 7 Tp 0 ∷ new_device 2 Tp 0 ∷ new_device 9 Tp 0 ∷ []) ([])) image ∷ []) least_number_of_the_kind_image
 
 ends_behind_its_punch_slot : (job (text (job_lines (codes "STORE 64") (codes "PROGRAM V0; V0=Q0/32/32; SET 1; SET 5; OUT; V0; =Q1; =C1; PWQ1; ZERO; OUT; FINISH;" ∷ []) (codes "DEVICE 1 TP" ∷ [])))).slots ≡ (a_slot 64 (text (codes "PROGRAM V0; V0=Q0/32/32; SET 1; SET 5; OUT; V0; =Q1; =C1; PWQ1; ZERO; OUT; FINISH;" ∷ [])) (new_device 1 Tp 0 ∷ []) ([])) ∷ []
 unfolding lines words value text event code_of first_word words_of codes_in read_line job
@@ -141,15 +141,15 @@ ends_behind_its_punch =
     ap (λ (slots : List SlotJob). map (λ (s : SlotJob). seen_after 10 s (image_words s.size s.deck)) slots) ends_behind_its_punch_slot
     ∙ ap (λ (image : List ℕ). seen_after 10 (a_slot 64 (text (codes "PROGRAM V0; V0=Q0/32/32; SET 1; SET 5; OUT; V0; =Q1; =C1; PWQ1; ZERO; OUT; FINISH;" ∷ [])) (new_device 1 Tp 0 ∷ []) ([])) image ∷ []) ends_behind_its_punch_image
 
-fails_behind_two_punches_slot : (job (text (job_lines (codes "STORE 96") (codes "PROGRAM V1; V0=Q0/32/32; V1=Q0/64/64; SET 1; SET 5; OUT; V0; =Q1; =C1; SET 1; SET 5; OUT; V1; =Q2; =C2; PWQ2; PWQ1; E96; FINISH;" ∷ []) (codes "DEVICE 1 TP" ∷ codes "DEVICE 4 TP" ∷ [])))).slots ≡ (a_slot 96 (text (codes "PROGRAM V1; V0=Q0/32/32; V1=Q0/64/64; SET 1; SET 5; OUT; V0; =Q1; =C1; SET 1; SET 5; OUT; V1; =Q2; =C2; PWQ2; PWQ1; E96; FINISH;" ∷ [])) (new_device 1 Tp 0 ∷ new_device 4 Tp 0 ∷ []) ([])) ∷ []
+fails_behind_two_punches_slot : (job (text (job_lines (codes "STORE 96") (codes "PROGRAM V1; V0=Q0/32/32; V1=Q0/64/64; SET 1; SET 5; OUT; V0; =Q1;" ∷ codes "=C1; SET 1; SET 5; OUT; V1; =Q2; =C2; PWQ2; PWQ1; E96; FINISH;" ∷ []) (codes "DEVICE 1 TP" ∷ codes "DEVICE 4 TP" ∷ [])))).slots ≡ (a_slot 96 (text (codes "PROGRAM V1; V0=Q0/32/32; V1=Q0/64/64; SET 1; SET 5; OUT; V0; =Q1;" ∷ codes "=C1; SET 1; SET 5; OUT; V1; =Q2; =C2; PWQ2; PWQ1; E96; FINISH;" ∷ [])) (new_device 1 Tp 0 ∷ new_device 4 Tp 0 ∷ []) ([])) ∷ []
 unfolding lines words value text event code_of first_word words_of codes_in read_line job
 fails_behind_two_punches_slot = refl
 
-fails_behind_two_punches_image : image_words 96 (text (codes "PROGRAM V1; V0=Q0/32/32; V1=Q0/64/64; SET 1; SET 5; OUT; V0; =Q1; =C1; SET 1; SET 5; OUT; V1; =Q2; =C2; PWQ2; PWQ1; E96; FINISH;" ∷ [])) ≡ 0xA00003010101 ∷ 0x000000200020 ∷ 0x000000400040 ∷ 0xE00001E00005 ∷ 0x21C000015410 ∷ 0x5510E00001E0 ∷ 0x000521C00002 ∷ 0x542055207220 ∷ 0x7210C0006001 ∷ []
+fails_behind_two_punches_image : image_words 96 (text (codes "PROGRAM V1; V0=Q0/32/32; V1=Q0/64/64; SET 1; SET 5; OUT; V0; =Q1;" ∷ codes "=C1; SET 1; SET 5; OUT; V1; =Q2; =C2; PWQ2; PWQ1; E96; FINISH;" ∷ [])) ≡ 0xA00003010101 ∷ 0x000000200020 ∷ 0x000000400040 ∷ 0xE00001E00005 ∷ 0x21C000015410 ∷ 0x5510E00001E0 ∷ 0x000521C00002 ∷ 0x542055207220 ∷ 0x7210C0006001 ∷ []
 unfolding text assembled lettered store_name addressed suffix_of access_form address_form condition_of target_form subroutine_form test_form jump_form form_in address_item number_item item_form triple_form octal_value characters_value value_form constant_form start octal_order order_form formless statement_faults phase_after statements_of placed spelling code_of characters_word
 fails_behind_two_punches_image = refl
 
-pub fails_behind_two_punches : alone 16 (job_lines (codes "STORE 96") (codes "PROGRAM V1; V0=Q0/32/32; V1=Q0/64/64; SET 1; SET 5; OUT; V0; =Q1; =C1; SET 1; SET 5; OUT; V1; =Q2; =C2; PWQ2; PWQ1; E96; FINISH;" ∷ []) (codes "DEVICE 1 TP" ∷ codes "DEVICE 4 TP" ∷ [])) ≡ record {
+pub fails_behind_two_punches : alone 16 (job_lines (codes "STORE 96") (codes "PROGRAM V1; V0=Q0/32/32; V1=Q0/64/64; SET 1; SET 5; OUT; V0; =Q1;" ∷ codes "=C1; SET 1; SET 5; OUT; V1; =Q2; =C2; PWQ2; PWQ1; E96; FINISH;" ∷ []) (codes "DEVICE 1 TP" ∷ codes "DEVICE 4 TP" ∷ [])) ≡ record {
   life = Failed Liv;
   ran = 16;
   at = 50;
@@ -165,7 +165,7 @@ pub fails_behind_two_punches : alone 16 (job_lines (codes "STORE 96") (codes "PR
 unfolding after_read after_card rewound after_skip after_write printed first_word words_of given offered finished decoded arith arith_row free_for unclaimed plain_row out_effect brought from_top changed single_row decision direct_effect transfer_of query_effect guarded device_numbers by_number device_count to_binary from_binary text
 fails_behind_two_punches =
     ap (λ (slots : List SlotJob). map (λ (s : SlotJob). seen_after 16 s (image_words s.size s.deck)) slots) fails_behind_two_punches_slot
-    ∙ ap (λ (image : List ℕ). seen_after 16 (a_slot 96 (text (codes "PROGRAM V1; V0=Q0/32/32; V1=Q0/64/64; SET 1; SET 5; OUT; V0; =Q1; =C1; SET 1; SET 5; OUT; V1; =Q2; =C2; PWQ2; PWQ1; E96; FINISH;" ∷ [])) (new_device 1 Tp 0 ∷ new_device 4 Tp 0 ∷ []) ([])) image ∷ []) fails_behind_two_punches_image
+    ∙ ap (λ (image : List ℕ). seen_after 16 (a_slot 96 (text (codes "PROGRAM V1; V0=Q0/32/32; V1=Q0/64/64; SET 1; SET 5; OUT; V0; =Q1;" ∷ codes "=C1; SET 1; SET 5; OUT; V1; =Q2; =C2; PWQ2; PWQ1; E96; FINISH;" ∷ [])) (new_device 1 Tp 0 ∷ new_device 4 Tp 0 ∷ []) ([])) image ∷ []) fails_behind_two_punches_image
 
 fails_behind_its_punch_slot : (job (text (job_lines (codes "STORE 64") (codes "PROGRAM V0; V0=Q0/32/32; SET 1; SET 5; OUT; V0; =Q1; =C1; PWQ1; E64; FINISH;" ∷ []) (codes "DEVICE 1 TP" ∷ [])))).slots ≡ (a_slot 64 (text (codes "PROGRAM V0; V0=Q0/32/32; SET 1; SET 5; OUT; V0; =Q1; =C1; PWQ1; E64; FINISH;" ∷ [])) (new_device 1 Tp 0 ∷ []) ([])) ∷ []
 unfolding lines words value text event code_of first_word words_of codes_in read_line job

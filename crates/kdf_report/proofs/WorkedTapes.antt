@@ -61,15 +61,15 @@ tape_at_the_beginning =
     ap (λ (slots : List SlotJob). map (λ (s : SlotJob). seen_after 10 s (image_words s.size s.deck)) slots) tape_at_the_beginning_slot
     ∙ ap (λ (image : List ℕ). seen_after 10 (a_slot 128 (text (codes "PROGRAM V1; V0=Q0/32/33; V1=PT; V1; SET 4; OUT; V0; =Q1; =C1; MBTQ1; ZERO; OUT; FINISH;" ∷ [])) (tape 6 0o6400000000000000 (block false (0o4141414141414141 ∷ 0o4242424242424242 ∷ 0o4343434343434343 ∷ []) ∷ block false (0o4444444444444444 ∷ []) ∷ block true (0o4545454545454545 ∷ 0o4646464646464646 ∷ []) ∷ []) ∷ []) ((32, 33) ∷ [])) image ∷ []) tape_at_the_beginning_image
 
-tape_last_block_mark_slot : (job (text (job_lines (codes "STORE 128") (codes "PROGRAM V1; V0=Q0/32/33; V1=PT; V1; SET 4; OUT; V0; =Q1; =C1; MFRQ1; MFRQ1; MFRQ1; MLBQ1; ZERO; OUT; FINISH;" ∷ []) (codes "DEVICE 6 MT T" ∷ codes "+AAAAAAAABBBBBBBBCCCCCCCC" ∷ codes "+DDDDDDDD" ∷ codes "=EEEEEEEEFFFFFFFF" ∷ codes "SHOW 32 33" ∷ [])))).slots ≡ (a_slot 128 (text (codes "PROGRAM V1; V0=Q0/32/33; V1=PT; V1; SET 4; OUT; V0; =Q1; =C1; MFRQ1; MFRQ1; MFRQ1; MLBQ1; ZERO; OUT; FINISH;" ∷ [])) (tape 6 0o6400000000000000 (block false (0o4141414141414141 ∷ 0o4242424242424242 ∷ 0o4343434343434343 ∷ []) ∷ block false (0o4444444444444444 ∷ []) ∷ block true (0o4545454545454545 ∷ 0o4646464646464646 ∷ []) ∷ []) ∷ []) ((32, 33) ∷ [])) ∷ []
+tape_last_block_mark_slot : (job (text (job_lines (codes "STORE 128") (codes "PROGRAM V1; V0=Q0/32/33; V1=PT; V1; SET 4; OUT; V0;" ∷ codes "=Q1; =C1; MFRQ1; MFRQ1; MFRQ1; MLBQ1; ZERO; OUT; FINISH;" ∷ []) (codes "DEVICE 6 MT T" ∷ codes "+AAAAAAAABBBBBBBBCCCCCCCC" ∷ codes "+DDDDDDDD" ∷ codes "=EEEEEEEEFFFFFFFF" ∷ codes "SHOW 32 33" ∷ [])))).slots ≡ (a_slot 128 (text (codes "PROGRAM V1; V0=Q0/32/33; V1=PT; V1; SET 4; OUT; V0;" ∷ codes "=Q1; =C1; MFRQ1; MFRQ1; MFRQ1; MLBQ1; ZERO; OUT; FINISH;" ∷ [])) (tape 6 0o6400000000000000 (block false (0o4141414141414141 ∷ 0o4242424242424242 ∷ 0o4343434343434343 ∷ []) ∷ block false (0o4444444444444444 ∷ []) ∷ block true (0o4545454545454545 ∷ 0o4646464646464646 ∷ []) ∷ []) ∷ []) ((32, 33) ∷ [])) ∷ []
 unfolding lines words value text event code_of first_word words_of codes_in read_line job
 tape_last_block_mark_slot = refl
 
-tape_last_block_mark_image : image_words 128 (text (codes "PROGRAM V1; V0=Q0/32/33; V1=PT; V1; SET 4; OUT; V0; =Q1; =C1; MFRQ1; MFRQ1; MFRQ1; MLBQ1; ZERO; OUT; FINISH;" ∷ [])) ≡ 0xA00003010101 ∷ 0x000000200021 ∷ 0xD00000000000 ∷ 0xC00002E00004 ∷ 0x21C000015410 ∷ 0x551077107710 ∷ 0x77107E140921 ∷ []
+tape_last_block_mark_image : image_words 128 (text (codes "PROGRAM V1; V0=Q0/32/33; V1=PT; V1; SET 4; OUT; V0;" ∷ codes "=Q1; =C1; MFRQ1; MFRQ1; MFRQ1; MLBQ1; ZERO; OUT; FINISH;" ∷ [])) ≡ 0xA00003010101 ∷ 0x000000200021 ∷ 0xD00000000000 ∷ 0xC00002E00004 ∷ 0x21C000015410 ∷ 0x551077107710 ∷ 0x77107E140921 ∷ []
 unfolding text assembled lettered store_name addressed suffix_of access_form address_form condition_of target_form subroutine_form test_form jump_form form_in address_item number_item item_form triple_form octal_value characters_value value_form constant_form start octal_order order_form formless statement_faults phase_after statements_of placed spelling code_of characters_word
 tape_last_block_mark_image = refl
 
-pub tape_last_block_mark : alone 13 (job_lines (codes "STORE 128") (codes "PROGRAM V1; V0=Q0/32/33; V1=PT; V1; SET 4; OUT; V0; =Q1; =C1; MFRQ1; MFRQ1; MFRQ1; MLBQ1; ZERO; OUT; FINISH;" ∷ []) (codes "DEVICE 6 MT T" ∷ codes "+AAAAAAAABBBBBBBBCCCCCCCC" ∷ codes "+DDDDDDDD" ∷ codes "=EEEEEEEEFFFFFFFF" ∷ codes "SHOW 32 33" ∷ [])) ≡ record {
+pub tape_last_block_mark : alone 13 (job_lines (codes "STORE 128") (codes "PROGRAM V1; V0=Q0/32/33; V1=PT; V1; SET 4; OUT; V0;" ∷ codes "=Q1; =C1; MFRQ1; MFRQ1; MFRQ1; MLBQ1; ZERO; OUT; FINISH;" ∷ []) (codes "DEVICE 6 MT T" ∷ codes "+AAAAAAAABBBBBBBBCCCCCCCC" ∷ codes "+DDDDDDDD" ∷ codes "=EEEEEEEEFFFFFFFF" ∷ codes "SHOW 32 33" ∷ [])) ≡ record {
   life = Ended;
   ran = 13;
   at = 42;
@@ -85,17 +85,17 @@ pub tape_last_block_mark : alone 13 (job_lines (codes "STORE 128") (codes "PROGR
 unfolding after_read after_card rewound after_skip after_write printed first_word words_of given offered finished decoded arith arith_row free_for unclaimed plain_row out_effect brought from_top changed single_row decision direct_effect transfer_of query_effect guarded device_numbers by_number device_count to_binary from_binary text
 tape_last_block_mark =
     ap (λ (slots : List SlotJob). map (λ (s : SlotJob). seen_after 13 s (image_words s.size s.deck)) slots) tape_last_block_mark_slot
-    ∙ ap (λ (image : List ℕ). seen_after 13 (a_slot 128 (text (codes "PROGRAM V1; V0=Q0/32/33; V1=PT; V1; SET 4; OUT; V0; =Q1; =C1; MFRQ1; MFRQ1; MFRQ1; MLBQ1; ZERO; OUT; FINISH;" ∷ [])) (tape 6 0o6400000000000000 (block false (0o4141414141414141 ∷ 0o4242424242424242 ∷ 0o4343434343434343 ∷ []) ∷ block false (0o4444444444444444 ∷ []) ∷ block true (0o4545454545454545 ∷ 0o4646464646464646 ∷ []) ∷ []) ∷ []) ((32, 33) ∷ [])) image ∷ []) tape_last_block_mark_image
+    ∙ ap (λ (image : List ℕ). seen_after 13 (a_slot 128 (text (codes "PROGRAM V1; V0=Q0/32/33; V1=PT; V1; SET 4; OUT; V0;" ∷ codes "=Q1; =C1; MFRQ1; MFRQ1; MFRQ1; MLBQ1; ZERO; OUT; FINISH;" ∷ [])) (tape 6 0o6400000000000000 (block false (0o4141414141414141 ∷ 0o4242424242424242 ∷ 0o4343434343434343 ∷ []) ∷ block false (0o4444444444444444 ∷ []) ∷ block true (0o4545454545454545 ∷ 0o4646464646464646 ∷ []) ∷ []) ∷ []) ((32, 33) ∷ [])) image ∷ []) tape_last_block_mark_image
 
-tape_no_last_block_mark_slot : (job (text (job_lines (codes "STORE 128") (codes "PROGRAM V1; V0=Q0/32/33; V1=PT; V1; SET 4; OUT; V0; =Q1; =C1; MFRQ1; MFRQ1; MLBQ1; ZERO; OUT; FINISH;" ∷ []) (codes "DEVICE 6 MT T" ∷ codes "+AAAAAAAABBBBBBBBCCCCCCCC" ∷ codes "+DDDDDDDD" ∷ codes "=EEEEEEEEFFFFFFFF" ∷ codes "SHOW 32 33" ∷ [])))).slots ≡ (a_slot 128 (text (codes "PROGRAM V1; V0=Q0/32/33; V1=PT; V1; SET 4; OUT; V0; =Q1; =C1; MFRQ1; MFRQ1; MLBQ1; ZERO; OUT; FINISH;" ∷ [])) (tape 6 0o6400000000000000 (block false (0o4141414141414141 ∷ 0o4242424242424242 ∷ 0o4343434343434343 ∷ []) ∷ block false (0o4444444444444444 ∷ []) ∷ block true (0o4545454545454545 ∷ 0o4646464646464646 ∷ []) ∷ []) ∷ []) ((32, 33) ∷ [])) ∷ []
+tape_no_last_block_mark_slot : (job (text (job_lines (codes "STORE 128") (codes "PROGRAM V1; V0=Q0/32/33; V1=PT; V1; SET 4; OUT; V0;" ∷ codes "=Q1; =C1; MFRQ1; MFRQ1; MLBQ1; ZERO; OUT; FINISH;" ∷ []) (codes "DEVICE 6 MT T" ∷ codes "+AAAAAAAABBBBBBBBCCCCCCCC" ∷ codes "+DDDDDDDD" ∷ codes "=EEEEEEEEFFFFFFFF" ∷ codes "SHOW 32 33" ∷ [])))).slots ≡ (a_slot 128 (text (codes "PROGRAM V1; V0=Q0/32/33; V1=PT; V1; SET 4; OUT; V0;" ∷ codes "=Q1; =C1; MFRQ1; MFRQ1; MLBQ1; ZERO; OUT; FINISH;" ∷ [])) (tape 6 0o6400000000000000 (block false (0o4141414141414141 ∷ 0o4242424242424242 ∷ 0o4343434343434343 ∷ []) ∷ block false (0o4444444444444444 ∷ []) ∷ block true (0o4545454545454545 ∷ 0o4646464646464646 ∷ []) ∷ []) ∷ []) ((32, 33) ∷ [])) ∷ []
 unfolding lines words value text event code_of first_word words_of codes_in read_line job
 tape_no_last_block_mark_slot = refl
 
-tape_no_last_block_mark_image : image_words 128 (text (codes "PROGRAM V1; V0=Q0/32/33; V1=PT; V1; SET 4; OUT; V0; =Q1; =C1; MFRQ1; MFRQ1; MLBQ1; ZERO; OUT; FINISH;" ∷ [])) ≡ 0xA00003010101 ∷ 0x000000200021 ∷ 0xD00000000000 ∷ 0xC00002E00004 ∷ 0x21C000015410 ∷ 0x551077107710 ∷ 0x7E1409210101 ∷ []
+tape_no_last_block_mark_image : image_words 128 (text (codes "PROGRAM V1; V0=Q0/32/33; V1=PT; V1; SET 4; OUT; V0;" ∷ codes "=Q1; =C1; MFRQ1; MFRQ1; MLBQ1; ZERO; OUT; FINISH;" ∷ [])) ≡ 0xA00003010101 ∷ 0x000000200021 ∷ 0xD00000000000 ∷ 0xC00002E00004 ∷ 0x21C000015410 ∷ 0x551077107710 ∷ 0x7E1409210101 ∷ []
 unfolding text assembled lettered store_name addressed suffix_of access_form address_form condition_of target_form subroutine_form test_form jump_form form_in address_item number_item item_form triple_form octal_value characters_value value_form constant_form start octal_order order_form formless statement_faults phase_after statements_of placed spelling code_of characters_word
 tape_no_last_block_mark_image = refl
 
-pub tape_no_last_block_mark : alone 12 (job_lines (codes "STORE 128") (codes "PROGRAM V1; V0=Q0/32/33; V1=PT; V1; SET 4; OUT; V0; =Q1; =C1; MFRQ1; MFRQ1; MLBQ1; ZERO; OUT; FINISH;" ∷ []) (codes "DEVICE 6 MT T" ∷ codes "+AAAAAAAABBBBBBBBCCCCCCCC" ∷ codes "+DDDDDDDD" ∷ codes "=EEEEEEEEFFFFFFFF" ∷ codes "SHOW 32 33" ∷ [])) ≡ record {
+pub tape_no_last_block_mark : alone 12 (job_lines (codes "STORE 128") (codes "PROGRAM V1; V0=Q0/32/33; V1=PT; V1; SET 4; OUT; V0;" ∷ codes "=Q1; =C1; MFRQ1; MFRQ1; MLBQ1; ZERO; OUT; FINISH;" ∷ []) (codes "DEVICE 6 MT T" ∷ codes "+AAAAAAAABBBBBBBBCCCCCCCC" ∷ codes "+DDDDDDDD" ∷ codes "=EEEEEEEEFFFFFFFF" ∷ codes "SHOW 32 33" ∷ [])) ≡ record {
   life = Ended;
   ran = 12;
   at = 40;
@@ -111,7 +111,7 @@ pub tape_no_last_block_mark : alone 12 (job_lines (codes "STORE 128") (codes "PR
 unfolding after_read after_card rewound after_skip after_write printed first_word words_of given offered finished decoded arith arith_row free_for unclaimed plain_row out_effect brought from_top changed single_row decision direct_effect transfer_of query_effect guarded device_numbers by_number device_count to_binary from_binary text
 tape_no_last_block_mark =
     ap (λ (slots : List SlotJob). map (λ (s : SlotJob). seen_after 12 s (image_words s.size s.deck)) slots) tape_no_last_block_mark_slot
-    ∙ ap (λ (image : List ℕ). seen_after 12 (a_slot 128 (text (codes "PROGRAM V1; V0=Q0/32/33; V1=PT; V1; SET 4; OUT; V0; =Q1; =C1; MFRQ1; MFRQ1; MLBQ1; ZERO; OUT; FINISH;" ∷ [])) (tape 6 0o6400000000000000 (block false (0o4141414141414141 ∷ 0o4242424242424242 ∷ 0o4343434343434343 ∷ []) ∷ block false (0o4444444444444444 ∷ []) ∷ block true (0o4545454545454545 ∷ 0o4646464646464646 ∷ []) ∷ []) ∷ []) ((32, 33) ∷ [])) image ∷ []) tape_no_last_block_mark_image
+    ∙ ap (λ (image : List ℕ). seen_after 12 (a_slot 128 (text (codes "PROGRAM V1; V0=Q0/32/33; V1=PT; V1; SET 4; OUT; V0;" ∷ codes "=Q1; =C1; MFRQ1; MFRQ1; MLBQ1; ZERO; OUT; FINISH;" ∷ [])) (tape 6 0o6400000000000000 (block false (0o4141414141414141 ∷ 0o4242424242424242 ∷ 0o4343434343434343 ∷ []) ∷ block false (0o4444444444444444 ∷ []) ∷ block true (0o4545454545454545 ∷ 0o4646464646464646 ∷ []) ∷ []) ∷ []) ((32, 33) ∷ [])) image ∷ []) tape_no_last_block_mark_image
 
 tape_not_at_the_beginning_slot : (job (text (job_lines (codes "STORE 128") (codes "PROGRAM V1; V0=Q0/32/33; V1=PT; V1; SET 4; OUT; V0; =Q1; =C1; MFRQ1; MBTQ1; ZERO; OUT; FINISH;" ∷ []) (codes "DEVICE 6 MT T" ∷ codes "+AAAAAAAABBBBBBBBCCCCCCCC" ∷ codes "+DDDDDDDD" ∷ codes "=EEEEEEEEFFFFFFFF" ∷ codes "SHOW 32 33" ∷ [])))).slots ≡ (a_slot 128 (text (codes "PROGRAM V1; V0=Q0/32/33; V1=PT; V1; SET 4; OUT; V0; =Q1; =C1; MFRQ1; MBTQ1; ZERO; OUT; FINISH;" ∷ [])) (tape 6 0o6400000000000000 (block false (0o4141414141414141 ∷ 0o4242424242424242 ∷ 0o4343434343434343 ∷ []) ∷ block false (0o4444444444444444 ∷ []) ∷ block true (0o4545454545454545 ∷ 0o4646464646464646 ∷ []) ∷ []) ∷ []) ((32, 33) ∷ [])) ∷ []
 unfolding lines words value text event code_of first_word words_of codes_in read_line job
@@ -139,15 +139,15 @@ tape_not_at_the_beginning =
     ap (λ (slots : List SlotJob). map (λ (s : SlotJob). seen_after 11 s (image_words s.size s.deck)) slots) tape_not_at_the_beginning_slot
     ∙ ap (λ (image : List ℕ). seen_after 11 (a_slot 128 (text (codes "PROGRAM V1; V0=Q0/32/33; V1=PT; V1; SET 4; OUT; V0; =Q1; =C1; MFRQ1; MBTQ1; ZERO; OUT; FINISH;" ∷ [])) (tape 6 0o6400000000000000 (block false (0o4141414141414141 ∷ 0o4242424242424242 ∷ 0o4343434343434343 ∷ []) ∷ block false (0o4444444444444444 ∷ []) ∷ block true (0o4545454545454545 ∷ 0o4646464646464646 ∷ []) ∷ []) ∷ []) ((32, 33) ∷ [])) image ∷ []) tape_not_at_the_beginning_image
 
-tape_read_backward_a_short_block_slot : (job (text (job_lines (codes "STORE 128") (codes "PROGRAM V1; V0=Q0/32/33; V1=PT; V1; SET 4; OUT; V0; =Q1; =C1; MFRQ1; MFRQ1; MBRQ1; ZERO; OUT; FINISH;" ∷ []) (codes "DEVICE 6 MT T" ∷ codes "+AAAAAAAABBBBBBBBCCCCCCCC" ∷ codes "+DDDDDDDD" ∷ codes "=EEEEEEEEFFFFFFFF" ∷ codes "SHOW 32 33" ∷ [])))).slots ≡ (a_slot 128 (text (codes "PROGRAM V1; V0=Q0/32/33; V1=PT; V1; SET 4; OUT; V0; =Q1; =C1; MFRQ1; MFRQ1; MBRQ1; ZERO; OUT; FINISH;" ∷ [])) (tape 6 0o6400000000000000 (block false (0o4141414141414141 ∷ 0o4242424242424242 ∷ 0o4343434343434343 ∷ []) ∷ block false (0o4444444444444444 ∷ []) ∷ block true (0o4545454545454545 ∷ 0o4646464646464646 ∷ []) ∷ []) ∷ []) ((32, 33) ∷ [])) ∷ []
+tape_read_backward_a_short_block_slot : (job (text (job_lines (codes "STORE 128") (codes "PROGRAM V1; V0=Q0/32/33; V1=PT; V1; SET 4; OUT; V0;" ∷ codes "=Q1; =C1; MFRQ1; MFRQ1; MBRQ1; ZERO; OUT; FINISH;" ∷ []) (codes "DEVICE 6 MT T" ∷ codes "+AAAAAAAABBBBBBBBCCCCCCCC" ∷ codes "+DDDDDDDD" ∷ codes "=EEEEEEEEFFFFFFFF" ∷ codes "SHOW 32 33" ∷ [])))).slots ≡ (a_slot 128 (text (codes "PROGRAM V1; V0=Q0/32/33; V1=PT; V1; SET 4; OUT; V0;" ∷ codes "=Q1; =C1; MFRQ1; MFRQ1; MBRQ1; ZERO; OUT; FINISH;" ∷ [])) (tape 6 0o6400000000000000 (block false (0o4141414141414141 ∷ 0o4242424242424242 ∷ 0o4343434343434343 ∷ []) ∷ block false (0o4444444444444444 ∷ []) ∷ block true (0o4545454545454545 ∷ 0o4646464646464646 ∷ []) ∷ []) ∷ []) ((32, 33) ∷ [])) ∷ []
 unfolding lines words value text event code_of first_word words_of codes_in read_line job
 tape_read_backward_a_short_block_slot = refl
 
-tape_read_backward_a_short_block_image : image_words 128 (text (codes "PROGRAM V1; V0=Q0/32/33; V1=PT; V1; SET 4; OUT; V0; =Q1; =C1; MFRQ1; MFRQ1; MBRQ1; ZERO; OUT; FINISH;" ∷ [])) ≡ 0xA00003010101 ∷ 0x000000200021 ∷ 0xD00000000000 ∷ 0xC00002E00004 ∷ 0x21C000015410 ∷ 0x551077107710 ∷ 0x781009210101 ∷ []
+tape_read_backward_a_short_block_image : image_words 128 (text (codes "PROGRAM V1; V0=Q0/32/33; V1=PT; V1; SET 4; OUT; V0;" ∷ codes "=Q1; =C1; MFRQ1; MFRQ1; MBRQ1; ZERO; OUT; FINISH;" ∷ [])) ≡ 0xA00003010101 ∷ 0x000000200021 ∷ 0xD00000000000 ∷ 0xC00002E00004 ∷ 0x21C000015410 ∷ 0x551077107710 ∷ 0x781009210101 ∷ []
 unfolding text assembled lettered store_name addressed suffix_of access_form address_form condition_of target_form subroutine_form test_form jump_form form_in address_item number_item item_form triple_form octal_value characters_value value_form constant_form start octal_order order_form formless statement_faults phase_after statements_of placed spelling code_of characters_word
 tape_read_backward_a_short_block_image = refl
 
-pub tape_read_backward_a_short_block : alone 12 (job_lines (codes "STORE 128") (codes "PROGRAM V1; V0=Q0/32/33; V1=PT; V1; SET 4; OUT; V0; =Q1; =C1; MFRQ1; MFRQ1; MBRQ1; ZERO; OUT; FINISH;" ∷ []) (codes "DEVICE 6 MT T" ∷ codes "+AAAAAAAABBBBBBBBCCCCCCCC" ∷ codes "+DDDDDDDD" ∷ codes "=EEEEEEEEFFFFFFFF" ∷ codes "SHOW 32 33" ∷ [])) ≡ record {
+pub tape_read_backward_a_short_block : alone 12 (job_lines (codes "STORE 128") (codes "PROGRAM V1; V0=Q0/32/33; V1=PT; V1; SET 4; OUT; V0;" ∷ codes "=Q1; =C1; MFRQ1; MFRQ1; MBRQ1; ZERO; OUT; FINISH;" ∷ []) (codes "DEVICE 6 MT T" ∷ codes "+AAAAAAAABBBBBBBBCCCCCCCC" ∷ codes "+DDDDDDDD" ∷ codes "=EEEEEEEEFFFFFFFF" ∷ codes "SHOW 32 33" ∷ [])) ≡ record {
   life = Ended;
   ran = 12;
   at = 40;
@@ -163,7 +163,7 @@ pub tape_read_backward_a_short_block : alone 12 (job_lines (codes "STORE 128") (
 unfolding after_read after_card rewound after_skip after_write printed first_word words_of given offered finished decoded arith arith_row free_for unclaimed plain_row out_effect brought from_top changed single_row decision direct_effect transfer_of query_effect guarded device_numbers by_number device_count to_binary from_binary text
 tape_read_backward_a_short_block =
     ap (λ (slots : List SlotJob). map (λ (s : SlotJob). seen_after 12 s (image_words s.size s.deck)) slots) tape_read_backward_a_short_block_slot
-    ∙ ap (λ (image : List ℕ). seen_after 12 (a_slot 128 (text (codes "PROGRAM V1; V0=Q0/32/33; V1=PT; V1; SET 4; OUT; V0; =Q1; =C1; MFRQ1; MFRQ1; MBRQ1; ZERO; OUT; FINISH;" ∷ [])) (tape 6 0o6400000000000000 (block false (0o4141414141414141 ∷ 0o4242424242424242 ∷ 0o4343434343434343 ∷ []) ∷ block false (0o4444444444444444 ∷ []) ∷ block true (0o4545454545454545 ∷ 0o4646464646464646 ∷ []) ∷ []) ∷ []) ((32, 33) ∷ [])) image ∷ []) tape_read_backward_a_short_block_image
+    ∙ ap (λ (image : List ℕ). seen_after 12 (a_slot 128 (text (codes "PROGRAM V1; V0=Q0/32/33; V1=PT; V1; SET 4; OUT; V0;" ∷ codes "=Q1; =C1; MFRQ1; MFRQ1; MBRQ1; ZERO; OUT; FINISH;" ∷ [])) (tape 6 0o6400000000000000 (block false (0o4141414141414141 ∷ 0o4242424242424242 ∷ 0o4343434343434343 ∷ []) ∷ block false (0o4444444444444444 ∷ []) ∷ block true (0o4545454545454545 ∷ 0o4646464646464646 ∷ []) ∷ []) ∷ []) ((32, 33) ∷ [])) image ∷ []) tape_read_backward_a_short_block_image
 
 tape_read_backward_at_the_beginning_slot : (job (text (job_lines (codes "STORE 128") (codes "PROGRAM V1; V0=Q0/32/33; V1=PT; V1; SET 4; OUT; V0; =Q1; =C1; MBRQ1; PARQ1; ZERO; OUT; FINISH;" ∷ []) (codes "DEVICE 6 MT T" ∷ codes "+AAAAAAAABBBBBBBBCCCCCCCC" ∷ codes "+DDDDDDDD" ∷ codes "=EEEEEEEEFFFFFFFF" ∷ codes "SHOW 32 33" ∷ [])))).slots ≡ (a_slot 128 (text (codes "PROGRAM V1; V0=Q0/32/33; V1=PT; V1; SET 4; OUT; V0; =Q1; =C1; MBRQ1; PARQ1; ZERO; OUT; FINISH;" ∷ [])) (tape 6 0o6400000000000000 (block false (0o4141414141414141 ∷ 0o4242424242424242 ∷ 0o4343434343434343 ∷ []) ∷ block false (0o4444444444444444 ∷ []) ∷ block true (0o4545454545454545 ∷ 0o4646464646464646 ∷ []) ∷ []) ∷ []) ((32, 33) ∷ [])) ∷ []
 unfolding lines words value text event code_of first_word words_of codes_in read_line job
@@ -191,15 +191,15 @@ tape_read_backward_at_the_beginning =
     ap (λ (slots : List SlotJob). map (λ (s : SlotJob). seen_after 11 s (image_words s.size s.deck)) slots) tape_read_backward_at_the_beginning_slot
     ∙ ap (λ (image : List ℕ). seen_after 11 (a_slot 128 (text (codes "PROGRAM V1; V0=Q0/32/33; V1=PT; V1; SET 4; OUT; V0; =Q1; =C1; MBRQ1; PARQ1; ZERO; OUT; FINISH;" ∷ [])) (tape 6 0o6400000000000000 (block false (0o4141414141414141 ∷ 0o4242424242424242 ∷ 0o4343434343434343 ∷ []) ∷ block false (0o4444444444444444 ∷ []) ∷ block true (0o4545454545454545 ∷ 0o4646464646464646 ∷ []) ∷ []) ∷ []) ((32, 33) ∷ [])) image ∷ []) tape_read_backward_at_the_beginning_image
 
-tape_read_behind_the_last_block_slot : (job (text (job_lines (codes "STORE 128") (codes "PROGRAM V1; V0=Q0/32/33; V1=PT; V1; SET 4; OUT; V0; =Q1; =C1; MFRQ1; MFRQ1; MFRQ1; MFRQ1; PARQ1; ZERO; OUT; FINISH;" ∷ []) (codes "DEVICE 6 MT T" ∷ codes "+AAAAAAAABBBBBBBBCCCCCCCC" ∷ codes "+DDDDDDDD" ∷ codes "=EEEEEEEEFFFFFFFF" ∷ codes "SHOW 32 33" ∷ [])))).slots ≡ (a_slot 128 (text (codes "PROGRAM V1; V0=Q0/32/33; V1=PT; V1; SET 4; OUT; V0; =Q1; =C1; MFRQ1; MFRQ1; MFRQ1; MFRQ1; PARQ1; ZERO; OUT; FINISH;" ∷ [])) (tape 6 0o6400000000000000 (block false (0o4141414141414141 ∷ 0o4242424242424242 ∷ 0o4343434343434343 ∷ []) ∷ block false (0o4444444444444444 ∷ []) ∷ block true (0o4545454545454545 ∷ 0o4646464646464646 ∷ []) ∷ []) ∷ []) ((32, 33) ∷ [])) ∷ []
+tape_read_behind_the_last_block_slot : (job (text (job_lines (codes "STORE 128") (codes "PROGRAM V1; V0=Q0/32/33; V1=PT; V1; SET 4; OUT; V0; =Q1;" ∷ codes "=C1; MFRQ1; MFRQ1; MFRQ1; MFRQ1; PARQ1; ZERO; OUT; FINISH;" ∷ []) (codes "DEVICE 6 MT T" ∷ codes "+AAAAAAAABBBBBBBBCCCCCCCC" ∷ codes "+DDDDDDDD" ∷ codes "=EEEEEEEEFFFFFFFF" ∷ codes "SHOW 32 33" ∷ [])))).slots ≡ (a_slot 128 (text (codes "PROGRAM V1; V0=Q0/32/33; V1=PT; V1; SET 4; OUT; V0; =Q1;" ∷ codes "=C1; MFRQ1; MFRQ1; MFRQ1; MFRQ1; PARQ1; ZERO; OUT; FINISH;" ∷ [])) (tape 6 0o6400000000000000 (block false (0o4141414141414141 ∷ 0o4242424242424242 ∷ 0o4343434343434343 ∷ []) ∷ block false (0o4444444444444444 ∷ []) ∷ block true (0o4545454545454545 ∷ 0o4646464646464646 ∷ []) ∷ []) ∷ []) ((32, 33) ∷ [])) ∷ []
 unfolding lines words value text event code_of first_word words_of codes_in read_line job
 tape_read_behind_the_last_block_slot = refl
 
-tape_read_behind_the_last_block_image : image_words 128 (text (codes "PROGRAM V1; V0=Q0/32/33; V1=PT; V1; SET 4; OUT; V0; =Q1; =C1; MFRQ1; MFRQ1; MFRQ1; MFRQ1; PARQ1; ZERO; OUT; FINISH;" ∷ [])) ≡ 0xA00003010101 ∷ 0x000000200021 ∷ 0xD00000000000 ∷ 0xC00002E00004 ∷ 0x21C000015410 ∷ 0x551077107710 ∷ 0x771077107E12 ∷ 0x092101010101 ∷ []
+tape_read_behind_the_last_block_image : image_words 128 (text (codes "PROGRAM V1; V0=Q0/32/33; V1=PT; V1; SET 4; OUT; V0; =Q1;" ∷ codes "=C1; MFRQ1; MFRQ1; MFRQ1; MFRQ1; PARQ1; ZERO; OUT; FINISH;" ∷ [])) ≡ 0xA00003010101 ∷ 0x000000200021 ∷ 0xD00000000000 ∷ 0xC00002E00004 ∷ 0x21C000015410 ∷ 0x551077107710 ∷ 0x771077107E12 ∷ 0x092101010101 ∷ []
 unfolding text assembled lettered store_name addressed suffix_of access_form address_form condition_of target_form subroutine_form test_form jump_form form_in address_item number_item item_form triple_form octal_value characters_value value_form constant_form start octal_order order_form formless statement_faults phase_after statements_of placed spelling code_of characters_word
 tape_read_behind_the_last_block_image = refl
 
-pub tape_read_behind_the_last_block : alone 14 (job_lines (codes "STORE 128") (codes "PROGRAM V1; V0=Q0/32/33; V1=PT; V1; SET 4; OUT; V0; =Q1; =C1; MFRQ1; MFRQ1; MFRQ1; MFRQ1; PARQ1; ZERO; OUT; FINISH;" ∷ []) (codes "DEVICE 6 MT T" ∷ codes "+AAAAAAAABBBBBBBBCCCCCCCC" ∷ codes "+DDDDDDDD" ∷ codes "=EEEEEEEEFFFFFFFF" ∷ codes "SHOW 32 33" ∷ [])) ≡ record {
+pub tape_read_behind_the_last_block : alone 14 (job_lines (codes "STORE 128") (codes "PROGRAM V1; V0=Q0/32/33; V1=PT; V1; SET 4; OUT; V0; =Q1;" ∷ codes "=C1; MFRQ1; MFRQ1; MFRQ1; MFRQ1; PARQ1; ZERO; OUT; FINISH;" ∷ []) (codes "DEVICE 6 MT T" ∷ codes "+AAAAAAAABBBBBBBBCCCCCCCC" ∷ codes "+DDDDDDDD" ∷ codes "=EEEEEEEEFFFFFFFF" ∷ codes "SHOW 32 33" ∷ [])) ≡ record {
   life = Ended;
   ran = 14;
   at = 44;
@@ -215,7 +215,7 @@ pub tape_read_behind_the_last_block : alone 14 (job_lines (codes "STORE 128") (c
 unfolding after_read after_card rewound after_skip after_write printed first_word words_of given offered finished decoded arith arith_row free_for unclaimed plain_row out_effect brought from_top changed single_row decision direct_effect transfer_of query_effect guarded device_numbers by_number device_count to_binary from_binary text
 tape_read_behind_the_last_block =
     ap (λ (slots : List SlotJob). map (λ (s : SlotJob). seen_after 14 s (image_words s.size s.deck)) slots) tape_read_behind_the_last_block_slot
-    ∙ ap (λ (image : List ℕ). seen_after 14 (a_slot 128 (text (codes "PROGRAM V1; V0=Q0/32/33; V1=PT; V1; SET 4; OUT; V0; =Q1; =C1; MFRQ1; MFRQ1; MFRQ1; MFRQ1; PARQ1; ZERO; OUT; FINISH;" ∷ [])) (tape 6 0o6400000000000000 (block false (0o4141414141414141 ∷ 0o4242424242424242 ∷ 0o4343434343434343 ∷ []) ∷ block false (0o4444444444444444 ∷ []) ∷ block true (0o4545454545454545 ∷ 0o4646464646464646 ∷ []) ∷ []) ∷ []) ((32, 33) ∷ [])) image ∷ []) tape_read_behind_the_last_block_image
+    ∙ ap (λ (image : List ℕ). seen_after 14 (a_slot 128 (text (codes "PROGRAM V1; V0=Q0/32/33; V1=PT; V1; SET 4; OUT; V0; =Q1;" ∷ codes "=C1; MFRQ1; MFRQ1; MFRQ1; MFRQ1; PARQ1; ZERO; OUT; FINISH;" ∷ [])) (tape 6 0o6400000000000000 (block false (0o4141414141414141 ∷ 0o4242424242424242 ∷ 0o4343434343434343 ∷ []) ∷ block false (0o4444444444444444 ∷ []) ∷ block true (0o4545454545454545 ∷ 0o4646464646464646 ∷ []) ∷ []) ∷ []) ((32, 33) ∷ [])) image ∷ []) tape_read_behind_the_last_block_image
 
 tape_read_forward_into_a_short_area_slot : (job (text (job_lines (codes "STORE 128") (codes "PROGRAM V1; V0=Q0/32/33; V1=PT; V1; SET 4; OUT; V0; =Q1; =C1; MFRQ1; ZERO; OUT; FINISH;" ∷ []) (codes "DEVICE 6 MT T" ∷ codes "+AAAAAAAABBBBBBBBCCCCCCCC" ∷ codes "+DDDDDDDD" ∷ codes "=EEEEEEEEFFFFFFFF" ∷ codes "SHOW 32 33" ∷ [])))).slots ≡ (a_slot 128 (text (codes "PROGRAM V1; V0=Q0/32/33; V1=PT; V1; SET 4; OUT; V0; =Q1; =C1; MFRQ1; ZERO; OUT; FINISH;" ∷ [])) (tape 6 0o6400000000000000 (block false (0o4141414141414141 ∷ 0o4242424242424242 ∷ 0o4343434343434343 ∷ []) ∷ block false (0o4444444444444444 ∷ []) ∷ block true (0o4545454545454545 ∷ 0o4646464646464646 ∷ []) ∷ []) ∷ []) ((32, 33) ∷ [])) ∷ []
 unfolding lines words value text event code_of first_word words_of codes_in read_line job
@@ -269,15 +269,15 @@ tape_read_forward_two_blocks =
     ap (λ (slots : List SlotJob). map (λ (s : SlotJob). seen_after 11 s (image_words s.size s.deck)) slots) tape_read_forward_two_blocks_slot
     ∙ ap (λ (image : List ℕ). seen_after 11 (a_slot 128 (text (codes "PROGRAM V1; V0=Q0/32/33; V1=PT; V1; SET 4; OUT; V0; =Q1; =C1; MFRQ1; MFRQ1; ZERO; OUT; FINISH;" ∷ [])) (tape 6 0o6400000000000000 (block false (0o4141414141414141 ∷ 0o4242424242424242 ∷ 0o4343434343434343 ∷ []) ∷ block false (0o4444444444444444 ∷ []) ∷ block true (0o4545454545454545 ∷ 0o4646464646464646 ∷ []) ∷ []) ∷ []) ((32, 33) ∷ [])) image ∷ []) tape_read_forward_two_blocks_image
 
-tape_rewound_slot : (job (text (job_lines (codes "STORE 128") (codes "PROGRAM V1; V0=Q0/32/33; V1=PT; V1; SET 4; OUT; V0; =Q1; =C1; MFRQ1; MFRQ1; MRWDQ1; MBTQ1; ZERO; OUT; FINISH;" ∷ []) (codes "DEVICE 6 MT T" ∷ codes "+AAAAAAAABBBBBBBBCCCCCCCC" ∷ codes "+DDDDDDDD" ∷ codes "=EEEEEEEEFFFFFFFF" ∷ codes "SHOW 32 33" ∷ [])))).slots ≡ (a_slot 128 (text (codes "PROGRAM V1; V0=Q0/32/33; V1=PT; V1; SET 4; OUT; V0; =Q1; =C1; MFRQ1; MFRQ1; MRWDQ1; MBTQ1; ZERO; OUT; FINISH;" ∷ [])) (tape 6 0o6400000000000000 (block false (0o4141414141414141 ∷ 0o4242424242424242 ∷ 0o4343434343434343 ∷ []) ∷ block false (0o4444444444444444 ∷ []) ∷ block true (0o4545454545454545 ∷ 0o4646464646464646 ∷ []) ∷ []) ∷ []) ((32, 33) ∷ [])) ∷ []
+tape_rewound_slot : (job (text (job_lines (codes "STORE 128") (codes "PROGRAM V1; V0=Q0/32/33; V1=PT; V1; SET 4; OUT; V0;" ∷ codes "=Q1; =C1; MFRQ1; MFRQ1; MRWDQ1; MBTQ1; ZERO; OUT; FINISH;" ∷ []) (codes "DEVICE 6 MT T" ∷ codes "+AAAAAAAABBBBBBBBCCCCCCCC" ∷ codes "+DDDDDDDD" ∷ codes "=EEEEEEEEFFFFFFFF" ∷ codes "SHOW 32 33" ∷ [])))).slots ≡ (a_slot 128 (text (codes "PROGRAM V1; V0=Q0/32/33; V1=PT; V1; SET 4; OUT; V0;" ∷ codes "=Q1; =C1; MFRQ1; MFRQ1; MRWDQ1; MBTQ1; ZERO; OUT; FINISH;" ∷ [])) (tape 6 0o6400000000000000 (block false (0o4141414141414141 ∷ 0o4242424242424242 ∷ 0o4343434343434343 ∷ []) ∷ block false (0o4444444444444444 ∷ []) ∷ block true (0o4545454545454545 ∷ 0o4646464646464646 ∷ []) ∷ []) ∷ []) ((32, 33) ∷ [])) ∷ []
 unfolding lines words value text event code_of first_word words_of codes_in read_line job
 tape_rewound_slot = refl
 
-tape_rewound_image : image_words 128 (text (codes "PROGRAM V1; V0=Q0/32/33; V1=PT; V1; SET 4; OUT; V0; =Q1; =C1; MFRQ1; MFRQ1; MRWDQ1; MBTQ1; ZERO; OUT; FINISH;" ∷ [])) ≡ 0xA00003010101 ∷ 0x000000200021 ∷ 0xD00000000000 ∷ 0xC00002E00004 ∷ 0x21C000015410 ∷ 0x551077107710 ∷ 0x7B107E130921 ∷ []
+tape_rewound_image : image_words 128 (text (codes "PROGRAM V1; V0=Q0/32/33; V1=PT; V1; SET 4; OUT; V0;" ∷ codes "=Q1; =C1; MFRQ1; MFRQ1; MRWDQ1; MBTQ1; ZERO; OUT; FINISH;" ∷ [])) ≡ 0xA00003010101 ∷ 0x000000200021 ∷ 0xD00000000000 ∷ 0xC00002E00004 ∷ 0x21C000015410 ∷ 0x551077107710 ∷ 0x7B107E130921 ∷ []
 unfolding text assembled lettered store_name addressed suffix_of access_form address_form condition_of target_form subroutine_form test_form jump_form form_in address_item number_item item_form triple_form octal_value characters_value value_form constant_form start octal_order order_form formless statement_faults phase_after statements_of placed spelling code_of characters_word
 tape_rewound_image = refl
 
-pub tape_rewound : alone 13 (job_lines (codes "STORE 128") (codes "PROGRAM V1; V0=Q0/32/33; V1=PT; V1; SET 4; OUT; V0; =Q1; =C1; MFRQ1; MFRQ1; MRWDQ1; MBTQ1; ZERO; OUT; FINISH;" ∷ []) (codes "DEVICE 6 MT T" ∷ codes "+AAAAAAAABBBBBBBBCCCCCCCC" ∷ codes "+DDDDDDDD" ∷ codes "=EEEEEEEEFFFFFFFF" ∷ codes "SHOW 32 33" ∷ [])) ≡ record {
+pub tape_rewound : alone 13 (job_lines (codes "STORE 128") (codes "PROGRAM V1; V0=Q0/32/33; V1=PT; V1; SET 4; OUT; V0;" ∷ codes "=Q1; =C1; MFRQ1; MFRQ1; MRWDQ1; MBTQ1; ZERO; OUT; FINISH;" ∷ []) (codes "DEVICE 6 MT T" ∷ codes "+AAAAAAAABBBBBBBBCCCCCCCC" ∷ codes "+DDDDDDDD" ∷ codes "=EEEEEEEEFFFFFFFF" ∷ codes "SHOW 32 33" ∷ [])) ≡ record {
   life = Ended;
   ran = 13;
   at = 42;
@@ -293,17 +293,17 @@ pub tape_rewound : alone 13 (job_lines (codes "STORE 128") (codes "PROGRAM V1; V
 unfolding after_read after_card rewound after_skip after_write printed first_word words_of given offered finished decoded arith arith_row free_for unclaimed plain_row out_effect brought from_top changed single_row decision direct_effect transfer_of query_effect guarded device_numbers by_number device_count to_binary from_binary text
 tape_rewound =
     ap (λ (slots : List SlotJob). map (λ (s : SlotJob). seen_after 13 s (image_words s.size s.deck)) slots) tape_rewound_slot
-    ∙ ap (λ (image : List ℕ). seen_after 13 (a_slot 128 (text (codes "PROGRAM V1; V0=Q0/32/33; V1=PT; V1; SET 4; OUT; V0; =Q1; =C1; MFRQ1; MFRQ1; MRWDQ1; MBTQ1; ZERO; OUT; FINISH;" ∷ [])) (tape 6 0o6400000000000000 (block false (0o4141414141414141 ∷ 0o4242424242424242 ∷ 0o4343434343434343 ∷ []) ∷ block false (0o4444444444444444 ∷ []) ∷ block true (0o4545454545454545 ∷ 0o4646464646464646 ∷ []) ∷ []) ∷ []) ((32, 33) ∷ [])) image ∷ []) tape_rewound_image
+    ∙ ap (λ (image : List ℕ). seen_after 13 (a_slot 128 (text (codes "PROGRAM V1; V0=Q0/32/33; V1=PT; V1; SET 4; OUT; V0;" ∷ codes "=Q1; =C1; MFRQ1; MFRQ1; MRWDQ1; MBTQ1; ZERO; OUT; FINISH;" ∷ [])) (tape 6 0o6400000000000000 (block false (0o4141414141414141 ∷ 0o4242424242424242 ∷ 0o4343434343434343 ∷ []) ∷ block false (0o4444444444444444 ∷ []) ∷ block true (0o4545454545454545 ∷ 0o4646464646464646 ∷ []) ∷ []) ∷ []) ((32, 33) ∷ [])) image ∷ []) tape_rewound_image
 
-tape_skip_back_sees_the_first_block_slot : (job (text (job_lines (codes "STORE 128") (codes "PROGRAM V1; V0=Q0/32/33; V1=PT; V1; SET 4; OUT; V0; =Q1; =C1; MFSKQ1; MBSKQ1; MLBQ1; ZERO; OUT; FINISH;" ∷ []) (codes "DEVICE 6 MT T" ∷ codes "+AAAAAAAABBBBBBBBCCCCCCCC" ∷ codes "+DDDDDDDD" ∷ codes "=EEEEEEEEFFFFFFFF" ∷ codes "SHOW 32 33" ∷ [])))).slots ≡ (a_slot 128 (text (codes "PROGRAM V1; V0=Q0/32/33; V1=PT; V1; SET 4; OUT; V0; =Q1; =C1; MFSKQ1; MBSKQ1; MLBQ1; ZERO; OUT; FINISH;" ∷ [])) (tape 6 0o6400000000000000 (block false (0o4141414141414141 ∷ 0o4242424242424242 ∷ 0o4343434343434343 ∷ []) ∷ block false (0o4444444444444444 ∷ []) ∷ block true (0o4545454545454545 ∷ 0o4646464646464646 ∷ []) ∷ []) ∷ []) ((32, 33) ∷ [])) ∷ []
+tape_skip_back_sees_the_first_block_slot : (job (text (job_lines (codes "STORE 128") (codes "PROGRAM V1; V0=Q0/32/33; V1=PT; V1; SET 4; OUT; V0;" ∷ codes "=Q1; =C1; MFSKQ1; MBSKQ1; MLBQ1; ZERO; OUT; FINISH;" ∷ []) (codes "DEVICE 6 MT T" ∷ codes "+AAAAAAAABBBBBBBBCCCCCCCC" ∷ codes "+DDDDDDDD" ∷ codes "=EEEEEEEEFFFFFFFF" ∷ codes "SHOW 32 33" ∷ [])))).slots ≡ (a_slot 128 (text (codes "PROGRAM V1; V0=Q0/32/33; V1=PT; V1; SET 4; OUT; V0;" ∷ codes "=Q1; =C1; MFSKQ1; MBSKQ1; MLBQ1; ZERO; OUT; FINISH;" ∷ [])) (tape 6 0o6400000000000000 (block false (0o4141414141414141 ∷ 0o4242424242424242 ∷ 0o4343434343434343 ∷ []) ∷ block false (0o4444444444444444 ∷ []) ∷ block true (0o4545454545454545 ∷ 0o4646464646464646 ∷ []) ∷ []) ∷ []) ((32, 33) ∷ [])) ∷ []
 unfolding lines words value text event code_of first_word words_of codes_in read_line job
 tape_skip_back_sees_the_first_block_slot = refl
 
-tape_skip_back_sees_the_first_block_image : image_words 128 (text (codes "PROGRAM V1; V0=Q0/32/33; V1=PT; V1; SET 4; OUT; V0; =Q1; =C1; MFSKQ1; MBSKQ1; MLBQ1; ZERO; OUT; FINISH;" ∷ [])) ≡ 0xA00003010101 ∷ 0x000000200021 ∷ 0xD00000000000 ∷ 0xC00002E00004 ∷ 0x21C000015410 ∷ 0x55107C107D10 ∷ 0x7E1409210101 ∷ []
+tape_skip_back_sees_the_first_block_image : image_words 128 (text (codes "PROGRAM V1; V0=Q0/32/33; V1=PT; V1; SET 4; OUT; V0;" ∷ codes "=Q1; =C1; MFSKQ1; MBSKQ1; MLBQ1; ZERO; OUT; FINISH;" ∷ [])) ≡ 0xA00003010101 ∷ 0x000000200021 ∷ 0xD00000000000 ∷ 0xC00002E00004 ∷ 0x21C000015410 ∷ 0x55107C107D10 ∷ 0x7E1409210101 ∷ []
 unfolding text assembled lettered store_name addressed suffix_of access_form address_form condition_of target_form subroutine_form test_form jump_form form_in address_item number_item item_form triple_form octal_value characters_value value_form constant_form start octal_order order_form formless statement_faults phase_after statements_of placed spelling code_of characters_word
 tape_skip_back_sees_the_first_block_image = refl
 
-pub tape_skip_back_sees_the_first_block : alone 12 (job_lines (codes "STORE 128") (codes "PROGRAM V1; V0=Q0/32/33; V1=PT; V1; SET 4; OUT; V0; =Q1; =C1; MFSKQ1; MBSKQ1; MLBQ1; ZERO; OUT; FINISH;" ∷ []) (codes "DEVICE 6 MT T" ∷ codes "+AAAAAAAABBBBBBBBCCCCCCCC" ∷ codes "+DDDDDDDD" ∷ codes "=EEEEEEEEFFFFFFFF" ∷ codes "SHOW 32 33" ∷ [])) ≡ record {
+pub tape_skip_back_sees_the_first_block : alone 12 (job_lines (codes "STORE 128") (codes "PROGRAM V1; V0=Q0/32/33; V1=PT; V1; SET 4; OUT; V0;" ∷ codes "=Q1; =C1; MFSKQ1; MBSKQ1; MLBQ1; ZERO; OUT; FINISH;" ∷ []) (codes "DEVICE 6 MT T" ∷ codes "+AAAAAAAABBBBBBBBCCCCCCCC" ∷ codes "+DDDDDDDD" ∷ codes "=EEEEEEEEFFFFFFFF" ∷ codes "SHOW 32 33" ∷ [])) ≡ record {
   life = Ended;
   ran = 12;
   at = 40;
@@ -319,7 +319,7 @@ pub tape_skip_back_sees_the_first_block : alone 12 (job_lines (codes "STORE 128"
 unfolding after_read after_card rewound after_skip after_write printed first_word words_of given offered finished decoded arith arith_row free_for unclaimed plain_row out_effect brought from_top changed single_row decision direct_effect transfer_of query_effect guarded device_numbers by_number device_count to_binary from_binary text
 tape_skip_back_sees_the_first_block =
     ap (λ (slots : List SlotJob). map (λ (s : SlotJob). seen_after 12 s (image_words s.size s.deck)) slots) tape_skip_back_sees_the_first_block_slot
-    ∙ ap (λ (image : List ℕ). seen_after 12 (a_slot 128 (text (codes "PROGRAM V1; V0=Q0/32/33; V1=PT; V1; SET 4; OUT; V0; =Q1; =C1; MFSKQ1; MBSKQ1; MLBQ1; ZERO; OUT; FINISH;" ∷ [])) (tape 6 0o6400000000000000 (block false (0o4141414141414141 ∷ 0o4242424242424242 ∷ 0o4343434343434343 ∷ []) ∷ block false (0o4444444444444444 ∷ []) ∷ block true (0o4545454545454545 ∷ 0o4646464646464646 ∷ []) ∷ []) ∷ []) ((32, 33) ∷ [])) image ∷ []) tape_skip_back_sees_the_first_block_image
+    ∙ ap (λ (image : List ℕ). seen_after 12 (a_slot 128 (text (codes "PROGRAM V1; V0=Q0/32/33; V1=PT; V1; SET 4; OUT; V0;" ∷ codes "=Q1; =C1; MFSKQ1; MBSKQ1; MLBQ1; ZERO; OUT; FINISH;" ∷ [])) (tape 6 0o6400000000000000 (block false (0o4141414141414141 ∷ 0o4242424242424242 ∷ 0o4343434343434343 ∷ []) ∷ block false (0o4444444444444444 ∷ []) ∷ block true (0o4545454545454545 ∷ 0o4646464646464646 ∷ []) ∷ []) ∷ []) ((32, 33) ∷ [])) image ∷ []) tape_skip_back_sees_the_first_block_image
 
 tape_skip_sees_the_mark_slot : (job (text (job_lines (codes "STORE 128") (codes "PROGRAM V1; V0=Q0/32/33; V1=PT; V1; SET 4; OUT; V0; =Q1; =C1; MFSKQ1; MLBQ1; ZERO; OUT; FINISH;" ∷ []) (codes "DEVICE 6 MT T" ∷ codes "+AAAAAAAABBBBBBBBCCCCCCCC" ∷ codes "+DDDDDDDD" ∷ codes "=EEEEEEEEFFFFFFFF" ∷ codes "SHOW 32 33" ∷ [])))).slots ≡ (a_slot 128 (text (codes "PROGRAM V1; V0=Q0/32/33; V1=PT; V1; SET 4; OUT; V0; =Q1; =C1; MFSKQ1; MLBQ1; ZERO; OUT; FINISH;" ∷ [])) (tape 6 0o6400000000000000 (block false (0o4141414141414141 ∷ 0o4242424242424242 ∷ 0o4343434343434343 ∷ []) ∷ block false (0o4444444444444444 ∷ []) ∷ block true (0o4545454545454545 ∷ 0o4646464646464646 ∷ []) ∷ []) ∷ []) ((32, 33) ∷ [])) ∷ []
 unfolding lines words value text event code_of first_word words_of codes_in read_line job
@@ -347,15 +347,15 @@ tape_skip_sees_the_mark =
     ap (λ (slots : List SlotJob). map (λ (s : SlotJob). seen_after 11 s (image_words s.size s.deck)) slots) tape_skip_sees_the_mark_slot
     ∙ ap (λ (image : List ℕ). seen_after 11 (a_slot 128 (text (codes "PROGRAM V1; V0=Q0/32/33; V1=PT; V1; SET 4; OUT; V0; =Q1; =C1; MFSKQ1; MLBQ1; ZERO; OUT; FINISH;" ∷ [])) (tape 6 0o6400000000000000 (block false (0o4141414141414141 ∷ 0o4242424242424242 ∷ 0o4343434343434343 ∷ []) ∷ block false (0o4444444444444444 ∷ []) ∷ block true (0o4545454545454545 ∷ 0o4646464646464646 ∷ []) ∷ []) ∷ []) ((32, 33) ∷ [])) image ∷ []) tape_skip_sees_the_mark_image
 
-tape_skipped_back_to_the_beginning_slot : (job (text (job_lines (codes "STORE 128") (codes "PROGRAM V1; V0=Q0/32/33; V1=PT; V1; SET 4; OUT; V0; =Q1; =C1; MFSKQ1; MBSKQ1; PARQ1; ZERO; OUT; FINISH;" ∷ []) (codes "DEVICE 6 MT T" ∷ codes "+AAAAAAAABBBBBBBBCCCCCCCC" ∷ codes "+DDDDDDDD" ∷ codes "=EEEEEEEEFFFFFFFF" ∷ codes "SHOW 32 33" ∷ [])))).slots ≡ (a_slot 128 (text (codes "PROGRAM V1; V0=Q0/32/33; V1=PT; V1; SET 4; OUT; V0; =Q1; =C1; MFSKQ1; MBSKQ1; PARQ1; ZERO; OUT; FINISH;" ∷ [])) (tape 6 0o6400000000000000 (block false (0o4141414141414141 ∷ 0o4242424242424242 ∷ 0o4343434343434343 ∷ []) ∷ block false (0o4444444444444444 ∷ []) ∷ block true (0o4545454545454545 ∷ 0o4646464646464646 ∷ []) ∷ []) ∷ []) ((32, 33) ∷ [])) ∷ []
+tape_skipped_back_to_the_beginning_slot : (job (text (job_lines (codes "STORE 128") (codes "PROGRAM V1; V0=Q0/32/33; V1=PT; V1; SET 4; OUT; V0;" ∷ codes "=Q1; =C1; MFSKQ1; MBSKQ1; PARQ1; ZERO; OUT; FINISH;" ∷ []) (codes "DEVICE 6 MT T" ∷ codes "+AAAAAAAABBBBBBBBCCCCCCCC" ∷ codes "+DDDDDDDD" ∷ codes "=EEEEEEEEFFFFFFFF" ∷ codes "SHOW 32 33" ∷ [])))).slots ≡ (a_slot 128 (text (codes "PROGRAM V1; V0=Q0/32/33; V1=PT; V1; SET 4; OUT; V0;" ∷ codes "=Q1; =C1; MFSKQ1; MBSKQ1; PARQ1; ZERO; OUT; FINISH;" ∷ [])) (tape 6 0o6400000000000000 (block false (0o4141414141414141 ∷ 0o4242424242424242 ∷ 0o4343434343434343 ∷ []) ∷ block false (0o4444444444444444 ∷ []) ∷ block true (0o4545454545454545 ∷ 0o4646464646464646 ∷ []) ∷ []) ∷ []) ((32, 33) ∷ [])) ∷ []
 unfolding lines words value text event code_of first_word words_of codes_in read_line job
 tape_skipped_back_to_the_beginning_slot = refl
 
-tape_skipped_back_to_the_beginning_image : image_words 128 (text (codes "PROGRAM V1; V0=Q0/32/33; V1=PT; V1; SET 4; OUT; V0; =Q1; =C1; MFSKQ1; MBSKQ1; PARQ1; ZERO; OUT; FINISH;" ∷ [])) ≡ 0xA00003010101 ∷ 0x000000200021 ∷ 0xD00000000000 ∷ 0xC00002E00004 ∷ 0x21C000015410 ∷ 0x55107C107D10 ∷ 0x7E1209210101 ∷ []
+tape_skipped_back_to_the_beginning_image : image_words 128 (text (codes "PROGRAM V1; V0=Q0/32/33; V1=PT; V1; SET 4; OUT; V0;" ∷ codes "=Q1; =C1; MFSKQ1; MBSKQ1; PARQ1; ZERO; OUT; FINISH;" ∷ [])) ≡ 0xA00003010101 ∷ 0x000000200021 ∷ 0xD00000000000 ∷ 0xC00002E00004 ∷ 0x21C000015410 ∷ 0x55107C107D10 ∷ 0x7E1209210101 ∷ []
 unfolding text assembled lettered store_name addressed suffix_of access_form address_form condition_of target_form subroutine_form test_form jump_form form_in address_item number_item item_form triple_form octal_value characters_value value_form constant_form start octal_order order_form formless statement_faults phase_after statements_of placed spelling code_of characters_word
 tape_skipped_back_to_the_beginning_image = refl
 
-pub tape_skipped_back_to_the_beginning : alone 12 (job_lines (codes "STORE 128") (codes "PROGRAM V1; V0=Q0/32/33; V1=PT; V1; SET 4; OUT; V0; =Q1; =C1; MFSKQ1; MBSKQ1; PARQ1; ZERO; OUT; FINISH;" ∷ []) (codes "DEVICE 6 MT T" ∷ codes "+AAAAAAAABBBBBBBBCCCCCCCC" ∷ codes "+DDDDDDDD" ∷ codes "=EEEEEEEEFFFFFFFF" ∷ codes "SHOW 32 33" ∷ [])) ≡ record {
+pub tape_skipped_back_to_the_beginning : alone 12 (job_lines (codes "STORE 128") (codes "PROGRAM V1; V0=Q0/32/33; V1=PT; V1; SET 4; OUT; V0;" ∷ codes "=Q1; =C1; MFSKQ1; MBSKQ1; PARQ1; ZERO; OUT; FINISH;" ∷ []) (codes "DEVICE 6 MT T" ∷ codes "+AAAAAAAABBBBBBBBCCCCCCCC" ∷ codes "+DDDDDDDD" ∷ codes "=EEEEEEEEFFFFFFFF" ∷ codes "SHOW 32 33" ∷ [])) ≡ record {
   life = Ended;
   ran = 12;
   at = 40;
@@ -371,17 +371,17 @@ pub tape_skipped_back_to_the_beginning : alone 12 (job_lines (codes "STORE 128")
 unfolding after_read after_card rewound after_skip after_write printed first_word words_of given offered finished decoded arith arith_row free_for unclaimed plain_row out_effect brought from_top changed single_row decision direct_effect transfer_of query_effect guarded device_numbers by_number device_count to_binary from_binary text
 tape_skipped_back_to_the_beginning =
     ap (λ (slots : List SlotJob). map (λ (s : SlotJob). seen_after 12 s (image_words s.size s.deck)) slots) tape_skipped_back_to_the_beginning_slot
-    ∙ ap (λ (image : List ℕ). seen_after 12 (a_slot 128 (text (codes "PROGRAM V1; V0=Q0/32/33; V1=PT; V1; SET 4; OUT; V0; =Q1; =C1; MFSKQ1; MBSKQ1; PARQ1; ZERO; OUT; FINISH;" ∷ [])) (tape 6 0o6400000000000000 (block false (0o4141414141414141 ∷ 0o4242424242424242 ∷ 0o4343434343434343 ∷ []) ∷ block false (0o4444444444444444 ∷ []) ∷ block true (0o4545454545454545 ∷ 0o4646464646464646 ∷ []) ∷ []) ∷ []) ((32, 33) ∷ [])) image ∷ []) tape_skipped_back_to_the_beginning_image
+    ∙ ap (λ (image : List ℕ). seen_after 12 (a_slot 128 (text (codes "PROGRAM V1; V0=Q0/32/33; V1=PT; V1; SET 4; OUT; V0;" ∷ codes "=Q1; =C1; MFSKQ1; MBSKQ1; PARQ1; ZERO; OUT; FINISH;" ∷ [])) (tape 6 0o6400000000000000 (block false (0o4141414141414141 ∷ 0o4242424242424242 ∷ 0o4343434343434343 ∷ []) ∷ block false (0o4444444444444444 ∷ []) ∷ block true (0o4545454545454545 ∷ 0o4646464646464646 ∷ []) ∷ []) ∷ []) ((32, 33) ∷ [])) image ∷ []) tape_skipped_back_to_the_beginning_image
 
-tape_skipped_by_two_slot : (job (text (job_lines (codes "STORE 128") (codes "PROGRAM V1; V0=Q0/32/33; V1=PT; V1; SET 4; OUT; V0; =Q1; =C1; SET 2; =M1; MFSKQ1; PARQ1; SET 1; =M1; MBSKQ1; ZERO; OUT; FINISH;" ∷ []) (codes "DEVICE 6 MT T" ∷ codes "+AAAAAAAABBBBBBBBCCCCCCCC" ∷ codes "+DDDDDDDD" ∷ codes "=EEEEEEEEFFFFFFFF" ∷ [])))).slots ≡ (a_slot 128 (text (codes "PROGRAM V1; V0=Q0/32/33; V1=PT; V1; SET 4; OUT; V0; =Q1; =C1; SET 2; =M1; MFSKQ1; PARQ1; SET 1; =M1; MBSKQ1; ZERO; OUT; FINISH;" ∷ [])) (tape 6 0o6400000000000000 (block false (0o4141414141414141 ∷ 0o4242424242424242 ∷ 0o4343434343434343 ∷ []) ∷ block false (0o4444444444444444 ∷ []) ∷ block true (0o4545454545454545 ∷ 0o4646464646464646 ∷ []) ∷ []) ∷ []) ([])) ∷ []
+tape_skipped_by_two_slot : (job (text (job_lines (codes "STORE 128") (codes "PROGRAM V1; V0=Q0/32/33; V1=PT; V1; SET 4; OUT; V0; =Q1; =C1;" ∷ codes "SET 2; =M1; MFSKQ1; PARQ1; SET 1; =M1; MBSKQ1; ZERO; OUT; FINISH;" ∷ []) (codes "DEVICE 6 MT T" ∷ codes "+AAAAAAAABBBBBBBBCCCCCCCC" ∷ codes "+DDDDDDDD" ∷ codes "=EEEEEEEEFFFFFFFF" ∷ [])))).slots ≡ (a_slot 128 (text (codes "PROGRAM V1; V0=Q0/32/33; V1=PT; V1; SET 4; OUT; V0; =Q1; =C1;" ∷ codes "SET 2; =M1; MFSKQ1; PARQ1; SET 1; =M1; MBSKQ1; ZERO; OUT; FINISH;" ∷ [])) (tape 6 0o6400000000000000 (block false (0o4141414141414141 ∷ 0o4242424242424242 ∷ 0o4343434343434343 ∷ []) ∷ block false (0o4444444444444444 ∷ []) ∷ block true (0o4545454545454545 ∷ 0o4646464646464646 ∷ []) ∷ []) ∷ []) ([])) ∷ []
 unfolding lines words value text event code_of first_word words_of codes_in read_line job
 tape_skipped_by_two_slot = refl
 
-tape_skipped_by_two_image : image_words 128 (text (codes "PROGRAM V1; V0=Q0/32/33; V1=PT; V1; SET 4; OUT; V0; =Q1; =C1; SET 2; =M1; MFSKQ1; PARQ1; SET 1; =M1; MBSKQ1; ZERO; OUT; FINISH;" ∷ [])) ≡ 0xA00003010101 ∷ 0x000000200021 ∷ 0xD00000000000 ∷ 0xC00002E00004 ∷ 0x21C000015410 ∷ 0x5510E0000257 ∷ 0x107C107E12E0 ∷ 0x000157107D10 ∷ 0x092101010101 ∷ []
+tape_skipped_by_two_image : image_words 128 (text (codes "PROGRAM V1; V0=Q0/32/33; V1=PT; V1; SET 4; OUT; V0; =Q1; =C1;" ∷ codes "SET 2; =M1; MFSKQ1; PARQ1; SET 1; =M1; MBSKQ1; ZERO; OUT; FINISH;" ∷ [])) ≡ 0xA00003010101 ∷ 0x000000200021 ∷ 0xD00000000000 ∷ 0xC00002E00004 ∷ 0x21C000015410 ∷ 0x5510E0000257 ∷ 0x107C107E12E0 ∷ 0x000157107D10 ∷ 0x092101010101 ∷ []
 unfolding text assembled lettered store_name addressed suffix_of access_form address_form condition_of target_form subroutine_form test_form jump_form form_in address_item number_item item_form triple_form octal_value characters_value value_form constant_form start octal_order order_form formless statement_faults phase_after statements_of placed spelling code_of characters_word
 tape_skipped_by_two_image = refl
 
-pub tape_skipped_by_two : alone 16 (job_lines (codes "STORE 128") (codes "PROGRAM V1; V0=Q0/32/33; V1=PT; V1; SET 4; OUT; V0; =Q1; =C1; SET 2; =M1; MFSKQ1; PARQ1; SET 1; =M1; MBSKQ1; ZERO; OUT; FINISH;" ∷ []) (codes "DEVICE 6 MT T" ∷ codes "+AAAAAAAABBBBBBBBCCCCCCCC" ∷ codes "+DDDDDDDD" ∷ codes "=EEEEEEEEFFFFFFFF" ∷ [])) ≡ record {
+pub tape_skipped_by_two : alone 16 (job_lines (codes "STORE 128") (codes "PROGRAM V1; V0=Q0/32/33; V1=PT; V1; SET 4; OUT; V0; =Q1; =C1;" ∷ codes "SET 2; =M1; MFSKQ1; PARQ1; SET 1; =M1; MBSKQ1; ZERO; OUT; FINISH;" ∷ []) (codes "DEVICE 6 MT T" ∷ codes "+AAAAAAAABBBBBBBBCCCCCCCC" ∷ codes "+DDDDDDDD" ∷ codes "=EEEEEEEEFFFFFFFF" ∷ [])) ≡ record {
   life = Ended;
   ran = 16;
   at = 50;
@@ -397,7 +397,7 @@ pub tape_skipped_by_two : alone 16 (job_lines (codes "STORE 128") (codes "PROGRA
 unfolding after_read after_card rewound after_skip after_write printed first_word words_of given offered finished decoded arith arith_row free_for unclaimed plain_row out_effect brought from_top changed single_row decision direct_effect transfer_of query_effect guarded device_numbers by_number device_count to_binary from_binary text
 tape_skipped_by_two =
     ap (λ (slots : List SlotJob). map (λ (s : SlotJob). seen_after 16 s (image_words s.size s.deck)) slots) tape_skipped_by_two_slot
-    ∙ ap (λ (image : List ℕ). seen_after 16 (a_slot 128 (text (codes "PROGRAM V1; V0=Q0/32/33; V1=PT; V1; SET 4; OUT; V0; =Q1; =C1; SET 2; =M1; MFSKQ1; PARQ1; SET 1; =M1; MBSKQ1; ZERO; OUT; FINISH;" ∷ [])) (tape 6 0o6400000000000000 (block false (0o4141414141414141 ∷ 0o4242424242424242 ∷ 0o4343434343434343 ∷ []) ∷ block false (0o4444444444444444 ∷ []) ∷ block true (0o4545454545454545 ∷ 0o4646464646464646 ∷ []) ∷ []) ∷ []) ([])) image ∷ []) tape_skipped_by_two_image
+    ∙ ap (λ (image : List ℕ). seen_after 16 (a_slot 128 (text (codes "PROGRAM V1; V0=Q0/32/33; V1=PT; V1; SET 4; OUT; V0; =Q1; =C1;" ∷ codes "SET 2; =M1; MFSKQ1; PARQ1; SET 1; =M1; MBSKQ1; ZERO; OUT; FINISH;" ∷ [])) (tape 6 0o6400000000000000 (block false (0o4141414141414141 ∷ 0o4242424242424242 ∷ 0o4343434343434343 ∷ []) ∷ block false (0o4444444444444444 ∷ []) ∷ block true (0o4545454545454545 ∷ 0o4646464646464646 ∷ []) ∷ []) ∷ []) ([])) image ∷ []) tape_skipped_by_two_image
 
 tape_skipped_to_the_end_slot : (job (text (job_lines (codes "STORE 128") (codes "PROGRAM V1; V0=Q0/32/33; V1=PT; V1; SET 4; OUT; V0; =Q1; =C1; MFSKQ1; PARQ1; ZERO; OUT; FINISH;" ∷ []) (codes "DEVICE 6 MT T" ∷ codes "+AAAAAAAABBBBBBBBCCCCCCCC" ∷ codes "+DDDDDDDD" ∷ codes "=EEEEEEEEFFFFFFFF" ∷ codes "SHOW 32 33" ∷ [])))).slots ≡ (a_slot 128 (text (codes "PROGRAM V1; V0=Q0/32/33; V1=PT; V1; SET 4; OUT; V0; =Q1; =C1; MFSKQ1; PARQ1; ZERO; OUT; FINISH;" ∷ [])) (tape 6 0o6400000000000000 (block false (0o4141414141414141 ∷ 0o4242424242424242 ∷ 0o4343434343434343 ∷ []) ∷ block false (0o4444444444444444 ∷ []) ∷ block true (0o4545454545454545 ∷ 0o4646464646464646 ∷ []) ∷ []) ∷ []) ((32, 33) ∷ [])) ∷ []
 unfolding lines words value text event code_of first_word words_of codes_in read_line job
@@ -477,15 +477,15 @@ skips_and_reads_a_tape_backward =
     ap (λ (slots : List SlotJob). map (λ (s : SlotJob). seen_after 11 s (image_words s.size s.deck)) slots) skips_and_reads_a_tape_backward_slot
     ∙ ap (λ (image : List ℕ). seen_after 11 (a_slot 64 (text (codes "PROGRAM V1; V0=PIN; V1=Q0/32/33; V0; SET 4; OUT; V1; =Q1; =C1; MFSKQ1; MBRQ1; ZERO; OUT; FINISH;" ∷ [])) (tape 6 0o5156000000000000 (block false (0o4141414141414141 ∷ 0o4242424242424242 ∷ []) ∷ block true (0o4343000000000000 ∷ []) ∷ []) ∷ []) ((32, 33) ∷ [])) image ∷ []) skips_and_reads_a_tape_backward_image
 
-tape_mark_goes_behind_the_last_block_slot : (job (text (job_lines (codes "STORE 128") (codes "PROGRAM V1; V0=Q0/32/33; V1=PT; V1; SET 4; OUT; V0; =Q1; =C1; MFRQ1; MFRQ1; MFRQ1; MFRQ1; MLBQ1; ZERO; OUT; FINISH;" ∷ []) (codes "DEVICE 6 MT T" ∷ codes "+AAAAAAAABBBBBBBBCCCCCCCC" ∷ codes "+DDDDDDDD" ∷ codes "=EEEEEEEEFFFFFFFF" ∷ codes "SHOW 32 33" ∷ [])))).slots ≡ (a_slot 128 (text (codes "PROGRAM V1; V0=Q0/32/33; V1=PT; V1; SET 4; OUT; V0; =Q1; =C1; MFRQ1; MFRQ1; MFRQ1; MFRQ1; MLBQ1; ZERO; OUT; FINISH;" ∷ [])) (tape 6 0o6400000000000000 (block false (0o4141414141414141 ∷ 0o4242424242424242 ∷ 0o4343434343434343 ∷ []) ∷ block false (0o4444444444444444 ∷ []) ∷ block true (0o4545454545454545 ∷ 0o4646464646464646 ∷ []) ∷ []) ∷ []) ((32, 33) ∷ [])) ∷ []
+tape_mark_goes_behind_the_last_block_slot : (job (text (job_lines (codes "STORE 128") (codes "PROGRAM V1; V0=Q0/32/33; V1=PT; V1; SET 4; OUT; V0; =Q1;" ∷ codes "=C1; MFRQ1; MFRQ1; MFRQ1; MFRQ1; MLBQ1; ZERO; OUT; FINISH;" ∷ []) (codes "DEVICE 6 MT T" ∷ codes "+AAAAAAAABBBBBBBBCCCCCCCC" ∷ codes "+DDDDDDDD" ∷ codes "=EEEEEEEEFFFFFFFF" ∷ codes "SHOW 32 33" ∷ [])))).slots ≡ (a_slot 128 (text (codes "PROGRAM V1; V0=Q0/32/33; V1=PT; V1; SET 4; OUT; V0; =Q1;" ∷ codes "=C1; MFRQ1; MFRQ1; MFRQ1; MFRQ1; MLBQ1; ZERO; OUT; FINISH;" ∷ [])) (tape 6 0o6400000000000000 (block false (0o4141414141414141 ∷ 0o4242424242424242 ∷ 0o4343434343434343 ∷ []) ∷ block false (0o4444444444444444 ∷ []) ∷ block true (0o4545454545454545 ∷ 0o4646464646464646 ∷ []) ∷ []) ∷ []) ((32, 33) ∷ [])) ∷ []
 unfolding lines words value text event code_of first_word words_of codes_in read_line job
 tape_mark_goes_behind_the_last_block_slot = refl
 
-tape_mark_goes_behind_the_last_block_image : image_words 128 (text (codes "PROGRAM V1; V0=Q0/32/33; V1=PT; V1; SET 4; OUT; V0; =Q1; =C1; MFRQ1; MFRQ1; MFRQ1; MFRQ1; MLBQ1; ZERO; OUT; FINISH;" ∷ [])) ≡ 0xA00003010101 ∷ 0x000000200021 ∷ 0xD00000000000 ∷ 0xC00002E00004 ∷ 0x21C000015410 ∷ 0x551077107710 ∷ 0x771077107E14 ∷ 0x092101010101 ∷ []
+tape_mark_goes_behind_the_last_block_image : image_words 128 (text (codes "PROGRAM V1; V0=Q0/32/33; V1=PT; V1; SET 4; OUT; V0; =Q1;" ∷ codes "=C1; MFRQ1; MFRQ1; MFRQ1; MFRQ1; MLBQ1; ZERO; OUT; FINISH;" ∷ [])) ≡ 0xA00003010101 ∷ 0x000000200021 ∷ 0xD00000000000 ∷ 0xC00002E00004 ∷ 0x21C000015410 ∷ 0x551077107710 ∷ 0x771077107E14 ∷ 0x092101010101 ∷ []
 unfolding text assembled lettered store_name addressed suffix_of access_form address_form condition_of target_form subroutine_form test_form jump_form form_in address_item number_item item_form triple_form octal_value characters_value value_form constant_form start octal_order order_form formless statement_faults phase_after statements_of placed spelling code_of characters_word
 tape_mark_goes_behind_the_last_block_image = refl
 
-pub tape_mark_goes_behind_the_last_block : alone 14 (job_lines (codes "STORE 128") (codes "PROGRAM V1; V0=Q0/32/33; V1=PT; V1; SET 4; OUT; V0; =Q1; =C1; MFRQ1; MFRQ1; MFRQ1; MFRQ1; MLBQ1; ZERO; OUT; FINISH;" ∷ []) (codes "DEVICE 6 MT T" ∷ codes "+AAAAAAAABBBBBBBBCCCCCCCC" ∷ codes "+DDDDDDDD" ∷ codes "=EEEEEEEEFFFFFFFF" ∷ codes "SHOW 32 33" ∷ [])) ≡ record {
+pub tape_mark_goes_behind_the_last_block : alone 14 (job_lines (codes "STORE 128") (codes "PROGRAM V1; V0=Q0/32/33; V1=PT; V1; SET 4; OUT; V0; =Q1;" ∷ codes "=C1; MFRQ1; MFRQ1; MFRQ1; MFRQ1; MLBQ1; ZERO; OUT; FINISH;" ∷ []) (codes "DEVICE 6 MT T" ∷ codes "+AAAAAAAABBBBBBBBCCCCCCCC" ∷ codes "+DDDDDDDD" ∷ codes "=EEEEEEEEFFFFFFFF" ∷ codes "SHOW 32 33" ∷ [])) ≡ record {
   life = Ended;
   ran = 14;
   at = 44;
@@ -501,17 +501,17 @@ pub tape_mark_goes_behind_the_last_block : alone 14 (job_lines (codes "STORE 128
 unfolding after_read after_card rewound after_skip after_write printed first_word words_of given offered finished decoded arith arith_row free_for unclaimed plain_row out_effect brought from_top changed single_row decision direct_effect transfer_of query_effect guarded device_numbers by_number device_count to_binary from_binary text
 tape_mark_goes_behind_the_last_block =
     ap (λ (slots : List SlotJob). map (λ (s : SlotJob). seen_after 14 s (image_words s.size s.deck)) slots) tape_mark_goes_behind_the_last_block_slot
-    ∙ ap (λ (image : List ℕ). seen_after 14 (a_slot 128 (text (codes "PROGRAM V1; V0=Q0/32/33; V1=PT; V1; SET 4; OUT; V0; =Q1; =C1; MFRQ1; MFRQ1; MFRQ1; MFRQ1; MLBQ1; ZERO; OUT; FINISH;" ∷ [])) (tape 6 0o6400000000000000 (block false (0o4141414141414141 ∷ 0o4242424242424242 ∷ 0o4343434343434343 ∷ []) ∷ block false (0o4444444444444444 ∷ []) ∷ block true (0o4545454545454545 ∷ 0o4646464646464646 ∷ []) ∷ []) ∷ []) ((32, 33) ∷ [])) image ∷ []) tape_mark_goes_behind_the_last_block_image
+    ∙ ap (λ (image : List ℕ). seen_after 14 (a_slot 128 (text (codes "PROGRAM V1; V0=Q0/32/33; V1=PT; V1; SET 4; OUT; V0; =Q1;" ∷ codes "=C1; MFRQ1; MFRQ1; MFRQ1; MFRQ1; MLBQ1; ZERO; OUT; FINISH;" ∷ [])) (tape 6 0o6400000000000000 (block false (0o4141414141414141 ∷ 0o4242424242424242 ∷ 0o4343434343434343 ∷ []) ∷ block false (0o4444444444444444 ∷ []) ∷ block true (0o4545454545454545 ∷ 0o4646464646464646 ∷ []) ∷ []) ∷ []) ((32, 33) ∷ [])) image ∷ []) tape_mark_goes_behind_the_last_block_image
 
-tape_written_in_the_middle_slot : (job (text (job_lines (codes "STORE 128") (codes "PROGRAM V1; V0=Q0/32/33; V1=PT; V1; SET 4; OUT; V0; =Q1; =C1; MFRQ1; MWQ1; MLBQ1; ZERO; OUT; FINISH;" ∷ []) (codes "DEVICE 6 MT T" ∷ codes "+AAAAAAAABBBBBBBBCCCCCCCC" ∷ codes "+DDDDDDDD" ∷ codes "=EEEEEEEEFFFFFFFF" ∷ codes "SHOW 32 33" ∷ [])))).slots ≡ (a_slot 128 (text (codes "PROGRAM V1; V0=Q0/32/33; V1=PT; V1; SET 4; OUT; V0; =Q1; =C1; MFRQ1; MWQ1; MLBQ1; ZERO; OUT; FINISH;" ∷ [])) (tape 6 0o6400000000000000 (block false (0o4141414141414141 ∷ 0o4242424242424242 ∷ 0o4343434343434343 ∷ []) ∷ block false (0o4444444444444444 ∷ []) ∷ block true (0o4545454545454545 ∷ 0o4646464646464646 ∷ []) ∷ []) ∷ []) ((32, 33) ∷ [])) ∷ []
+tape_written_in_the_middle_slot : (job (text (job_lines (codes "STORE 128") (codes "PROGRAM V1; V0=Q0/32/33; V1=PT; V1; SET 4; OUT; V0;" ∷ codes "=Q1; =C1; MFRQ1; MWQ1; MLBQ1; ZERO; OUT; FINISH;" ∷ []) (codes "DEVICE 6 MT T" ∷ codes "+AAAAAAAABBBBBBBBCCCCCCCC" ∷ codes "+DDDDDDDD" ∷ codes "=EEEEEEEEFFFFFFFF" ∷ codes "SHOW 32 33" ∷ [])))).slots ≡ (a_slot 128 (text (codes "PROGRAM V1; V0=Q0/32/33; V1=PT; V1; SET 4; OUT; V0;" ∷ codes "=Q1; =C1; MFRQ1; MWQ1; MLBQ1; ZERO; OUT; FINISH;" ∷ [])) (tape 6 0o6400000000000000 (block false (0o4141414141414141 ∷ 0o4242424242424242 ∷ 0o4343434343434343 ∷ []) ∷ block false (0o4444444444444444 ∷ []) ∷ block true (0o4545454545454545 ∷ 0o4646464646464646 ∷ []) ∷ []) ∷ []) ((32, 33) ∷ [])) ∷ []
 unfolding lines words value text event code_of first_word words_of codes_in read_line job
 tape_written_in_the_middle_slot = refl
 
-tape_written_in_the_middle_image : image_words 128 (text (codes "PROGRAM V1; V0=Q0/32/33; V1=PT; V1; SET 4; OUT; V0; =Q1; =C1; MFRQ1; MWQ1; MLBQ1; ZERO; OUT; FINISH;" ∷ [])) ≡ 0xA00003010101 ∷ 0x000000200021 ∷ 0xD00000000000 ∷ 0xC00002E00004 ∷ 0x21C000015410 ∷ 0x551077107910 ∷ 0x7E1409210101 ∷ []
+tape_written_in_the_middle_image : image_words 128 (text (codes "PROGRAM V1; V0=Q0/32/33; V1=PT; V1; SET 4; OUT; V0;" ∷ codes "=Q1; =C1; MFRQ1; MWQ1; MLBQ1; ZERO; OUT; FINISH;" ∷ [])) ≡ 0xA00003010101 ∷ 0x000000200021 ∷ 0xD00000000000 ∷ 0xC00002E00004 ∷ 0x21C000015410 ∷ 0x551077107910 ∷ 0x7E1409210101 ∷ []
 unfolding text assembled lettered store_name addressed suffix_of access_form address_form condition_of target_form subroutine_form test_form jump_form form_in address_item number_item item_form triple_form octal_value characters_value value_form constant_form start octal_order order_form formless statement_faults phase_after statements_of placed spelling code_of characters_word
 tape_written_in_the_middle_image = refl
 
-pub tape_written_in_the_middle : alone 12 (job_lines (codes "STORE 128") (codes "PROGRAM V1; V0=Q0/32/33; V1=PT; V1; SET 4; OUT; V0; =Q1; =C1; MFRQ1; MWQ1; MLBQ1; ZERO; OUT; FINISH;" ∷ []) (codes "DEVICE 6 MT T" ∷ codes "+AAAAAAAABBBBBBBBCCCCCCCC" ∷ codes "+DDDDDDDD" ∷ codes "=EEEEEEEEFFFFFFFF" ∷ codes "SHOW 32 33" ∷ [])) ≡ record {
+pub tape_written_in_the_middle : alone 12 (job_lines (codes "STORE 128") (codes "PROGRAM V1; V0=Q0/32/33; V1=PT; V1; SET 4; OUT; V0;" ∷ codes "=Q1; =C1; MFRQ1; MWQ1; MLBQ1; ZERO; OUT; FINISH;" ∷ []) (codes "DEVICE 6 MT T" ∷ codes "+AAAAAAAABBBBBBBBCCCCCCCC" ∷ codes "+DDDDDDDD" ∷ codes "=EEEEEEEEFFFFFFFF" ∷ codes "SHOW 32 33" ∷ [])) ≡ record {
   life = Ended;
   ran = 12;
   at = 40;
@@ -527,17 +527,17 @@ pub tape_written_in_the_middle : alone 12 (job_lines (codes "STORE 128") (codes 
 unfolding after_read after_card rewound after_skip after_write printed first_word words_of given offered finished decoded arith arith_row free_for unclaimed plain_row out_effect brought from_top changed single_row decision direct_effect transfer_of query_effect guarded device_numbers by_number device_count to_binary from_binary text
 tape_written_in_the_middle =
     ap (λ (slots : List SlotJob). map (λ (s : SlotJob). seen_after 12 s (image_words s.size s.deck)) slots) tape_written_in_the_middle_slot
-    ∙ ap (λ (image : List ℕ). seen_after 12 (a_slot 128 (text (codes "PROGRAM V1; V0=Q0/32/33; V1=PT; V1; SET 4; OUT; V0; =Q1; =C1; MFRQ1; MWQ1; MLBQ1; ZERO; OUT; FINISH;" ∷ [])) (tape 6 0o6400000000000000 (block false (0o4141414141414141 ∷ 0o4242424242424242 ∷ 0o4343434343434343 ∷ []) ∷ block false (0o4444444444444444 ∷ []) ∷ block true (0o4545454545454545 ∷ 0o4646464646464646 ∷ []) ∷ []) ∷ []) ((32, 33) ∷ [])) image ∷ []) tape_written_in_the_middle_image
+    ∙ ap (λ (image : List ℕ). seen_after 12 (a_slot 128 (text (codes "PROGRAM V1; V0=Q0/32/33; V1=PT; V1; SET 4; OUT; V0;" ∷ codes "=Q1; =C1; MFRQ1; MWQ1; MLBQ1; ZERO; OUT; FINISH;" ∷ [])) (tape 6 0o6400000000000000 (block false (0o4141414141414141 ∷ 0o4242424242424242 ∷ 0o4343434343434343 ∷ []) ∷ block false (0o4444444444444444 ∷ []) ∷ block true (0o4545454545454545 ∷ 0o4646464646464646 ∷ []) ∷ []) ∷ []) ((32, 33) ∷ [])) image ∷ []) tape_written_in_the_middle_image
 
-tape_written_with_the_mark_slot : (job (text (job_lines (codes "STORE 128") (codes "PROGRAM V1; V0=Q0/32/33; V1=PT; V1; SET 4; OUT; V0; =Q1; =C1; MFRQ1; MLWQ1; MLBQ1; ZERO; OUT; FINISH;" ∷ []) (codes "DEVICE 6 MT T" ∷ codes "+AAAAAAAABBBBBBBBCCCCCCCC" ∷ codes "+DDDDDDDD" ∷ codes "=EEEEEEEEFFFFFFFF" ∷ codes "SHOW 32 33" ∷ [])))).slots ≡ (a_slot 128 (text (codes "PROGRAM V1; V0=Q0/32/33; V1=PT; V1; SET 4; OUT; V0; =Q1; =C1; MFRQ1; MLWQ1; MLBQ1; ZERO; OUT; FINISH;" ∷ [])) (tape 6 0o6400000000000000 (block false (0o4141414141414141 ∷ 0o4242424242424242 ∷ 0o4343434343434343 ∷ []) ∷ block false (0o4444444444444444 ∷ []) ∷ block true (0o4545454545454545 ∷ 0o4646464646464646 ∷ []) ∷ []) ∷ []) ((32, 33) ∷ [])) ∷ []
+tape_written_with_the_mark_slot : (job (text (job_lines (codes "STORE 128") (codes "PROGRAM V1; V0=Q0/32/33; V1=PT; V1; SET 4; OUT; V0;" ∷ codes "=Q1; =C1; MFRQ1; MLWQ1; MLBQ1; ZERO; OUT; FINISH;" ∷ []) (codes "DEVICE 6 MT T" ∷ codes "+AAAAAAAABBBBBBBBCCCCCCCC" ∷ codes "+DDDDDDDD" ∷ codes "=EEEEEEEEFFFFFFFF" ∷ codes "SHOW 32 33" ∷ [])))).slots ≡ (a_slot 128 (text (codes "PROGRAM V1; V0=Q0/32/33; V1=PT; V1; SET 4; OUT; V0;" ∷ codes "=Q1; =C1; MFRQ1; MLWQ1; MLBQ1; ZERO; OUT; FINISH;" ∷ [])) (tape 6 0o6400000000000000 (block false (0o4141414141414141 ∷ 0o4242424242424242 ∷ 0o4343434343434343 ∷ []) ∷ block false (0o4444444444444444 ∷ []) ∷ block true (0o4545454545454545 ∷ 0o4646464646464646 ∷ []) ∷ []) ∷ []) ((32, 33) ∷ [])) ∷ []
 unfolding lines words value text event code_of first_word words_of codes_in read_line job
 tape_written_with_the_mark_slot = refl
 
-tape_written_with_the_mark_image : image_words 128 (text (codes "PROGRAM V1; V0=Q0/32/33; V1=PT; V1; SET 4; OUT; V0; =Q1; =C1; MFRQ1; MLWQ1; MLBQ1; ZERO; OUT; FINISH;" ∷ [])) ≡ 0xA00003010101 ∷ 0x000000200021 ∷ 0xD00000000000 ∷ 0xC00002E00004 ∷ 0x21C000015410 ∷ 0x551077107A10 ∷ 0x7E1409210101 ∷ []
+tape_written_with_the_mark_image : image_words 128 (text (codes "PROGRAM V1; V0=Q0/32/33; V1=PT; V1; SET 4; OUT; V0;" ∷ codes "=Q1; =C1; MFRQ1; MLWQ1; MLBQ1; ZERO; OUT; FINISH;" ∷ [])) ≡ 0xA00003010101 ∷ 0x000000200021 ∷ 0xD00000000000 ∷ 0xC00002E00004 ∷ 0x21C000015410 ∷ 0x551077107A10 ∷ 0x7E1409210101 ∷ []
 unfolding text assembled lettered store_name addressed suffix_of access_form address_form condition_of target_form subroutine_form test_form jump_form form_in address_item number_item item_form triple_form octal_value characters_value value_form constant_form start octal_order order_form formless statement_faults phase_after statements_of placed spelling code_of characters_word
 tape_written_with_the_mark_image = refl
 
-pub tape_written_with_the_mark : alone 12 (job_lines (codes "STORE 128") (codes "PROGRAM V1; V0=Q0/32/33; V1=PT; V1; SET 4; OUT; V0; =Q1; =C1; MFRQ1; MLWQ1; MLBQ1; ZERO; OUT; FINISH;" ∷ []) (codes "DEVICE 6 MT T" ∷ codes "+AAAAAAAABBBBBBBBCCCCCCCC" ∷ codes "+DDDDDDDD" ∷ codes "=EEEEEEEEFFFFFFFF" ∷ codes "SHOW 32 33" ∷ [])) ≡ record {
+pub tape_written_with_the_mark : alone 12 (job_lines (codes "STORE 128") (codes "PROGRAM V1; V0=Q0/32/33; V1=PT; V1; SET 4; OUT; V0;" ∷ codes "=Q1; =C1; MFRQ1; MLWQ1; MLBQ1; ZERO; OUT; FINISH;" ∷ []) (codes "DEVICE 6 MT T" ∷ codes "+AAAAAAAABBBBBBBBCCCCCCCC" ∷ codes "+DDDDDDDD" ∷ codes "=EEEEEEEEFFFFFFFF" ∷ codes "SHOW 32 33" ∷ [])) ≡ record {
   life = Ended;
   ran = 12;
   at = 40;
@@ -553,7 +553,7 @@ pub tape_written_with_the_mark : alone 12 (job_lines (codes "STORE 128") (codes 
 unfolding after_read after_card rewound after_skip after_write printed first_word words_of given offered finished decoded arith arith_row free_for unclaimed plain_row out_effect brought from_top changed single_row decision direct_effect transfer_of query_effect guarded device_numbers by_number device_count to_binary from_binary text
 tape_written_with_the_mark =
     ap (λ (slots : List SlotJob). map (λ (s : SlotJob). seen_after 12 s (image_words s.size s.deck)) slots) tape_written_with_the_mark_slot
-    ∙ ap (λ (image : List ℕ). seen_after 12 (a_slot 128 (text (codes "PROGRAM V1; V0=Q0/32/33; V1=PT; V1; SET 4; OUT; V0; =Q1; =C1; MFRQ1; MLWQ1; MLBQ1; ZERO; OUT; FINISH;" ∷ [])) (tape 6 0o6400000000000000 (block false (0o4141414141414141 ∷ 0o4242424242424242 ∷ 0o4343434343434343 ∷ []) ∷ block false (0o4444444444444444 ∷ []) ∷ block true (0o4545454545454545 ∷ 0o4646464646464646 ∷ []) ∷ []) ∷ []) ((32, 33) ∷ [])) image ∷ []) tape_written_with_the_mark_image
+    ∙ ap (λ (image : List ℕ). seen_after 12 (a_slot 128 (text (codes "PROGRAM V1; V0=Q0/32/33; V1=PT; V1; SET 4; OUT; V0;" ∷ codes "=Q1; =C1; MFRQ1; MLWQ1; MLBQ1; ZERO; OUT; FINISH;" ∷ [])) (tape 6 0o6400000000000000 (block false (0o4141414141414141 ∷ 0o4242424242424242 ∷ 0o4343434343434343 ∷ []) ∷ block false (0o4444444444444444 ∷ []) ∷ block true (0o4545454545454545 ∷ 0o4646464646464646 ∷ []) ∷ []) ∷ []) ((32, 33) ∷ [])) image ∷ []) tape_written_with_the_mark_image
 
 copies_a_tape_slot : (job (text (job_lines (codes "STORE 96") (codes "PROGRAM V2; V0=PIN; V1=POUT; V2=Q0/64/65;" ∷ codes "V0; SET 4; OUT; V2; =Q1; =C1; V1; SET 4; OUT; V2; =Q2; =C2;" ∷ codes "1; MFRQ1; PARQ1; J2TR; MWQ2; J1; 2; ZERO; OUT; FINISH;" ∷ []) (codes "DEVICE 6 MT IN" ∷ codes "+FIRST BLOCK 0001" ∷ codes "=FINAL BLOCK 0002" ∷ codes "DEVICE 8 MT OUT" ∷ [])))).slots ≡ (a_slot 96 (text (codes "PROGRAM V2; V0=PIN; V1=POUT; V2=Q0/64/65;" ∷ codes "V0; SET 4; OUT; V2; =Q1; =C1; V1; SET 4; OUT; V2; =Q2; =C2;" ∷ codes "1; MFRQ1; PARQ1; J2TR; MWQ2; J1; 2; ZERO; OUT; FINISH;" ∷ [])) (tape 6 0o5156000000000000 (block false (0o4651626364004254 ∷ 0o5743530020202021 ∷ []) ∷ block true (0o4651564154004254 ∷ 0o5743530020202022 ∷ []) ∷ []) ∷ tape 8 0o5765640000000000 ([]) ∷ []) ([])) ∷ []
 unfolding lines words value text event code_of first_word words_of codes_in read_line job

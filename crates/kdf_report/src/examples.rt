@@ -42,9 +42,19 @@ pub fn blocks()
 
 /// What is said of a stint: HELD until its device is given back, then FREE, and its blocks in any case.
 pub fn stints()
-    ensures held { stint_lines (record { device = 9; kind = Tp; progress = wrote 1 (replicate 8 0 ∷ []); given = false })
+    ensures held { stint_lines (record {
+      device = 9;
+      kind = Tp;
+      progress = wrote 1 (replicate 8 0 ∷ []);
+      given = false;
+    })
         ≡ codes "POOL 9 TP HELD PLACE 1 FLAG 0" ∷ codes "BLOCK         " ∷ [] }
-    ensures back { stint_lines (record { device = 15; kind = Lp; progress = wrote 2 ((33 ∷ []) ∷ [] ∷ []); given = true })
+    ensures back { stint_lines (record {
+      device = 15;
+      kind = Lp;
+      progress = wrote 2 ((33 ∷ []) ∷ [] ∷ []);
+      given = true;
+    })
         ≡ codes "POOL 15 LP FREE PLACE 2 FLAG 0" ∷ codes "BLOCK A" ∷ codes "BLOCK " ∷ [] }
     ensures none { stint_lines (record { device = 0; kind = Tp; progress = wrote 0 []; given = true })
         ≡ codes "POOL 0 TP FREE PLACE 0 FLAG 0" ∷ [] }

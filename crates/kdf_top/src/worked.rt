@@ -10,10 +10,12 @@ ghost use Rattle.kdf_top.specs.declared.status.Status.TheVariants as status;
 /// words than those of a command by neither.
 pub fn answers_of_faults()
     ensures deck { called_for (codes "run" ∷ []) (text (codes "KDF9 JOB 1" ∷ codes "SLOT 0" ∷ codes "STORE 32"
-        ∷ codes "DECK" ∷ codes "ENDDECK" ∷ codes "SHOW 3 3" ∷ codes "SCHEDULE" ∷ codes "ORDERS 10" ∷ codes "ENDJOB" ∷ []))
+        ∷ codes "DECK" ∷ codes "ENDDECK" ∷ codes "SHOW 3 3" ∷ codes "SCHEDULE" ∷ codes "ORDERS 10"
+        ∷ codes "ENDJOB" ∷ []))
         ≡ status.Deck 0 NoFinish 0 }
     ensures job { called_for (codes "run" ∷ []) (text (codes "KDF9 JOB 1" ∷ codes "SLOT 0" ∷ codes "STORE 32"
-        ∷ codes "DECK" ∷ codes "ENDDECK" ∷ codes "SHOW 3 32" ∷ codes "SCHEDULE" ∷ codes "ORDERS 10" ∷ codes "ENDJOB" ∷ []))
+        ∷ codes "DECK" ∷ codes "ENDDECK" ∷ codes "SHOW 3 32" ∷ codes "SCHEDULE" ∷ codes "ORDERS 10"
+        ∷ codes "ENDJOB" ∷ []))
         ≡ status.Job ShowRange 6 }
     ensures nothing { called_for (codes "run" ∷ []) [] ≡ status.Job Header 1 }
     ensures words { called_for (codes "run" ∷ codes "run" ∷ []) [] ≡ status.Usage }

@@ -92,7 +92,8 @@ pub fn taken_twice()
       q1 = parts 0 0 0;
       stints = lent_punch 9 [] true ∷ lent_punch 9 [] false ∷ [];
     } }
-    ensures unanswered { after (beside one_punch takes_twice) [] 11 ≡ after (beside one_punch takes_twice) (9 ∷ 9 ∷ []) 11 }
+    ensures unanswered { after (beside one_punch takes_twice) [] 11
+        ≡ after (beside one_punch takes_twice) (9 ∷ 9 ∷ []) 11 }
 {}
 
 /// A program punches a block of eight spaces on the punch of its pool, and fails without one.

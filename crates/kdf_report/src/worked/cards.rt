@@ -23,11 +23,14 @@ pub fn reads_cards()
           triples = (1, 4, 64, 73) ∷ (2, 5, 96, 96) ∷ [];
           words = [];
           spooled = [];
-          devices = shown 4 true 2 true ([]) ([]) ∷ shown 5 true 1 false ((16 ∷ 16 ∷ 16 ∷ 16 ∷ 16 ∷ 19 ∷ 23 ∷ 21 ∷ []) ∷ []) ([]) ∷ [];
+          devices = shown 4 true 2 true ([]) ([]) ∷
+              shown 5 true 1 false ((16 ∷ 16 ∷ 16 ∷ 16 ∷ 16 ∷ 19 ∷ 23 ∷ 21 ∷ []) ∷ []) ([]) ∷ [];
         } ∷ [] }
     ensures cards_into_a_long_area { alone 14 (job_lines (codes "STORE 128")
-        (codes "PROGRAM V1; V0=Q0/32/42; V1=B1; SET 4; SET 5; OUT; V0; =Q1; =C1; V1; =E33; V1; =E42; CRQ1; ZERO; OUT; FINISH;" ∷ [])
-        (codes "DEVICE 4 CR" ∷ codes "+ABCDEFGHABCDEFGH" ∷ codes "+12345678" ∷ codes "SHOW 32 34" ∷ codes "SHOW 41 42" ∷ []))
+        (codes "PROGRAM V1; V0=Q0/32/42; V1=B1; SET 4; SET 5; OUT; V0;" ∷
+        codes "=Q1; =C1; V1; =E33; V1; =E42; CRQ1; ZERO; OUT; FINISH;" ∷ [])
+        (codes "DEVICE 4 CR" ∷ codes "+ABCDEFGHABCDEFGH" ∷ codes "+12345678" ∷ codes "SHOW 32 34" ∷
+        codes "SHOW 41 42" ∷ []))
         ≡ record {
           life = Ended;
           ran = 14;
@@ -58,7 +61,8 @@ pub fn reads_cards()
           devices = shown 4 true 2 false ([]) ([]) ∷ [];
         } ∷ [] }
     ensures no_more_cards { alone 13 (job_lines (codes "STORE 128")
-        (codes "PROGRAM V0; V0=Q0/32/32; SET 4; SET 5; OUT; V0; =Q1; =C1; CRQ1; CRQ1; CRQ1; PARQ1; ZERO; OUT; FINISH;" ∷ [])
+        (codes "PROGRAM V0; V0=Q0/32/32; SET 4; SET 5; OUT; V0;" ∷
+        codes "=Q1; =C1; CRQ1; CRQ1; CRQ1; PARQ1; ZERO; OUT; FINISH;" ∷ [])
         (codes "DEVICE 4 CR" ∷ codes "+ABCDEFGHABCDEFGH" ∷ codes "+12345678" ∷ codes "SHOW 32 32" ∷ []))
         ≡ record {
           life = Ended;

@@ -23,7 +23,8 @@ pub fn reads_paper_tape()
           devices = shown 3 true 16 false ([]) ([]) ∷ [];
         } ∷ [] }
     ensures reader_flag_when_the_tape_ends { alone 13 (job_lines (codes "STORE 128")
-        (codes "PROGRAM V1; V0=Q0/32/34; V1=B1; SET 2; SET 5; OUT; V0; =Q1; =C1; V1; =E34; PRQ1; PARQ1; ZERO; OUT; FINISH;" ∷ [])
+        (codes "PROGRAM V1; V0=Q0/32/34; V1=B1; SET 2; SET 5; OUT; V0;" ∷
+        codes "=Q1; =C1; V1; =E34; PRQ1; PARQ1; ZERO; OUT; FINISH;" ∷ [])
         (codes "DEVICE 3 TR" ∷ codes "+ABCDEFGH" ∷ codes "+IJ" ∷ codes "SHOW 32 34" ∷ []))
         ≡ record {
           life = Ended;
@@ -87,7 +88,8 @@ pub fn reads_paper_tape()
           devices = shown 3 true 16 false ([]) ([]) ∷ [];
         } ∷ [] }
     ensures reads_nothing_behind_the_end_of_tape { alone 13 (job_lines (codes "STORE 64")
-        (codes "PROGRAM V0; V0=Q0/32/33; SET 2; SET 5; OUT; V0; =Q1; =C1; PREQ1; PREQ1; PREQ1; E32; ZERO; OUT; FINISH;" ∷ [])
+        (codes "PROGRAM V0; V0=Q0/32/33; SET 2; SET 5; OUT; V0; =Q1;" ∷
+        codes "=C1; PREQ1; PREQ1; PREQ1; E32; ZERO; OUT; FINISH;" ∷ [])
         (codes "DEVICE 3 TR" ∷ codes "+|ABC" ∷ codes "SHOW 32 33" ∷ []))
         ≡ record {
           life = Ended;
@@ -183,7 +185,8 @@ pub fn reads_paper_tape()
           devices = shown 3 false 0 false ([]) ([]) ∷ [];
         } ∷ [] }
     ensures is_answered_nought { alone 17 (job_lines (codes "STORE 64")
-        (codes "PROGRAM V0; V0=Q0/32/33; SET 2; SET 5; OUT; V0; =Q1; =C1; PRQ1; BUSYQ1; SET 9; OUT; INTQ1; BUSYQ1; SET 9; OUT; ZERO; OUT; FINISH;" ∷
+        (codes "PROGRAM V0; V0=Q0/32/33; SET 2; SET 5; OUT; V0; =Q1; =C1; PRQ1;" ∷
+        codes "BUSYQ1; SET 9; OUT; INTQ1; BUSYQ1; SET 9; OUT; ZERO; OUT; FINISH;" ∷
         [])
         (codes "DEVICE 3 TR" ∷ codes "+ABCDEFGHIJKLMNOP" ∷ codes "SHOW 32 33" ∷ []))
         ≡ record {

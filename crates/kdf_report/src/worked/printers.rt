@@ -6,7 +6,8 @@ ghost use Rattle.kdf_report.specs.Worked.{alone, job_lines, shown};
 /// Lines that are printed.
 pub fn prints_lines()
     ensures printer_keeps_just_160 { alone 12 (job_lines (codes "STORE 128")
-        (codes "PROGRAM V1; V0=Q0/32/52; V1=P~ABCDEFG; SET 3; SET 5; OUT; V0; =Q1; =C1; V1; =E52; LPQ1; ZERO; OUT; FINISH;" ∷ [])
+        (codes "PROGRAM V1; V0=Q0/32/52; V1=P~ABCDEFG; SET 3; SET 5;" ∷
+        codes "OUT; V0; =Q1; =C1; V1; =E52; LPQ1; ZERO; OUT; FINISH;" ∷ [])
         (codes "DEVICE 5 LP" ∷ []))
         ≡ record {
           life = Ended;
@@ -19,10 +20,12 @@ pub fn prints_lines()
           triples = (1, 5, 32, 52) ∷ [];
           words = [];
           spooled = [];
-          devices = shown 5 true 1 false ((replicate 160 0 ++ (2 ∷ 33 ∷ 34 ∷ 35 ∷ 36 ∷ 37 ∷ 38 ∷ 39 ∷ [])) ∷ []) ([]) ∷ [];
+          devices = shown 5 true 1 false ((replicate 160 0 ++ (2 ∷ 33 ∷ 34 ∷ 35 ∷ 36 ∷ 37 ∷ 38 ∷
+              39 ∷ [])) ∷ []) ([]) ∷ [];
         } ∷ [] }
     ensures printer_up_to_the_end_message { alone 12 (job_lines (codes "STORE 128")
-        (codes "PROGRAM V1; V0=Q0/32/62; V1=P~A|B; SET 3; SET 5; OUT; V0; =Q1; =C1; V1; =E33; LPEQ1; ZERO; OUT; FINISH;" ∷ [])
+        (codes "PROGRAM V1; V0=Q0/32/62; V1=P~A|B; SET 3; SET 5;" ∷
+        codes "OUT; V0; =Q1; =C1; V1; =E33; LPEQ1; ZERO; OUT; FINISH;" ∷ [])
         (codes "DEVICE 5 LP" ∷ []))
         ≡ record {
           life = Ended;
@@ -38,7 +41,8 @@ pub fn prints_lines()
           devices = shown 5 true 1 false ((0 ∷ 0 ∷ 0 ∷ 0 ∷ 0 ∷ 0 ∷ 0 ∷ 0 ∷ 2 ∷ 33 ∷ 61 ∷ []) ∷ []) ([]) ∷ [];
         } ∷ [] }
     ensures prints_a_line_before_it_changes { alone 14 (job_lines (codes "STORE 64")
-        (codes "PROGRAM V1; V0=Q0/32/32; V1=PHELLO; V1; =E32; SET 3; SET 5; OUT; V0; =Q1; =C1; LPQ1; ZERO; =E32; ZERO; OUT; FINISH;" ∷
+        (codes "PROGRAM V1; V0=Q0/32/32; V1=PHELLO; V1; =E32; SET 3;" ∷
+        codes "SET 5; OUT; V0; =Q1; =C1; LPQ1; ZERO; =E32; ZERO; OUT; FINISH;" ∷
         [])
         (codes "DEVICE 2 LP" ∷ codes "SHOW 32 32" ∷ []))
         ≡ record {

@@ -247,7 +247,8 @@ pub fn runs_without_devices()
           devices = [];
         } ∷ [] }
     ensures pushes_17_zeros { alone 18 (job_lines (codes "STORE 32")
-        (codes "PROGRAM;ZERO;ZERO;ZERO;ZERO;ZERO;ZERO;ZERO;ZERO;ZERO;ZERO;ZERO;ZERO;ZERO;ZERO;ZERO;ZERO;ZERO;FINISH;" ∷ [])
+        (codes "PROGRAM;ZERO;ZERO;ZERO;ZERO;ZERO;ZERO;ZERO;ZERO;ZERO;" ∷
+        codes "ZERO;ZERO;ZERO;ZERO;ZERO;ZERO;ZERO;ZERO;FINISH;" ∷ [])
         ([]))
         ≡ record {
           life = Failed Nouv;

@@ -7,7 +7,8 @@ ghost use Rattle.kdf_report.specs.Worked.{alone, job_lines, shown};
 /// Paper tape that is punched.
 pub fn punches_paper_tape()
     ensures punch_of_a_whole_word { alone 12 (job_lines (codes "STORE 128")
-        (codes "PROGRAM V1; V0=Q0/32/32; V1=PAB|CD; SET 1; SET 5; OUT; V0; =Q1; =C1; V1; =E32; PWQ1; ZERO; OUT; FINISH;" ∷ [])
+        (codes "PROGRAM V1; V0=Q0/32/32; V1=PAB|CD; SET 1; SET 5;" ∷
+        codes "OUT; V0; =Q1; =C1; V1; =E32; PWQ1; ZERO; OUT; FINISH;" ∷ [])
         (codes "DEVICE 1 TP" ∷ []))
         ≡ record {
           life = Ended;
@@ -23,7 +24,8 @@ pub fn punches_paper_tape()
           devices = shown 1 true 1 false ((33 ∷ 34 ∷ 61 ∷ 35 ∷ 36 ∷ 0 ∷ 0 ∷ 0 ∷ []) ∷ []) ([]) ∷ [];
         } ∷ [] }
     ensures punch_without_an_end_message { alone 13 (job_lines (codes "STORE 128")
-        (codes "PROGRAM V1; V0=Q0/32/33; V1=PAB; SET 1; SET 5; OUT; V0; =Q1; =C1; V1; =E32; PWEQ1; PWEQ1; ZERO; OUT; FINISH;" ∷ [])
+        (codes "PROGRAM V1; V0=Q0/32/33; V1=PAB; SET 1; SET 5; OUT; V0;" ∷
+        codes "=Q1; =C1; V1; =E32; PWEQ1; PWEQ1; ZERO; OUT; FINISH;" ∷ [])
         (codes "DEVICE 1 TP" ∷ []))
         ≡ record {
           life = Ended;
@@ -36,10 +38,12 @@ pub fn punches_paper_tape()
           triples = (1, 1, 32, 33) ∷ [];
           words = [];
           spooled = [];
-          devices = shown 1 true 2 false (((33 ∷ 34 ∷ []) ++ replicate 14 0) ∷ ((33 ∷ 34 ∷ []) ++ replicate 14 0) ∷ []) ([]) ∷ [];
+          devices = shown 1 true 2 false (((33 ∷ 34 ∷ []) ++ replicate 14 0) ∷ ((33 ∷
+              34 ∷ []) ++ replicate 14 0) ∷ []) ([]) ∷ [];
         } ∷ [] }
     ensures least_number_of_the_kind { alone 13 (job_lines (codes "STORE 128")
-        (codes "PROGRAM V0; V0=Q0/32/32; SET 1; SET 5; OUT; V0; =Q1; =C1; PWQ1; SET 1; SET 5; OUT; ZERO; OUT; FINISH;" ∷ [])
+        (codes "PROGRAM V0; V0=Q0/32/32; SET 1; SET 5; OUT; V0;" ∷
+        codes "=Q1; =C1; PWQ1; SET 1; SET 5; OUT; ZERO; OUT; FINISH;" ∷ [])
         (codes "DEVICE 7 TP" ∷ codes "DEVICE 2 TP" ∷ codes "DEVICE 9 TP" ∷ []))
         ≡ record {
           life = Ended;
@@ -52,7 +56,9 @@ pub fn punches_paper_tape()
           triples = (1, 2, 32, 32) ∷ [];
           words = [];
           spooled = [];
-          devices = shown 2 true 1 false ((0 ∷ 0 ∷ 0 ∷ 0 ∷ 0 ∷ 0 ∷ 0 ∷ 0 ∷ []) ∷ []) ([]) ∷ shown 7 true 0 false ([]) ([]) ∷ shown 9 false 0 false ([]) ([]) ∷ [];
+          devices = shown 2 true 1 false ((0 ∷ 0 ∷ 0 ∷ 0 ∷ 0 ∷ 0 ∷ 0 ∷ 0 ∷ []) ∷ []) ([]) ∷
+              shown 7 true 0 false ([]) ([]) ∷
+              shown 9 false 0 false ([]) ([]) ∷ [];
         } ∷ [] }
     ensures ends_behind_its_punch { alone 10 (job_lines (codes "STORE 64")
         (codes "PROGRAM V0; V0=Q0/32/32; SET 1; SET 5; OUT; V0; =Q1; =C1; PWQ1; ZERO; OUT; FINISH;" ∷ [])
@@ -71,7 +77,8 @@ pub fn punches_paper_tape()
           devices = shown 1 true 1 false ((0 ∷ 0 ∷ 0 ∷ 0 ∷ 0 ∷ 0 ∷ 0 ∷ 0 ∷ []) ∷ []) ([]) ∷ [];
         } ∷ [] }
     ensures fails_behind_two_punches { alone 16 (job_lines (codes "STORE 96")
-        (codes "PROGRAM V1; V0=Q0/32/32; V1=Q0/64/64; SET 1; SET 5; OUT; V0; =Q1; =C1; SET 1; SET 5; OUT; V1; =Q2; =C2; PWQ2; PWQ1; E96; FINISH;" ∷
+        (codes "PROGRAM V1; V0=Q0/32/32; V1=Q0/64/64; SET 1; SET 5; OUT; V0; =Q1;" ∷
+        codes "=C1; SET 1; SET 5; OUT; V1; =Q2; =C2; PWQ2; PWQ1; E96; FINISH;" ∷
         [])
         (codes "DEVICE 1 TP" ∷ codes "DEVICE 4 TP" ∷ []))
         ≡ record {
@@ -85,7 +92,8 @@ pub fn punches_paper_tape()
           triples = (1, 1, 32, 32) ∷ (2, 4, 64, 64) ∷ [];
           words = [];
           spooled = [];
-          devices = shown 1 true 1 false ((0 ∷ 0 ∷ 0 ∷ 0 ∷ 0 ∷ 0 ∷ 0 ∷ 0 ∷ []) ∷ []) ([]) ∷ shown 4 true 1 false ((0 ∷ 0 ∷ 0 ∷ 0 ∷ 0 ∷ 0 ∷ 0 ∷ 0 ∷ []) ∷ []) ([]) ∷ [];
+          devices = shown 1 true 1 false ((0 ∷ 0 ∷ 0 ∷ 0 ∷ 0 ∷ 0 ∷ 0 ∷ 0 ∷ []) ∷ []) ([]) ∷
+              shown 4 true 1 false ((0 ∷ 0 ∷ 0 ∷ 0 ∷ 0 ∷ 0 ∷ 0 ∷ 0 ∷ []) ∷ []) ([]) ∷ [];
         } ∷ [] }
     ensures fails_behind_its_punch { alone 9 (job_lines (codes "STORE 64")
         (codes "PROGRAM V0; V0=Q0/32/32; SET 1; SET 5; OUT; V0; =Q1; =C1; PWQ1; E64; FINISH;" ∷ [])
@@ -197,6 +205,8 @@ pub fn punches_paper_tape()
           triples = [];
           words = [];
           spooled = [];
-          devices = shown 0 true 0 false ([]) ([]) ∷ shown 7 false 0 false ([]) ([]) ∷ shown 15 true 0 false ([]) ([]) ∷ [];
+          devices = shown 0 true 0 false ([]) ([]) ∷
+              shown 7 false 0 false ([]) ([]) ∷
+              shown 15 true 0 false ([]) ([]) ∷ [];
         } ∷ [] }
 {}

@@ -1,6 +1,7 @@
 //! Jobs with magnetic tape.
 ghost use Rattle.std.specs.Prelude.{◌≡◌, [], ◌∷◌, codes, false, true};
 ghost use Rattle.kdf_processor.specs.declared.registers.Life.TheVariants.{Ended};
+ghost use Rattle.kdf_alone.specs.Worked.{three_blocks};
 ghost use Rattle.kdf_report.specs.Worked.{alone, block, job_lines, shown};
 
 /// Magnetic tape.
@@ -20,10 +21,11 @@ pub fn moves_magnetic_tape()
           triples = (1, 6, 32, 33) ∷ [];
           words = 0 ∷ 0 ∷ [];
           spooled = [];
-          devices = shown 6 true 0 false ([]) (block false (0o4141414141414141 ∷ 0o4242424242424242 ∷ 0o4343434343434343 ∷ []) ∷ block false (0o4444444444444444 ∷ []) ∷ block true (0o4545454545454545 ∷ 0o4646464646464646 ∷ []) ∷ []) ∷ [];
+          devices = shown 6 true 0 false ([]) three_blocks ∷ [];
         } ∷ [] }
     ensures tape_last_block_mark { alone 13 (job_lines (codes "STORE 128")
-        (codes "PROGRAM V1; V0=Q0/32/33; V1=PT; V1; SET 4; OUT; V0; =Q1; =C1; MFRQ1; MFRQ1; MFRQ1; MLBQ1; ZERO; OUT; FINISH;" ∷ [])
+        (codes "PROGRAM V1; V0=Q0/32/33; V1=PT; V1; SET 4; OUT; V0;" ∷
+        codes "=Q1; =C1; MFRQ1; MFRQ1; MFRQ1; MLBQ1; ZERO; OUT; FINISH;" ∷ [])
         (codes "DEVICE 6 MT T" ∷ codes "+AAAAAAAABBBBBBBBCCCCCCCC" ∷ codes "+DDDDDDDD" ∷ codes "=EEEEEEEEFFFFFFFF" ∷
         codes "SHOW 32 33" ∷ []))
         ≡ record {
@@ -37,10 +39,11 @@ pub fn moves_magnetic_tape()
           triples = (1, 6, 32, 33) ∷ [];
           words = 0o4545454545454545 ∷ 0o4646464646464646 ∷ [];
           spooled = [];
-          devices = shown 6 true 3 false ([]) (block false (0o4141414141414141 ∷ 0o4242424242424242 ∷ 0o4343434343434343 ∷ []) ∷ block false (0o4444444444444444 ∷ []) ∷ block true (0o4545454545454545 ∷ 0o4646464646464646 ∷ []) ∷ []) ∷ [];
+          devices = shown 6 true 3 false ([]) three_blocks ∷ [];
         } ∷ [] }
     ensures tape_no_last_block_mark { alone 12 (job_lines (codes "STORE 128")
-        (codes "PROGRAM V1; V0=Q0/32/33; V1=PT; V1; SET 4; OUT; V0; =Q1; =C1; MFRQ1; MFRQ1; MLBQ1; ZERO; OUT; FINISH;" ∷ [])
+        (codes "PROGRAM V1; V0=Q0/32/33; V1=PT; V1; SET 4; OUT; V0;" ∷
+        codes "=Q1; =C1; MFRQ1; MFRQ1; MLBQ1; ZERO; OUT; FINISH;" ∷ [])
         (codes "DEVICE 6 MT T" ∷ codes "+AAAAAAAABBBBBBBBCCCCCCCC" ∷ codes "+DDDDDDDD" ∷ codes "=EEEEEEEEFFFFFFFF" ∷
         codes "SHOW 32 33" ∷ []))
         ≡ record {
@@ -54,7 +57,7 @@ pub fn moves_magnetic_tape()
           triples = (1, 6, 32, 33) ∷ [];
           words = 0o4444444444444444 ∷ 0o4242424242424242 ∷ [];
           spooled = [];
-          devices = shown 6 true 2 false ([]) (block false (0o4141414141414141 ∷ 0o4242424242424242 ∷ 0o4343434343434343 ∷ []) ∷ block false (0o4444444444444444 ∷ []) ∷ block true (0o4545454545454545 ∷ 0o4646464646464646 ∷ []) ∷ []) ∷ [];
+          devices = shown 6 true 2 false ([]) three_blocks ∷ [];
         } ∷ [] }
     ensures tape_not_at_the_beginning { alone 11 (job_lines (codes "STORE 128")
         (codes "PROGRAM V1; V0=Q0/32/33; V1=PT; V1; SET 4; OUT; V0; =Q1; =C1; MFRQ1; MBTQ1; ZERO; OUT; FINISH;" ∷ [])
@@ -71,10 +74,11 @@ pub fn moves_magnetic_tape()
           triples = (1, 6, 32, 33) ∷ [];
           words = 0o4141414141414141 ∷ 0o4242424242424242 ∷ [];
           spooled = [];
-          devices = shown 6 true 1 false ([]) (block false (0o4141414141414141 ∷ 0o4242424242424242 ∷ 0o4343434343434343 ∷ []) ∷ block false (0o4444444444444444 ∷ []) ∷ block true (0o4545454545454545 ∷ 0o4646464646464646 ∷ []) ∷ []) ∷ [];
+          devices = shown 6 true 1 false ([]) three_blocks ∷ [];
         } ∷ [] }
     ensures tape_read_backward_a_short_block { alone 12 (job_lines (codes "STORE 128")
-        (codes "PROGRAM V1; V0=Q0/32/33; V1=PT; V1; SET 4; OUT; V0; =Q1; =C1; MFRQ1; MFRQ1; MBRQ1; ZERO; OUT; FINISH;" ∷ [])
+        (codes "PROGRAM V1; V0=Q0/32/33; V1=PT; V1; SET 4; OUT; V0;" ∷
+        codes "=Q1; =C1; MFRQ1; MFRQ1; MBRQ1; ZERO; OUT; FINISH;" ∷ [])
         (codes "DEVICE 6 MT T" ∷ codes "+AAAAAAAABBBBBBBBCCCCCCCC" ∷ codes "+DDDDDDDD" ∷ codes "=EEEEEEEEFFFFFFFF" ∷
         codes "SHOW 32 33" ∷ []))
         ≡ record {
@@ -88,7 +92,7 @@ pub fn moves_magnetic_tape()
           triples = (1, 6, 32, 33) ∷ [];
           words = 0o4444444444444444 ∷ 0o4444444444444444 ∷ [];
           spooled = [];
-          devices = shown 6 true 1 false ([]) (block false (0o4141414141414141 ∷ 0o4242424242424242 ∷ 0o4343434343434343 ∷ []) ∷ block false (0o4444444444444444 ∷ []) ∷ block true (0o4545454545454545 ∷ 0o4646464646464646 ∷ []) ∷ []) ∷ [];
+          devices = shown 6 true 1 false ([]) three_blocks ∷ [];
         } ∷ [] }
     ensures tape_read_backward_at_the_beginning { alone 11 (job_lines (codes "STORE 128")
         (codes "PROGRAM V1; V0=Q0/32/33; V1=PT; V1; SET 4; OUT; V0; =Q1; =C1; MBRQ1; PARQ1; ZERO; OUT; FINISH;" ∷ [])
@@ -105,10 +109,11 @@ pub fn moves_magnetic_tape()
           triples = (1, 6, 32, 33) ∷ [];
           words = 0 ∷ 0 ∷ [];
           spooled = [];
-          devices = shown 6 true 0 true ([]) (block false (0o4141414141414141 ∷ 0o4242424242424242 ∷ 0o4343434343434343 ∷ []) ∷ block false (0o4444444444444444 ∷ []) ∷ block true (0o4545454545454545 ∷ 0o4646464646464646 ∷ []) ∷ []) ∷ [];
+          devices = shown 6 true 0 true ([]) three_blocks ∷ [];
         } ∷ [] }
     ensures tape_read_behind_the_last_block { alone 14 (job_lines (codes "STORE 128")
-        (codes "PROGRAM V1; V0=Q0/32/33; V1=PT; V1; SET 4; OUT; V0; =Q1; =C1; MFRQ1; MFRQ1; MFRQ1; MFRQ1; PARQ1; ZERO; OUT; FINISH;" ∷
+        (codes "PROGRAM V1; V0=Q0/32/33; V1=PT; V1; SET 4; OUT; V0; =Q1;" ∷
+        codes "=C1; MFRQ1; MFRQ1; MFRQ1; MFRQ1; PARQ1; ZERO; OUT; FINISH;" ∷
         [])
         (codes "DEVICE 6 MT T" ∷ codes "+AAAAAAAABBBBBBBBCCCCCCCC" ∷ codes "+DDDDDDDD" ∷ codes "=EEEEEEEEFFFFFFFF" ∷
         codes "SHOW 32 33" ∷ []))
@@ -123,7 +128,7 @@ pub fn moves_magnetic_tape()
           triples = (1, 6, 32, 33) ∷ [];
           words = 0o4545454545454545 ∷ 0o4646464646464646 ∷ [];
           spooled = [];
-          devices = shown 6 true 3 true ([]) (block false (0o4141414141414141 ∷ 0o4242424242424242 ∷ 0o4343434343434343 ∷ []) ∷ block false (0o4444444444444444 ∷ []) ∷ block true (0o4545454545454545 ∷ 0o4646464646464646 ∷ []) ∷ []) ∷ [];
+          devices = shown 6 true 3 true ([]) three_blocks ∷ [];
         } ∷ [] }
     ensures tape_read_forward_into_a_short_area { alone 10 (job_lines (codes "STORE 128")
         (codes "PROGRAM V1; V0=Q0/32/33; V1=PT; V1; SET 4; OUT; V0; =Q1; =C1; MFRQ1; ZERO; OUT; FINISH;" ∷ [])
@@ -140,7 +145,7 @@ pub fn moves_magnetic_tape()
           triples = (1, 6, 32, 33) ∷ [];
           words = 0o4141414141414141 ∷ 0o4242424242424242 ∷ [];
           spooled = [];
-          devices = shown 6 true 1 false ([]) (block false (0o4141414141414141 ∷ 0o4242424242424242 ∷ 0o4343434343434343 ∷ []) ∷ block false (0o4444444444444444 ∷ []) ∷ block true (0o4545454545454545 ∷ 0o4646464646464646 ∷ []) ∷ []) ∷ [];
+          devices = shown 6 true 1 false ([]) three_blocks ∷ [];
         } ∷ [] }
     ensures tape_read_forward_two_blocks { alone 11 (job_lines (codes "STORE 128")
         (codes "PROGRAM V1; V0=Q0/32/33; V1=PT; V1; SET 4; OUT; V0; =Q1; =C1; MFRQ1; MFRQ1; ZERO; OUT; FINISH;" ∷ [])
@@ -157,10 +162,11 @@ pub fn moves_magnetic_tape()
           triples = (1, 6, 32, 33) ∷ [];
           words = 0o4444444444444444 ∷ 0o4242424242424242 ∷ [];
           spooled = [];
-          devices = shown 6 true 2 false ([]) (block false (0o4141414141414141 ∷ 0o4242424242424242 ∷ 0o4343434343434343 ∷ []) ∷ block false (0o4444444444444444 ∷ []) ∷ block true (0o4545454545454545 ∷ 0o4646464646464646 ∷ []) ∷ []) ∷ [];
+          devices = shown 6 true 2 false ([]) three_blocks ∷ [];
         } ∷ [] }
     ensures tape_rewound { alone 13 (job_lines (codes "STORE 128")
-        (codes "PROGRAM V1; V0=Q0/32/33; V1=PT; V1; SET 4; OUT; V0; =Q1; =C1; MFRQ1; MFRQ1; MRWDQ1; MBTQ1; ZERO; OUT; FINISH;" ∷ [])
+        (codes "PROGRAM V1; V0=Q0/32/33; V1=PT; V1; SET 4; OUT; V0;" ∷
+        codes "=Q1; =C1; MFRQ1; MFRQ1; MRWDQ1; MBTQ1; ZERO; OUT; FINISH;" ∷ [])
         (codes "DEVICE 6 MT T" ∷ codes "+AAAAAAAABBBBBBBBCCCCCCCC" ∷ codes "+DDDDDDDD" ∷ codes "=EEEEEEEEFFFFFFFF" ∷
         codes "SHOW 32 33" ∷ []))
         ≡ record {
@@ -174,10 +180,11 @@ pub fn moves_magnetic_tape()
           triples = (1, 6, 32, 33) ∷ [];
           words = 0o4444444444444444 ∷ 0o4242424242424242 ∷ [];
           spooled = [];
-          devices = shown 6 true 0 false ([]) (block false (0o4141414141414141 ∷ 0o4242424242424242 ∷ 0o4343434343434343 ∷ []) ∷ block false (0o4444444444444444 ∷ []) ∷ block true (0o4545454545454545 ∷ 0o4646464646464646 ∷ []) ∷ []) ∷ [];
+          devices = shown 6 true 0 false ([]) three_blocks ∷ [];
         } ∷ [] }
     ensures tape_skip_back_sees_the_first_block { alone 12 (job_lines (codes "STORE 128")
-        (codes "PROGRAM V1; V0=Q0/32/33; V1=PT; V1; SET 4; OUT; V0; =Q1; =C1; MFSKQ1; MBSKQ1; MLBQ1; ZERO; OUT; FINISH;" ∷ [])
+        (codes "PROGRAM V1; V0=Q0/32/33; V1=PT; V1; SET 4; OUT; V0;" ∷
+        codes "=Q1; =C1; MFSKQ1; MBSKQ1; MLBQ1; ZERO; OUT; FINISH;" ∷ [])
         (codes "DEVICE 6 MT T" ∷ codes "+AAAAAAAABBBBBBBBCCCCCCCC" ∷ codes "+DDDDDDDD" ∷ codes "=EEEEEEEEFFFFFFFF" ∷
         codes "SHOW 32 33" ∷ []))
         ≡ record {
@@ -191,7 +198,7 @@ pub fn moves_magnetic_tape()
           triples = (1, 6, 32, 33) ∷ [];
           words = 0 ∷ 0 ∷ [];
           spooled = [];
-          devices = shown 6 true 0 true ([]) (block false (0o4141414141414141 ∷ 0o4242424242424242 ∷ 0o4343434343434343 ∷ []) ∷ block false (0o4444444444444444 ∷ []) ∷ block true (0o4545454545454545 ∷ 0o4646464646464646 ∷ []) ∷ []) ∷ [];
+          devices = shown 6 true 0 true ([]) three_blocks ∷ [];
         } ∷ [] }
     ensures tape_skip_sees_the_mark { alone 11 (job_lines (codes "STORE 128")
         (codes "PROGRAM V1; V0=Q0/32/33; V1=PT; V1; SET 4; OUT; V0; =Q1; =C1; MFSKQ1; MLBQ1; ZERO; OUT; FINISH;" ∷ [])
@@ -208,10 +215,11 @@ pub fn moves_magnetic_tape()
           triples = (1, 6, 32, 33) ∷ [];
           words = 0 ∷ 0 ∷ [];
           spooled = [];
-          devices = shown 6 true 3 true ([]) (block false (0o4141414141414141 ∷ 0o4242424242424242 ∷ 0o4343434343434343 ∷ []) ∷ block false (0o4444444444444444 ∷ []) ∷ block true (0o4545454545454545 ∷ 0o4646464646464646 ∷ []) ∷ []) ∷ [];
+          devices = shown 6 true 3 true ([]) three_blocks ∷ [];
         } ∷ [] }
     ensures tape_skipped_back_to_the_beginning { alone 12 (job_lines (codes "STORE 128")
-        (codes "PROGRAM V1; V0=Q0/32/33; V1=PT; V1; SET 4; OUT; V0; =Q1; =C1; MFSKQ1; MBSKQ1; PARQ1; ZERO; OUT; FINISH;" ∷ [])
+        (codes "PROGRAM V1; V0=Q0/32/33; V1=PT; V1; SET 4; OUT; V0;" ∷
+        codes "=Q1; =C1; MFSKQ1; MBSKQ1; PARQ1; ZERO; OUT; FINISH;" ∷ [])
         (codes "DEVICE 6 MT T" ∷ codes "+AAAAAAAABBBBBBBBCCCCCCCC" ∷ codes "+DDDDDDDD" ∷ codes "=EEEEEEEEFFFFFFFF" ∷
         codes "SHOW 32 33" ∷ []))
         ≡ record {
@@ -225,12 +233,14 @@ pub fn moves_magnetic_tape()
           triples = (1, 6, 32, 33) ∷ [];
           words = 0 ∷ 0 ∷ [];
           spooled = [];
-          devices = shown 6 true 0 true ([]) (block false (0o4141414141414141 ∷ 0o4242424242424242 ∷ 0o4343434343434343 ∷ []) ∷ block false (0o4444444444444444 ∷ []) ∷ block true (0o4545454545454545 ∷ 0o4646464646464646 ∷ []) ∷ []) ∷ [];
+          devices = shown 6 true 0 true ([]) three_blocks ∷ [];
         } ∷ [] }
     ensures tape_skipped_by_two { alone 16 (job_lines (codes "STORE 128")
-        (codes "PROGRAM V1; V0=Q0/32/33; V1=PT; V1; SET 4; OUT; V0; =Q1; =C1; SET 2; =M1; MFSKQ1; PARQ1; SET 1; =M1; MBSKQ1; ZERO; OUT; FINISH;" ∷
+        (codes "PROGRAM V1; V0=Q0/32/33; V1=PT; V1; SET 4; OUT; V0; =Q1; =C1;" ∷
+        codes "SET 2; =M1; MFSKQ1; PARQ1; SET 1; =M1; MBSKQ1; ZERO; OUT; FINISH;" ∷
         [])
-        (codes "DEVICE 6 MT T" ∷ codes "+AAAAAAAABBBBBBBBCCCCCCCC" ∷ codes "+DDDDDDDD" ∷ codes "=EEEEEEEEFFFFFFFF" ∷ []))
+        (codes "DEVICE 6 MT T" ∷ codes "+AAAAAAAABBBBBBBBCCCCCCCC" ∷ codes "+DDDDDDDD" ∷
+        codes "=EEEEEEEEFFFFFFFF" ∷ []))
         ≡ record {
           life = Ended;
           ran = 16;
@@ -242,7 +252,7 @@ pub fn moves_magnetic_tape()
           triples = (1, 6, 32, 1) ∷ [];
           words = [];
           spooled = [];
-          devices = shown 6 true 1 false ([]) (block false (0o4141414141414141 ∷ 0o4242424242424242 ∷ 0o4343434343434343 ∷ []) ∷ block false (0o4444444444444444 ∷ []) ∷ block true (0o4545454545454545 ∷ 0o4646464646464646 ∷ []) ∷ []) ∷ [];
+          devices = shown 6 true 1 false ([]) three_blocks ∷ [];
         } ∷ [] }
     ensures tape_skipped_to_the_end { alone 11 (job_lines (codes "STORE 128")
         (codes "PROGRAM V1; V0=Q0/32/33; V1=PT; V1; SET 4; OUT; V0; =Q1; =C1; MFSKQ1; PARQ1; ZERO; OUT; FINISH;" ∷ [])
@@ -259,7 +269,7 @@ pub fn moves_magnetic_tape()
           triples = (1, 6, 32, 33) ∷ [];
           words = 0 ∷ 0 ∷ [];
           spooled = [];
-          devices = shown 6 true 3 true ([]) (block false (0o4141414141414141 ∷ 0o4242424242424242 ∷ 0o4343434343434343 ∷ []) ∷ block false (0o4444444444444444 ∷ []) ∷ block true (0o4545454545454545 ∷ 0o4646464646464646 ∷ []) ∷ []) ∷ [];
+          devices = shown 6 true 3 true ([]) three_blocks ∷ [];
         } ∷ [] }
     ensures claims_the_tape_of_label_abcdefgh { alone 6 (job_lines (codes "STORE 32")
         (codes "PROGRAM V0; V0=PABCDEFGH; V0; SET 4; OUT; ZERO; OUT; FINISH;" ∷ [])
@@ -291,10 +301,12 @@ pub fn moves_magnetic_tape()
           triples = (1, 6, 32, 33) ∷ [];
           words = 0 ∷ 0o4343000000000000 ∷ [];
           spooled = [];
-          devices = shown 6 true 1 false ([]) (block false (0o4141414141414141 ∷ 0o4242424242424242 ∷ []) ∷ block true (0o4343000000000000 ∷ []) ∷ []) ∷ [];
+          devices = shown 6 true 1 false ([]) (block false (0o4141414141414141 ∷ 0o4242424242424242 ∷ []) ∷
+              block true (0o4343000000000000 ∷ []) ∷ []) ∷ [];
         } ∷ [] }
     ensures tape_mark_goes_behind_the_last_block { alone 14 (job_lines (codes "STORE 128")
-        (codes "PROGRAM V1; V0=Q0/32/33; V1=PT; V1; SET 4; OUT; V0; =Q1; =C1; MFRQ1; MFRQ1; MFRQ1; MFRQ1; MLBQ1; ZERO; OUT; FINISH;" ∷
+        (codes "PROGRAM V1; V0=Q0/32/33; V1=PT; V1; SET 4; OUT; V0; =Q1;" ∷
+        codes "=C1; MFRQ1; MFRQ1; MFRQ1; MFRQ1; MLBQ1; ZERO; OUT; FINISH;" ∷
         [])
         (codes "DEVICE 6 MT T" ∷ codes "+AAAAAAAABBBBBBBBCCCCCCCC" ∷ codes "+DDDDDDDD" ∷ codes "=EEEEEEEEFFFFFFFF" ∷
         codes "SHOW 32 33" ∷ []))
@@ -309,10 +321,11 @@ pub fn moves_magnetic_tape()
           triples = (1, 6, 32, 33) ∷ [];
           words = 0o4545454545454545 ∷ 0o4646464646464646 ∷ [];
           spooled = [];
-          devices = shown 6 true 3 true ([]) (block false (0o4141414141414141 ∷ 0o4242424242424242 ∷ 0o4343434343434343 ∷ []) ∷ block false (0o4444444444444444 ∷ []) ∷ block true (0o4545454545454545 ∷ 0o4646464646464646 ∷ []) ∷ []) ∷ [];
+          devices = shown 6 true 3 true ([]) three_blocks ∷ [];
         } ∷ [] }
     ensures tape_written_in_the_middle { alone 12 (job_lines (codes "STORE 128")
-        (codes "PROGRAM V1; V0=Q0/32/33; V1=PT; V1; SET 4; OUT; V0; =Q1; =C1; MFRQ1; MWQ1; MLBQ1; ZERO; OUT; FINISH;" ∷ [])
+        (codes "PROGRAM V1; V0=Q0/32/33; V1=PT; V1; SET 4; OUT; V0;" ∷
+        codes "=Q1; =C1; MFRQ1; MWQ1; MLBQ1; ZERO; OUT; FINISH;" ∷ [])
         (codes "DEVICE 6 MT T" ∷ codes "+AAAAAAAABBBBBBBBCCCCCCCC" ∷ codes "+DDDDDDDD" ∷ codes "=EEEEEEEEFFFFFFFF" ∷
         codes "SHOW 32 33" ∷ []))
         ≡ record {
@@ -326,10 +339,12 @@ pub fn moves_magnetic_tape()
           triples = (1, 6, 32, 33) ∷ [];
           words = 0o4141414141414141 ∷ 0o4242424242424242 ∷ [];
           spooled = [];
-          devices = shown 6 true 2 false ([]) (block false (0o4141414141414141 ∷ 0o4242424242424242 ∷ 0o4343434343434343 ∷ []) ∷ block false (0o4141414141414141 ∷ 0o4242424242424242 ∷ []) ∷ []) ∷ [];
+          devices = shown 6 true 2 false ([]) (block false (0o4141414141414141 ∷ 0o4242424242424242 ∷
+              0o4343434343434343 ∷ []) ∷ block false (0o4141414141414141 ∷ 0o4242424242424242 ∷ []) ∷ []) ∷ [];
         } ∷ [] }
     ensures tape_written_with_the_mark { alone 12 (job_lines (codes "STORE 128")
-        (codes "PROGRAM V1; V0=Q0/32/33; V1=PT; V1; SET 4; OUT; V0; =Q1; =C1; MFRQ1; MLWQ1; MLBQ1; ZERO; OUT; FINISH;" ∷ [])
+        (codes "PROGRAM V1; V0=Q0/32/33; V1=PT; V1; SET 4; OUT; V0;" ∷
+        codes "=Q1; =C1; MFRQ1; MLWQ1; MLBQ1; ZERO; OUT; FINISH;" ∷ [])
         (codes "DEVICE 6 MT T" ∷ codes "+AAAAAAAABBBBBBBBCCCCCCCC" ∷ codes "+DDDDDDDD" ∷ codes "=EEEEEEEEFFFFFFFF" ∷
         codes "SHOW 32 33" ∷ []))
         ≡ record {
@@ -343,10 +358,12 @@ pub fn moves_magnetic_tape()
           triples = (1, 6, 32, 33) ∷ [];
           words = 0o4141414141414141 ∷ 0o4242424242424242 ∷ [];
           spooled = [];
-          devices = shown 6 true 2 false ([]) (block false (0o4141414141414141 ∷ 0o4242424242424242 ∷ 0o4343434343434343 ∷ []) ∷ block true (0o4141414141414141 ∷ 0o4242424242424242 ∷ []) ∷ []) ∷ [];
+          devices = shown 6 true 2 false ([]) (block false (0o4141414141414141 ∷ 0o4242424242424242 ∷
+              0o4343434343434343 ∷ []) ∷ block true (0o4141414141414141 ∷ 0o4242424242424242 ∷ []) ∷ []) ∷ [];
         } ∷ [] }
     ensures copies_a_tape { alone 28 (job_lines (codes "STORE 96")
-        (codes "PROGRAM V2; V0=PIN; V1=POUT; V2=Q0/64/65;" ∷ codes "V0; SET 4; OUT; V2; =Q1; =C1; V1; SET 4; OUT; V2; =Q2; =C2;" ∷
+        (codes "PROGRAM V2; V0=PIN; V1=POUT; V2=Q0/64/65;" ∷
+        codes "V0; SET 4; OUT; V2; =Q1; =C1; V1; SET 4; OUT; V2; =Q2; =C2;" ∷
         codes "1; MFRQ1; PARQ1; J2TR; MWQ2; J1; 2; ZERO; OUT; FINISH;" ∷ [])
         (codes "DEVICE 6 MT IN" ∷ codes "+FIRST BLOCK 0001" ∷ codes "=FINAL BLOCK 0002" ∷ codes "DEVICE 8 MT OUT" ∷ []))
         ≡ record {
@@ -360,6 +377,9 @@ pub fn moves_magnetic_tape()
           triples = (1, 6, 64, 65) ∷ (2, 8, 64, 65) ∷ [];
           words = [];
           spooled = [];
-          devices = shown 6 true 2 true ([]) (block false (0o4651626364004254 ∷ 0o5743530020202021 ∷ []) ∷ block true (0o4651564154004254 ∷ 0o5743530020202022 ∷ []) ∷ []) ∷ shown 8 true 2 false ([]) (block false (0o4651626364004254 ∷ 0o5743530020202021 ∷ []) ∷ block false (0o4651564154004254 ∷ 0o5743530020202022 ∷ []) ∷ []) ∷ [];
+          devices = shown 6 true 2 true ([]) (block false (0o4651626364004254 ∷ 0o5743530020202021 ∷ []) ∷
+              block true (0o4651564154004254 ∷ 0o5743530020202022 ∷ []) ∷ []) ∷
+              shown 8 true 2 false ([]) (block false (0o4651626364004254 ∷ 0o5743530020202021 ∷ []) ∷
+              block false (0o4651564154004254 ∷ 0o5743530020202022 ∷ []) ∷ []) ∷ [];
         } ∷ [] }
 {}
