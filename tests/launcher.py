@@ -141,16 +141,27 @@ def carries_on_where_it_was_stopped(checkout):
     checkout.write(QSTORE, "endless\n")
     for end, status, line in ((signal.SIGINT, 130, "begins kdf_qstore"), (signal.SIGKILL, -signal.SIGKILL, "goes on with kdf_qstore")):
         start = checkout.begin("make", "0", start_new_session=True)
-        while "kdf_nest is proved" not in start.stderr.readline():
-            pass
-        while line not in checkout.log():
+        is_proved = any("kdf_nest is proved" in said for said in start.stderr)
+        while is_proved and start.poll() is None and line not in checkout.log():
             time.sleep(0.1)
-        os.killpg(start.pid, end)
+        if start.poll() is None:
+            os.killpg(start.pid, end)
         yield differs(ended(start), status, "", *["isn't built yet"] * (end == signal.SIGINT))
+        wait_for_group(start.pid)
     checkout.write(QSTORE, "\n")
     yield differs(checkout.start("make", "0"), 42, "<first><make><0>", *built())
     log = checkout.log()
     yield None if [log.count(f"begins {name}") for name in ("kdf_word", "kdf_nest", "kdf_qstore")] == [1, 1, 1] else f"{log}"
+
+
+def wait_for_group(group):
+    """Waits until no process of a group is left, ten seconds at most: while one dies it still has the folders of crates for itself."""
+    for _ in range(100):
+        try:
+            os.killpg(group, 0)
+        except ProcessLookupError:
+            return
+        time.sleep(0.1)
 
 
 def draws_a_bar_on_a_terminal(checkout):
