@@ -1,9 +1,7 @@
--- What the tests know of the jobs that they read.
-use Rattle.std.proofs.Common.{◌≡◌, ℕ, ◌+◌, ◌<◌, ◌≤◌, ◌∙◌, List, [], ◌∷◌, ◌++◌, map, length, take, get_or, sym, ap, subst, arith}
+-- What the slots of a job are.
+use Rattle.std.proofs.Common.{◌≡◌, ℕ, zero, suc, ◌<◌, ◌∙◌, false, List, [], ◌∷◌, All, map, length, sym, ap, subst, arith}
 use Rattle.std.specs.Prelude.{slice_index_or}
-use Rattle.std.proofs.lemmas.List.{get_or-map, length-map, map-append, take_more}
-use Rattle.kdf_director.specs.Loading.{HaveImages}
-use Rattle.kdf_place.specs.declared.image.Image.{Image}
+use Rattle.std.proofs.lemmas.List.{get_or-map, length-map}
 use Rattle.kdf_job.specs.declared.job.Job.{Job as ReadJob}
 use Rattle.kdf_job.specs.declared.job.SlotJob.{SlotJob as ReadSlot}
 use Rattle.kdf_job.specs.Job.{SlotJob}
@@ -14,6 +12,8 @@ use Rattle.kdf_job.specs.WellFormed.{IsJob, IsSchedule, IsSlot}
 use Rattle.kdf_schedule.specs.declared.event.Event.{Event}
 use Rattle.kdf_top.proofs.Schedules.{rises}
 use Rattle.kdf_watch.specs.Cursors.{KeepsLimits}
+use Rattle.kdf_director.specs.Loading.{slots_of}
+use Rattle.kdf_director.specs.Slots.{NoneServed}
 
 -- each of the slots is well formed
 pub slot_at : (j : ReadJob) (k : ℕ) (s : ReadSlot) → IsJob (shown_job j) → k < length j.slots.items → s ≡ slice_index_or j.slots.items k s → IsSlot (shown_slot s)
@@ -27,23 +27,18 @@ apart_at j k s is inside at =
     let there : k < length slots = omega (arith, length-map j.slots.items shown_slot) in
     subst IsApart (get_or-map shown_slot j.slots.items k s (shown_slot s) inside ∙ ap shown_slot (sym at)) (slot_apart slots k (shown_slot s) there is.slots)
 
--- the words of an image
-abbrev pub words_of : Image → List ℕ
-words_of image = image.words.items
+-- slots of which none is served are shown so
+pub shown_unserved : (slots : List ReadSlot) → All (λ (slot : ReadSlot). slot.served ≡ false) slots → All (λ (slot : SlotJob). slot.served ≡ false) (map shown_slot slots)
+shown_unserved [] all k d lt = absurd (omega arith)
+shown_unserved (slot ∷ slots) all zero d lt = all 0 slot (omega arith)
+shown_unserved (slot ∷ slots) all (suc k) d lt = shown_unserved slots (λ j e l. all (suc j) e (omega arith)) k d (omega arith)
 
--- slots that have images, with one more
-have_more : (slots : List SlotJob) (images : List (List ℕ)) (s : SlotJob) (words : List ℕ) → HaveImages slots images → length words ≤ s.size → HaveImages (slots ++ s ∷ []) (images ++ words ∷ [])
-have_more [] [] s words have fits = (fits, tt)
-have_more [] (other ∷ images) s words have fits = absurd have
-have_more (slot ∷ slots) [] s words have fits = absurd have
-have_more (slot ∷ slots) (other ∷ images) s words have fits = (have.0, have_more slots images s words have.1 fits)
-
-pub one_more : (slots : List ReadSlot) (i : ℕ) (slot : ReadSlot) (image : Image) → i < length slots → get_or slots i slot ≡ slot → (images : List Image) → length (words_of image) ≤ slot.size
-    → HaveImages (map shown_slot (take i slots)) (map words_of images) → HaveImages (map shown_slot (take (i + 1) slots)) (map words_of (images ++ image ∷ []))
-one_more slots i slot image lt is images fits have =
-    let taken : map shown_slot (take (i + 1) slots) ≡ map shown_slot (take i slots) ++ shown_slot slot ∷ [] =
-    ap (map shown_slot) (take_more slots i slot lt ∙ ap (λ (s : ReadSlot). take i slots ++ s ∷ []) is) ∙ map-append shown_slot (take i slots) (slot ∷ []) in
-    rw (taken, map-append words_of images (image ∷ [])) (have_more (map shown_slot (take i slots)) (map words_of images) (shown_slot slot) (words_of image) have fits)
+-- nor is one of those that are loaded of them
+pub none_served : (slots : List SlotJob) (images : List (List ℕ)) → All (λ (slot : SlotJob). slot.served ≡ false) slots → NoneServed (slots_of slots images)
+none_served [] images all k d lt = absurd (omega arith)
+none_served (slot ∷ slots) [] all k d lt = absurd (omega arith)
+none_served (slot ∷ slots) (words ∷ images) all zero d lt = all 0 slot (omega arith)
+none_served (slot ∷ slots) (words ∷ images) all (suc k) d lt = none_served slots images (λ j e l. all (suc j) e (omega arith)) k d (omega arith)
 
 -- the events of a job keep what is asked of a schedule that is watched
 pub keeps_limits : (events : List Event) → IsSchedule events → KeepsLimits events

@@ -1,40 +1,48 @@
-//! Jobs that are run in several ways.
+//! Jobs that are read, with the images of their decks.
+ghost use Rattle.std.specs.Prelude.{◌≤◌, map, length, sum_by, IfOk};
+ghost use Rattle.kdf_place.specs.declared.image.Image.{Image as Made};
+ghost use Rattle.kdf_director.specs.Follows.{entries_in};
+ghost use Rattle.kdf_director.specs.Loading.{HaveImages};
+ghost use Rattle.kdf_job.specs.Shows.{shown_job, shown_slot};
+ghost use Rattle.kdf_job.specs.WellFormed.{IsJob};
+ghost use Rattle.kdf_watch.specs.Cursors.{KeepsLimits};
 
-/// Its program asks whether its device is busy and what time it is, again and again.
-pub const ASKS: &str = "KDF9 JOB 1\n\
-    SLOT 0\n\
-    STORE 64\n\
-    DECK\n\
-    PROGRAM V0; V0=Q0/32/33; SET 2; SET 5; OUT; V0; =Q1; =C1; PRQ1; BUSYQ1; SET 9; OUT; INTQ1; BUSYQ1; SET 9; OUT; ZERO; OUT; FINISH;\n\
-    ENDDECK\n\
-    DEVICE 3 TR\n\
-    +ABCDEFGHIJKLMNOP\n\
-    SHOW 32 33\n\
-    SCHEDULE\n\
-    ORDERS 15\n\
-    CLOCK 50\n\
-    END 3\n\
-    ORDERS 10\n\
-    ENDJOB\n";
+use kdf_job::{Job, read_job};
+use kdf_place::Image;
+use kdf_schedule::Event;
+use kdf_top::assemble_decks;
+use std::alloc::{AllocError, Global};
+use std::process::Abort;
 
-/// Its programs want the one punch of the pool, one after the other.
-pub const IN_TURN: &str = "KDF9 JOB 1\n\
-    SLOT 0\n\
-    STORE 64\n\
-    DECK\n\
-    PROGRAM V0; V0=Q0/32/32; SET 1; SET 5; OUT; V0; =Q1; =C1; PWQ1; ZERO; OUT; FINISH;\n\
-    ENDDECK\n\
-    SLOT 1\n\
-    STORE 64\n\
-    DECK\n\
-    PROGRAM V0; V0=Q0/32/32; SET 1; SET 5; OUT; V0; =Q1; =C1; PWQ1; ZERO; OUT; FINISH;\n\
-    ENDDECK\n\
-    POOL\n\
-    DEVICE 9 TP\n\
-    SCHEDULE\n\
-    ORDERS 20\n\
-    END 9\n\
-    ORDERS 20\n\
-    END 9\n\
-    ORDERS 5\n\
-    ENDJOB\n";
+/// The job of a text without a fault.
+pub fn job_of(rt: &impl Abort, alloc: Global, text: &str) -> Result<Job, AllocError>
+    ensures { IfOk result (λ job. IsJob (shown_job job)) }
+{
+    assert!(rt; text.len() < 100_000);
+    match read_job(alloc, text.as_bytes()) {
+        Ok(job) => Ok(job),
+        Err(_) => Err(AllocError),
+    }
+}
+
+/// The images of the decks of a job, none of which has a fault.
+#[tactic(auto, using(kdf_top::proofs::LoadedDecks::all_decks, kdf_top::proofs::LoadedDecks::fitting_images))]
+pub fn images_of(alloc: Global, job: &Job) -> Result<Vec<Image>, AllocError>
+    requires { IsJob (shown_job job.now) }
+    ensures { IfOk result (λ images. HaveImages (map shown_slot job.now.slots.items)
+        (map (λ (x : Made). x.words.items) images.items)) }
+{
+    match assemble_decks(alloc, &job.slots) {
+        Ok(images) => Ok(images),
+        Err(_) => Err(AllocError),
+    }
+}
+
+/// The events of a job.
+pub fn events_of(job: &Job) -> &[Event]
+    requires { IsJob (shown_job job.now) }
+    ensures limits { KeepsLimits result.now }
+    ensures entries { sum_by entries_in result.now ≤ length job.now.events.items }
+{
+    &job.events
+}

@@ -1,15 +1,11 @@
-//! Tests of the other crates, by the crate that each is about. There is nothing else here: a crate
-//! with tests is proved once more with them, and this one has no other text.
+//! Tests of the other crates. There is nothing else here: a crate with tests is proved once more with them, and this one has no other
+//! text. What the program shows when it is run stands in `tests/cases` and `examples`, and what the definitions come to by computation
+//! in the files `examples.rt` of the crates; here is what only memory, a failing source or sink, or a call that the program doesn't
+//! make can show.
 #![tactic(auto)]
 
 #[cfg(test)]
 mod alone;
-#[cfg(test)]
-mod check;
-#[cfg(test)]
-mod code;
-#[cfg(test)]
-mod decode;
 #[cfg(test)]
 mod director;
 #[cfg(test)]
@@ -17,19 +13,11 @@ mod fault;
 #[cfg(test)]
 mod io;
 #[cfg(test)]
-mod job;
-#[cfg(test)]
 mod jobs;
 #[cfg(test)]
-mod journal;
-#[cfg(test)]
-mod lockout;
+mod made;
 #[cfg(test)]
 mod media;
-#[cfg(test)]
-mod nest;
-#[cfg(test)]
-mod place;
 #[cfg(test)]
 mod pool;
 #[cfg(test)]
@@ -39,24 +27,8 @@ mod qstore;
 #[cfg(test)]
 mod relocate;
 #[cfg(test)]
-mod schedule;
-#[cfg(test)]
-mod service;
-#[cfg(test)]
-mod snapshot;
-#[cfg(test)]
-mod syllable;
-#[cfg(test)]
-mod tape;
-#[cfg(test)]
-mod text;
-#[cfg(test)]
 mod top;
 #[cfg(test)]
-mod transfer;
-#[cfg(test)]
-mod usercode;
+mod unserved;
 #[cfg(test)]
 mod watch;
-#[cfg(test)]
-mod word;

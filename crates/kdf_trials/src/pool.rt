@@ -1,6 +1,6 @@
 //! Programs that share punches and printers, under twenty schedules: the section of each that is over is the one that it has alone,
 //! with the answers that the journal tells.
-ghost use Rattle.std.specs.Prelude.{◌≡◌, ◌<◌, ◌≤◌, IfOk, length, map};
+ghost use Rattle.std.specs.Prelude.{◌≡◌, ◌<◌, ◌≤◌, [], IfOk, length, map};
 ghost use Rattle.kdf_place.specs.declared.image.Image.{Image as Made};
 ghost use Rattle.kdf_director.specs.Loading.{HaveImages, slots_of};
 ghost use Rattle.kdf_job.specs.Shows.{shown_job, shown_slot};
@@ -10,16 +10,14 @@ ghost use Rattle.kdf_report.specs.MadeFrom.{IsProgramOf};
 
 mod jobs;
 
-use crate::director::{image_of, job_of};
+use crate::jobs::{events_of, images_of, job_of};
 use jobs::{JOBS, Shared};
 use kdf_alone::Alone;
-use kdf_director::Machine;
+use kdf_director::{Machine, follow};
 use kdf_job::{Job, SlotJob};
-use kdf_journal::CALL_LIMIT;
 use kdf_place::Image;
 use kdf_processor::Life;
 use kdf_report::{alone_text, sections};
-use kdf_schedule::Event;
 use kdf_service::Service;
 use std::alloc::{AllocError, Global};
 use std::fmt::Write;
@@ -79,98 +77,15 @@ fn job_text(alloc: Global, shared: &Shared, k: u32) -> Result<String, AllocError
     Ok(out)
 }
 
-/// The image of each slot's deck; none of them has a fault.
-pub fn images_of(
-    rt: &impl Abort,
-    alloc: Global,
-    slots: &[SlotJob],
-) -> Result<Vec<Image>, AllocError>
-    ensures { IfOk result (λ images. HaveImages (map shown_slot slots.now)
-        (map (λ (x : Made). x.words.items) images.items)) }
-{
-    let mut images = Vec::new(alloc);
-    for slot in slots {
-        images.push(image_of(rt, alloc, slot)?)?;
-    }
-    Ok(images)
-}
-
 /// A slot of a job.
 #[tactic(auto, using(crate::proofs::Tried::slot_at, crate::proofs::Tried::apart_at))]
-pub fn slot_at(job: &Job, place: usize) -> &SlotJob
+fn slot_at(job: &Job, place: usize) -> &SlotJob
     requires job { IsJob (shown_job job.now) }
     requires inside { place < length job.now.slots.items }
     ensures slot { IsSlot (shown_slot result.now) }
     ensures apart { IsApart (shown_slot result.now) }
 {
     &job.slots[place]
-}
-
-fn obey(rt: &impl Abort, machine: &mut Machine, orders: u32) -> Result<(), AllocError>
-    ensures { machine.new.slots ≡ machine.old.slots }
-{
-    let service = Service::new(|word: u64| word);
-    for _i in 0..orders {
-        assert!(rt; machine.journal().calls() < CALL_LIMIT);
-        machine.order_with(&service)?;
-    }
-    Ok(())
-}
-
-fn move_words(rt: &impl Abort, machine: &mut Machine, d: u8, n: u16)
-    requires { 0 < machine.old.room }
-    ensures { machine.new.slots ≡ machine.old.slots }
-{
-    assert!(rt; d < 16 && n > 0 && n <= 4096);
-    machine.move_words(d, n);
-}
-
-fn end(rt: &impl Abort, machine: &mut Machine, d: u8)
-    requires { 0 < machine.old.room }
-    ensures { machine.new.slots ≡ machine.old.slots }
-{
-    assert!(rt; d < 16);
-    machine.end(d);
-}
-
-fn set_clock(rt: &impl Abort, machine: &mut Machine, t: u64)
-    requires { 0 < machine.old.room }
-    ensures { machine.new.slots ≡ machine.old.slots }
-{
-    assert!(rt; machine.journal().clock() <= t);
-    machine.clock(t);
-}
-
-fn swap(rt: &impl Abort, machine: &mut Machine, p: u8, q: u8)
-    requires { 0 < machine.old.room }
-    ensures { machine.new.slots ≡ machine.old.slots }
-{
-    assert!(rt; p < 4 && q < 4);
-    machine.swap(p, q);
-}
-
-fn enter(rt: &impl Abort, machine: &mut Machine, event: Event) -> Result<(), AllocError>
-    ensures { machine.new.slots ≡ machine.old.slots }
-{
-    assert!(rt; machine.room() > 0);
-    match event {
-        Event::Orders(n) => return obey(rt, machine, n),
-        Event::Move(d, n) => move_words(rt, machine, d, n),
-        Event::End(d) => end(rt, machine, d),
-        Event::Clock(t) => set_clock(rt, machine, t),
-        Event::Swap(p, q) => swap(rt, machine, p, q),
-    }
-    Ok(())
-}
-
-/// Runs a machine under a schedule.
-fn run(rt: &impl Abort, machine: &mut Machine, events: &[Event]) -> Result<(), AllocError>
-    ensures { machine.new.slots ≡ machine.old.slots }
-{
-    for event in events {
-        enter(rt, machine, *event)?;
-    }
-    Ok(())
 }
 
 /// The program of a slot, run alone with these answers for so many orders.
@@ -240,7 +155,6 @@ fn compare(
 
 /// The sections of a machine after the schedule of its job.
 fn reported(
-    rt: &impl Abort,
     alloc: Global,
     machine: &mut Machine,
     job: &Job,
@@ -251,8 +165,10 @@ fn reported(
         (map (λ (x : Made). x.words.items) images.now) }
     requires slots { machine.old.slots ≡ slots_of (map shown_slot job.now.slots.items)
         (map (λ (x : Made). x.words.items) images.now) }
+    requires fresh { machine.old.journal ≡ [] }
+    requires room { length job.now.events.items ≤ machine.old.room }
 {
-    run(rt, machine, &job.events)?;
+    follow(machine, events_of(job), &Service::new(|word: u64| word))?;
     let _journal = machine.journal();
     sections(alloc, job, machine)
 }
@@ -270,8 +186,10 @@ fn compare_all(
         (map (λ (x : Made). x.words.items) images.now) }
     requires slots { machine.old.slots ≡ slots_of (map shown_slot job.now.slots.items)
         (map (λ (x : Made). x.words.items) images.now) }
+    requires fresh { machine.old.journal ≡ [] }
+    requires room { length job.now.events.items ≤ machine.old.room }
 {
-    let text = reported(rt, alloc, machine, job, images)?;
+    let text = reported(alloc, machine, job, images)?;
     assert!(rt; images.len() == job.slots.len());
     for i in 0..job.slots.len() {
         compare(rt, alloc, machine, slot_at(job, i), &images[i], &text)?;
@@ -283,7 +201,7 @@ fn compare_all(
 fn check_job(rt: &impl Abort, alloc: Global, job: &Job) -> Result<(), AllocError>
     requires { IsJob (shown_job job.now) }
 {
-    let images = images_of(rt, alloc, &job.slots)?;
+    let images = images_of(alloc, job)?;
     let mut machine = Machine::load(alloc, job, &images)?;
     let compared = compare_all(rt, alloc, &mut machine, job, &images);
     machine.close();

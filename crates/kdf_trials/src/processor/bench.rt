@@ -4,20 +4,14 @@ use kdf_processor::{Port, Test};
 use kdf_transfer::TransferOrder;
 use kdf_word::Word;
 
-/// An acting call.
+/// An acting call that the orders here make.
 #[derive(Clone, Copy, PartialEq)]
 pub enum Call {
     Nothing,
     Writes(u16, u64),
     Starts(u8, TransferOrder, u16, u16),
     AsksBusy(u8),
-    AsksArea(u16, u16),
-    AsksTime,
-    AsksService(u64),
     Takes(u8),
-    Acquires(u8),
-    Releases(u8),
-    Spools(u8, u16, u16),
 }
 
 /// A store of 256 words, all alike, and three devices: punch 0, which is claimed, printer 1, and
@@ -122,13 +116,11 @@ impl Port for Bench {
         true
     }
 
-    fn ask_area(&mut self, first: u16, last: u16) -> bool {
-        self.call = Call::AsksArea(first, last);
+    fn ask_area(&mut self, _first: u16, _last: u16) -> bool {
         true
     }
 
     fn ask_time(&mut self) -> u64 {
-        self.call = Call::AsksTime;
         2
     }
 
@@ -136,8 +128,7 @@ impl Port for Bench {
         true
     }
 
-    fn ask_service(&mut self, word: Word) -> Word {
-        self.call = Call::AsksService(word.bits());
+    fn ask_service(&mut self, _word: Word) -> Word {
         Word::new(2)
     }
 
@@ -149,10 +140,7 @@ impl Port for Bench {
     #[tactic(auto, unfolding(kdf_processor::specs::Claims::free_for))]
     fn claim_kind(&mut self, kind: Kind) -> Option<u8> {
         match kind {
-            Kind::Lp => {
-                self.call = Call::Acquires(1);
-                Some(1)
-            }
+            Kind::Lp => Some(1),
             Kind::Tr | Kind::Tp | Kind::Cr | Kind::Mt => None,
         }
     }
@@ -180,13 +168,9 @@ impl Port for Bench {
         }
     }
 
-    fn give_back(&mut self, device: u8) {
-        self.call = Call::Releases(device);
-    }
+    fn give_back(&mut self, _device: u8) {}
 
-    fn spool(&mut self, stream: u8, first: u16, last: u16) {
-        self.call = Call::Spools(stream, first, last);
-    }
+    fn spool(&mut self, _stream: u8, _first: u16, _last: u16) {}
 
     ghost stays = { λ b. tt };
 }

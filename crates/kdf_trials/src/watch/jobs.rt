@@ -1,7 +1,5 @@
 //! The jobs whose runs are watched.
 
-use crate::jobs::{ASKS, IN_TURN};
-
 /// Each job with its name.
 pub const JOBS: [(&str, &str); 10] = [
     ("one that ends in the middle of its orders", SUM),
@@ -20,7 +18,7 @@ pub const JOBS: [(&str, &str); 10] = [
 ];
 
 /// Adds 5 and 7 in seven orders, whose next ones are at syllables 6, 9, 12, 13, 16, 17 and 18.
-pub const SUM: &str = "KDF9 JOB 1\n\
+const SUM: &str = "KDF9 JOB 1\n\
     SLOT 0\n\
     STORE 32\n\
     DECK\n\
@@ -34,7 +32,7 @@ pub const SUM: &str = "KDF9 JOB 1\n\
     ENDJOB\n";
 
 /// Comes to syllable 6 after its first order, and then after each five.
-pub const COUNTS_FOR_EVER: &str = "KDF9 JOB 1\n\
+const COUNTS_FOR_EVER: &str = "KDF9 JOB 1\n\
     SLOT 0\n\
     STORE 32\n\
     DECK\n\
@@ -59,6 +57,24 @@ const READS_TAPE: &str = "KDF9 JOB 1\n\
     ORDERS 2\n\
     END 3\n\
     ORDERS 5\n\
+    ENDJOB\n";
+
+/// Its program asks whether its device is busy and what time it is, again and again.
+const ASKS: &str = "KDF9 JOB 1\n\
+    SLOT 0\n\
+    STORE 64\n\
+    DECK\n\
+    PROGRAM V0; V0=Q0/32/33; SET 2; SET 5; OUT; V0; =Q1; =C1; PRQ1;\n\
+    BUSYQ1; SET 9; OUT; INTQ1; BUSYQ1; SET 9; OUT; ZERO; OUT; FINISH;\n\
+    ENDDECK\n\
+    DEVICE 3 TR\n\
+    +ABCDEFGHIJKLMNOP\n\
+    SHOW 32 33\n\
+    SCHEDULE\n\
+    ORDERS 15\n\
+    CLOCK 50\n\
+    END 3\n\
+    ORDERS 10\n\
     ENDJOB\n";
 
 const SERVED: &str = "KDF9 JOB 1\n\
@@ -115,6 +131,28 @@ const FAILS: &str = "KDF9 JOB 1\n\
     ENDDECK\n\
     SCHEDULE\n\
     ORDERS 20\n\
+    ENDJOB\n";
+
+/// Its programs want the one punch of the pool, one after the other.
+const IN_TURN: &str = "KDF9 JOB 1\n\
+    SLOT 0\n\
+    STORE 64\n\
+    DECK\n\
+    PROGRAM V0; V0=Q0/32/32; SET 1; SET 5; OUT; V0; =Q1; =C1; PWQ1; ZERO; OUT; FINISH;\n\
+    ENDDECK\n\
+    SLOT 1\n\
+    STORE 64\n\
+    DECK\n\
+    PROGRAM V0; V0=Q0/32/32; SET 1; SET 5; OUT; V0; =Q1; =C1; PWQ1; ZERO; OUT; FINISH;\n\
+    ENDDECK\n\
+    POOL\n\
+    DEVICE 9 TP\n\
+    SCHEDULE\n\
+    ORDERS 20\n\
+    END 9\n\
+    ORDERS 20\n\
+    END 9\n\
+    ORDERS 5\n\
     ENDJOB\n";
 
 const GIVEN_BACK: &str = "KDF9 JOB 1\n\
