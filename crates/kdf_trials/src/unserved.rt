@@ -36,7 +36,8 @@ const REPORT: &[u8] = b"KDF9 REPORT 1\nRAN 0 4\nSLOT 0\n";
 #[tactic(auto, using(crate::proofs::Tried::shown_unserved))]
 fn unserved(rt: &impl Abort, alloc: Global) -> Result<Job, AllocError>
     ensures job { IfOk result (λ job. IsJob (shown_job job)) }
-    ensures unserved { IfOk result (λ job. All (λ (slot : Shown). slot.served ≡ false) (map shown_slot job.slots.items)) }
+    ensures unserved { IfOk result (λ job.
+        All (λ (slot : Shown). slot.served ≡ false) (map shown_slot job.slots.items)) }
 {
     let job = job_of(rt, alloc, JOB)?;
     assert!(rt; are_unserved(&job.slots));
