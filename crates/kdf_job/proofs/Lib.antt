@@ -21,3 +21,4 @@ pub mod ScheduleLines
 pub mod FrontLaws
 pub mod JoinedJobs
 pub mod LastLines
+pub mod SharedPools

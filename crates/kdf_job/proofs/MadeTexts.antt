@@ -158,7 +158,12 @@ slot_ends p reader old mid new (Ok x) first then =
 slot_ends p reader old mid new (Err e) first then = tt {0}
 
 -- ---- all lines
-pub made_written : (n : ℕ) (old new : List ℕ) → old ≡ []
-    → new ≡ old ++ text ((((codes "KDF9 JOB 1" ∷ [] ++ made_slots n) ++ codes "SCHEDULE" ∷ []) ++ made_rounds) ++ codes "ENDJOB" ∷ []) → new ≡ text (made_lines n)
+pub job_written : (n : ℕ) (old mid new : List ℕ) → mid ≡ old ++ text (((codes "KDF9 JOB 1" ∷ [] ++ made_slots n) ++ codes "SCHEDULE" ∷ []) ++ made_rounds)
+    → new ≡ mid ++ text (codes "ENDJOB" ∷ []) → new ≡ old ++ text (made_lines n)
 unfolding made_lines
-made_written n old new none all = simp append_assoc (simp append_assoc at (rw none at all))
+job_written n old mid new first then =
+    text_more old mid new _ _ first then
+    ∙ ap (λ (ls : List (List ℕ)). old ++ text (ls ++ codes "ENDJOB" ∷ [])) (append_assoc (codes "KDF9 JOB 1" ∷ made_slots n) (codes "SCHEDULE" ∷ []) made_rounds)
+
+pub all_written : (n : ℕ) (old new : List ℕ) → old ≡ [] → new ≡ old ++ text (made_lines n) → new ≡ text (made_lines n)
+all_written n old new none all = rw none at all

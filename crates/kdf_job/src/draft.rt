@@ -1,16 +1,16 @@
 //! What the lines so far tell of a job.
-ghost use Rattle.std.specs.Prelude.{◌≡◌, ◌==◌, ◌+◌, ◌≤◌, ◌<◌, ◌^◌, ◌++◌, [], ◌∷◌, None, IfOk, OnOk, length, map};
+ghost use Rattle.std.specs.Prelude.{◌≡◌, ◌==◌, ◌+◌, ◌≤◌, ◌<◌, ◌^◌, ◌++◌, [], ◌∷◌, None, Some, IfOk, OnOk, length, map};
 ghost use Rattle.std.specs.List.{list_any};
 ghost use Rattle.std.specs.Option.{option_map, option_to_list};
 ghost use Rattle.kdf_job.specs.Adding.{IsChecked};
-ghost use Rattle.kdf_job.specs.Draft.{blank, device_fault, device_so_far, job_of, label_fault, labels_so_far, lent_fault, medium_fault, numbers_told, pool_fault, show_fault, size_so_far, slot_fault, slot_of, slots_told, store_fault, tape_fault, tells, with_line, with_pool};
+ghost use Rattle.kdf_job.specs.Draft.{blank, device_fault, device_so_far, job_of, label_fault, labels_so_far, lent_fault, medium_fault, new_slot, numbers_told, pool_fault, show_fault, size_so_far, slot_fault, slot_of, slots_told, store_fault, tape_fault, tells, with_line, with_pool};
 ghost use Rattle.kdf_job.specs.Forms.{ADeckLine, ADevice, AMedium, APoolDevice, AService, AShow, AStore, told_at};
 ghost use Rattle.kdf_job.specs.Lengths.{kept_length};
 ghost use Rattle.kdf_job.specs.Media.{word_of_text};
 ghost use Rattle.kdf_job.specs.Shows.{shown_draft, shown_job, shown_slot, shown_slot_draft};
 ghost use Rattle.kdf_job.specs.Taking.{IsSound, Takes};
 ghost use Rattle.kdf_job.specs.WellFormed.{IsJob};
-ghost use Rattle.kdf_job.specs.declared.place.Place.TheVariants.{BehindEnd, BehindSlot, InSchedule};
+ghost use Rattle.kdf_job.specs.declared.place.Place.TheVariants.{BehindEnd, BehindSlot, BehindStore, InSchedule};
 
 use crate::forms::{DeviceLine, MediumLine};
 use crate::media::is_label;
@@ -98,10 +98,22 @@ impl Draft {
         ensures numbers { OnOk result (self.new.numbers.items ≡ self.old.numbers.items) }
     {
         self.finish_slot(alloc)?;
-        self.slot = Some(SlotDraft::new(alloc, p, size));
+        self.begin_slot(alloc, p, size);
         self.words += u32::from(size);
-        self.place = Place::BehindStore;
         Ok(())
+    }
+
+    /// Has the lines that follow tell of this slot.
+    fn begin_slot(&mut self, alloc: Global, p: u8, size: u16)
+        ensures shown { shown_draft self.new ≡ record (shown_draft self.old) {
+          place = BehindStore;
+          slot = Some (new_slot p size);
+        } }
+        ensures words { self.new.words ≡ self.old.words }
+        ensures numbers { self.new.numbers.items ≡ self.old.numbers.items }
+    {
+        self.slot = Some(SlotDraft::new(alloc, p, size));
+        self.place = Place::BehindStore;
     }
 
     /// Puts the slot of which all lines are read after the others.

@@ -3,7 +3,7 @@
 ghost use Rattle.std.specs.Prelude.{◌≡◌, ◌<◌, ◌≤◌, [], ◌∷◌, Some, IfSome, IfOk};
 ghost use Rattle.std.specs.Prelude.{codes};
 ghost use Rattle.std.specs.Option.{option_zip};
-ghost use Rattle.kdf_text.specs.Lines.{words};
+ghost use Rattle.kdf_text.specs.Lines.{is_text, words};
 ghost use Rattle.kdf_text.specs.Numbers.{number_in};
 ghost use Rattle.kdf_job.specs.Forms.{addresses, device_line, described, kind_named, medium_line, number_line, numbered, one_number, two_addresses};
 ghost use Rattle.kdf_job.specs.Shows.{told_device, told_line};
@@ -94,7 +94,7 @@ pub fn addresses(line: &[u8]) -> Option<Result<(u16, u16), JobFault>>
     ensures { result ≡ addresses (words line.now) }
 {
     let (name, numbers) = cut_word(line)?;
-    if name == b"SHOW".as_slice() {
+    if is(name, b"SHOW") {
         two_addresses(numbers)
     } else {
         None
@@ -121,17 +121,24 @@ fn range(first: &[u8], last: &[u8]) -> Option<(u16, u16)>
     Some((first as u16, last as u16))
 }
 
+/// A line, or a word of one, is this text.
+pub fn is(line: &[u8], text: &[u8]) -> bool
+    ensures { result ≡ is_text text.now line.now }
+{
+    line == text
+}
+
 /// The kind of this name, of those without a label.
 fn kind_named(name: &[u8]) -> Option<Kind>
     ensures { result ≡ kind_named name.now }
 {
-    if name == b"TR".as_slice() {
+    if is(name, b"TR") {
         Some(Kind::Tr)
-    } else if name == b"TP".as_slice() {
+    } else if is(name, b"TP") {
         Some(Kind::Tp)
-    } else if name == b"CR".as_slice() {
+    } else if is(name, b"CR") {
         Some(Kind::Cr)
-    } else if name == b"LP".as_slice() {
+    } else if is(name, b"LP") {
         Some(Kind::Lp)
     } else {
         None
@@ -159,7 +166,7 @@ pub fn device_line(line: &[u8]) -> Option<Result<DeviceLine<'_>, JobFault>>
     ensures within { IfSome result (λ r. IfOk r (λ x. x.d ≤ 15)) }
 {
     let (name, rest) = cut_word(line)?;
-    if name == b"DEVICE".as_slice() {
+    if is(name, b"DEVICE") {
         described(rest)
     } else {
         None
@@ -198,7 +205,7 @@ fn tape_named<'a>(
     ensures told { told_device result ≡ described (d.now ∷ kind.now ∷ label.now ∷ []) }
     ensures within { IfSome result (λ r. IfOk r (λ x. x.d ≤ 15)) }
 {
-    if kind == b"MT".as_slice() {
+    if is(kind, b"MT") {
         Some(numbered(Kind::Mt, label, d))
     } else {
         None

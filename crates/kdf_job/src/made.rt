@@ -1,7 +1,7 @@
 //! The job that is made from a number.
 ghost use Rattle.std.specs.Prelude.{◌≡◌, ◌<◌, ◌++◌, [], ◌∷◌, codes, decimal, length, IfOk, OnOk};
 ghost use Rattle.kdf_text.specs.Text.{Adds};
-ghost use Rattle.kdf_job.specs.Made.{after_steps, letter_of, letters_from, made_deck, made_round, made_rounds, made_slots, made_text, reader_lines, slot_with, step};
+ghost use Rattle.kdf_job.specs.Made.{after_steps, letter_of, letters_from, made_deck, made_lines, made_round, made_rounds, made_slots, made_text, reader_lines, slot_with, step};
 
 use std::alloc::{AllocError, Global};
 use std::fmt::Write;
@@ -17,6 +17,15 @@ const ROUNDS: u16 = 410;
 
 const DEVICES: u8 = 8;
 
+/// The lines of the size of a store, and of a deck.
+const DECK: &str = "STORE 96\n\
+    DECK\n\
+    Y0; PROGRAM V0; V0=Q0/64/65;\n\
+    SET 2; SET 5; OUT; V0; =Q1; =C1; SET 1; SET 5; OUT; V0; =Q2; =C2;\n\
+    1; PRQ1; PARQ1; J2TR; E64; E65; NEV; Y0; NEV; =Y0; PWQ2; J1;\n\
+    2; ZERO; OUT; FINISH;\n\
+    ENDDECK\n";
+
 /// The text of the job that is made from a number: four slots, each with the same deck, a punch, and a reader with 200 lines of letters,
 /// which come of the number. Every such text has 39,175 bytes.
 pub fn generated(alloc: Global, n: u16) -> Result<Vec<u8>, AllocError>
@@ -24,13 +33,19 @@ pub fn generated(alloc: Global, n: u16) -> Result<Vec<u8>, AllocError>
     ensures bytes { IfOk result (λ bytes. length bytes.items ≡ 39175) }
 {
     let mut out = String::new(alloc);
-    let mut letters = Letters { x: n };
-    write_line(&mut out, "KDF9 JOB 1")?;
-    write_slots(&mut out, &mut letters)?;
-    write_line(&mut out, "SCHEDULE")?;
-    write_rounds(&mut out)?;
-    write_line(&mut out, "ENDJOB")?;
+    write_job(&mut out, n)?;
     Ok(out.into_bytes())
+}
+
+/// Writes the lines of the job.
+fn write_job(out: &mut String, n: u16) -> Result<(), AllocError>
+    ensures { OnOk result (Adds out.old out.new (made_lines n)) }
+{
+    write_line(out, "KDF9 JOB 1")?;
+    write_slots(out, &mut Letters { x: n })?;
+    write_line(out, "SCHEDULE")?;
+    write_rounds(out)?;
+    write_line(out, "ENDJOB")
 }
 
 /// The number of which the next letters come.
@@ -91,23 +106,12 @@ fn write_slot_number(out: &mut String, p: u8) -> Result<(), AllocError>
 }
 
 /// Writes the size of a store, and a deck.
+#[tactic(auto, unfolding(kdf_text::specs::Text::text))]
 fn write_deck(out: &mut String) -> Result<(), AllocError>
     ensures { OnOk result (Adds out.old out.new
         (codes "STORE 96" ∷ codes "DECK" ∷ made_deck ++ codes "ENDDECK" ∷ [])) }
 {
-    write_line(out, "STORE 96")?;
-    write_line(out, "DECK")?;
-    write_line(out, "Y0; PROGRAM V0; V0=Q0/64/65;")?;
-    write_line(
-        out,
-        "SET 2; SET 5; OUT; V0; =Q1; =C1; SET 1; SET 5; OUT; V0; =Q2; =C2;",
-    )?;
-    write_line(
-        out,
-        "1; PRQ1; PARQ1; J2TR; E64; E65; NEV; Y0; NEV; =Y0; PWQ2; J1;",
-    )?;
-    write_line(out, "2; ZERO; OUT; FINISH;")?;
-    write_line(out, "ENDDECK")
+    out.push_str(DECK)
 }
 
 #[tactic(auto, unfolding(kdf_text::specs::Text::text))]

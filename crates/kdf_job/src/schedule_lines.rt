@@ -6,6 +6,7 @@ ghost use Rattle.kdf_job.specs.Taking.{TakesEvent};
 ghost use Rattle.kdf_job.specs.WellFormed.{IsSchedule};
 ghost use Rattle.kdf_job.specs.declared.place.Place.TheVariants.{InSchedule};
 
+use crate::forms::is;
 use crate::schedule::Schedule;
 use crate::{JobFault, LineError, Place};
 use kdf_schedule::{Event, EventFault, read_event};
@@ -44,7 +45,7 @@ impl Schedule {
         ensures { TakesEvent (first_told (alone (codes "ENDJOB") AnEndJob line.now ∷ []))
             self.now.events.items self.now.events.items result }
     {
-        if line == b"ENDJOB".as_slice() {
+        if is(line, b"ENDJOB") {
             Ok(Place::BehindEnd)
         } else {
             Err(LineError::Fault(JobFault::BadLine))

@@ -9,7 +9,7 @@ ghost use Rattle.kdf_job.specs.declared.place.Place.TheVariants.{First, BehindHe
 
 use crate::draft::Draft;
 use crate::forms::{
-    DeviceLine, MediumLine, addresses, device_line, medium_line, slot_number, store_size,
+    DeviceLine, MediumLine, addresses, device_line, is, medium_line, slot_number, store_size,
 };
 use crate::media::word_of_text;
 use crate::{JobFault, LineError, Place};
@@ -45,7 +45,7 @@ impl Draft {
         requires place { self.old.place ≡ First }
         ensures { Takes (told_at First line.now) (length line.now + 1) self.old self.new result }
     {
-        if line == b"KDF9 JOB 1".as_slice() {
+        if is(line, b"KDF9 JOB 1") {
             self.place = Place::BehindHeader;
             Ok(())
         } else {
@@ -117,7 +117,7 @@ impl Draft {
         ensures { Takes (told_at BehindStore line.now)
             (length line.now + 1) self.old self.new result }
     {
-        if line == b"DECK".as_slice() {
+        if is(line, b"DECK") {
             self.place = Place::InDeck;
             Ok(())
         } else {
@@ -132,7 +132,7 @@ impl Draft {
         requires fits { weight (shown_draft self.old) + length line.now ≤ TEXT_LIMIT }
         ensures { Takes (told_at InDeck line.now) (length line.now + 1) self.old self.new result }
     {
-        if line == b"ENDDECK".as_slice() {
+        if is(line, b"ENDDECK") {
             self.place = Place::BehindDeck;
             return Ok(());
         }
@@ -148,7 +148,7 @@ impl Draft {
         ensures { Takes (first_told (service_or_device line.now))
             (length line.now + 1) self.old self.new result }
     {
-        if line == b"SERVICE".as_slice() {
+        if is(line, b"SERVICE") {
             self.take_service();
             Ok(())
         } else {
@@ -276,7 +276,7 @@ impl Draft {
         ensures { Takes (first_told (job_ends line.now))
             (length line.now + 1) self.old self.new result }
     {
-        if line == b"POOL".as_slice() {
+        if is(line, b"POOL") {
             self.place = Place::BehindPool;
             Ok(())
         } else {
@@ -334,7 +334,7 @@ impl Draft {
         ensures { Takes (first_told (alone (codes "SCHEDULE") ASchedule line.now ∷ []))
             (length line.now + 1) self.old self.new result }
     {
-        if line == b"SCHEDULE".as_slice() {
+        if is(line, b"SCHEDULE") {
             self.place = Place::InSchedule;
             Ok(())
         } else {
