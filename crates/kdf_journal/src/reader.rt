@@ -1,5 +1,6 @@
 //! Reading a line of a journal.
 ghost use Rattle.std.specs.Prelude.{◌≡◌, ◌≤◌, ◌^◌, ℕ, IfSome, List, Some};
+ghost use Rattle.kdf_text.specs.Lines.{is_text};
 ghost use Rattle.kdf_text.specs.Numbers.{number_in};
 ghost use Rattle.kdf_journal.specs.Printed.{entry_in, failure_named, kind_named, number_8, number_16, number_32, number_64, of_event, of_hold, of_one, of_three, of_two, IsEntry};
 
@@ -28,13 +29,13 @@ pub fn read_entry(line: &[u8]) -> Option<Entry>
 fn of_one(name: &[u8], a: &[u8]) -> Option<Entry>
     ensures { result ≡ of_one name.now a.now }
 {
-    if name == b"ENDED".as_slice() {
+    if is(name, b"ENDED") {
         Some(Entry::Ended { p: number_8(a)? })
-    } else if name == b"IDLE".as_slice() {
+    } else if is(name, b"IDLE") {
         Some(Entry::Idle { n: number_32(a)? })
-    } else if name == b"END".as_slice() {
+    } else if is(name, b"END") {
         Some(Entry::End { d: number_8(a)? })
-    } else if name == b"CLOCK".as_slice() {
+    } else if is(name, b"CLOCK") {
         Some(Entry::Clock { t: number_64(a)? })
     } else {
         None
@@ -53,21 +54,21 @@ fn of_two(name: &[u8], a: &[u8], b: &[u8]) -> Option<Entry>
 fn after_number(name: &[u8], p: u8, b: &[u8]) -> Option<Entry>
     ensures { (a : List ℕ) → number_8 a ≡ Some p → result ≡ of_two name.now a b.now }
 {
-    if name == b"RAN".as_slice() {
+    if is(name, b"RAN") {
         Some(Entry::Ran {
             p,
             n: number_32(b)?,
         })
-    } else if name == b"ANSWER".as_slice() {
+    } else if is(name, b"ANSWER") {
         Some(Entry::Answer {
             p,
             v: number_64(b)?,
         })
-    } else if name == b"TAKE".as_slice() {
+    } else if is(name, b"TAKE") {
         Some(Entry::Take { p, d: number_8(b)? })
-    } else if name == b"GIVE".as_slice() {
+    } else if is(name, b"GIVE") {
         Some(Entry::Give { p, d: number_8(b)? })
-    } else if name == b"FAIL".as_slice() {
+    } else if is(name, b"FAIL") {
         Some(Entry::Fail {
             p,
             kind: failure_named(b)?,
@@ -81,14 +82,14 @@ fn after_number(name: &[u8], p: u8, b: &[u8]) -> Option<Entry>
 fn of_hold(name: &[u8], p: u8, b: &[u8]) -> Option<Entry>
     ensures { (a : List ℕ) → number_8 a ≡ Some p → result ≡ of_hold name.now a b.now }
 {
-    if name == b"LOV".as_slice() {
+    if is(name, b"LOV") {
         Some(Entry::Lov {
             p,
             group: number_16(b)?,
         })
-    } else if name == b"BUSY".as_slice() {
+    } else if is(name, b"BUSY") {
         Some(Entry::Busy { p, d: number_8(b)? })
-    } else if name == b"WAIT".as_slice() {
+    } else if is(name, b"WAIT") {
         Some(Entry::Wait {
             p,
             kind: kind_named(b)?,
@@ -102,12 +103,12 @@ fn of_hold(name: &[u8], p: u8, b: &[u8]) -> Option<Entry>
 fn of_event(name: &[u8], first: u8, b: &[u8]) -> Option<Entry>
     ensures { (a : List ℕ) → number_8 a ≡ Some first → result ≡ of_event name.now a b.now }
 {
-    if name == b"MOVE".as_slice() {
+    if is(name, b"MOVE") {
         Some(Entry::Move {
             d: first,
             n: number_16(b)?,
         })
-    } else if name == b"SWAP".as_slice() {
+    } else if is(name, b"SWAP") {
         Some(Entry::Swap {
             p: first,
             q: number_8(b)?,
@@ -121,7 +122,7 @@ fn of_event(name: &[u8], first: u8, b: &[u8]) -> Option<Entry>
 fn of_three(name: &[u8], a: &[u8], b: &[u8], c: &[u8]) -> Option<Entry>
     ensures { result ≡ of_three name.now a.now b.now c.now }
 {
-    if name == b"START".as_slice() {
+    if is(name, b"START") {
         let (p, d, k) = (number_8(a)?, number_8(b)?, number_32(c)?);
         Some(Entry::Start { p, d, k })
     } else {
@@ -129,19 +130,26 @@ fn of_three(name: &[u8], a: &[u8], b: &[u8], c: &[u8]) -> Option<Entry>
     }
 }
 
+/// A word is this name.
+fn is(word: &[u8], name: &[u8]) -> bool
+    ensures { result ≡ is_text name.now word.now }
+{
+    word == name
+}
+
 /// The kind of failure of a name.
 fn failure_named(word: &[u8]) -> Option<Failure>
     ensures { result ≡ failure_named word.now }
 {
-    if word == b"LIV".as_slice() {
+    if is(word, b"LIV") {
         Some(Failure::Liv)
-    } else if word == b"NOUV".as_slice() {
+    } else if is(word, b"NOUV") {
         Some(Failure::Nouv)
-    } else if word == b"OUT".as_slice() {
+    } else if is(word, b"OUT") {
         Some(Failure::Out)
-    } else if word == b"RESET".as_slice() {
+    } else if is(word, b"RESET") {
         Some(Failure::Reset)
-    } else if word == b"CLAIM".as_slice() {
+    } else if is(word, b"CLAIM") {
         Some(Failure::Claim)
     } else {
         None
@@ -152,15 +160,15 @@ fn failure_named(word: &[u8]) -> Option<Failure>
 fn kind_named(word: &[u8]) -> Option<Kind>
     ensures { result ≡ kind_named word.now }
 {
-    if word == b"TR".as_slice() {
+    if is(word, b"TR") {
         Some(Kind::Tr)
-    } else if word == b"TP".as_slice() {
+    } else if is(word, b"TP") {
         Some(Kind::Tp)
-    } else if word == b"CR".as_slice() {
+    } else if is(word, b"CR") {
         Some(Kind::Cr)
-    } else if word == b"LP".as_slice() {
+    } else if is(word, b"LP") {
         Some(Kind::Lp)
-    } else if word == b"MT".as_slice() {
+    } else if is(word, b"MT") {
         Some(Kind::Mt)
     } else {
         None
