@@ -28,27 +28,41 @@ fn write_entry(out: &mut String, entry: &Entry) -> Result<(), AllocError>
     ensures { OnOk result (Adds out.old out.new (entry_line entry.now ∷ [])) }
 {
     match *entry {
-        Entry::Ran { p, n } => write_line(out, "RAN", &[p.into(), n.into()]),
+        Entry::Ran { p, n } => write_two(out, "RAN", p, n.into()),
         Entry::Start { p, d, k } => write_line(out, "START", &[p.into(), d.into(), k.into()]),
-        Entry::Answer { p, v } => write_line(out, "ANSWER", &[p.into(), v]),
-        Entry::Take { p, d } => write_line(out, "TAKE", &[p.into(), d.into()]),
-        Entry::Give { p, d } => write_line(out, "GIVE", &[p.into(), d.into()]),
+        Entry::Answer { p, v } => write_two(out, "ANSWER", p, v),
+        Entry::Take { p, d } => write_two(out, "TAKE", p, d.into()),
+        Entry::Give { p, d } => write_two(out, "GIVE", p, d.into()),
         Entry::Fail { p, kind } => write_named(out, "FAIL", p, kind.name()),
-        Entry::Ended { p } => write_line(out, "ENDED", &[p.into()]),
-        Entry::Lov { p, group } => write_line(out, "LOV", &[p.into(), group.into()]),
-        Entry::Busy { p, d } => write_line(out, "BUSY", &[p.into(), d.into()]),
+        Entry::Ended { p } => write_one(out, "ENDED", p.into()),
+        Entry::Lov { p, group } => write_two(out, "LOV", p, group.into()),
+        Entry::Busy { p, d } => write_two(out, "BUSY", p, d.into()),
         Entry::Wait { p, kind } => write_named(out, "WAIT", p, kind.name()),
-        Entry::Idle { n } => write_line(out, "IDLE", &[n.into()]),
-        Entry::Move { d, n } => write_line(out, "MOVE", &[d.into(), n.into()]),
-        Entry::End { d } => write_line(out, "END", &[d.into()]),
-        Entry::Clock { t } => write_line(out, "CLOCK", &[t]),
-        Entry::Swap { p, q } => write_line(out, "SWAP", &[p.into(), q.into()]),
+        Entry::Idle { n } => write_one(out, "IDLE", n.into()),
+        Entry::Move { d, n } => write_two(out, "MOVE", d, n.into()),
+        Entry::End { d } => write_one(out, "END", d.into()),
+        Entry::Clock { t } => write_one(out, "CLOCK", t),
+        Entry::Swap { p, q } => write_two(out, "SWAP", p, q.into()),
     }
+}
+
+/// A name and a number.
+pub(crate) fn write_one(out: &mut String, name: &str, n: u64) -> Result<(), AllocError>
+    ensures { OnOk result (Adds out.old out.new ((name.now ++ spaced_numbers (n ∷ [])) ∷ [])) }
+{
+    write_line(out, name, &[n])
+}
+
+/// A name, a small number and another.
+fn write_two(out: &mut String, name: &str, first: u8, second: u64) -> Result<(), AllocError>
+    ensures { OnOk result (Adds out.old out.new ((name.now ++ spaced_numbers (first ∷ second ∷ [])) ∷ [])) }
+{
+    write_line(out, name, &[first.into(), second])
 }
 
 /// A name and its numbers.
 #[tactic(auto, unfolding(kdf_text::specs::Text::text))]
-fn write_line(out: &mut String, name: &str, numbers: &[u64]) -> Result<(), AllocError>
+pub(crate) fn write_line(out: &mut String, name: &str, numbers: &[u64]) -> Result<(), AllocError>
     ensures { OnOk result (Adds out.old out.new ((name.now ++ spaced_numbers numbers.now) ∷ [])) }
 {
     out.push_str(name)?;

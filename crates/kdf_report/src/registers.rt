@@ -6,6 +6,7 @@ ghost use Rattle.kdf_text.specs.Text.{octal, Adds};
 ghost use Rattle.kdf_report.specs.Devices.{bit};
 ghost use Rattle.kdf_report.specs.Text.{life_line, life_name, nest_line, links_line, q_line, q_lines, registers_lines};
 
+use crate::entries::write_line;
 use kdf_processor::{Flags, Life, Links, Nest, QStores, Registers};
 use kdf_qstore::Part;
 use kdf_text::write_octal;
@@ -148,7 +149,7 @@ fn write_q_store(out: &mut String, q: u8, q_stores: &QStores) -> Result<(), Allo
     if are_zero(c, i, m) {
         return Ok(());
     }
-    writeln!(out, "Q {q} {c} {i} {m}")
+    write_line(out, "Q", &[q.into(), c.into(), i.into(), m.into()])
 }
 
 fn are_zero(c: u16, i: u16, m: u16) -> bool

@@ -9,6 +9,7 @@ ghost use Rattle.kdf_report.specs.MadeFrom.{HasProgram};
 ghost use Rattle.kdf_report.specs.Summary.{blocks_at, entries_line, job_line, make_line, program_line, slot_line, summary_text};
 
 use crate::Program;
+use crate::entries::write_one;
 use crate::in_slot::InSlot;
 use crate::registers::write_life_name;
 use kdf_director::Machine;
@@ -49,10 +50,9 @@ fn write_head(out: &mut String, n: u16, bytes: u32, journal: &Journal) -> Result
     ensures { OnOk result (Adds out.old out.new (
         make_line n ∷ job_line bytes ∷ entries_line journal.now.entries ∷ [])) }
 {
-    let entries = journal.entries().len();
-    writeln!(out, "KDF9 MAKE {n}")?;
-    writeln!(out, "JOB {bytes}")?;
-    writeln!(out, "ENTRIES {entries}")
+    write_one(out, "KDF9 MAKE", n.into())?;
+    write_one(out, "JOB", bytes.into())?;
+    write_one(out, "ENTRIES", journal.entries().len() as u64)
 }
 
 /// The line of each slot, in the order of the slots.
