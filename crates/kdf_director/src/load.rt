@@ -90,8 +90,8 @@ fn load_slot(alloc: Global, slot: &SlotJob, image: &Image) -> Result<Loaded, All
     ensures { IfOk result (λ l. loaded l ≡ load_of (shown_slot slot.now) image.now.words.items) }
 {
     let words = Vec::from_slice(alloc, &image.words)?;
-    let devices = copies(alloc, &slot.devices)?;
     let pool = Vec::from_slice(alloc, &slot.pool)?;
+    let devices = copies(alloc, &slot.devices)?;
     Ok(Loaded {
         p: slot.p,
         size: slot.size,
@@ -207,9 +207,8 @@ fn idle_of(alloc: Global, slots: &[Loaded], d: u8) -> Result<Option<Standing>, A
 {
     for slot in slots.iter() {
         if let Some(device) = device_numbered(&slot.devices, d) {
-            let device = device.1.copy(alloc)?;
             let ring = Ring::new(alloc)?;
-            return Ok(Some((device, ring, Some(slot.p))));
+            return Ok(Some((device.1.copy(alloc)?, ring, Some(slot.p))));
         }
     }
     pooled_of(alloc, slots, d)
@@ -222,7 +221,10 @@ fn pooled_of(alloc: Global, slots: &[Loaded], d: u8) -> Result<Option<Standing>,
     ensures ring { IfOk result (λ o. idle_ring o ≡ []) }
 {
     match kind_lent(pool_in(slots), d) {
-        Some(kind) => Ok(Some((Device::blank(alloc, kind), Ring::new(alloc)?, None))),
+        Some(kind) => {
+            let ring = Ring::new(alloc)?;
+            Ok(Some((Device::blank(alloc, kind), ring, None)))
+        }
         None => Ok(None),
     }
 }
