@@ -103,7 +103,7 @@ impl Draft {
         Ok(())
     }
 
-    /// Has the lines that follow tell of this slot.
+    /// Begins a slot, of which the lines that follow tell.
     fn begin_slot(&mut self, alloc: Global, p: u8, size: u16)
         ensures shown { shown_draft self.new ≡ record (shown_draft self.old) {
           place = BehindStore;

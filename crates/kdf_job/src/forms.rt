@@ -121,7 +121,7 @@ fn range(first: &[u8], last: &[u8]) -> Option<(u16, u16)>
     Some((first as u16, last as u16))
 }
 
-/// A line, or a word of one, is this text.
+/// Whether a line, or a word of one, is this text.
 pub fn is(line: &[u8], text: &[u8]) -> bool
     ensures { result ≡ is_text text.now line.now }
 {

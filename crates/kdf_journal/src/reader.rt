@@ -130,7 +130,7 @@ fn of_three(name: &[u8], a: &[u8], b: &[u8], c: &[u8]) -> Option<Entry>
     }
 }
 
-/// A word is this name.
+/// Whether a word is this name.
 fn is(word: &[u8], name: &[u8]) -> bool
     ensures { result ≡ is_text name.now word.now }
 {
