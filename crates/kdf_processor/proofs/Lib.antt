@@ -16,3 +16,4 @@ pub mod Fit
 pub mod Stinting
 pub mod Lending
 pub mod Rooms
+pub mod FetchLemmas

@@ -33,6 +33,18 @@ pub none_out_behind : (v : View) (d : ℕ) (gs : List ℕ) → first_pending v (
 none_out_behind v d gs e =
     none_out v gs (behind (v.is_busy d) (Device d) (first_pending v (map Group gs)) e)
 
+not_first : (b : Bool) (n : Need) (o : Option Need) → cond b (Some n) o ≡ None → b ≡ false
+not_first true n o e = cc
+not_first false n o e = refl
+
+-- a device is not busy that is the first of needs none of which is pending
+pub idle_behind : (v : View) (d : ℕ) (ns : List Need) → first_pending v (Device d ∷ ns) ≡ None → v.is_busy d ≡ false
+idle_behind v d ns e = not_first (v.is_busy d) (Device d) (first_pending v ns) e
+
+-- nor is a group out that is the only one
+pub free_group : (v : View) (g : ℕ) → first_pending v (Group g ∷ []) ≡ None → v.is_out g ≡ false
+free_group v g e = not_first (v.is_out g) (Group g) None e
+
 -- an option that is another with each group named as a need
 pub mapped : (o : Option ℕ) (n : Option Need) → MatchOption o (n ≡ None) (λ g. IsSomeAnd n (λ x. x ≡ Group g)) → n ≡ option_map Group o
 mapped None n h = h

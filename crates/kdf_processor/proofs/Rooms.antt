@@ -1,5 +1,6 @@
 -- Memory for the act of an order.
-use Rattle.std.proofs.Common.{ℕ, refl}
+use Rattle.std.proofs.Common.{ℕ, Result, Ok, Err, refl}
+use Rattle.std.specs.Prelude.{OnOk}
 use Rattle.kdf_journal.specs.declared.kind.Kind.{Kind}
 use Rattle.kdf_transfer.specs.declared.order.TransferOrder.{TransferOrder}
 use Rattle.kdf_processor.specs.Ahead.{IsSmall, IsTaking}
@@ -11,6 +12,11 @@ use Rattle.kdf_processor.specs.View.{View}
 use Rattle.kdf_processor.specs.declared.fetch.Fetched.TheVariants.{Bad, Held}
 use Rattle.kdf_processor.specs.declared.registers.Registers.{Registers}
 use Rattle.kdf_processor.proofs.Small.{small_fetched}
+
+-- what follows from a fact holds at Ok where the fact does
+pub on_ok : {A E : Type 0} (res : Result A E) (P Q : Type 0) → (P → Q) → OnOk res P → OnOk res Q
+on_ok (Ok x) P Q f h = f h
+on_ok (Err e) P Q f h = h
 
 -- a small act wants room for an answer at most
 pub little_room : (can_start : ℕ → TransferOrder → ℕ → ℕ → Type 0) (can_spool : ℕ → ℕ → Type 0) (can_take can_ask : Type 0) (act : Act)

@@ -205,7 +205,7 @@ found_front p xs ys x y true rest e = e
 found_front p xs ys x y false rest e = rest e
 
 -- what is found in a list is found in a longer one
-found_more : {X : Type 0} (p : X → Bool) (xs ys : List X) (x : X) → find p xs ≡ Some x → find p (xs ++ ys) ≡ Some x
+pub found_more : {X : Type 0} (p : X → Bool) (xs ys : List X) (x : X) → find p xs ≡ Some x → find p (xs ++ ys) ≡ Some x
 found_more p [] ys x e = cc
 found_more p (y ∷ xs) ys x e = found_front p xs ys x y (p y) (found_more p xs ys x) e
 

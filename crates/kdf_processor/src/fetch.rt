@@ -16,7 +16,7 @@ use kdf_word::Word;
 const SYLLABLES: u16 = 49_152;
 
 /// What the fetch of an order gives.
-#[derive(Clone, Copy, PartialEq, Eq)]
+#[derive(Clone, Copy)]
 pub enum Fetched {
     /// These syllables, which the spelling begins. What stands after it counts for nothing.
     Spelt { first: u8, second: u8, third: u8 },
@@ -27,7 +27,7 @@ pub enum Fetched {
 }
 
 /// What the fetch of a syllable gives.
-#[derive(Clone, Copy, PartialEq, Eq)]
+#[derive(Clone, Copy)]
 pub enum Syllable {
     Byte(u8),
     Outside,

@@ -19,7 +19,7 @@ use kdf_transfer::TransferOrder;
 use kdf_word::Word;
 
 /// The act of a next order, as far as memory is taken for it, or the service asked.
-#[derive(Clone, Copy, PartialEq, Eq)]
+#[derive(Clone, Copy)]
 pub enum Ahead {
     /// It begins a transfer.
     Starts {

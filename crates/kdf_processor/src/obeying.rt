@@ -95,7 +95,6 @@ fn keep_word<P: Port>(registers: &mut Registers, port: &mut P, access: Access) -
 }
 
 /// Carries out a plan none of whose needs is pending.
-#[tactic(auto, using(crate::proofs::Pending::none_out, crate::proofs::Pending::none_out_behind))]
 #[inline(always)]
 fn carry_out<P: Port>(registers: &mut Registers, port: &mut P, plan: Plan) -> Step
     requires ran { registers.old.ran < u32.MAX }
