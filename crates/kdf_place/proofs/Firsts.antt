@@ -84,17 +84,17 @@ pub record Parts {T : Type 0} (es : List (Entry T)) (goal i : ℕ) : Type 0 wher
   pub below : (k : ℕ) (d : Entry T) → k < i → ltb (key (get_or es k d)) goal ≡ true
   pub from : (k : ℕ) (d : Entry T) → i ≤ k → k < length es → ltb (key (get_or es k d)) goal ≡ false
 
-pub parts-from : {T : Type 0} (es es' : List (Entry T)) (k goal i : ℕ) → es' ≡ es → k ≡ goal
-    → IsPartitionPoint (λ e. ltb (key e) k ≡ true) (λ e. ltb (key e) k ≡ false) es' i → Parts es goal i
-parts-from {T = T} es es' k goal i same is point = record {
-  below =
-      λ j d lt.
-      ap (λ (xs : List (Entry T)). ltb (key (get_or xs j d)) goal) (sym same) ∙ ap (λ (n : ℕ). ltb (key (get_or es' j d)) n) (sym is)
-      ∙ point.0 j d (omega arith) lt;
-  from =
-      λ j d le lt.
-      ap (λ (xs : List (Entry T)). ltb (key (get_or xs j d)) goal) (sym same) ∙ ap (λ (n : ℕ). ltb (key (get_or es' j d)) n) (sym is)
-      ∙ point.1 j d le (omega (arith, lt, ap (λ (xs : List (Entry T)). length xs) same));
+-- a partition point, told of the same entries and the same key
+pub same-point : {T : Type 0} (es es' : List (Entry T)) (k goal i : ℕ) → es' ≡ es → k ≡ goal
+    → IsPartitionPoint (λ e. ltb (key e) k ≡ true) (λ e. ltb (key e) k ≡ false) es' i
+    → IsPartitionPoint (λ e. ltb (key e) goal ≡ true) (λ e. ltb (key e) goal ≡ false) es i
+same-point es es' k goal i same is point = rw (← same, ← is) point
+
+pub parts-from : {T : Type 0} (es : List (Entry T)) (goal i : ℕ)
+    → IsPartitionPoint (λ e. ltb (key e) goal ≡ true) (λ e. ltb (key e) goal ≡ false) es i → Parts es goal i
+parts-from es goal i point = record {
+  below = λ j d lt. point.0 j d (omega arith) lt;
+  from = λ j d le lt. point.1 j d le lt;
 }
 
 not-less : (a b : ℕ) → ltb a b ≡ false → b ≤ a

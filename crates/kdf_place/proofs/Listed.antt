@@ -4,7 +4,7 @@ use Rattle.std.specs.List.{enumerate_from}
 use Rattle.kdf_text.specs.Text.{text, word_line, end_line}
 use Rattle.kdf_text.proofs.Texts.{text_more}
 use Rattle.kdf_place.specs.declared.image.Label.{Label}
-use Rattle.kdf_place.specs.Listing.{head_line, start_line, word_lines, reference_line, listing_lines, listing_text}
+use Rattle.kdf_place.specs.Listing.{head_line, start_line, word_lines, reference_line, listing_lines}
 use Rattle.kdf_place.specs.Placement.{Picture}
 
 -- the lines of words of which the first stands at address n
@@ -26,11 +26,12 @@ words-more words i w d old mid new lt e first then =
     let at : 0 + i ≡ i = omega arith in
     rw (s, lines-more 0 i w d words lt e, at) (text_more old mid new _ _ first then)
 
-pub whole-listing : (slot : ℕ) (image : Picture) (words : List ℕ) (labels : List Label) (head start body references all : List ℕ) → words ≡ image.words → labels ≡ image.labels
-    → head ≡ text (head_line slot ∷ []) → start ≡ head ++ text (start_line image.start ∷ []) → body ≡ start ++ text (word_lines words)
-    → references ≡ body ++ text (map reference_line labels) → all ≡ references ++ text (end_line ∷ []) → all ≡ listing_text slot image
+pub whole-listing : (slot : ℕ) (image : Picture) (old : List ℕ) (words : List ℕ) (labels : List Label) (head start body references all : List ℕ)
+    → words ≡ image.words → labels ≡ image.labels
+    → head ≡ old ++ text (head_line slot ∷ []) → start ≡ head ++ text (start_line image.start ∷ []) → body ≡ start ++ text (word_lines words)
+    → references ≡ body ++ text (map reference_line labels) → all ≡ references ++ text (end_line ∷ []) → all ≡ old ++ text (listing_lines slot image)
 unfolding listing_lines
-whole-listing slot image words labels head start body references all is_words is_labels first second third fourth last =
+whole-listing slot image old words labels head start body references all is_words is_labels first second third fourth last =
     let lines = subst (λ ws. body ≡ start ++ text (word_lines ws)) is_words third in
     let places = subst (λ (ls : List Label). references ≡ body ++ text (map reference_line ls)) is_labels fourth in
-    text_more [] _ _ _ _ (text_more [] _ _ _ _ (text_more [] _ _ _ _ (text_more [] _ _ _ _ first second) lines) places) last
+    text_more old _ _ _ _ (text_more old _ _ _ _ (text_more old _ _ _ _ (text_more old _ _ _ _ first second) lines) places) last

@@ -1,8 +1,9 @@
 //! What is wrong with the names of a deck.
-ghost use Rattle.std.specs.Prelude.{◌≡◌, ◌<◌, ◌==◌, ◌+◌, ◌*◌, ◌/◌, ◌^◌, length, Result};
+ghost use Rattle.std.specs.Prelude.{◌≡◌, ◌<◌, ◌==◌, ◌+◌, ◌*◌, ◌/◌, ◌^◌, ◌++◌, length, Some, None, Result};
 ghost use Rattle.kdf_usercode.specs.Faults.{lesser, least, founds};
 ghost use Rattle.kdf_place.specs.Layout.{front};
 ghost use Rattle.kdf_place.specs.Late.{fault_in, item_faults, value_faults, loop_faults, wrong, wrongs};
+ghost use Rattle.kdf_place.specs.Names.{v_store, syllable_of};
 ghost use Rattle.kdf_place.specs.Tables.{meaning};
 
 use crate::here::{Here, Section};
@@ -71,6 +72,29 @@ impl Meanings {
         }
     }
 
+    /// The faults of the constant of V-store `n`, after those before.
+    fn with_constant(&self, best: Best, place: u32, section: Section, n: u16, value: &Value) -> Best
+        ensures { let faults = fault_in (v_store (Some section) n)
+            ++ value_faults (meaning self.now) section value.now in
+            result ≡ lesser best (least (founds place faults)) }
+    {
+        let best = with_result(best, place, v_store(Some(section), n));
+        self.with_value(best, place, section, value)
+    }
+
+    /// The fault of a short loop to a reference of its part, after those before.
+    fn with_short(&self, best: Best, place: u32, here: Here, r: u16) -> Best
+        ensures { let target = syllable_of (meaning self.now) here.section (record { r = Some r; p = None }) in
+            let faults = loop_faults here.at target in
+            result ≡ lesser best (least (founds place faults)) }
+    {
+        let target = Target {
+            r: Some(r),
+            p: None,
+        };
+        with_loop(best, place, here.at, self.syllable_of(here.section, target))
+    }
+
     /// The faults of a statement that stands here, after those before.
     fn with_statement(&self, best: Best, here: Here, statement: &Statement) -> Best
         ensures { let faults = wrong (meaning self.now) here statement.now.what in
@@ -79,23 +103,14 @@ impl Meanings {
         let place = statement.place;
         let section = here.section;
         match &statement.what {
-            What::Constant { n, value } => {
-                let best = with_result(best, place, v_store(Some(section), *n));
-                self.with_value(best, place, section, value)
-            }
+            What::Constant { n, value } => self.with_constant(best, place, section, *n, value),
             What::Fetch { place: store, .. }
             | What::Keep { place: store, .. }
             | What::SetAddress { place: store } => {
                 with_result(best, place, self.address(section, *store))
             }
             What::Go { target, .. } => with_result(best, place, self.syllable_of(section, *target)),
-            What::Short { r, .. } => {
-                let target = Target {
-                    r: Some(*r),
-                    p: None,
-                };
-                with_loop(best, place, here.at, self.syllable_of(section, target))
-            }
+            What::Short { r, .. } => self.with_short(best, place, here, *r),
             _ => best,
         }
     }

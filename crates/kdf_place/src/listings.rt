@@ -1,7 +1,7 @@
 //! The listing of a deck.
-ghost use Rattle.std.specs.Prelude.{◌≡◌, ◌++◌, [], ◌∷◌, length, map, IfOk, OnOk, string_bytes};
-ghost use Rattle.kdf_text.specs.Text.{text, Adds, end_line};
-ghost use Rattle.kdf_place.specs.Listing.{absent_listing, head_line, listing_text, reference_line, start_line, word_lines};
+ghost use Rattle.std.specs.Prelude.{◌≡◌, [], ◌∷◌, map, IfOk, OnOk};
+ghost use Rattle.kdf_text.specs.Text.{Adds};
+ghost use Rattle.kdf_place.specs.Listing.{absent_listing, head_line, listing_lines, listing_text, place, reference_line, start_line, word_lines};
 ghost use Rattle.kdf_place.specs.Placement.{shown_image};
 
 use crate::image::{Image, Label};
@@ -15,11 +15,9 @@ use std::fmt::Write;
 pub fn listing(alloc: Global, image: &Image, slot: u8) -> Result<Vec<u8>, AllocError>
     ensures { IfOk result (λ bytes. bytes.items ≡ listing_text slot (shown_image image.now)) }
 {
-    let mut out = begun(alloc, slot)?;
-    write_start(&mut out, image.start)?;
-    write_words(&mut out, &image.words)?;
-    write_references(&mut out, &image.labels)?;
-    ended(out)
+    let mut out = String::new(alloc);
+    write_listing(&mut out, image, slot)?;
+    Ok(out.into_bytes())
 }
 
 /// The listing of a slot that the job doesn't have: its first line, and the last line.
@@ -27,26 +25,29 @@ pub fn listing(alloc: Global, image: &Image, slot: u8) -> Result<Vec<u8>, AllocE
 pub fn listing_absent(alloc: Global, slot: u8) -> Result<Vec<u8>, AllocError>
     ensures { IfOk result (λ bytes. bytes.items ≡ absent_listing slot) }
 {
-    ended(begun(alloc, slot)?)
+    let mut out = String::new(alloc);
+    write_head(&mut out, slot)?;
+    write_end(&mut out)?;
+    Ok(out.into_bytes())
+}
+
+/// All lines of the listing of the image of a slot.
+fn write_listing(out: &mut String, image: &Image, slot: u8) -> Result<(), AllocError>
+    ensures { OnOk result (Adds out.old out.new (listing_lines slot (shown_image image.now))) }
+{
+    write_head(out, slot)?;
+    write_start(out, image.start)?;
+    write_words(out, &image.words)?;
+    write_references(out, &image.labels)?;
+    write_end(out)
 }
 
 /// The first line.
 #[tactic(auto, unfolding(kdf_text::specs::Text::text))]
-fn begun(alloc: Global, slot: u8) -> Result<String, AllocError>
-    ensures { IfOk result (λ out. string_bytes out ≡ text (head_line slot ∷ [])) }
+fn write_head(out: &mut String, slot: u8) -> Result<(), AllocError>
+    ensures { OnOk result (Adds out.old out.new (head_line slot ∷ [])) }
 {
-    let mut out = String::new(alloc);
-    writeln!(out, "KDF9 LISTING {slot}")?;
-    Ok(out)
-}
-
-/// The text with the last line.
-fn ended(out: String) -> Result<Vec<u8>, AllocError>
-    ensures { IfOk result (λ bytes. bytes.items ≡ string_bytes out ++ text (end_line ∷ [])) }
-{
-    let mut out = out;
-    write_end(&mut out)?;
-    Ok(out.into_bytes())
+    writeln!(out, "KDF9 LISTING {slot}")
 }
 
 /// The word and the syllable of the first order.
@@ -54,9 +55,18 @@ fn ended(out: String) -> Result<Vec<u8>, AllocError>
 fn write_start(out: &mut String, start: u16) -> Result<(), AllocError>
     ensures { OnOk result (Adds out.old out.new (start_line start ∷ [])) }
 {
-    let word = start / 6;
-    let syllable = start % 6;
-    writeln!(out, "START {word} {syllable}")
+    out.push_str("START ")?;
+    end_with_place(out, start)
+}
+
+/// The word and the syllable of a syllable number, which end a line.
+#[tactic(auto, unfolding(kdf_text::specs::Text::text))]
+fn end_with_place(out: &mut String, at: u16) -> Result<(), AllocError>
+    ensures { OnOk result (Adds out.old out.new (place at ∷ [])) }
+{
+    let word = at / 6;
+    let syllable = at % 6;
+    writeln!(out, "{word} {syllable}")
 }
 
 /// Each word after its address.
@@ -87,7 +97,6 @@ fn write_reference(out: &mut String, label: &Label) -> Result<(), AllocError>
     ensures { OnOk result (Adds out.old out.new (reference_line label.now ∷ [])) }
 {
     let Label { part, number, at } = *label;
-    let word = at / 6;
-    let syllable = at % 6;
-    writeln!(out, "REF {part} {number} {word} {syllable}")
+    write!(out, "REF {part} {number} ")?;
+    end_with_place(out, at)
 }

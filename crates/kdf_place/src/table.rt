@@ -1,6 +1,6 @@
 //! Entries in the order of their sections and numbers.
-ghost use Rattle.std.specs.Prelude.{◌≡◌, ℕ, [], OnOk};
-ghost use Rattle.std.specs.List.Sorted.{IsNonDecreasingBy};
+ghost use Rattle.std.specs.Prelude.{◌≡◌, ◌≤◌, ℕ, nat_lt, true, false, [], length, OnOk};
+ghost use Rattle.std.specs.List.Sorted.{IsNonDecreasingBy, IsPartitionPoint};
 ghost use Rattle.std.proofs.Props.{props};
 ghost use Rattle.kdf_usercode.specs.declared.fault.DeckFault.{DeckFault};
 ghost use Rattle.kdf_usercode.specs.Faults.{least};
@@ -38,13 +38,24 @@ pub fn sort<T: Copy + Drop>(entries: &mut Vec<Entry<T>>) -> Result<(), AllocErro
 }
 
 impl<T: Copy + Drop> Table<T> {
+    /// How many entries stand before all that a number has in a section.
+    fn before(&self, section: u32, number: u16) -> usize
+        ensures point { let k = key_of section number in
+            IsPartitionPoint (λ e. nat_lt (key e) k ≡ true) (λ e. nat_lt (key e) k ≡ false)
+            self.now.entries.items result }
+        ensures bound { result ≤ length self.now.entries.items }
+    {
+        let key = key_of(section, number);
+        let entries = self.entries.as_slice();
+        entries.partition_point(|entry| key_of(entry.section, entry.number) < key)
+    }
+
     /// The first meaning of a number in a section.
     pub fn find(&self, section: u32, number: u16) -> Option<T>
         ensures { result ≡ first section number self.now.entries.items }
     {
-        let key = key_of(section, number);
+        let place = self.before(section, number);
         let entries = self.entries.as_slice();
-        let place = entries.partition_point(|entry| key_of(entry.section, entry.number) < key);
         if place == entries.len() {
             return None;
         }

@@ -1,6 +1,6 @@
-use Rattle.std.proofs.Common.{refl, arith}
+use Rattle.std.proofs.Common.{append-nil, refl, sym, arith}
 use Rattle.kdf_place.specs.Names.{constant_at, constants}
-use Rattle.kdf_place.proofs.Grown.{grown}
+use Rattle.kdf_place.proofs.Grown.{ended, grown}
 use Rattle.kdf_place.proofs.entries.constants.Goals as goal
 
 pub loop-statement-preserved : goal.loop-statement-preserved
@@ -14,3 +14,9 @@ loop-statement-preserved c =
           c.loop-statement.statement-index c.args.statements.now s _ c.loop-statement-test.true c.statement-item.is c.after-here.ensures.value refl
           c.in_ok-push_constant.ensures c.loop-statement.invariant.all;
     }
+
+pub returns : goal.returns
+returns c =
+    let out = c.loop-statement.constants.items in
+    ended constants out out _ c.loop-statement.here c.loop-statement.statement-index c.args.statements.now c.loop-statement-test.false
+    c.loop-statement.invariant.all (sym (append-nil out))
