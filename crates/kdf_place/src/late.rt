@@ -13,7 +13,7 @@ use kdf_fault::Found;
 use kdf_usercode::{DeckFault, Item, Statement, Target, Value, What};
 
 /// The first fault so far, where there is one.
-type Best = Option<Found<DeckFault>>;
+pub(crate) type Best = Option<Found<DeckFault>>;
 
 /// The fault that stands in place of a number, after those before.
 fn with_result(best: Best, place: u32, found: Result<u64, DeckFault>) -> Best

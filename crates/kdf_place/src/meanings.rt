@@ -11,16 +11,14 @@ ghost use Rattle.kdf_place.specs.Tables.{meaning};
 use crate::entries::{constants, end_of, groups, labels, openings};
 use crate::here::words_for;
 use crate::image::Label;
+use crate::late::Best;
 use crate::names::{Mark, Meanings, Opening};
 use crate::picture::labels_of;
 use crate::table::Table;
 use crate::twice::table;
-use kdf_fault::{Found, earlier};
+use kdf_fault::earlier;
 use kdf_usercode::{DeckFault, Statement};
 use std::alloc::{AllocError, Global};
-
-/// The first fault of a kind, where there is one.
-type Best = Option<Found<DeckFault>>;
 
 /// What is known of a deck before its orders are looked at.
 #[derive(Drop)]

@@ -6,22 +6,15 @@ ghost use Rattle.kdf_place.specs.Tables.{meaning, kept};
 use crate::here::Section;
 use crate::table::Table;
 use kdf_usercode::{DeckFault, Named, Target};
-use std::alloc::AllocError;
 
 /// What a number means in a section, and the place of the statement that says so.
-#[derive(Copy)]
+#[derive(Clone, Copy)]
 pub struct Entry<T> {
     /// The place of the section's opening.
     pub section: u32,
     pub number: u16,
     pub means: T,
     pub place: u32,
-}
-
-impl<T: Copy> Clone for Entry<T> {
-    fn clone(&self) -> Result<Self, AllocError> {
-        Ok(*self)
-    }
 }
 
 impl<T> Entry<T> {
