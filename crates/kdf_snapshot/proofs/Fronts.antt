@@ -3,13 +3,19 @@ use Rattle.std.proofs.Common.{◌≡◌, ℕ, zero, suc, ◌+◌, ◌≤◌, Lis
 use Rattle.std.specs.Prelude.{sum_by, Result, Ok, Err, IfOk}
 use Rattle.std.proofs.lemmas.List.{take-append-drop}
 use Rattle.std.proofs.lemmas.List.Sums.{sum_by-append, sum_by-cons}
+use Rattle.kdf_transfer.specs.Slots.{Slot}
+use Rattle.kdf_journal.specs.declared.entry.Entry.{Entry}
 use Rattle.kdf_schedule.specs.declared.event.Event.{Event}
 use Rattle.kdf_schedule.specs.declared.event.Event.TheVariants.{Orders, Move, End, Clock, Swap}
 use Rattle.kdf_schedule.specs.Calls.{order_count}
 use Rattle.kdf_schedule.specs.Events.{IsInRange}
 use Rattle.kdf_job.specs.WellFormed as job
 use Rattle.kdf_director.specs.Follows.{IsRising, entries_in}
+use Rattle.kdf_director.specs.Served.{IsJournalFor}
 use Rattle.kdf_director.specs.Shown.{Shown}
+use Rattle.kdf_snapshot.specs.Rebuilt.{DiffersFrom, IsRefused}
+use Rattle.kdf_snapshot.specs.declared.rebuilt.RebuildError.{RebuildError}
+use Rattle.kdf_snapshot.specs.declared.rebuilt.RebuildError.TheVariants.{Differs, Memory}
 
 pub few-orders : (i : ℕ) (es : List Event) → order_count (take i es) ≤ order_count es
 few-orders zero es = omega arith
@@ -58,3 +64,14 @@ in-range (suc i) (e ∷ es) each = all-cons e (take i es) (each 0 e (omega arith
 pub kept : {E : Type 0} (r : Result Shown E) (m : Shown) (n : ℕ) → IfOk r (λ x. x ≡ m) → n ≤ m.room → IfOk r (λ x. n ≤ x.room)
 kept (Ok x) m n is le = subst (λ (y : Shown). n ≤ y.room) (sym is) le
 kept (Err e) m n is le = tt
+
+-- and the journal that it had
+pub kept-journal : {E : Type 0} (r : Result Shown E) (m : Shown) (J : List Entry) → IfOk r (λ x. x ≡ m) → IfOk r (λ _. m.journal ≡ J) → IfOk r (λ x. x.journal ≡ J)
+kept-journal (Ok x) m J is e = ap (λ (y : Shown). y.journal) is ∙ e
+kept-journal (Err e) m J is le = tt
+
+-- entries that differ from the journal of a run are refused
+pub refused-as : (answers : ℕ → ℕ → Type 0) (slots given : List Slot) (events : List Event) (J entries : List Entry) (e : RebuildError)
+    → slots ≡ given → IsJournalFor answers slots events J → DiffersFrom J entries e → IsRefused answers given events entries e
+refused-as answers slots given events J entries (Differs n) same run d = (J, subst (λ ss. IsJournalFor answers ss events J) same run, d)
+refused-as answers slots given events J entries Memory same run d = d

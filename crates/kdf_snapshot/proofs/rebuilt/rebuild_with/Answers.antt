@@ -1,8 +1,9 @@
-use Rattle.std.proofs.Common.{length-take, take, drop, ap, arith}
+use Rattle.std.proofs.Common.{length-take, take, drop, ap, sym, ◌∙◌, subst, arith}
+use Rattle.std.proofs.lemmas.Result.{IfErr-weaker, IfOk-weaker}
 use Rattle.std.specs.Prelude.{sum_by}
 use Rattle.kdf_director.specs.Follows.{entries_in}
-use Rattle.kdf_director.specs.Shown.{Shown}
-use Rattle.kdf_snapshot.proofs.Fronts.{entries-bound, entries-parts, few-orders, kept, rising-front}
+use Rattle.kdf_director.specs.Shown.{Shown, ShowsSeen}
+use Rattle.kdf_snapshot.proofs.Fronts.{entries-bound, entries-parts, few-orders, kept, kept-journal, refused-as, rising-front}
 use Rattle.kdf_snapshot.proofs.rebuilt.rebuild_with.Goals as goal
 
 pub follow-requires-clause-few : goal.follow-requires-clause-few
@@ -26,3 +27,23 @@ returns-in-Ok-follow-clause-room g c =
     let left = ap (λ fs. sum_by entries_in (take i fs)) c.deref.ensures.value in
     kept c.compared.result c.follow.new.machine (sum_by entries_in (drop i es)) c.compared.ensures.machine
     (omega (arith, c.in-Ok-follow.ensures.room, left, entries-parts i es, entries-bound es, ap (λ (m : Shown). m.room) c.reserve_entries.ensures, c.in-Ok.ensures.room))
+
+pub returns-in-Ok-follow-clause-slots : goal.returns-in-Ok-follow-clause-slots
+returns-in-Ok-follow-clause-slots g c =
+    let slots = c.follow.ensures.slots ∙ ap (λ (m : Shown). m.slots) c.reserve_entries.ensures ∙ c.in-Ok.ensures.slots in
+    IfOk-weaker c.compared.result _ _ (λ m is. ap (λ (x : Shown). x.slots) is ∙ slots) c.compared.ensures.machine
+
+pub returns-in-Ok-follow-clause-journal : goal.returns-in-Ok-follow-clause-journal
+returns-in-Ok-follow-clause-journal g c =
+    IfOk-weaker c.compared.result _ _ (λ m is. rw is (rw c.deref.ensures.value at c.in-Ok-follow.ensures.journal)) c.compared.ensures.machine
+
+pub returns-in-Ok-follow-clause-entries : goal.returns-in-Ok-follow-clause-entries
+returns-in-Ok-follow-clause-entries g c = kept-journal c.compared.result c.follow.new.machine c.args.entries.now c.compared.ensures.machine c.compared.ensures.entries
+
+pub returns-in-Ok-follow-clause-seen : goal.returns-in-Ok-follow-clause-seen
+returns-in-Ok-follow-clause-seen g c = IfOk-weaker c.compared.result _ _ (λ m is. subst ShowsSeen (sym is) c.in-Ok-follow.ensures.seen) c.compared.ensures.machine
+
+pub returns-in-Ok-follow-clause-refused : goal.returns-in-Ok-follow-clause-refused
+returns-in-Ok-follow-clause-refused g c =
+    let slots = c.follow.ensures.slots ∙ ap (λ (m : Shown). m.slots) c.reserve_entries.ensures ∙ c.in-Ok.ensures.slots in
+    IfErr-weaker c.compared.result _ _ (λ e d. refused-as _ _ _ _ _ _ e slots (rw c.deref.ensures.value at c.in-Ok-follow.ensures.journal) d) c.compared.ensures.refused
