@@ -102,16 +102,15 @@ fn make_calls<F: Fn(u64) -> u64>(
     ensures time { OnOk result (clock journal.new.entries ≡ time_behind (clock journal.old.entries) event) }
 {
     match event {
-        Event::Orders(n) => obey_orders(programs, table, journal, n, service)?,
-        Event::Move(d, n) => enter_event(journal, Entry::Move { d, n })?,
+        Event::Orders(n) => obey_orders(programs, table, journal, n, service),
+        Event::Move(d, n) => enter_event(journal, Entry::Move { d, n }),
         Event::End(d) => {
             table.end(d);
-            enter_event(journal, Entry::End { d })?;
+            enter_event(journal, Entry::End { d })
         }
-        Event::Clock(t) => enter_event(journal, Entry::Clock { t })?,
-        Event::Swap(p, q) => enter_event(journal, Entry::Swap { p, q })?,
+        Event::Clock(t) => enter_event(journal, Entry::Clock { t }),
+        Event::Swap(p, q) => enter_event(journal, Entry::Swap { p, q }),
     }
-    Ok(())
 }
 
 /// Enters an event.

@@ -1,10 +1,11 @@
 use Rattle.std.proofs.Common.{◌≤◌, ℕ, List, [], Option, length, map, sym, subst, arith}
 use Rattle.kdf_job.specs.Shows.{shown_slot}
 use Rattle.kdf_job.specs.declared.job.SlotJob.{SlotJob as ReadSlot}
+use Rattle.kdf_job.specs.WellFormed.{AreSlots}
 use Rattle.kdf_place.specs.declared.image.Image.{Image}
 use Rattle.kdf_schedule.specs.Calls.{order_count}
 use Rattle.kdf_text.specs.Ahead.{ahead}
-use Rattle.kdf_director.specs.Loading.{slots_of}
+use Rattle.kdf_director.specs.Loading.{HaveImages, slots_of}
 use Rattle.kdf_check.specs.declared.table.Pending.{Pending}
 use Rattle.kdf_check.specs.Keeps.{place_at, IsKeptAt, Keeps}
 use Rattle.kdf_check.proofs.Checking.{a-report, no-report, rises, start-keeps}
@@ -13,6 +14,12 @@ use Rattle.kdf_check.proofs.checker.check_with.Goals as goal
 
 abbrev words_in : Image → List ℕ
 words_in x = x.words.items
+
+pub load-requires-clause-slots : goal.load-requires-clause-slots
+load-requires-clause-slots g c = subst (λ (ss : List ReadSlot). AreSlots (map shown_slot ss)) (sym c.deref.ensures.value) c.requires.job.slots
+
+pub load-requires-clause-images : goal.load-requires-clause-images
+load-requires-clause-images g c = subst (λ (ss : List ReadSlot). HaveImages (map shown_slot ss) (map words_in c.args.images.now)) (sym c.deref.ensures.value) c.requires.images
 
 pub follow-requires : goal.follow-requires
 follow-requires g c =

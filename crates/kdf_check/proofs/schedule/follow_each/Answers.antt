@@ -4,10 +4,20 @@ use Rattle.kdf_journal.specs.Steps.{steps}
 use Rattle.kdf_schedule.specs.declared.event.Event.TheVariants.{Orders}
 use Rattle.kdf_schedule.specs.Calls.{orders_in}
 use Rattle.kdf_schedule.proofs.Schedules.{order_count-drop}
-use Rattle.kdf_director.proofs.Course.EventsInTurn.{ended_early, no_calls, one_more, rises-first, rises-from, rises-rest}
+use Rattle.kdf_director.proofs.Course.EventsInTurn.{ended_early, ended_late, no_calls, one_more, rises-first, rises-from, rises-rest}
 use Rattle.kdf_check.proofs.Nexts.{live-so}
 use Rattle.kdf_check.proofs.Pairs.{pair}
 use Rattle.kdf_check.proofs.schedule.follow_each.Goals as goal
+
+pub returns-then-not-is_any_on-clause-keeps : goal.returns-then-not-is_any_on-clause-keeps
+returns-then-not-is_any_on-clause-keeps g c = c.loop-event.invariant.keeps
+
+pub returns-clause-steps : goal.returns-clause-steps
+returns-clause-steps g c =
+    ended_late g.slots (steps c.args.journal.now.entries) c.args.events.now c.loop-event.event-index g.slots c.loop-event.journal.entries c.loop-event.invariant.keeps.legal refl c.loop-event.invariant.taken c.loop-event-test.false
+
+pub returns-clause-keeps : goal.returns-clause-keeps
+returns-clause-keeps g c = c.loop-event.invariant.keeps
 
 pub loop-event-init : goal.loop-event-init
 loop-event-init g c = record {

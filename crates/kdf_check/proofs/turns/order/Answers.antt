@@ -1,4 +1,5 @@
 use Rattle.std.proofs.Common.{◌<◌, ◌≤◌, List, true, false, Option, refl, sym, ◌∙◌, subst}
+use Rattle.std.proofs.lemmas.Bool.{false≢true, true≢false}
 use Rattle.kdf_journal.specs.declared.entry.Entry.{Entry}
 use Rattle.kdf_journal.specs.Counts.{calls, moves}
 use Rattle.kdf_journal.specs.Steps.{Waits}
@@ -12,6 +13,28 @@ use Rattle.kdf_check.proofs.Calls.{wait-keeps}
 use Rattle.kdf_check.proofs.Nexts.{found-next, live-so}
 use Rattle.kdf_check.proofs.Pairs.{pair}
 use Rattle.kdf_check.proofs.turns.order.Goals as goal
+
+pub returns-then-not-is_any_on-clause-goes_on : goal.returns-then-not-is_any_on-clause-goes_on
+returns-then-not-is_any_on-clause-goes_on g c live = absurd (false≢true live)
+
+pub returns-then-not-is_any_on-clause-none : goal.returns-then-not-is_any_on-clause-none
+returns-then-not-is_any_on-clause-none g c none = refl
+
+pub returns-then-not-is_any_on-clause-keeps : goal.returns-then-not-is_any_on-clause-keeps
+returns-then-not-is_any_on-clause-keeps g c = c.requires.1.1.0
+
+pub returns-in_ok-take_turn-in-Some-clause-goes_on : goal.returns-in_ok-take_turn-in-Some-clause-goes_on
+returns-in_ok-take_turn-in-Some-clause-goes_on g c live =
+    subst (λ (E : List Entry). GoesOn (λ n a. goal.F-post g c.args.service.now n a) g.slots E AnOrder c.take_turn.new.journal.entries) c.reserve.ensures.entries c.in_ok-take_turn-in-Some.ensures.goes_on
+
+pub returns-in_ok-take_turn-in-Some-clause-none : goal.returns-in_ok-take_turn-in-Some-clause-none
+returns-in_ok-take_turn-in-Some-clause-none g c none = absurd (true≢false none)
+
+pub returns-in_ok-take_turn-in-Some-clause-keeps : goal.returns-in_ok-take_turn-in-Some-clause-keeps
+returns-in_ok-take_turn-in-Some-clause-keeps g c = c.in_ok-take_turn-in-Some.ensures.keeps
+
+pub returns-in-None-clause-none : goal.returns-in-None-clause-none
+returns-in-None-clause-none g c none = absurd (true≢false none)
 
 pub returns-then-not-is_any_on-clause-live : goal.returns-then-not-is_any_on-clause-live
 returns-then-not-is_any_on-clause-live g c =
