@@ -4,6 +4,31 @@ use Rattle.kdf_transfer.specs.Slots.{Slot}
 use Rattle.kdf_watch.proofs.Counting.{all_looks, at_first, counted, finished_of, first_numbers, gone_numbers, hits, less_seen, seen_numbers, true_first}
 use Rattle.kdf_watch.proofs.stops.stops_at.Goals as goal
 
+pub go-requires-clause-service : goal.go-requires-clause-service
+go-requires-clause-service g c = c.requires.service
+
+pub go-requires-clause-at : goal.go-requires-clause-at
+go-requires-clause-at g c = c.loop-numbers.invariant.at
+
+pub returns-in_err-look-clause-slots : goal.returns-in_err-look-clause-slots
+returns-in_err-look-clause-slots g c = c.go.ensures.slots ∙ c.loop-numbers.invariant.same_slots
+
+pub returns-in_err-push-clause-slots : goal.returns-in_err-push-clause-slots
+returns-in_err-push-clause-slots g c = c.go.ensures.slots ∙ c.loop-numbers.invariant.same_slots
+
+pub returns-clause-slots : goal.returns-clause-slots
+returns-clause-slots g c = c.go.ensures.slots ∙ c.loop-numbers.invariant.same_slots
+
+pub returns-clause-journal : goal.returns-clause-journal
+returns-clause-journal g c = record {
+  legal = c.journal-journal.ensures.legal;
+  truly = c.go.ensures.truthful c.loop-numbers.invariant.truthful;
+  whole = (finished_of _ c.args.events.now c.loop-numbers.machine c.go.new.machine c.in_ok-look.field-0 c.in_ok-look.ensures.stopped c.in_default.not-Watched).1;
+}
+
+pub returns-clause-seen : goal.returns-clause-seen
+returns-clause-seen g c = c.journal-journal.ensures.seen
+
 pub loop-numbers-init : goal.loop-numbers-init
 loop-numbers-init g c = record {
   at = at_first c.args.events.now c.args.machine.now c.requires.fresh c.requires.room;
