@@ -1,6 +1,6 @@
 -- The decks of a job: what its slots are loaded with, and the first that has a fault.
-use Rattle.std.proofs.Common.{◌≡◌, ℕ, zero, suc, ◌+◌, ◌<◌, ◌≤◌, List, [], ◌∷◌, ◌++◌, length, map, take, drop, get_or, Result, Ok, All, refl, sym, ap, subst, ◌∙◌, arith}
-use Rattle.std.proofs.lemmas.List.{at_drop_more, get_or-map, length-map, take_more, map-append}
+use Rattle.std.proofs.Common.{◌≡◌, ℕ, zero, suc, ◌+◌, ◌<◌, ◌≤◌, List, [], ◌∷◌, ◌++◌, length, map, take, drop, get_or, Some, None, Result, Ok, Err, All, refl, sym, ap, subst, ◌∙◌, arith}
+use Rattle.std.proofs.lemmas.List.{at_drop_all, at_drop_more, get_or-map, length-map, take_more, map-append}
 use Rattle.std.proofs.lemmas.List.Elements.{All-push}
 use Rattle.kdf_usercode.specs.Faults.{Found}
 use Rattle.kdf_place.specs.declared.image.Image.{Image}
@@ -100,3 +100,16 @@ module _ (slots : List ReadSlot) (i : ℕ) (d slot : ReadSlot) (lt : i < length 
       let same : image.words.items ≡ words_due slot = sym (ap words_or_none made) in
       subst (λ (xs : List ReadSlot). All Fitting xs) (sym take_one)
       (All-push Fitting (take i slots) slot all (subst (λ (words : List ℕ). length words ≤ slot.size) same fits))
+
+-- the deck in front has this fault
+pub first-here : (slots : List ReadSlot) (i : ℕ) (d slot : ReadSlot) (fault : Found) → i < length slots → get_or slots i d ≡ slot → picture_due slot ≡ Err fault
+    → deck_fault (map shown_slot (drop i slots)) ≡ Some (slot.p, fault)
+first-here slots i d slot fault lt is made =
+    let later = deck_fault (map shown_slot (drop (i + 1) slots)) in
+    at_drop_more (λ (xs : List ReadSlot). deck_fault (map shown_slot xs)) slots i d lt
+    ∙ ap (λ (s : ReadSlot). first_of s.p (picture_due s) later) is
+    ∙ ap (λ m. first_of slot.p m later) made
+
+-- no deck is left
+pub none-left : (slots : List ReadSlot) (i : ℕ) → length slots ≤ i → deck_fault (map shown_slot (drop i slots)) ≡ None
+none-left slots i past = at_drop_all (λ (xs : List ReadSlot). deck_fault (map shown_slot xs)) slots i past

@@ -17,11 +17,15 @@ verdict_whole v none head mid all is_none first second last =
     let whole = text_more none mid all (check_line ∷ verdict_line v ∷ []) (end_line ∷ []) (text_more none head mid (check_line ∷ []) (verdict_line v ∷ []) first second) last in
     subst (λ x. all ≡ x ++ text (verdict_lines v)) is_none whole
 
-pub verdict_of : (answers : ℕ → ℕ → Type 0) (bytes : List ℕ) (j : Job) (slots : List Slot) (rest due : List ℕ) (v : Verdict) → j ≡ front_job bytes → slots ≡ slots_of j → rest ≡ after_job bytes
-    → IsCheck answers slots j.events rest v → due ≡ text (verdict_lines v) → IsVerdictOf answers bytes due
-verdict_of answers bytes j slots rest due v is_front are is_rest check is_due = (
-  v,
-  subst (λ (x : Job). IsCheck answers (slots_of x) x.events (after_job bytes) v) is_front
-      (subst (λ bs. IsCheck answers (slots_of j) j.events bs v) is_rest (subst (λ (xs : List Slot). IsCheck answers xs j.events rest v) are check)),
-  is_due,
-)
+-- a report of a job, and the text that tells the verdict on it
+abbrev pub IsVerdictOn : (answers : ℕ → ℕ → Type 0) → Job → List ℕ → List ℕ → Type 0
+IsVerdictOn answers j report due = (v : Verdict) × IsCheck answers (slots_of j) j.events report v × (due ≡ text (verdict_lines v))
+
+pub verdict_on : (answers : ℕ → ℕ → Type 0) (j : Job) (slots : List Slot) (report due : List ℕ) (v : Verdict) → slots ≡ slots_of j
+    → IsCheck answers slots j.events report v → due ≡ text (verdict_lines v) → IsVerdictOn answers j report due
+verdict_on answers j slots report due v are check is_due = (v, subst (λ (xs : List Slot). IsCheck answers xs j.events report v) are check, is_due)
+
+pub verdict_of : (answers : ℕ → ℕ → Type 0) (bytes : List ℕ) (j : Job) (rest due : List ℕ) → j ≡ front_job bytes → rest ≡ after_job bytes → IsVerdictOn answers j rest due
+    → IsVerdictOf answers bytes due
+verdict_of answers bytes j rest due is_front is_rest said =
+    subst (λ (x : Job). IsVerdictOn answers x (after_job bytes) due) is_front (subst (λ bs. IsVerdictOn answers j bs due) is_rest said)

@@ -1,12 +1,15 @@
 //! A program by itself.
-ghost use Rattle.std.specs.Prelude.{◌≡◌, ◌≤◌, None, length, map, IfErr, IfOk, Ok, OnOk};
+ghost use Rattle.std.specs.Prelude.{◌≡◌, ◌≤◌, [], None, length, map, IfErr, IfOk, Ok, OnOk};
 ghost use Rattle.kdf_schedule.specs.Calls.{order_count, orders_in};
 ghost use Rattle.kdf_place.specs.Assembled.{image_words};
 ghost use Rattle.kdf_job.specs.Limits.{most_orders};
 ghost use Rattle.kdf_job.specs.Reading.{job as job_of, job_fault};
 ghost use Rattle.kdf_job.specs.Shows.{shown_job, shown_slot};
+ghost use Rattle.kdf_job.specs.Slots.{slot_of};
 ghost use Rattle.kdf_job.specs.WellFormed.{IsJob, IsSlot};
 ghost use Rattle.kdf_job.specs.declared.job.TheConstants.{TEXT_LIMIT};
+ghost use Rattle.kdf_processor.specs.Lone.{lone};
+ghost use Rattle.kdf_processor.specs.State.{begin};
 ghost use Rattle.kdf_alone.specs.Program.{IsApart};
 ghost use Rattle.kdf_report.specs.Text.{alone_text};
 ghost use Rattle.kdf_top.specs.Answered.{IsReason};
@@ -65,9 +68,26 @@ fn run_slot(
     ensures { IfOk result (λ text. text.items
         ≡ alone_text (shown_slot slot.now) (alone_state events.now (shown_slot slot.now))) }
 {
+    let orders = orders_in(events);
     let mut program = Alone::load(alloc, slot, image)?;
-    program.orders(&[], orders_in(events))?;
-    alone_text(alloc, slot, &program)
+    obey(alloc, slot, &mut program, orders)
+}
+
+/// Obeys so many orders of the program of a slot, which was just loaded, and makes its text.
+fn obey(
+    alloc: Global,
+    slot: &SlotJob,
+    program: &mut Alone,
+    orders: u32,
+) -> Result<Vec<u8>, AllocError>
+    requires slot { IsSlot (shown_slot slot.now) }
+    requires loaded { program.old
+        ≡ begin (slot_of (shown_slot slot.now) (image_words slot.now.size slot.now.deck.items)) }
+    requires few { orders ≤ most_orders }
+    ensures { IfOk result (λ text. text.items ≡ alone_text (shown_slot slot.now) (lone program.old [] orders)) }
+{
+    program.orders(&[], orders)?;
+    alone_text(alloc, slot, program)
 }
 
 /// How many orders a schedule has.

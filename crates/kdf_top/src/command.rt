@@ -12,7 +12,7 @@ use std::alloc::{AllocError, Global};
 use values::{Values, any_hyphen};
 
 /// What the words after the program's name ask for. A slot is below 4, and an address below 8192.
-#[derive(Clone, Copy, PartialEq, Eq)]
+#[derive(Clone, Copy)]
 pub enum Command {
     /// `run`: reads a job, runs it under Director and writes its report.
     Run,
@@ -34,7 +34,7 @@ pub enum Command {
 }
 
 /// Where the text of a command comes from.
-#[derive(Clone, Copy, PartialEq, Eq)]
+#[derive(Clone, Copy)]
 pub enum Input {
     /// It is read, and has at most so many bytes.
     Read(usize),

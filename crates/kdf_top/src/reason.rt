@@ -10,7 +10,7 @@ use kdf_snapshot::SplitError;
 use std::alloc::AllocError;
 
 /// Why a command makes nothing of its text.
-#[derive(Clone, Copy, PartialEq, Eq)]
+#[derive(Clone, Copy)]
 pub enum MakeError {
     /// This is answered, and told in a line.
     Refused(Status),

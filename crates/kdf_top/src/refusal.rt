@@ -1,9 +1,13 @@
 //! The lines that say why there is no text of a command.
-ghost use Rattle.std.specs.Prelude.{◌≡◌, OnOk, IfOk, vec_items};
+ghost use Rattle.std.specs.Prelude.{◌≡◌, [], ◌∷◌, OnOk, IfOk, vec_items};
 ghost use Rattle.kdf_text.specs.Text.{text, Adds};
 ghost use Rattle.kdf_top.specs.Answers.{refusal_lines};
+ghost use Rattle.kdf_top.specs.Text.{deck_fault_line, job_fault_line, large_line, snapshot_fault_line, usage_line};
 
 use crate::Status;
+use kdf_job::JobFault;
+use kdf_snapshot::SnapshotFault;
+use kdf_usercode::DeckFault;
 use std::alloc::{AllocError, Global};
 use std::fmt::Write;
 
@@ -17,28 +21,68 @@ pub fn refusal_text(alloc: Global, limit: usize, status: Status) -> Result<Vec<u
     Ok(out.into_bytes())
 }
 
+/// Writes the line that is due where this status is answered, if there is one.
 #[tactic(auto, unfolding(kdf_text::specs::Text::text))]
 fn write_refusal(out: &mut String, limit: usize, status: Status) -> Result<(), AllocError>
     ensures { OnOk result (Adds out.old out.new (refusal_lines limit status)) }
 {
     match status {
-        Status::Usage => writeln!(
-            out,
-            "USAGE kdf9 run, alone K, asm K, make N, save, resume, check, watch K W"
-        ),
-        Status::Job { fault, line } => {
-            let name = fault.name();
-            writeln!(out, "JOB {name} {line}")
-        }
-        Status::Deck { slot, fault, place } => {
-            let name = fault.name();
-            writeln!(out, "DECK {slot} {name} {place}")
-        }
-        Status::Large => writeln!(out, "LARGE {limit}"),
-        Status::Snapshot { fault, line } => {
-            let name = fault.name();
-            writeln!(out, "SNAPSHOT {name} {line}")
-        }
+        Status::Usage => write_usage(out),
+        Status::Job { fault, line } => write_job_fault(out, fault, line),
+        Status::Deck { slot, fault, place } => write_deck_fault(out, slot, fault, place),
+        Status::Large => write_large(out, limit),
+        Status::Snapshot { fault, line } => write_snapshot_fault(out, fault, line),
         _ => Ok(()),
     }
+}
+
+/// How the program is used.
+#[tactic(auto, unfolding(kdf_text::specs::Text::text))]
+fn write_usage(out: &mut String) -> Result<(), AllocError>
+    ensures { OnOk result (Adds out.old out.new (usage_line ∷ [])) }
+{
+    writeln!(
+        out,
+        "USAGE kdf9 run, alone K, asm K, make N, save, resume, check, watch K W"
+    )
+}
+
+/// A fault of the job, and its line.
+#[tactic(auto, unfolding(kdf_text::specs::Text::text))]
+fn write_job_fault(out: &mut String, fault: JobFault, line: u32) -> Result<(), AllocError>
+    ensures { OnOk result (Adds out.old out.new (job_fault_line fault line ∷ [])) }
+{
+    let name = fault.name();
+    writeln!(out, "JOB {name} {line}")
+}
+
+/// A fault of the deck of a slot, and its place.
+#[tactic(auto, unfolding(kdf_text::specs::Text::text))]
+fn write_deck_fault(
+    out: &mut String,
+    slot: u8,
+    fault: DeckFault,
+    place: u32,
+) -> Result<(), AllocError>
+    ensures { OnOk result (Adds out.old out.new (deck_fault_line slot fault place ∷ [])) }
+{
+    let name = fault.name();
+    writeln!(out, "DECK {slot} {name} {place}")
+}
+
+/// That there are more than so many bytes.
+#[tactic(auto, unfolding(kdf_text::specs::Text::text))]
+fn write_large(out: &mut String, limit: usize) -> Result<(), AllocError>
+    ensures { OnOk result (Adds out.old out.new (large_line limit ∷ [])) }
+{
+    writeln!(out, "LARGE {limit}")
+}
+
+/// A fault of the snapshot, and its line.
+#[tactic(auto, unfolding(kdf_text::specs::Text::text))]
+fn write_snapshot_fault(out: &mut String, fault: SnapshotFault, line: u32) -> Result<(), AllocError>
+    ensures { OnOk result (Adds out.old out.new (snapshot_fault_line fault line ∷ [])) }
+{
+    let name = fault.name();
+    writeln!(out, "SNAPSHOT {name} {line}")
 }

@@ -1,3 +1,4 @@
+use Rattle.std.proofs.Common.{◌∙◌}
 use Rattle.std.proofs.lemmas.Result.{err_from_is_err_and}
 use Rattle.kdf_top.proofs.Resumptions.{journal_front, reason_for, trusted}
 use Rattle.kdf_top.proofs.Schedules.{rises}
@@ -18,3 +19,17 @@ follow_on-requires-clause-rises g c =
 
 pub returns-clause-trusted : goal.returns-clause-trusted
 returns-clause-trusted g c = trusted g.bytes c.args.snapshot.now c.requires.1.1.0 _ c.args.machine.now c.requires.1.1.1 c.in_ok-compare_seal.ensures.same
+
+pub follow_on-requires-clause-followed : goal.follow_on-requires-clause-followed
+follow_on-requires-clause-followed g c = rw c.deref.ensures.value c.requires.1.1.1.journal
+
+pub follow_on-requires-clause-room : goal.follow_on-requires-clause-room
+follow_on-requires-clause-room g c = rw c.deref.ensures.value c.requires.1.1.1.room
+
+pub returns-clause-run : goal.returns-clause-run
+returns-clause-run g c =
+    record {
+      slots = c.follow_on.ensures.slots ∙ c.requires.1.1.1.slots;
+      journal = rw c.deref.ensures.value at c.in_ok-follow_on.ensures.journal;
+      seen = c.in_ok-follow_on.ensures.seen;
+    }
