@@ -1,6 +1,6 @@
 //! Loading: all memory is taken first, in values that may be dropped; the places come last, into room that was
 //! reserved.
-ghost use Rattle.std.specs.Prelude.{◌≡◌, ◌≤◌, length, map, All, AllPairs, IfOk, true, None, [], vec_len};
+ghost use Rattle.std.specs.Prelude.{◌≡◌, ◌≤◌, length, map, All, AllPairs, IfOk, true, Some, None, [], vec_len};
 ghost use Rattle.std.specs.List.{range_with_len};
 ghost use Rattle.std.specs.Vec.{vec_capacity};
 ghost use Rattle.kdf_job.specs.Shows.{shown_device, shown_slot};
@@ -11,7 +11,7 @@ ghost use Rattle.kdf_relocate.specs.Windows.{have_windows, windows_from, IsBefor
 ghost use Rattle.kdf_director.specs.declared.program.Program.{Program};
 ghost use Rattle.kdf_director.specs.declared.slot.Loaded.{Loaded};
 ghost use Rattle.kdf_director.specs.Loading.{HaveImages, load_of, loads};
-ghost use Rattle.kdf_director.specs.Fields.Filled.{AreLoads, IsLoaded, first_seat, idle_place, idle_ring, idle_spot, loaded, pool_in, pool_spot, size_at, sizes_of};
+ghost use Rattle.kdf_director.specs.Fields.Filled.{AreLoads, IsLoaded, first_seat, idle_place, idle_ring, idle_spot, loaded, own_spot, pool_in, pool_spot, size_at, sizes_of};
 ghost use Rattle.kdf_director.specs.Fields.Parts.{seat_of};
 ghost use Rattle.kdf_transfer.specs.ByNumber.{by_number};
 ghost use Rattle.kdf_director.specs.Fields.Running.{seats_in};
@@ -207,11 +207,19 @@ fn idle_of(alloc: Global, slots: &[Loaded], d: u8) -> Result<Option<Standing>, A
 {
     for slot in slots.iter() {
         if let Some(device) = device_numbered(&slot.devices, d) {
-            let ring = Ring::new(alloc)?;
-            return Ok(Some((device.1.copy(alloc)?, ring, Some(slot.p))));
+            return Ok(Some(owned(alloc, device, slot.p)?));
         }
     }
     pooled_of(alloc, slots, d)
+}
+
+/// What stands in the place of a device that a program owns: a copy of it.
+fn owned(alloc: Global, device: &(u8, Device), p: u8) -> Result<Standing, AllocError>
+    ensures spot { IfOk result (λ x. spot_of (idle_place (Some x)) ≡ own_spot p (shown_device device.now)) }
+    ensures ring { IfOk result (λ x. idle_ring (Some x) ≡ []) }
+{
+    let ring = Ring::new(alloc)?;
+    Ok((device.1.copy(alloc)?, ring, Some(p)))
 }
 
 /// A blank device of the pool's kind of a number, if the pool has one.
@@ -245,9 +253,9 @@ fn idle_all(alloc: Global, slots: &[Loaded]) -> Result<Vec<Option<Standing>>, Al
         ≡ map (idle_spot (map loaded slots.now)) (range_with_len 0 16)) }
     ensures rings { IfOk result (λ v. map idle_ring v.items ≡ map (λ _. []) (range_with_len 0 16)) }
 {
-    let mut idle = Vec::new(alloc);
+    let mut idle = Vec::with_capacity(alloc, 16)?;
     for d in 0..16u8 {
-        idle.push(idle_of(alloc, slots, d)?)?;
+        idle.push_reserved(idle_of(alloc, slots, d)?);
     }
     Ok(idle)
 }

@@ -39,7 +39,7 @@ fn is_out_at(store: &Store, place: usize) -> bool
 }
 
 /// Whether a device has a transfer.
-fn is_busy_at(store: &Store, places: &[Place], d: u8) -> bool
+pub(crate) fn is_busy_at(store: &Store, places: &[Place], d: u8) -> bool
     ensures { result ≡ is_busy_in (shared_in store.now places.now) d }
 {
     match places.get(usize::from(d)) {

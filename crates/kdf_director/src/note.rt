@@ -1,7 +1,7 @@
 //! What is noted of an order.
 
 /// What is noted of an order beside how it ended.
-#[derive(Clone, Copy, PartialEq, Eq)]
+#[derive(Clone, Copy)]
 pub enum Note {
     /// Nothing.
     Quiet,

@@ -8,6 +8,7 @@ ghost use Rattle.kdf_places.specs.Shared.{shared_in};
 ghost use Rattle.kdf_places.specs.Spots.{AreDry};
 
 use crate::devices::{first_free, first_of, is_free, kind_claimed, may_be_taken};
+use crate::next::is_busy_at;
 use crate::stint::hand_in;
 use crate::{Loaded, Loan, Moment, Note, Place, Stint};
 use kdf_job::kind_lent;
@@ -87,10 +88,7 @@ impl<'a> Turn<'a> {
     fn is_busy(&self, device: u8) -> bool
         ensures { result ≡ is_busy_in (shared self.now) device }
     {
-        match self.places.get(usize::from(device)) {
-            Some(place) => place.is_busy(),
-            None => false,
-        }
+        is_busy_at(self.store, self.places, device)
     }
 
     /// The least group of an area that is out.

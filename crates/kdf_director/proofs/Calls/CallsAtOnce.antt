@@ -62,6 +62,17 @@ pub all_err : {A E : Type 0} (r : Result A E) (P : Type 0) → P → OnErr r P
 all_err (Ok a) P p = tt
 all_err (Err e) P p = p
 
+-- no more calls are answered than are left: those that were entered, and those that wait
+pub entered_within : {E F : Type 0} (J K : List Entry) (p quiet ran most : ℕ) (hold held : Option Need) (tried : Result (Step × Note) E) (answer : Result (ℕ × Progress) F) → HasEntered J p quiet ran hold tried K held answer → quiet < most → IfOk answer (λ x. x.0 ≤ most)
+entered_within J K p quiet ran most hold held (Ok t) (Ok x) has left = let count = has.count in omega (arith, left)
+entered_within J K p quiet ran most hold held (Ok t) (Err e) has left = tt
+entered_within J K p quiet ran most hold held (Err t) (Ok x) has left = absurd has
+entered_within J K p quiet ran most hold held (Err t) (Err e) has left = tt
+
+pub waits_within : (b : Bool) (most : ℕ) → 0 < most → (cond {A = ℕ × Progress} b (most, progress.Idle) (1, progress.AllEnded)).0 ≤ most
+waits_within true most some = omega arith
+waits_within false most some = some
+
 pub any_map : {X Y : Type 0} (h : X → Y) (f : Y → Bool) (xs : List X) → list_any (λ x. f (h x)) xs ≡ list_any f (map h xs)
 any_map h f [] = refl
 any_map h f (x ∷ xs) = ap (λ b. f (h x) || b) (any_map h f xs)

@@ -9,7 +9,7 @@ use Rattle.kdf_places.specs.Shared.{shared_in}
 use Rattle.kdf_director.specs.Fields.Running.{reaches_in, seats_in}
 use Rattle.kdf_director.specs.Runs.{HasEntered, HasMadeButFewer, HasMadeOn}
 use Rattle.kdf_director.specs.Fields.Viewed.{viewed}
-use Rattle.kdf_director.proofs.Calls.CallsAtOnce.{all_err, begun, ends, going_more, live, ran}
+use Rattle.kdf_director.proofs.Calls.CallsAtOnce.{all_err, begun, ends, entered_within, going_more, live, ran}
 use Rattle.kdf_director.proofs.Calls.CallsAfterCalls.{made_none}
 use Rattle.kdf_director.proofs.Turns.AfterTheTry.{on_err}
 use Rattle.kdf_director.proofs.advance.take_turns.Goals as goal
@@ -131,3 +131,24 @@ returns-in_err-reserve-clause-err g c =
     (sym c.reserve.ensures.entries)
     (all_err c.from_residual.result _
     (0, c.requires.some, made_none (λ n a. goal.F-post g c.args.due.now.service.now n a) _ c.requires.ready.agrees.legal))
+
+pub overflow_add-due : goal.overflow_add-due
+overflow_add-due g c = omega (arith, c.requires.ready.few_events)
+
+pub overflow_sub-batch : goal.overflow_sub-batch
+overflow_sub-batch g c = omega (arith, c.loop-quiet.invariant.left)
+
+pub overflow_add-quiet : goal.overflow_add-quiet
+overflow_add-quiet g c = omega (arith, c.requires.few, c.loop-quiet.invariant.left, c.try_at-more.ensures.within)
+
+pub overflow_add-quiet-in-loop-quiet : goal.overflow_add-quiet-in-loop-quiet
+overflow_add-quiet-in-loop-quiet g c = omega (arith, c.requires.few, c.loop-quiet.invariant.left, c.try_at-more.ensures.within)
+
+pub overflow_add-quiet-then-is_quiet : goal.overflow_add-quiet-then-is_quiet
+overflow_add-quiet-then-is_quiet g c = omega (arith, c.requires.few, c.loop-quiet.invariant.left, c.try_at-more.ensures.within)
+
+pub loop-quiet-smaller : goal.loop-quiet-smaller
+loop-quiet-smaller g c = omega (arith, c.loop-quiet.invariant.left)
+
+pub returns-else-quiet-due-clause-within : goal.returns-else-quiet-due-clause-within
+returns-else-quiet-due-clause-within g c = entered_within c.loop-quiet.journal.entries c.enter_tried.new.journal.entries c.index_mut.result.now.p (c.loop-quiet.quiet + c.try_at-more.result.0) c.index_mut.result.now.registers.ran c.args.due.now.most c.index_mut.result.now.hold c.enter_tried.new.program.hold c.try_at-more.result.1 c.enter_tried.result c.enter_tried.ensures.entered (omega (arith, c.loop-quiet.invariant.left, c.try_at-more.ensures.within))

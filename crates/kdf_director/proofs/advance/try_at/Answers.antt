@@ -3,6 +3,7 @@ use Rattle.kdf_director.specs.Fields.Batches.{AreQuiet, HasBatch, HasTurnedOn}
 use Rattle.kdf_director.specs.Fields.Parts.{Reach, Seat}
 use Rattle.kdf_places.specs.Shared.{Shared, shared_in}
 use Rattle.kdf_director.specs.Fields.Running.{IsRunning, reach_at, reaches_in, seat_at, seats_in}
+use Rattle.kdf_places.specs.Spots.{AreDry}
 use Rattle.kdf_director.specs.Fields.Shared.{moment}
 use Rattle.kdf_director.proofs.Turns.Batching.{told_by, told_still}
 use Rattle.kdf_director.proofs.Turns.HeardWords.{heard_then}
@@ -95,3 +96,27 @@ returns-clause-err g c =
     (subst (λ y. AreQuiet (HasTurnedOn rs (moment c.args.batch.time h) i) n y (shared_in c.heard-answer.new.store c.heard-answer.new.places.items) after left)
     c.heard-answer.ensures.seats still)))
     c.turn.ensures.err
+
+pub heard-answer-requires-clause-there : goal.heard-answer-requires-clause-there
+heard-answer-requires-clause-there g c = c.requires.there
+
+pub heard-answer-requires-clause-slots : goal.heard-answer-requires-clause-slots
+heard-answer-requires-clause-slots g c = c.requires.slots
+
+pub heard-answer-requires-clause-live : goal.heard-answer-requires-clause-live
+heard-answer-requires-clause-live g c = c.requires.live
+
+pub heard-answer-requires-clause-dry : goal.heard-answer-requires-clause-dry
+heard-answer-requires-clause-dry g c = c.requires.dry
+
+pub batch_of-requires : goal.batch_of-requires
+batch_of-requires g c = c.requires.some
+
+pub turn-requires-clause-some : goal.turn-requires-clause-some
+turn-requires-clause-some g c = c.batch_of.ensures.some
+
+pub turn-requires-clause-dry : goal.turn-requires-clause-dry
+turn-requires-clause-dry g c = subst (λ v. AreDry v.items) (sym c.heard-answer.ensures.places) c.requires.dry
+
+pub returns-clause-dry : goal.returns-clause-dry
+returns-clause-dry g c = c.turn.ensures.dry

@@ -77,3 +77,15 @@ returns-else-slot-clause-asked g c =
     has_none (λ n a. goal.F-post g c.args.service.now n a) (word_over x r s)
     (none_served x r s
     (sym (ap (λ (y : Reach). y.served) (reach_there c.args.site.now.windows.now c.args.site.now.slots.now c.args.i there (get_or c.args.site.now.slots.now c.args.i c.index-site-i.result) (ap (get_or c.args.site.now.slots.now c.args.i) c.index-site-i.is))) ∙ c.if-slot.false))
+
+pub hear-requires-clause-service : goal.hear-requires-clause-service
+hear-requires-clause-service g c = c.requires.service
+
+pub hear-requires-clause-dry : goal.hear-requires-clause-dry
+hear-requires-clause-dry g c = c.requires.dry
+
+pub returns-then-slot-clause-store : goal.returns-then-slot-clause-store
+returns-then-slot-clause-store g c = c.hear.ensures.store
+
+pub returns-then-slot-clause-places : goal.returns-then-slot-clause-places
+returns-then-slot-clause-places g c = c.hear.ensures.places

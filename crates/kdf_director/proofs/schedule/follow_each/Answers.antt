@@ -54,3 +54,50 @@ make_calls-requires-clause-rises g c =
     let lt : c.loop-event.event-index < length c.args.events.now = omega arith in
     rises-first (clock c.loop-event.machine.journal) (get_or c.args.events.now c.loop-event.event-index (Orders 0)) _
     (rises-from c.args.events.now c.loop-event.event-index (Orders 0) (clock c.loop-event.machine.journal) lt c.loop-event.invariant.rises)
+
+pub make_calls-requires-clause-service : goal.make_calls-requires-clause-service
+make_calls-requires-clause-service g c = c.requires.service
+
+pub make_calls-requires-clause-legal : goal.make_calls-requires-clause-legal
+make_calls-requires-clause-legal g c = c.if-not-is_any_live.ensures.legal
+
+pub make_calls-requires-clause-live : goal.make_calls-requires-clause-live
+make_calls-requires-clause-live g c = sym c.if-not-is_any_live.ensures.live
+
+pub make_calls-requires-clause-truly : goal.make_calls-requires-clause-truly
+make_calls-requires-clause-truly g c = c.loop-event.invariant.truly
+
+pub make_calls-requires-clause-few : goal.make_calls-requires-clause-few
+make_calls-requires-clause-few g c =
+    let lt : c.loop-event.event-index < length c.args.events.now = omega arith in
+    omega (arith, c.loop-event.invariant.few, order_count-drop c.args.events.now c.loop-event.event-index (Orders 0) lt)
+
+pub returns-then-not-is_any_live-clause-legal : goal.returns-then-not-is_any_live-clause-legal
+returns-then-not-is_any_live-clause-legal g c = c.if-not-is_any_live.ensures.legal
+
+pub returns-then-not-is_any_live-clause-seen : goal.returns-then-not-is_any_live-clause-seen
+returns-then-not-is_any_live-clause-seen g c = c.if-not-is_any_live.ensures.seen
+
+pub returns-then-not-is_any_live-clause-truly : goal.returns-then-not-is_any_live-clause-truly
+returns-then-not-is_any_live-clause-truly g c = c.loop-event.invariant.truly
+
+pub returns-then-not-is_any_live-clause-slots : goal.returns-then-not-is_any_live-clause-slots
+returns-then-not-is_any_live-clause-slots g c = c.loop-event.invariant.same_slots
+
+pub returns-clause-legal : goal.returns-clause-legal
+returns-clause-legal g c = c.journal-journal.ensures.legal
+
+pub returns-clause-seen : goal.returns-clause-seen
+returns-clause-seen g c = c.journal-journal.ensures.seen
+
+pub returns-clause-truly : goal.returns-clause-truly
+returns-clause-truly g c = c.loop-event.invariant.truly
+
+pub returns-clause-slots : goal.returns-clause-slots
+returns-clause-slots g c = c.loop-event.invariant.same_slots
+
+pub returns-then-not-is_any_live-clause-room : goal.returns-then-not-is_any_live-clause-room
+returns-then-not-is_any_live-clause-room g c = omega (arith, c.loop-event.invariant.spent)
+
+pub returns-clause-room : goal.returns-clause-room
+returns-clause-room g c = omega (arith, c.loop-event.invariant.spent)

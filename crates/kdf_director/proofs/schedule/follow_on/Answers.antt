@@ -56,3 +56,18 @@ returns-clause-room g c =
     let es = c.args.events.now in
     let i = c.args.first in
     omega (arith, c.in_ok-follow_each.ensures.room, ap (sum_by entries_in) (rest-is es i))
+
+pub follow_each-requires-clause-service : goal.follow_each-requires-clause-service
+follow_each-requires-clause-service g c = c.requires.service
+
+pub follow_each-requires-clause-truly : goal.follow_each-requires-clause-truly
+follow_each-requires-clause-truly g c = c.requires.followed.truly
+
+pub returns-clause-slots : goal.returns-clause-slots
+returns-clause-slots g c = c.in_ok-follow_each.ensures.slots
+
+pub returns-clause-seen : goal.returns-clause-seen
+returns-clause-seen g c = c.in_ok-follow_each.ensures.seen
+
+pub returns-in_err-follow_each-clause-slots : goal.returns-in_err-follow_each-clause-slots
+returns-in_err-follow_each-clause-slots g c = c.follow_each.ensures.slots

@@ -1,7 +1,10 @@
-use Rattle.std.proofs.Common.{refl, subst, arith}
+use Rattle.std.proofs.Common.{◌+◌, ◌≤◌, refl, ap, subst, arith}
+use Rattle.kdf_journal.specs.Counts.{calls}
 use Rattle.kdf_journal.specs.Steps.{Moves, Ends, Sets, Swaps}
-use Rattle.kdf_schedule.specs.Calls.{AMove, AnEnd, AClock, ASwap}
+use Rattle.kdf_schedule.specs.Calls.{AMove, AnEnd, AClock, ASwap, orders_in}
 use Rattle.kdf_schedule.specs.Events.{IsInRange}
+use Rattle.kdf_director.specs.Follows.{entries_in}
+use Rattle.kdf_director.specs.Shown.{Shown}
 use Rattle.kdf_director.proofs.Calls.OneCall.{entered_on, calls-entered, clock-entered}
 use Rattle.kdf_director.proofs.schedule.make_calls.Goals as goal
 use Rattle.kdf_director.proofs.Course.OneJournal.{true_entered}
@@ -71,3 +74,66 @@ swap-requires-clause-p g c = let range = subst IsInRange c.in-Swap.is c.requires
 
 pub swap-requires-clause-q : goal.swap-requires-clause-q
 swap-requires-clause-q g c = let range = subst IsInRange c.in-Swap.is c.requires.in_range in omega (arith, range.1)
+
+pub move_words-requires-clause-room : goal.move_words-requires-clause-room
+move_words-requires-clause-room g c = let few = subst (λ e. entries_in e ≤ c.args.machine.now.room) c.in-Move.is c.requires.room in omega (arith, few)
+
+pub returns-in-Move-clause-room : goal.returns-in-Move-clause-room
+returns-in-Move-clause-room g c = let few = subst (λ e. entries_in e ≤ c.args.machine.now.room) c.in-Move.is c.requires.room in rw c.in-Move.is (omega (arith, few, ap (λ (m : Shown). m.room) c.move_words.ensures.entered))
+
+pub returns-in-Move-clause-slots : goal.returns-in-Move-clause-slots
+returns-in-Move-clause-slots g c = ap (λ (m : Shown). m.slots) c.move_words.ensures.entered
+
+pub end-requires-clause-room : goal.end-requires-clause-room
+end-requires-clause-room g c = let few = subst (λ e. entries_in e ≤ c.args.machine.now.room) c.in-End.is c.requires.room in omega (arith, few)
+
+pub returns-in-End-clause-room : goal.returns-in-End-clause-room
+returns-in-End-clause-room g c = let few = subst (λ e. entries_in e ≤ c.args.machine.now.room) c.in-End.is c.requires.room in rw c.in-End.is (omega (arith, few, ap (λ (m : Shown). m.room) c.end.ensures.entered))
+
+pub returns-in-End-clause-slots : goal.returns-in-End-clause-slots
+returns-in-End-clause-slots g c = ap (λ (m : Shown). m.slots) c.end.ensures.entered
+
+pub clock-requires-clause-room : goal.clock-requires-clause-room
+clock-requires-clause-room g c = let few = subst (λ e. entries_in e ≤ c.args.machine.now.room) c.in-Clock.is c.requires.room in omega (arith, few)
+
+pub returns-in-Clock-clause-room : goal.returns-in-Clock-clause-room
+returns-in-Clock-clause-room g c = let few = subst (λ e. entries_in e ≤ c.args.machine.now.room) c.in-Clock.is c.requires.room in rw c.in-Clock.is (omega (arith, few, ap (λ (m : Shown). m.room) c.clock.ensures.entered))
+
+pub returns-in-Clock-clause-slots : goal.returns-in-Clock-clause-slots
+returns-in-Clock-clause-slots g c = ap (λ (m : Shown). m.slots) c.clock.ensures.entered
+
+pub swap-requires-clause-room : goal.swap-requires-clause-room
+swap-requires-clause-room g c = let few = subst (λ e. entries_in e ≤ c.args.machine.now.room) c.in-Swap.is c.requires.room in omega (arith, few)
+
+pub returns-in-Swap-clause-room : goal.returns-in-Swap-clause-room
+returns-in-Swap-clause-room g c = let few = subst (λ e. entries_in e ≤ c.args.machine.now.room) c.in-Swap.is c.requires.room in rw c.in-Swap.is (omega (arith, few, ap (λ (m : Shown). m.room) c.swap.ensures.entered))
+
+pub returns-in-Swap-clause-slots : goal.returns-in-Swap-clause-slots
+returns-in-Swap-clause-slots g c = ap (λ (m : Shown). m.slots) c.swap.ensures.entered
+
+pub orders_with-requires-clause-service : goal.orders_with-requires-clause-service
+orders_with-requires-clause-service g c = c.requires.service
+
+pub orders_with-requires-clause-some : goal.orders_with-requires-clause-some
+orders_with-requires-clause-some g c = let range = subst IsInRange c.in-Orders.is c.requires.in_range in omega (arith, range.0)
+
+pub orders_with-requires-clause-few : goal.orders_with-requires-clause-few
+orders_with-requires-clause-few g c = subst (λ e. calls c.args.machine.now.journal + orders_in e ≤ 20000000) c.in-Orders.is c.requires.few
+
+pub returns-in_ok-orders_with-in-Orders-clause-steps : goal.returns-in_ok-orders_with-in-Orders-clause-steps
+returns-in_ok-orders_with-in-Orders-clause-steps g c = rw c.in-Orders.is c.in_ok-orders_with-in-Orders.ensures.steps
+
+pub returns-in_ok-orders_with-in-Orders-clause-truly : goal.returns-in_ok-orders_with-in-Orders-clause-truly
+returns-in_ok-orders_with-in-Orders-clause-truly g c = c.in_ok-orders_with-in-Orders.ensures.truthful c.requires.truly
+
+pub returns-in_ok-orders_with-in-Orders-clause-calls : goal.returns-in_ok-orders_with-in-Orders-clause-calls
+returns-in_ok-orders_with-in-Orders-clause-calls g c = rw c.in-Orders.is c.in_ok-orders_with-in-Orders.ensures.calls
+
+pub returns-in_ok-orders_with-in-Orders-clause-room : goal.returns-in_ok-orders_with-in-Orders-clause-room
+returns-in_ok-orders_with-in-Orders-clause-room g c = rw c.in-Orders.is (omega (arith, c.in_ok-orders_with-in-Orders.ensures.room))
+
+pub returns-in_ok-orders_with-in-Orders-clause-time : goal.returns-in_ok-orders_with-in-Orders-clause-time
+returns-in_ok-orders_with-in-Orders-clause-time g c = rw c.in-Orders.is c.in_ok-orders_with-in-Orders.ensures.time
+
+pub returns-in_ok-orders_with-in-Orders-clause-slots : goal.returns-in_ok-orders_with-in-Orders-clause-slots
+returns-in_ok-orders_with-in-Orders-clause-slots g c = c.in_ok-orders_with-in-Orders.ensures.slots
