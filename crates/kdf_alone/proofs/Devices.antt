@@ -61,18 +61,18 @@ came (Pooled x) device e = ap (λ o. unwrap_or (option_map progress_of o) new_pr
 pub seen_stays : {X : Type 0} (see : Place → X) (ps : List Place) (d : ℕ) (place : Place) → see place ≡ see (get_or ps d Absent) → map see (set ps d place) ≡ map see ps
 seen_stays see ps d place e = map-set_same see ps d place Absent e
 
--- a place that is changed where it may be leaves what the program has
-pub same_stock : (size : ℕ) (served : Bool) (claimed : List Bool) (ps : List Place) (xs : List Stint) (texts : List Spooled) (asked : ℕ) (words : List ℕ) (d : ℕ) (place : Place)
-    → own_fixture_in place ≡ own_fixture_in (get_or ps d Absent) → pool_kind_in place ≡ pool_kind_in (get_or ps d Absent) → progress_in place ≡ progress_in (get_or ps d Absent)
-    → stock size served claimed (set ps d place) xs texts asked words ≡ stock size served claimed ps xs texts asked words
-same_stock size served claimed ps xs texts asked words d place own pool progress =
+-- places in which the same is seen leave what the program has
+pub seen_stock : (size : ℕ) (served : Bool) (claimed : List Bool) (ps new : List Place) (xs : List Stint) (texts : List Spooled) (asked : ℕ) (words : List ℕ)
+    → map own_fixture_in new ≡ map own_fixture_in ps → map pool_kind_in new ≡ map pool_kind_in ps → map progress_in new ≡ map progress_in ps
+    → stock size served claimed new xs texts asked words ≡ stock size served claimed ps xs texts asked words
+seen_stock size served claimed ps new xs texts asked words own pool progress =
     λ i. record {
-      claims = record { size = size; claimed = claimed; fixtures = seen_stays own_fixture_in ps d place own i; pool = seen_stays pool_kind_in ps d place pool i; served = served };
+      claims = record { size = size; claimed = claimed; fixtures = own i; pool = pool i; served = served };
       spooled = texts;
       asked = asked;
       stints = map stint_in xs;
       store = words;
-      devices = seen_stays progress_in ps d place progress i;
+      devices = progress i;
     }
 
 -- a transfer is done at once

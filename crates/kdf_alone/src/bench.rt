@@ -1,7 +1,8 @@
 //! The port of a program by itself.
-ghost use Rattle.std.specs.Prelude.{◌≡◌, ◌<◌, [], All, length, map, HoldsAt, IfNone, IfSome};
+ghost use Rattle.std.specs.Prelude.{◌≡◌, ◌<◌, [], All, length, map, slice_index_or, HoldsAt, IfNone, IfSome, OnOk};
 ghost use Rattle.std.proofs.Props.{props};
-ghost use Rattle.kdf_alone.specs.Places.{pool_kind_in, IsWhole};
+ghost use Rattle.kdf_alone.specs.declared.place.Place.TheVariants.{Absent};
+ghost use Rattle.kdf_alone.specs.Places.{own_fixture_in, pool_kind_in, progress_in, IsReady, IsWhole};
 ghost use Rattle.kdf_alone.specs.Stints.{ended, AreLent, HaveOneOpen, IsKept, IsOpen};
 
 use crate::place::Place;
@@ -42,15 +43,15 @@ pub struct Bench {
 }
 
 impl Bench {
-    ghost use Rattle.std.specs.Prelude.{◌+◌, ◌-◌, slice_index, slice_index_or, slice_get, None, true, false};
+    ghost use Rattle.std.specs.Prelude.{◌+◌, ◌-◌, slice_index, slice_get, None, true, false};
     ghost use Rattle.std.specs.Option.{option_copied};
     ghost use Rattle.kdf_processor.specs.Claims.{can_take, free_for, is_free, least_pooled, may_take, taken};
     ghost use Rattle.kdf_processor.specs.Effect.{Act, Acquires};
     ghost use Rattle.kdf_processor.specs.State.{is_pooled, lendings, pool_kind_at, unclaimed};
     ghost use Rattle.kdf_processor.specs.Stints.{IsStint};
-    ghost use Rattle.kdf_alone.specs.declared.place.Place.TheVariants.{Absent, Pooled};
+    ghost use Rattle.kdf_alone.specs.declared.place.Place.TheVariants.{Pooled};
     ghost use Rattle.kdf_alone.specs.Bench.{claims_of, stock_of, Acts, HasRoom};
-    ghost use Rattle.kdf_alone.specs.Places.{own_device_in, own_fixture_in, progress_in};
+    ghost use Rattle.kdf_alone.specs.Places.{own_device_in};
     ghost use Rattle.kdf_alone.specs.Stints.{IsUnlent};
 
     /// A store and devices, none of them claimed, of a program that a service answers where it is served.
@@ -263,9 +264,29 @@ fn end_stint(stints: &mut Vec<Stint>, d: u8, left: Device)
     requires one { HaveOneOpen stints.old.items }
     ensures { stints.new.items ≡ map (ended d left) stints.old.items }
 {
-    if let Some(i) = last_unended(stints, d) {
-        stints[i].left = Some(left);
+    match last_unended(stints, d) {
+        Some(i) => {
+            let none = stints[i].left.replace(left);
+            drop(none);
+        }
+        None => drop(left),
     }
+}
+
+/// Takes the memory for the blocks that an order adds to the device of this number, if there is one.
+fn make_ready(places: &mut Vec<Place>, d: u8, order: TransferOrder) -> Result<(), AllocError>
+    ensures own { map own_fixture_in places.new.items ≡ map own_fixture_in places.old.items }
+    ensures kinds { map pool_kind_in places.new.items ≡ map pool_kind_in places.old.items }
+    ensures progresses { map progress_in places.new.items ≡ map progress_in places.old.items }
+    ensures count { length places.new.items ≡ length places.old.items }
+    ensures whole { All IsWhole places.old.items → All IsWhole places.new.items }
+    ensures ready { OnOk result (IsReady order (slice_index_or places.new.items d Absent)) }
+{
+    let place = usize::from(d);
+    if place >= places.len() {
+        return Ok(());
+    }
+    places[place].make_ready(order)
 }
 
 impl Port for Bench {
@@ -411,12 +432,7 @@ impl Reserve for Bench {
         last: u16,
     ) -> Result<(), AllocError> {
         self.block.reserve(characters_out(order, first, last))?;
-        let place = usize::from(device);
-        if place >= self.places.len() {
-            return Ok(());
-        }
-        let held = &mut self.places[place];
-        held.make_ready(order)
+        make_ready(&mut self.places, device, order)
     }
 
     fn reserve_text(&mut self, first: u16, last: u16) -> Result<(), AllocError> {

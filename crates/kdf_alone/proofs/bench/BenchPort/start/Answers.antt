@@ -7,7 +7,7 @@ use Rattle.kdf_transfer.specs.AtOnce.{kind_of}
 use Rattle.kdf_transfer.specs.Devices.{kind_in}
 use Rattle.kdf_alone.specs.declared.place.Place.{Place}
 use Rattle.kdf_alone.specs.declared.place.Place.TheVariants.{Absent}
-use Rattle.kdf_alone.specs.Places.{device_in, fixture_in, own_fixture_in, pool_kind_in, IsWhole}
+use Rattle.kdf_alone.specs.Places.{device_in, fixture_in, own_fixture_in, pool_kind_in, IsReady, IsWhole}
 use Rattle.kdf_alone.specs.Stints.{IsKept}
 use Rattle.kdf_alone.proofs.Devices.{claimed_device, claimed_kind, moved_at, seen_stays, stock, stock_moved}
 use Rattle.kdf_alone.proofs.Stints.{start_lent}
@@ -83,3 +83,14 @@ invariant_of-self-clause-lent c =
     ∙ stock_moved b.size b.served b.claimed ps b.stints.items b.spooled.items b.asked b.words.items c.args.device c.args.order c.args.first c.args.last found.0 c.transfer.new.self (with_items b.words c.transfer.new.words).items
     (All-get_or IsWhole ps c.args.device Absent inside b.pooled) found.1
     (c.transfer.ensures.own ∙ ap own_fixture_in here) (c.transfer.ensures.kind ∙ ap pool_kind_in here) moved)
+
+pub transfer-requires-clause-ready : goal.transfer-requires-clause-ready
+transfer-requires-clause-ready c =
+    let b = c.args.self.now in
+    let ps = b.places.items in
+    let place = c.index_mut-place.result.now in
+    let there : c.from-3.result < length ps = omega (arith, b.sixteen, c.from-3.ensures, c.requires.number) in
+    let here : place ≡ get_or ps c.args.device Absent =
+    c.index_mut-place.ensures.value ∙ get_or_default ps c.from-3.result place Absent there ∙ ap (λ n. get_or ps n Absent) c.from-3.ensures in
+    let Q : Place → Type 0 = IsReady c.args.order in
+    subst Q (sym here) c.requires.room.device
