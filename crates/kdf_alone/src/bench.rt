@@ -264,12 +264,8 @@ fn end_stint(stints: &mut Vec<Stint>, d: u8, left: Device)
     requires one { HaveOneOpen stints.old.items }
     ensures { stints.new.items ≡ map (ended d left) stints.old.items }
 {
-    match last_unended(stints, d) {
-        Some(i) => {
-            let none = stints[i].left.replace(left);
-            drop(none);
-        }
-        None => drop(left),
+    if let Some(i) = last_unended(stints, d) {
+        stints[i].left = Some(left);
     }
 }
 

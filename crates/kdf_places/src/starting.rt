@@ -12,7 +12,7 @@ ghost use Rattle.std.specs.Prelude.{ℕ};
 
 use crate::Place;
 use kdf_lockout::{Lease, Store};
-use kdf_transfer::{Area, Device, Ring, Transfer, TransferOrder};
+use kdf_transfer::{Area, Transfer, TransferOrder};
 use std::mem;
 
 /// A transfer that is to begin: the slot whose it is, its order, and its area, in places of the store.
@@ -212,17 +212,13 @@ pub fn move_at(places: &mut Vec<Place>, d: usize, n: u16)
     place.move_words(n);
 }
 
-/// Lets a device and its ring go.
-fn let_go(_device: Device, _ring: Ring) {}
-
 /// Cancels a transfer: its groups come back.
 fn cancel_transfer(transfer: Transfer, store: &mut Store)
     requires { IsBack store.old transfer.lease }
     ensures { store.new ≡ back_cells transfer.lease store.old }
 {
-    let (device, lease, ring) = transfer.cancel();
+    let (_, lease, _) = transfer.cancel();
     put_back(store, lease);
-    let_go(device, ring);
 }
 
 /// Gives a device up: its transfer is cancelled, and its groups come back.
@@ -233,10 +229,10 @@ fn cancel(place: Place, store: &mut Store)
     match place {
         Place::Absent => {}
         Place::Idle {
-            device,
-            ring,
+            device: _,
+            ring: _,
             holder: _,
-        } => let_go(device, ring),
+        } => {}
         Place::Busy { p: _, transfer } => cancel_transfer(transfer, store),
     }
 }

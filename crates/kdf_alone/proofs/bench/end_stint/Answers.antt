@@ -1,7 +1,6 @@
 use Rattle.std.specs.Prelude.{HoldsAt}
 use Rattle.std.specs.List.{All}
-use Rattle.std.proofs.Common.{◌<◌, ℕ, length, set, sym, ap, ◌∙◌, subst}
-use Rattle.kdf_alone.specs.declared.stint.Stint.{Stint}
+use Rattle.std.proofs.Common.{◌<◌, ℕ, length, sym, subst}
 use Rattle.kdf_alone.specs.Stints.{IsOpen}
 use Rattle.kdf_alone.proofs.Stints.{ended_none, ends_at}
 use Rattle.kdf_alone.proofs.bench.end_stint.Goals as goal
@@ -10,13 +9,12 @@ pub returns-in-Some : goal.returns-in-Some
 returns-in-Some c =
     let items = c.args.stints.now.items in
     let i : ℕ = c.in-Some.i in
-    ap (λ left. set items i (let x : Stint = record c.index_mut.result.now { left = left } in x)) c.replace-none.ensures.after
-    ∙ ends_at c.args.d c.args.left items i c.index_mut.result.now _ c.requires.one
+    ends_at c.args.d c.args.left items i c.index_mut.result.now _ c.requires.one
     (subst (λ xs. i < length xs) c.deref.ensures.value c.in-Some.ensures.number)
     (subst (λ xs. HoldsAt (IsOpen c.args.d) xs i) c.deref.ensures.value c.in-Some.ensures.is)
     c.index_mut.ensures.value
 
-pub returns-in-None : goal.returns-in-None
-returns-in-None c =
+pub returns-in_default : goal.returns-in_default
+returns-in_default c =
     sym (ended_none c.args.d c.args.left c.args.stints.now.items
-    (subst (λ xs. All (λ x. IsOpen c.args.d x → ⊥) xs) c.deref.ensures.value c.in-None.ensures.none))
+    (subst (λ xs. All (λ x. IsOpen c.args.d x → ⊥) xs) c.deref.ensures.value c.in_default.ensures.none))
