@@ -2,25 +2,24 @@
 ghost use Rattle.std.specs.Prelude.{◌≡◌, ◌<◌, ◌≤◌, [], ◌∷◌, length, slice_index};
 
 use crate::DEPTH;
+use arrayvec::ArrayVec;
 use kdf_word::Word;
 use std::marker::Model;
 
-/// The nesting store: at most sixteen words, the top first. The top stands last of the first `depth` of `words`; those
-/// after it don't count.
+/// The nesting store: at most sixteen words, the top first. The top stands last in `words`.
 #[derive(Drop)]
 pub struct Nest {
-    words: [Word; DEPTH],
-    depth: usize,
+    words: ArrayVec<Word, DEPTH>,
 }
 
 impl Model for Nest {
-    ghost use Rattle.std.specs.Prelude.{◌≡◌, ◌≤◌, List, ℕ, length, reverse, take};
+    ghost use Rattle.std.specs.Prelude.{◌≤◌, List, ℕ, length, reverse};
 
     ghost Value = { List ℕ };
 
-    ghost view = { λ n. reverse (take n.depth n.words) };
+    ghost view = { λ n. reverse n.words.items };
 
-    ghost invariant = { λ n. (n.depth ≤ 16) × (length n.words ≡ 16) };
+    ghost invariant = { λ n. length n.words.items ≤ 16 };
 }
 
 impl Nest {
@@ -29,8 +28,7 @@ impl Nest {
         ensures { result ≡ [] }
     {
         Nest {
-            words: [Word::default(); DEPTH],
-            depth: 0,
+            words: ArrayVec::new(),
         }
     }
 
@@ -39,7 +37,7 @@ impl Nest {
         ensures value { result ≡ length self.now }
         ensures most { length self.now ≤ 16 }
     {
-        self.depth
+        self.words.len()
     }
 
     /// Puts a word on top of fewer than sixteen.
@@ -47,9 +45,7 @@ impl Nest {
         requires { length self.old < 16 }
         ensures { self.new ≡ item ∷ self.old }
     {
-        let depth = self.depth;
-        self.words[depth] = item;
-        self.depth = depth + 1;
+        self.words.push(item);
     }
 
     /// Takes the top off.
@@ -58,22 +54,22 @@ impl Nest {
         ensures item { self.old ≡ result ∷ self.new }
         ensures most { length self.new < 16 }
     {
-        let depth = self.depth - 1;
-        let item = self.words[depth];
-        self.depth = depth;
+        let depth = self.words.len() - 1;
+        let item = self.words.as_slice()[depth];
+        self.words.truncate(depth);
         item
     }
 
-    /// Takes the first two off, the top first. Both are read before the depth is written, so that with a word that is
-    /// then pushed it is written once.
+    /// Takes the first two off, the top first.
     pub fn pop_two(&mut self) -> (Word, Word)
         requires { 1 < length self.old }
         ensures items { self.old ≡ result.0 ∷ result.1 ∷ self.new }
         ensures most { length self.new ≤ 14 }
     {
-        let depth = self.depth - 2;
-        let items = (self.words[depth + 1], self.words[depth]);
-        self.depth = depth;
+        let depth = self.words.len() - 2;
+        let words = self.words.as_slice();
+        let items = (words[depth + 1], words[depth]);
+        self.words.truncate(depth);
         items
     }
 
@@ -82,6 +78,7 @@ impl Nest {
         requires { i < length self.now }
         ensures { result ≡ slice_index self.now i }
     {
-        self.words[self.depth - 1 - i]
+        let words = self.words.as_slice();
+        words[words.len() - 1 - i]
     }
 }
