@@ -1,5 +1,3 @@
 pub mod Ranges
 pub mod Readings
-pub mod Flat
 pub mod GroupsWritten
-pub mod Counted

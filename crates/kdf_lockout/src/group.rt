@@ -8,8 +8,7 @@ use kdf_word::Word;
 use std::alloc::{AllocError, Global};
 use std::marker::Model;
 
-/// The 32 words of a group that is out, which contracts see as their list; while it is here, the memory for them. It is made with its store, and
-/// there is never a second one of it.
+/// A group of 32 words, which contracts see as their list. It is made with its store, and there is never a second one of it.
 #[derive(Drop)]
 pub struct Group {
     words: Box<[Word; 32]>,
@@ -30,24 +29,6 @@ impl Group {
     {
         let words = Box::new(alloc, [Word::default(); 32])?;
         Ok(Group { words })
-    }
-
-    /// Puts 32 words in the place of all.
-    pub(crate) fn fill(&mut self, words: &[Word])
-        requires { length words.now ≡ 32 }
-        ensures { self.new ≡ words.now }
-    {
-        let mut all = [Word::default(); 32];
-        all.copy_from_slice(words);
-        *self.words = all;
-    }
-
-    /// All words of the group.
-    pub(crate) fn words(&self) -> &[Word]
-        ensures words { result.now ≡ self.now }
-        ensures whole { length result.now ≡ 32 }
-    {
-        &self.words[..]
     }
 
     /// Word `i` of the group.
