@@ -85,6 +85,10 @@ pub record CanTake (b : Bench) : Type 0 where
 abbrev pub HasRoom : Bench → Act → Type 0
 HasRoom b act = RoomFor (CanStart b) (CanSpool b) (CanTake b) (CanAsk b) act
 
+-- what a program by itself shows of its words
+abbrev pub words_of : State → View
+words_of s = by_itself (λ _. 0) s.stock
+
 -- a program with these registers
 abbrev pub state_with : Registers → Bench → State
 state_with r b = record { registers = r; stock = stock_of b }

@@ -3,11 +3,13 @@ ghost use Rattle.std.specs.Prelude.{◌≡◌, ◌+◌, ◌<◌, ◌≤◌, leng
 ghost use Rattle.std.specs.Option.{option_copied};
 ghost use Rattle.kdf_job.specs.Shows.{shown_slot};
 ghost use Rattle.kdf_job.specs.Slots.{slot_of};
+ghost use Rattle.kdf_processor.specs.Buffered.{Agrees};
 ghost use Rattle.kdf_processor.specs.Claims.{is_claimed};
 ghost use Rattle.kdf_processor.specs.Lone.{is_live, lone};
 ghost use Rattle.kdf_processor.specs.Row.{next_of, row};
 ghost use Rattle.kdf_processor.specs.State.{begin, lendings, word_at};
 ghost use Rattle.kdf_processor.specs.Stints.{IsStint};
+ghost use Rattle.kdf_alone.specs.Bench.{words_of};
 ghost use Rattle.kdf_alone.specs.Program.{given_by, IsApart, IsDeviceAt};
 
 use crate::bench::Bench;
@@ -15,7 +17,7 @@ use crate::loading::load_bench;
 use crate::obeying::obey_next;
 use kdf_job::SlotJob;
 use kdf_place::Image;
-use kdf_processor::{Life, Port, Registers, Spooled, Step};
+use kdf_processor::{Buffer, Life, Port, Registers, Spooled, Step};
 use kdf_transfer::Device;
 use kdf_word::Word;
 use std::alloc::{AllocError, Global};
@@ -64,8 +66,27 @@ impl Alone {
         ensures step { IfOk result (λ s. s ≡ (next_of self.old (given_by answers.now self.old)).step) }
         ensures err { OnErr result (self.new ≡ self.old) }
     {
+        let mut held = None;
+        self.order_buffered(answers, &mut held)
+    }
+
+    /// The same, where the word that syllables were fetched from last is at hand.
+    #[inline(always)]
+    fn order_buffered(
+        &mut self,
+        answers: &[u64],
+        held: &mut Option<Buffer>,
+    ) -> Result<Step, AllocError>
+        requires live { is_live self.old.registers.state ≡ true }
+        requires ran { self.old.registers.ran < u32.MAX }
+        requires agrees { Agrees (words_of self.old) held.old }
+        ensures state { OnOk result (self.new ≡ row self.old (given_by answers.now self.old)) }
+        ensures step { IfOk result (λ s. s ≡ (next_of self.old (given_by answers.now self.old)).step) }
+        ensures err { OnErr result (self.new ≡ self.old) }
+        ensures agrees { Agrees (words_of self.new) held.new }
+    {
         let answer = answer_at(answers, self.bench.asked());
-        obey_next(&mut self.registers, &mut self.bench, answer)
+        obey_next(&mut self.registers, &mut self.bench, held, answer)
     }
 
     /// Obeys `n` orders, or fewer where the program stops.
@@ -76,8 +97,9 @@ impl Alone {
         if !self.is_live() {
             return Ok(());
         }
+        let mut held = None;
         for _i in 0..n {
-            if let Step::Fails(_) | Step::Ends = self.order(answers)? {
+            if let Step::Fails(_) | Step::Ends = self.order_buffered(answers, &mut held)? {
                 return Ok(());
             }
         }

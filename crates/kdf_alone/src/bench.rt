@@ -410,7 +410,8 @@ impl Port for Bench {
 impl Reserve for Bench {
     ghost use Rattle.std.specs.Prelude.{refl};
     ghost use Rattle.kdf_processor.proofs.Rooms.{little_room};
-    ghost use Rattle.kdf_alone.specs.Bench.{CanAsk, CanSpool, CanStart, CanTake, Stays};
+    ghost use Rattle.kdf_processor.proofs.Beside.{stock_beside};
+    ghost use Rattle.kdf_alone.specs.Bench.{claims_of, given, stock_of, CanAsk, CanSpool, CanStart, CanTake, Stays};
 
     ghost keeps = { Stays };
 
@@ -419,6 +420,9 @@ impl Reserve for Bench {
     ghost ready = { CanAsk };
 
     ghost little = { λ b act can little. little_room (CanStart b) (CanSpool b) (CanTake b) (CanAsk b) act can little };
+
+    ghost beside = { λ b a w e x new acted ne there. stock_beside (given (claims_of b) b.answer)
+        (given (claims_of new) new.answer) (stock_of b) (stock_of new) a w e x acted ne there };
 
     fn reserve_transfer(
         &mut self,

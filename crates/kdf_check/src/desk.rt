@@ -224,10 +224,14 @@ impl Port for Desk<'_> {
 }
 
 impl Reserve for Desk<'_> {
-    ghost use Rattle.std.specs.Prelude.{refl};
+    ghost use Rattle.std.specs.Prelude.{◌/◌, refl};
+    ghost use Rattle.std.proofs.Common.{ap, ap₂, ◌∙◌};
     ghost use Rattle.kdf_processor.proofs.Rooms.{little_room};
-    ghost use Rattle.kdf_alone.specs.Bench.{CanAsk, CanSpool, CanStart, CanTake};
-    ghost use Rattle.kdf_check.specs.Desk.{Stays};
+    ghost use Rattle.kdf_processor.proofs.Beside.{there_by, word_kept};
+    ghost use Rattle.kdf_processor.specs.State.{Stock};
+    ghost use Rattle.kdf_check.specs.Around.{Around, is_out_in};
+    ghost use Rattle.kdf_alone.specs.Bench.{stock_of, CanAsk, CanSpool, CanStart, CanTake};
+    ghost use Rattle.kdf_check.specs.Desk.{shown, Stays};
 
     ghost keeps = { Stays };
 
@@ -244,6 +248,11 @@ impl Reserve for Desk<'_> {
 
     ghost little = { λ d act can little. little_room (CanStart d.bench.now) (CanSpool d.bench.now) (CanTake d.bench.now)
         (CanAsk d.bench.now) act can little };
+
+    ghost beside = { λ d a w b x new acted ne there. there_by (shown d) (shown new) b x
+        (ap (λ (k : Stock). k.claims.size) acted.stock)
+        (ap₂ (λ p (around : Around). is_out_in p around.table (b / 32)) acted.p acted.around ∙ there.here)
+        (word_kept (stock_of d.bench.now) (stock_of new.bench.now) a w b acted.stock ne) there };
 
     fn reserve_transfer(
         &mut self,

@@ -1,6 +1,7 @@
 //! The orders of one program, as long as nothing is noted of them.
 ghost use Rattle.std.specs.Prelude.{◌≡◌, ◌+◌, ◌*◌, ◌%◌, ◌<◌, ◌≤◌, length, map, IfOk, OnErr};
 ghost use Rattle.kdf_lockout.specs.Groups.{Cells};
+ghost use Rattle.kdf_processor.specs.Buffered.{Agrees};
 ghost use Rattle.kdf_director.specs.declared.note.Note.TheVariants.{Quiet};
 ghost use Rattle.kdf_director.specs.Fields.Batches.{AreQuiet, HasBatch, HasTurnedOn};
 ghost use Rattle.kdf_director.specs.Fields.Keeping.{IsActive, IsKept};
@@ -10,14 +11,14 @@ ghost use Rattle.kdf_director.specs.Fields.Settled.{both_of, retired, settled};
 ghost use Rattle.kdf_director.specs.Fields.Shared.{moment};
 ghost use Rattle.kdf_director.specs.Fields.Running.{reaches_in, seat_at, seats_in, IsRunning};
 ghost use Rattle.kdf_places.specs.Spots.{AreDry};
-ghost use Rattle.kdf_director.specs.Fields.Turn.{reach_in, seat_in, shared, SameProgram};
+ghost use Rattle.kdf_director.specs.Fields.Turn.{reach_in, seat_in, shared, shown, SameProgram};
 ghost use Rattle.kdf_director.specs.Fields.Turned.{HasRun, HasTried};
 
 use crate::stint::retire;
 use crate::turn::Turn;
 use crate::{Moment, Note, Place, Program, Site, Stand};
 use kdf_lockout::Store;
-use kdf_processor::{Life, Registers, Step, obey_with_room};
+use kdf_processor::{Buffer, Life, Registers, Step, obey_buffered};
 use kdf_relocate::Window;
 use kdf_word::Word;
 use std::alloc::{AllocError, Global};
@@ -25,18 +26,24 @@ use std::alloc::{AllocError, Global};
 /// Obeys the next order of a live program. It is inlined in the loop over the orders, so what it answers goes through
 /// no memory.
 #[inline(always)]
-fn obey_next(registers: &mut Registers, turn: &mut Turn<'_>) -> Result<Step, AllocError>
+fn obey_next(
+    registers: &mut Registers,
+    turn: &mut Turn<'_>,
+    held: &mut Option<Buffer>,
+) -> Result<Step, AllocError>
     requires live { registers.old.state ≡ Life.Live }
     requires ran { registers.old.ran < u32.MAX }
     requires quiet { turn.old.note ≡ Quiet }
+    requires agrees { Agrees (shown turn.old) held.old }
     ensures tried { IfOk result (λ step. HasTried (reach_in turn.old) turn.old.moment
         (seat_in turn.old registers.old) (shared turn.old) (seat_in turn.new registers.new) (shared turn.new)
         step turn.new.note) }
     ensures err { OnErr result ((seat_in turn.new registers.new ≡ seat_in turn.old registers.old)
         × (shared turn.new ≡ shared turn.old)) }
     ensures same { SameProgram turn.old turn.new }
+    ensures agrees { Agrees (shown turn.new) held.new }
 {
-    let step = obey_with_room(registers, turn)?;
+    let step = obey_buffered(registers, turn, held)?;
     Ok(step)
 }
 
@@ -62,8 +69,9 @@ fn obey_quiet(
     ensures same { SameProgram turn.old turn.new }
 {
     let mut left = most;
+    let mut held = None;
     loop {
-        match obey_next(registers, turn) {
+        match obey_next(registers, turn, &mut held) {
             Ok(Step::Done) => {
                 left -= 1;
                 if left == 0 || !turn.is_quiet() {

@@ -348,9 +348,17 @@ impl Port for Turn<'_> {
 }
 
 impl Reserve for Turn<'_> {
-    ghost use Rattle.std.specs.Prelude.{refl};
+    ghost use Rattle.std.specs.Prelude.{◌+◌, ◌/◌, refl};
+    ghost use Rattle.std.proofs.Common.{ap, ap₂, ◌∙◌};
     ghost use Rattle.kdf_processor.proofs.Rooms.{little_room};
-    ghost use Rattle.kdf_director.specs.Fields.Turn.{CanSpool, CanStart, CanTake, IsBlank, Stays};
+    ghost use Rattle.kdf_processor.proofs.Beside.{there_by};
+    ghost use Rattle.kdf_processor.specs.State.{word_in};
+    ghost use Rattle.kdf_lockout.specs.Groups.{is_out};
+    ghost use Rattle.kdf_places.proofs.WordsBeside.{group_beside, own_beside};
+    ghost use Rattle.kdf_places.specs.Shared.{Shared};
+    ghost use Rattle.kdf_places.specs.Spots.{leases_of};
+    ghost use Rattle.kdf_director.specs.Fields.Parts.{own_stock, Part};
+    ghost use Rattle.kdf_director.specs.Fields.Turn.{shared, shown, CanSpool, CanStart, CanTake, IsBlank, Stays};
 
     ghost keeps = { Stays };
 
@@ -372,6 +380,15 @@ impl Reserve for Turn<'_> {
     ghost ready = { IsBlank };
 
     ghost little = { λ t act blank little. little_room (CanStart t) (CanSpool t) (CanTake t) (Unit {0}) act tt little };
+
+    ghost beside = { λ t a w b x new acted ne there. there_by (shown t) (shown new) b x
+        (ap (λ (q : Part). q.size) acted.part)
+        (ap₂ (λ (q : Part) (s : Shared). is_out s.cells (q.base / 32 + b / 32)) acted.part acted.shared
+        ∙ group_beside (shared t).cells (t.window.base + a) w (t.window.base / 32 + b / 32) there.here)
+        (ap₂ (λ (q : Part) (s : Shared). word_in (own_stock q 0 s) b) acted.part acted.shared
+        ∙ own_beside t.window.base t.window.size a w b (shared t).cells (leases_of (shared t).spots) t.at_group
+        there.inside ne there.here)
+        there };
 
     fn reserve_transfer(
         &mut self,

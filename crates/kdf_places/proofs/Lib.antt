@@ -6,3 +6,4 @@ pub mod PlacesGivenUp
 pub mod TransfersBegin
 pub mod WordsHereAndOut
 pub mod WordsPut
+pub mod WordsBeside

@@ -17,3 +17,4 @@ pub mod Stinting
 pub mod Lending
 pub mod Rooms
 pub mod FetchLemmas
+pub mod Beside

@@ -13,6 +13,7 @@ pub mod Jumps
 pub mod Examples
 pub mod PoolExamples
 pub mod Fetch
+pub mod Buffered
 pub mod Plan
 pub mod Ahead
 pub mod Stints

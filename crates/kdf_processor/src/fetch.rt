@@ -1,19 +1,20 @@
 //! The fetch of an order: the syllables that spell it.
-ghost use Rattle.std.specs.Prelude.{◌≡◌, ◌≢◌, ◌+◌, ◌<◌, ◌/◌, ◌%◌, ◌^◌, [], ◌∷◌, None, false};
+ghost use Rattle.std.specs.Prelude.{◌≡◌, ◌≢◌, ◌+◌, ◌<◌, ◌≤◌, ◌/◌, ◌%◌, ◌^◌, [], ◌∷◌, None, false};
 ghost use Rattle.kdf_decode.specs.Decoding.{first_decoded};
+ghost use Rattle.kdf_processor.specs.Buffered.{IsHeld};
 ghost use Rattle.kdf_processor.specs.Fetch.{held_of, IsFetched, IsFetchedAt, syllable_read};
 ghost use Rattle.kdf_processor.specs.Needs.{group_of, syllable_at};
 ghost use Rattle.kdf_processor.specs.Table.{on};
 ghost use Rattle.kdf_syllable.specs.Packing.{syllable};
 ghost use Rattle.kdf_syllable.specs.Spelling.{size_of_first};
 
-use crate::Port;
 use crate::syllable_number::behind;
+use crate::{Buffer, Port};
 use kdf_syllable::{size_of_first, syllable};
 use kdf_word::Word;
 
 /// How many syllable numbers there are.
-const SYLLABLES: u16 = 49_152;
+pub const SYLLABLES: u16 = 49_152;
 
 /// What the fetch of an order gives.
 #[derive(Clone, Copy)]
@@ -61,6 +62,33 @@ pub fn fetch_order<P: Port>(port: &P, at: u16) -> Fetched
         4 => fetch_fifth(port, at),
         _ => fetch_sixth(port, at),
     }
+}
+
+/// The order at a syllable of this word.
+#[inline(always)]
+pub fn fetch_from<P: Port>(port: &P, held: Buffer, at: u16) -> Fetched
+    requires held { IsHeld (P.shows port.now) held }
+    requires low { held.first ≤ at }
+    requires high { at < held.first + 6 }
+    ensures { IsFetchedAt (P.shows port.now) at result }
+{
+    match at - held.first {
+        0..4 => held_within(port, held, at),
+        4 => fetch_from_fifth(port, at, held.word),
+        _ => fetch_from_sixth(port, at, syllable(held.word, 5)),
+    }
+}
+
+/// The order at a syllable of this word after which two others stand in it.
+#[inline(always)]
+fn held_within<P: Port>(port: &P, held: Buffer, at: u16) -> Fetched
+    requires held { IsHeld (P.shows port.now) held }
+    requires low { held.first ≤ at }
+    requires place { at < held.first + 4 }
+    ensures { IsFetchedAt (P.shows port.now) at result }
+{
+    let _ = port;
+    spelt_within(held.word, (at - held.first) as u8)
 }
 
 /// The order at a syllable after which two others stand in its word.

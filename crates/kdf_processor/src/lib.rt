@@ -7,6 +7,7 @@
 mod access;
 mod acting;
 mod arithmetic;
+mod buffer;
 mod change;
 mod claims;
 mod conditions;
@@ -40,6 +41,7 @@ mod syllable_number;
 mod transfers;
 mod waits;
 
+pub use buffer::Buffer;
 pub use fetch::{Fetched, fetch_order};
 pub use kdf_arith::Flags;
 pub use kdf_journal::Failure;
@@ -52,6 +54,6 @@ pub use obeying::{obey, obey_fetched};
 pub use port::Port;
 pub use registers::{Life, Registers};
 pub use reserve::Reserve;
-pub use room::obey_with_room;
+pub use room::{obey_buffered, obey_with_room};
 pub use spooled::Spooled;
 pub use step::{Need, Step};

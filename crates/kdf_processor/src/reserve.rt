@@ -1,8 +1,9 @@
 //! Ports that take memory before an order is obeyed.
-ghost use Rattle.std.specs.Prelude.{◌≡◌, ℕ, OnOk};
+ghost use Rattle.std.specs.Prelude.{◌≡◌, ◌≢◌, ℕ, OnOk};
 ghost use Rattle.kdf_journal.specs.declared.kind.Kind.{Kind};
 ghost use Rattle.kdf_processor.specs.Ahead.{IsSmall};
-ghost use Rattle.kdf_processor.specs.Effect.{Act, Starts, Asks, FreeOf, Spools};
+ghost use Rattle.kdf_processor.specs.Buffered.{IsThere};
+ghost use Rattle.kdf_processor.specs.Effect.{Act, Writes, Starts, Asks, FreeOf, Spools};
 
 use crate::Port;
 use kdf_transfer::TransferOrder;
@@ -49,4 +50,8 @@ pub trait Reserve: Port {
 
     /// No other act wants memory.
     ghost little: { (p : Self) (act : Act) → ready p → IsSmall act → Self.room p act };
+
+    /// A word that is written leaves the others as they can be read.
+    ghost beside: { (p : Self) (a w b x : ℕ) (new : Self) → Self.acts p (Writes a w) new → b ≢ a
+        → IsThere (Self.shows p) b x → IsThere (Self.shows new) b x };
 }

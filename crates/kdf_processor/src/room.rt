@@ -1,6 +1,7 @@
 //! Memory, taken before an order is obeyed.
 ghost use Rattle.std.specs.Prelude.{◌≡◌, ◌<◌, IfOk, OnOk, OnErr};
 ghost use Rattle.kdf_processor.specs.Ahead.{IsAhead};
+ghost use Rattle.kdf_processor.specs.Buffered.{Agrees};
 ghost use Rattle.kdf_processor.specs.Effect.{Act};
 ghost use Rattle.kdf_processor.specs.Fetch.{IsFetchedAt};
 ghost use Rattle.kdf_processor.specs.Outcome.{outcome};
@@ -11,11 +12,11 @@ use crate::fetch::{Fetched, fetch_order};
 use crate::look::{Ahead, look_ahead, may_want_memory};
 use crate::obeying::obey_fetched;
 use crate::quick::obey_quickly;
-use crate::{Life, Registers, Reserve, Step};
+use crate::{Buffer, Life, Registers, Reserve, Step};
 use std::alloc::AllocError;
 
 /// Obeys the next order of a live program, all its memory being taken first, or answers what holds it up and changes nothing.
-/// At Err nothing but spare memory has changed. It is inlined in the loop over the orders, so what it answers goes through no memory.
+/// At Err nothing but spare memory has changed.
 #[inline(always)]
 pub fn obey_with_room<P: Reserve>(
     registers: &mut Registers,
@@ -28,9 +29,33 @@ pub fn obey_with_room<P: Reserve>(
         (outcome (P.shows port.old) registers.old) port.old port.new registers.new step) }
     ensures err { OnErr result ((registers.new ≡ registers.old) × P.keeps port.old port.new) }
 {
-    match obey_quickly(registers, port) {
+    let mut held = None;
+    obey_buffered(registers, port, &mut held)
+}
+
+/// The same, where the word that syllables were fetched from last is at hand: it is kept for those of the next order.
+/// It is inlined in the loop over the orders, so what it answers goes through no memory.
+#[inline(always)]
+pub fn obey_buffered<P: Reserve>(
+    registers: &mut Registers,
+    port: &mut P,
+    held: &mut Option<Buffer>,
+) -> Result<Step, AllocError>
+    requires live { registers.old.state ≡ Life.Live }
+    requires ran { registers.old.ran < u32.MAX }
+    requires ready { P.ready port.old }
+    requires agrees { Agrees (P.shows port.old) held.old }
+    ensures obeyed { IfOk result (λ step. WithRoom P.keeps P.acts
+        (outcome (P.shows port.old) registers.old) port.old port.new registers.new step) }
+    ensures err { OnErr result ((registers.new ≡ registers.old) × P.keeps port.old port.new) }
+    ensures agrees { Agrees (P.shows port.new) held.new }
+{
+    match obey_quickly(registers, port, held) {
         Some(()) => Ok(Step::Done),
-        None => obey_any(registers, port),
+        None => {
+            *held = None;
+            obey_any(registers, port)
+        }
     }
 }
 

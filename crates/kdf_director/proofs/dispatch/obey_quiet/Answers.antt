@@ -35,6 +35,7 @@ loop-left-preserved c =
       few = omega (arith, c.loop-left.invariant.few);
       ran = omega (arith, c.loop-left.invariant.ran, c.loop-left.invariant.some, went.ran);
       quiet = quiet;
+      agrees = c.obey_next.ensures.agrees;
       earlier =
           subst (λ n. AreQuiet (HasTried (reach_in c.args.turn.now) c.args.turn.now.moment) n (seat_in c.args.turn.now c.args.registers.now) (shared c.args.turn.now) (seat_in c.obey_next.new.turn c.obey_next.new.registers) (shared c.obey_next.new.turn)) one (
             seat_in c.loop-left.turn c.loop-left.registers,

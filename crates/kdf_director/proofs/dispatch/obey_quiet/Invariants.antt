@@ -1,8 +1,9 @@
 use Rattle.std.proofs.Common.{◌≡◌, ◌+◌, ◌-◌, ◌<◌, ◌≤◌}
 use Rattle.kdf_processor.specs.declared.registers.Life.TheVariants as life
+use Rattle.kdf_processor.specs.Buffered.{Agrees}
 use Rattle.kdf_director.specs.declared.note.Note.TheVariants.{Quiet}
 use Rattle.kdf_director.specs.Fields.Batches.{AreQuiet}
-use Rattle.kdf_director.specs.Fields.Turn.{reach_in, seat_in, shared, SameProgram}
+use Rattle.kdf_director.specs.Fields.Turn.{reach_in, seat_in, shared, shown, SameProgram}
 use Rattle.kdf_director.specs.Fields.Turned.{HasTried}
 use Rattle.kdf_director.proofs.dispatch.obey_quiet.Given as goal
 
@@ -15,6 +16,7 @@ invariant-loop-left l =
       few : l.left ≤ l.most;
       ran : l.registers.ran + l.left ≤ 4294967295;
       quiet : l.turn.note ≡ Quiet;
+      agrees : Agrees (shown l.turn) l.held;
       earlier :
           AreQuiet (HasTried (reach_in l.fn.turn) l.fn.turn.moment) (l.most - l.left) (seat_in l.fn.turn l.fn.registers) (shared l.fn.turn) (seat_in l.turn l.registers) (shared l.turn);
     }

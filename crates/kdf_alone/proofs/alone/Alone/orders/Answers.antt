@@ -8,9 +8,9 @@ returns-then-not-is_live c =
 
 pub returns-in-Fails : goal.returns-in-Fails
 returns-in-Fails c =
-    over_after c.args.answers.now c.args.self.now c.loop-i.self c.order.new.self c.loop-i._i c.args.n _ c.loop-i.invariant.0 c.loop-i.invariant.1
-    c.in_ok-order.ensures.state (sym c.in_ok-order.ensures.step) (stopping c.in_ok-order.field-0 c.in-Fails.is) (omega arith)
+    over_after c.args.answers.now c.args.self.now c.loop-i.self c.order_buffered.new.self c.loop-i._i c.args.n _ c.loop-i.invariant.0 c.loop-i.invariant.1
+    c.in_ok-order_buffered.ensures.state (sym c.in_ok-order_buffered.ensures.step) (stopping c.in_ok-order_buffered.field-0 c.in-Fails.is) (omega arith)
 
-pub order-requires-clause-ran : goal.order-requires-clause-ran
-order-requires-clause-ran c =
+pub order_buffered-requires-clause-ran : goal.order_buffered-requires-clause-ran
+order_buffered-requires-clause-ran c =
     omega (arith, run_ran c.args.answers.now c.args.self.now c.loop-i.self c.loop-i._i c.loop-i.invariant.0)

@@ -1,5 +1,5 @@
 use Rattle.std.proofs.Common.{sym}
-use Rattle.kdf_processor.proofs.room.obey_with_room.Goals as goal
+use Rattle.kdf_processor.proofs.room.obey_buffered.Goals as goal
 
 pub obey_quickly-requires-clause-small : goal.obey_quickly-requires-clause-small
 obey_quickly-requires-clause-small g c =
