@@ -1,5 +1,5 @@
 //! The store.
-ghost use Rattle.std.specs.Prelude.{◌≡◌, ℕ, ◌+◌, ◌/◌, ◌<◌, ◌≤◌, ◌++◌, List, length, take, drop, replicate, map};
+ghost use Rattle.std.specs.Prelude.{◌≡◌, [], ℕ, ◌+◌, ◌/◌, ◌<◌, ◌≤◌, ◌++◌, List, length, take, drop, replicate, map};
 ghost use Rattle.std.specs.Prelude.{Option, Some, None, IfOk, IfErr, IfSome, if◌then◌else◌};
 ghost use Rattle.kdf_lockout.specs.Groups.{is_out, word_here, with_word, first_out_of, without_groups, lent_groups, with_groups, touched, IsOut};
 ghost use Rattle.arrayvec.specs.ArrayVec.{array_vec_len};
@@ -38,6 +38,15 @@ impl Store {
             cells.push(Some(Group::zeros(alloc)?))?;
         }
         Ok(Store { groups: cells })
+    }
+
+    /// A store without a group. It takes no memory.
+    pub fn none(alloc: Global) -> Store
+        ensures { result ≡ [] }
+    {
+        Store {
+            groups: Vec::new(alloc),
+        }
     }
 
     /// The word at a place, unless its group is out.
