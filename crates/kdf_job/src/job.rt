@@ -12,7 +12,8 @@ use kdf_schedule::Event;
 use kdf_transfer::Device;
 use std::alloc::{AllocError, Global};
 
-/// A job, and a deck, may have so many bytes.
+/// The most bytes of a text that is read whole: of a job with all that follows it, as `resume` and `check` read it, and of
+/// a deck. So offsets and line numbers fit 32 bits.
 pub const TEXT_LIMIT: usize = 268_435_456;
 
 /// A job.

@@ -42,7 +42,7 @@ pub enum Input {
     Made(u16),
 }
 
-/// A job that is read may have so many bytes.
+/// The most bytes that a command reads, but for `resume` and `check`, which read as many as `TEXT_LIMIT` says.
 pub const JOB_LIMIT: usize = 4_194_304;
 
 /// The highest number of a slot.
