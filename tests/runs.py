@@ -31,6 +31,12 @@ SCHEDULES = [
     (["--after", "2", "--every", "5"], "ORDERS 13 MOVE 3 1 ORDERS 5 MOVE 3 1 END 3 ORDERS 12"), (["--after", "22"], "ORDERS 30"),
 ]
 
+# How many orders come between transfers: two numbers, by no rule; and many numbers, all of them in a second round once more.
+UNEVEN = [
+    ("two distances by no rule", [3, 3, 20, 3, 20, 20, 20, 20, 3, 3, 20, 3, 20, 20, 3, 20], 1),
+    ("many distances in two rounds", [9, 37, 55, 52, 49, 5, 17, 8, 32, 49, 29, 31, 42, 25, 51, 14, 7, 32, 2, 58, 54, 25, 28, 39], 2),
+]
+
 # The schedule of ASKS in one job and in another, and what same says.
 SAME = [
     (["--after", "0"], None, "slot 2: the same\n"),
@@ -114,6 +120,22 @@ def transfer_is_late(text, delay):
             return f"transfers took {over}"
     late = {device: call for device, call in begun.items() if call + delay < calls}
     return f"transfers didn't end: {late}" if late else None
+
+
+def reads_unevenly(lengths, rounds):
+    """A job whose program obeys as many orders after its transfers as these numbers say, one after the other, and does so this often."""
+    reads = " ".join(f"PRQ1; INTQ1; {'DUMMY; ' * length}\n" for length in lengths)
+    deck = f"PROGRAM V0; V0 = Q0/1952/1952; SET 2; SET 5; OUT; V0; =Q1; =C1;\n{'JSP1; ' * rounds}ZERO; OUT;\nP1; {reads}EXIT 1; FINISH;"
+    return f"KDF9 JOB 1\nSLOT 0\nSTORE 2048\nDECK\n{deck}\nENDDECK\nDEVICE 2 TR\n+ABC\nSCHEDULE\nORDERS 20000\nENDJOB\n"
+
+
+def uneven_transfers_are_ended():
+    """Where nothing tells when the next transfers begin, or where that is seen late, the schedule ends them all the same, and the program with them."""
+    for what, lengths, rounds in UNEVEN:
+        for words, delay in (([], 20), (["--after", "9"], 9)):
+            run = kdf9(["schedule", "-", *words], reads_unevenly(lengths, rounds))
+            wrong = transfer_is_late(run.out, delay) if (run.status, run.err) == (0, "") else f"{run.status} {run.err}"
+            yield f"a schedule of {what}", wrong or (None if "\nSTATE ENDED\n" in kdf9(["run"], run.out).out else "that doesn't lead to the end")
 
 
 def devices_of_the_pool_are_answers():
@@ -241,6 +263,6 @@ def bad_input_is_refused():
 
 
 SUITES = (
-    schedules_are_written, devices_of_the_pool_are_answers, programs_are_compared, orders_are_traced, answers_of_the_service_are_shown, examples_are_run,
+    schedules_are_written, uneven_transfers_are_ended, devices_of_the_pool_are_answers, programs_are_compared, orders_are_traced, answers_of_the_service_are_shown, examples_are_run,
     bad_input_is_refused,
 )
