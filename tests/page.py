@@ -267,7 +267,7 @@ def pages_are_made_with_jobs(opened, file):
     yield "its fault", None if "ReferenceMissing" in shown.state() else shown.state()
     shown.page.close()
     refused = kdf9(["replay", "nowhere.job"], "")
-    yield "a page with no job", None if refused.status == 1 and refused.err == "kdf9: nowhere.job: No such file or directory\n" else f"{refused}"
+    yield "a page with no job", None if refused.status == 1 and refused.err == "nowhere.job: No such file or directory\n" else f"{refused}"
 
 
 def browsers_without_the_machine(opened, address):

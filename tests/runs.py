@@ -72,18 +72,13 @@ WAITS = [
 ]
 
 BAD_INPUT = [
-    (["schedule"], "", "usage: ./kdf9 schedule JOB"),
-    (["schedule", "-", "--after"], ASKS, "usage: ./kdf9 schedule JOB"),
-    (["schedule", "-", "--every", "0"], ASKS, "usage: ./kdf9 schedule JOB"),
-    (["schedule", "-", "16=3"], ASKS, "usage: ./kdf9 schedule JOB"),
     (["schedule", "-", "4=3"], ASKS, "-: the job has no device 4"),
     (["schedule", "-"], ASKS.replace("SET 2", "SETT 2"), "-:6:3: UnknownOrder: SETT 2"),
     (["schedule", "-", "--after", "20000000", "--every", "1"], ASKS.replace("ORDERS 30", "ORDERS 700000"), "-: the schedule would have more than 500000 lines"),
-    (["same"], "", "usage: ./kdf9 same JOB"),
     (["same", "-", "no/such/file"], ASKS, "no/such/file: No such file"),
     (["same", "-"], HEAD, "-:7:1: BadLine: the job ends here"),
     (["same", "-", "examples/adds-cards.job"], ASKS, "examples/adds-cards.job: no slot has the same program as a slot of -"),
-    (["steps", "-", "--run", "--watch"], ASKS, "-: slot 2 has no word "),
+    (["steps", "-", "--run", "--watch", ""], ASKS, "-: slot 2 has no word "),
     (["steps", "-", "2", "--watch", "V1"], ASKS, "-: slot 2 has no word V1"),
     (["steps", "-", "2", "12", "--run"], ASKS, "-: the program obeys only 10 orders in this run, so there is no order 12"),
 ]

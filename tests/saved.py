@@ -1,7 +1,7 @@
 """What explain says of snapshots that are resumed, and of reports that are checked."""
 import re
 
-from toolkit import HEAD, PLAIN, ROOT, TAIL, document, kdf9, refused
+from toolkit import HEAD, PLAIN, ROOT, TAIL, document, kdf9
 
 RESUMED, CHECKED, WHOLE = "goes-on-with-a-sum", "finds-a-changed-digit", "checks-a-report"
 JOURNAL = "\nJOURNAL\n"
@@ -95,9 +95,6 @@ def commands_are_told_by_what_follows():
     yield "explain of a job with a line after it", explained([], other, "-:11:1: BadLine: X", ["hint: expected the end of the job"])
     odd = HEAD.replace(PLAIN, "PROGRAM; (\nSCHEDULE\nENDJOB\nJOURNAL\n) 1; J1; FINISH;") + TAIL
     yield "explain of a job whose deck has these lines", explained([], odd, "-:9:6: LIVE: J1", [])
-    for words in (["save"], ["resume", "check"], ["--check"]):
-        run = kdf9(["explain", "-", *words], odd)
-        yield f"explain - {' '.join(words)}", None if refused(run) and run.err.startswith("usage: ./kdf9 explain JOB") else f"{run}"
 
 
 def documents_have_no_other_faults():

@@ -81,6 +81,48 @@ SLIPS = [
     ("ORDERS without a number", PLAIN.replace("ORDERS 40", "ORDERS"), ["-:8:1: BadLine", "hint: the form of this line is ORDERS n"]),
 ]
 
+# What is said of names that a deck hasn't, of bytes and addresses that aren't allowed, and of programs that could go on.
+SLIPS += [
+    ("a reference that is missing", job("PROGRAM; 1; 5; J2; FINISH;"), ["-:5:16: ReferenceMissing: J2", "hint: the main part has references 1 and 5"]),
+    ("the only reference of a part", job("PROGRAM; J2P3; P3; 7; J7; FINISH;"), ["ReferenceMissing: J2P3", "hint: part 3 has reference 7"]),
+    ("a reference of a part without any", job("PROGRAM; ZERO; OUT; P1; J2; FINISH;"), ["ReferenceMissing: J2", "hint: part 1 has no references"]),
+    ("a reference twice", job("PROGRAM; 1; DUMMY;\n01; J1; FINISH;"), ["-:6:1: ReferenceTwice: 01", "hint: the first 1 of the main part is at 5:10"]),
+    ("a part that is missing", job("PROGRAM; JSP3; ZERO; OUT; P1; EXIT 1; P2; EXIT 1; FINISH;"), ["-:5:10: PartMissing: JSP3", "hint: the deck has P1 and P2 besides its main part"]),
+    ("a part in a deck without parts", job("PROGRAM; JSP3; ZERO; OUT; FINISH;"), ["PartMissing: JSP3", "hint: the deck has only its main part"]),
+    ("a part twice", job("PROGRAM; ZERO; OUT; P1; EXIT 1;\nP 1; EXIT 1; FINISH;"), ["-:6:1: PartTwice: P 1", "hint: the first P1 is at 5:21"]),
+    ("a V-store too many", job("PROGRAM V1; V2; FINISH;"), ["-:5:13: VRange: V2", "hint: the main part has V0 to V1"]),
+    ("a V-store of another part", job("PROGRAM V0; V0P2; FINISH; P2; EXIT 1; FINISH;").replace(" FINISH; P2", " P2"), ["VRange: V0P2", "hint: part 2 has no V-stores"]),
+    ("a Y-store too many", job("YA0; PROGRAM; YA1; FINISH;"), ["-:5:15: YRange: YA1", "hint: the deck declares YA0"]),
+    ("a Y-store without a declaration", job("PROGRAM; =Y0; FINISH;"), ["YRange: =Y0", "hint: the deck declares no Y-stores"]),
+    ("a deck too large for its store", job("Y99; PROGRAM; FINISH;"), ["TooLarge", "hint: the image has 101 words; write STORE 128, or more"]),
+    ("a store that isn't whole groups", PLAIN.replace("STORE 64", "STORE 70"), ["-:3:7: SizeNotGroups: STORE 70", "hint: the nearest are STORE 64 and STORE 96"]),
+    ("a letter of another alphabet", job("PROGRAM; (gr\xc3\xbc\xc3\x9f) ZERO; OUT; FINISH;"), ["-:5:13: BadByte: byte 195", "hint: this byte begins the letter \xc3\xbc; a deck has only the characters of"]),
+    ("a byte that is no letter", job("PROGRAM; (gr\xfc) ZERO; OUT; FINISH;"), ["-:5:13: BadByte: byte 252", "hint: a deck has only the characters of"]),
+    ("SHOW's addresses exchanged", PLAIN.replace("SCHEDULE", "SHOW 9 3\nSCHEDULE"), ["-:7:6: ShowRange: SHOW 9 3", "hint: the first address, 9, is above the last, 3"]),
+    ("SHOW with one address", PLAIN.replace("SCHEDULE", "SHOW 32\nSCHEDULE"), ["-:7:1: BadLine: SHOW 32", "hint: the form of this line is SHOW a b"]),
+    ("a card too long", job("PROGRAM; FINISH;", "DEVICE 4 CR\n+" + "A" * 83 + "\n"), ["-:8:82: BadMedium", "hint: a card has at most 80 characters, and this one has 83"]),
+    ("a character that the KDF9 hasn't", job("PROGRAM; FINISH;", "DEVICE 4 CR\n+AB&C\n"), ["-:8:4: BadMedium", "hint: & isn't a character of the KDF9"]),
+    ("a mark on a reader", job("PROGRAM; FINISH;", "DEVICE 2 TR\n=AB\n"), ["-:8:1: BadMedium", "hint: only a magnetic tape has lines that begin with ="]),
+    ("a device without a kind, after another", job("PROGRAM; FINISH;", "DEVICE 2 TR\nDEVICE 3\n"), ["-:8:1: BadLine: DEVICE 3", "hint: the form of this line is DEVICE d k, or DEVICE d MT label"]),
+    ("a number of 5,000 digits", PLAIN.replace("ORDERS 40", "ORDERS 4" + "0" * 5000), ["-:8:8: BadNumber", "hint: this has to be a number from 1 to 20000000"]),
+    ("a store with 5,000 zeros before its number", job(f"PROGRAM; ZERO; =E{'0' * 5000}64; FINISH;"), ["-:5:16: LIV: =E0", "its address is 64; the store has words 0 to 63"]),
+    ("an empty block", job("PROGRAM; FINISH;", "DEVICE 2 MT A\n+\n"), ["-:8:1: BadMedium", "hint: a block of a tape has at least 1 character after its sign"]),
+    (
+        "a loop that waits for a device by asking", job(READS.replace("E32;", "1; BUSYQ1; J1TR;"), READER),
+        ["-:7:", "it is in a loop: it was here 2 orders earlier", "the transfer of device 2 began at call 8, and the schedule has no END 2 after it"],
+    ),
+    (
+        "END 12 for END 2 in such a loop", job(READS.replace("E32;", "1; BUSYQ1; J1TR;"), READER, "ORDERS 40\nEND 12\nORDERS 9\n"),
+        ["line 15, END 12: no slot has device 12; did you mean END 2?"],
+    ),
+    (
+        "a slot that is starved after its transfer",
+        job("PROGRAM; 1; DUMMY; J1; FINISH;", schedule="SWAP 0 3\nORDERS 9\nSWAP 0 3\nORDERS 5\nEND 2\nORDERS 10\n").replace(
+            "SCHEDULE", f"SLOT 3\nSTORE 64\nDECK\n{READS}\nENDDECK\n{READER}SCHEDULE"),
+        ["slot 3 was live when the schedule ended, after 8 orders; this is its next order", "it had no turn in the last 15 calls, in which slot 0 ran"],
+    ),
+]
+
 # A slot that is served asks the installation's service by OUT 64, which exchanges the half words.
 SERVICE = "SERVICE\n"
 SLIPS += [

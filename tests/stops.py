@@ -26,8 +26,6 @@ TIMES_SHOWN = [
 ]
 
 BAD_INPUT = [
-    (["0", "--at"], LOOP, "usage: ./kdf9 steps JOB"),
-    (["0", "--at", "1", "--at", "1"], LOOP, "usage: ./kdf9 steps JOB"),
     (["0", "--at", "2"], LOOP, "-: slot 0 has no statement 2"),
     (["0", "--at", ""], LOOP, "-: slot 0 has no statement "),
     (["0", "--at", "P1"], LOOP, "-: slot 0 has no statement P1"),

@@ -7,6 +7,7 @@ import sys
 import tempfile
 from concurrent.futures import ThreadPoolExecutor
 
+from commands import SUITES as COMMANDS
 from launcher import launcher_starts
 from pictures import SUITES as PICTURES
 from pictures import picture_is_wrong
@@ -139,29 +140,20 @@ FAILURES = [
 
 # The words of a tool, what it reads, and how its line begins.
 BAD_INPUT = [
-    (["steps"], "", "usage: ./kdf9 steps JOB"),
-    (["steps", "-", "4"], HEAD + TAIL, "usage: ./kdf9 steps JOB"),
-    (["steps", "-", "0", "0"], HEAD + TAIL, "usage: ./kdf9 steps JOB"),
-    (["steps", "-", "0", "5", "4"], HEAD + TAIL, "usage: ./kdf9 steps JOB"),
-    (["steps", "-", "1"], HEAD + TAIL, "-: the job has no slot 1"),
+    (["steps", "-", "1"], HEAD + TAIL, "-: the job has no slot 1; it has slot 0"),
     (["steps", "-", "0", "9"], HEAD.replace(PLAIN, "PROGRAM; ZERO; OUT; FINISH;") + TAIL, "-: the program obeys only 3 orders, so there is no order 9"),
     (["steps", "-"], HEAD.replace("J1", "ADD") + TAIL, "-:5:13: UnknownOrder: ADD"),
     (["listing", "-"], HEAD, "-:7:1: BadLine: the job ends here"),
-    (["listing", "-", "x"], HEAD + TAIL, "usage: ./kdf9 listing JOB"),
     (["listing", "-", "3"], HEAD + TAIL, "-: the job has no slot 3"),
     (["listing", "no/such/file"], "", "no/such/file: No such file"),
     (["listing", "examples"], "", "examples: Is a directory"),
-    (["explain"], "", "usage: ./kdf9 explain JOB"),
     (["explain", "no/such/file"], "", "no/such/file: No such file"),
     (["listing", "-"], "KDF9 JOB 1\n" + " " * 4194304, "-: the job has more than 4194304 bytes"),
-    (["picture", "--svg"], "", "usage: ./kdf9 picture"),
-    (["json", "-"], "", "usage: ./kdf9 json"),
     (["json"], "", "-:1: this isn't a report"),
     (["json"], "KDF9 REPORT 1\nRAN 0 01\nENDREPORT\n", "-:2: this line isn't allowed here: RAN 0 01"),
     (["json"], "KDF9 REPORT 1\nSLOT 0\nSTATE LIVE\nORDERS x\n", "-:4: this line isn't allowed here: ORDERS x"),
     (["json"], "KDF9 REPORT 1\nRAN 0 1\n", "-:3: this line isn't allowed here: the report ends here"),
     (["json"], "KDF9 REPORT 1\nENDREPORT\n\n", "-:3: this line isn't allowed here: "),
-    (["report", "-"], "", "usage: ./kdf9 report"),
     (["report"], '{"text":', "-:1:9: this isn't JSON"),
     (["report"], "[]", "-: this JSON isn't a report"),
     (["report"], '{"text": "KDF9 REPORT 1", "journal": [{"entry": "RAN", "slot": 0}], "slots": []}', "-: this JSON isn't a report: 'orders' is missing"),
@@ -434,7 +426,7 @@ def documents_are_true():
 
 SUITES = (
     launcher_starts, faults_are_found, documents_have_no_other_faults, hints_are_given, failures_are_found, bad_input_is_refused,
-    turns_are_told, examples_are_shown, large_texts_take_seconds, documents_are_true, *PICTURES, *RUNS, *SAVED, *SLIPS, *STOPS,
+    turns_are_told, examples_are_shown, large_texts_take_seconds, documents_are_true, *COMMANDS, *PICTURES, *RUNS, *SAVED, *SLIPS, *STOPS,
 )
 
 

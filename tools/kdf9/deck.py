@@ -7,6 +7,7 @@ import re
 from typing import NamedTuple, Optional
 
 from kdf9.program import BadInput
+from kdf9.words import whole
 
 WORD = 6
 OTHER_DECK = "the listing isn't that of the deck"
@@ -165,20 +166,20 @@ class Layout:
 
     def unset_q_stores(self):
         """The Q-stores other than Q0 that statements use and none sets, each with the first statement that uses it."""
-        used, set_ones = {}, {"0"}
+        used, set_ones = {}, {0}
         for row in self.rows:
             if row.kind == "order":
-                set_ones.update(SETS_Q.findall(row.statement.text))
-                for q in USES_Q.findall(row.statement.text):
+                set_ones.update(map(whole, SETS_Q.findall(row.statement.text)))
+                for q in map(whole, USES_Q.findall(row.statement.text)):
                     used.setdefault(q, row.statement)
         return [(q, statement) for q, statement in used.items() if q not in set_ones]
 
     def address_of(self, name):
         """The address of the word of this name, or None where no store has it."""
-        found = re.fullmatch(r"(V|Y[A-Z]?|E)(\d{1,5})(P\d{1,3})?", name)
+        found = re.fullmatch(r"(V|Y[A-Z]?|E)(\d+)(P\d+)?", name)
         if not found:
             return None
-        before, number, after = found[1], int(found[2]), found[3] or ""
+        before, number, after = found[1], whole(found[2]), f"P{whole(found[3][1:])}" if found[3] else ""
         if before == "E":
             return None if after else number
         after = "" if after == "P0" else after
@@ -215,7 +216,7 @@ class Layout:
         elif OPENING.match(text):
             self._open(OPENING.match(text), statement)
         elif CONSTANT.match(text):
-            address = self.names[-1].address + int(CONSTANT.match(text)[1])
+            address = self.names[-1].address + whole(CONSTANT.match(text)[1])
             self.rows.append(Row("constant", WORD * address, WORD, statement))
         elif self._part is None:
             self._declare(DECLARATION.match(text), statement)
@@ -228,7 +229,7 @@ class Layout:
         """The references since the last order mean this place, also if a `*` came between. The listing says where each reference is, and has to agree."""
         for at in self._open_references:
             row = self.rows[at] = self.rows[at]._replace(place=self._place)
-            if next(self._references, None) != f"REF {self._part} {int(row.statement.text)} {row.place // WORD} {row.place % WORD}":
+            if next(self._references, None) != f"REF {self._part} {whole(row.statement.text)} {row.place // WORD} {row.place % WORD}":
                 raise BadInput(OTHER_DECK)
         self._open_references = []
 
@@ -240,7 +241,7 @@ class Layout:
             self._fill()
 
     def _declare(self, declaration, statement):
-        self._groups[declaration[1]] = int(declaration[2]) + 1
+        self._groups[declaration[1]] = whole(declaration[2]) + 1
         self._put("heading", 0, statement)
 
     def _put(self, kind, size, statement):
@@ -256,9 +257,9 @@ class Layout:
         self._place_references()
         self._fill()
         self._put("heading", 0, statement)
-        self._part = int(opening[1] or 0)
+        self._part = whole(opening[1] or "")
         if opening[2]:
-            count = int(opening[2]) + 1
+            count = whole(opening[2]) + 1
             self.names.append(Names("V", f"P{self._part}" if self._part else "", self._place // WORD, count))
             self._place += WORD * count
         self._parts[self._part] = self._place

@@ -7,7 +7,7 @@ from kdf9.deck import Layout, Row
 from kdf9.job import Slot
 from kdf9.report import Section
 from kdf9.service import SERVICE
-from kdf9.words import count, listed
+from kdf9.words import count, listed, whole
 
 KINDS = {"TP": "a paper tape punch", "TR": "a paper tape reader", "LP": "a line printer", "CR": "a card reader", "MT": "a magnetic tape"}
 CODES_OF_KINDS = {1: "TP", 2: "TR", 3: "LP", 4: "CR"}
@@ -40,7 +40,7 @@ class Case(NamedTuple):
 
     def q_store(self, q):
         """The parts of a Q-store, without signs."""
-        return self.section.q_stores.get(int(q), (0, 0, 0))
+        return self.section.q_stores.get(whole(q), (0, 0, 0))
 
     def shown_q(self, q):
         """A Q-store with its parts."""

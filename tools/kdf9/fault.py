@@ -6,7 +6,8 @@ from kdf9 import deck as decks
 from kdf9 import job as jobs
 from kdf9 import saved
 from kdf9.job import HEADER
-from kdf9.program import ROOT, BadInput, ask
+from kdf9.program import LARGE, ROOT, BadInput, ask, how_ended
+from kdf9.words import listed, whole
 
 # The bytes that some editors write first, and how many blank lines before a job count as a slip.
 BYTE_ORDER_MARK = "\xef\xbb\xbf"
@@ -116,7 +117,7 @@ def word_of_bad_number(text):
     """The first field of a line that should be a number and isn't one in its range."""
     keyword, *words = text.split(" ")
     for index, (word, (least, most)) in enumerate(zip(words, RANGES[keyword]), 1):
-        if not NUMBER.match(word) or not least <= int(word) <= most:
+        if not NUMBER.match(word) or not least <= whole(word) <= most:
             return index
     return 0
 
@@ -197,14 +198,14 @@ def sound_lines(source, text):
     return lines
 
 
-def sound_slot(source, text, words):
-    """The slot of a job that the arguments name, or its first, with the program's listing of it. A job with a fault, or without
+def sound_slot(source, text, number):
+    """The slot of this number of a job, or its first for None, with the program's listing of it. A job with a fault, or without
     that slot, is bad input.
     """
     slots = jobs.read_slots(sound_lines(source, text))
-    slot = slots.get(words[0]) if words else slots[min(slots)]
+    slot = slots[min(slots)] if number is None else slots.get(number)
     if slot is None:
-        raise BadInput(f"{source}: the job has no slot {words[0]}")
+        raise BadInput(f"{source}: the job has no slot {number}; it has {listed([f'slot {each}' for each in slots])}")
     return slot, decks.read_listing(ask(["asm", str(slot.number)], text).text)
 
 
@@ -212,7 +213,7 @@ def refuse(source, lines, answer):
     """Ends the tool if the program reports a fault."""
     if answer.status in (2, 3):
         raise BadInput(fault_of(answer, lines).head(source))
-    if answer.status == 4:
+    if answer.status == LARGE:
         raise BadInput(f"{source}: the job has more than {answer.text.split()[1]} bytes")
     if answer.status:
-        raise BadInput(f"{source}: the program ended with status {answer.status}")
+        raise BadInput(f"{source}: {how_ended(answer)}")

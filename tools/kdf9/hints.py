@@ -4,9 +4,19 @@ import re
 
 from kdf9 import deck as decks
 from kdf9 import fault as faults
-from kdf9 import saved
+from kdf9 import named, saved
+from kdf9.job import lone_job
 from kdf9.names import distance_is_one, has_form, hint_of_name
-from kdf9.words import listed
+from kdf9.program import ENCODING, ask
+from kdf9.words import count, listed
+
+# The words of a group. A store is whole groups.
+GROUP = 32
+
+# The most bytes of a letter, and what is said of all of them.
+LONGEST_LETTER = 4
+NO_LETTERS = "a deck has only the characters of a typewriter without accents, from space to ~"
+WHAT_IS_LONG = {"CR": "a card", "MT": "a block of a tape"}
 
 CAPITALS = "lowercase letters aren't allowed here; write {}"
 
@@ -61,7 +71,7 @@ def hint_of_statement(fault):
 def hint_of_deck(fault):
     """A hint for a fault of a deck, or None."""
     if fault.name == "BadByte":
-        return {13: faults.BYTE_13, 9: "this is a tab; use spaces"}.get(ord(fault.slot.deck[fault.offset]))
+        return {13: faults.BYTE_13, 9: "this is a tab; use spaces"}.get(ord(fault.slot.deck[fault.offset])) or hint_of_letter(fault.slot.deck, fault.offset)
     if fault.name == "Floating":
         return "the KDF9 has this order, but this machine leaves out floating point and works in whole numbers"
     if fault.name in ("UnknownOrder", "ConstantRange"):
@@ -69,7 +79,30 @@ def hint_of_deck(fault):
     if fault.name == "NoSemicolon":
         line, column = fault.slot.place(len(decks.without_comments(fault.slot.deck).rstrip()))
         return f"a ; is missing at {line}:{column}"
-    return None
+    if fault.name in named.HINTS:
+        return named.hint_of_missing(fault.name, fault.slot, decks.statement_at(fault.slot.deck, fault.offset))
+    return hint_of_size(fault.slot) if fault.name == "TooLarge" else None
+
+
+def hint_of_letter(deck, offset):
+    """A hint on a byte that no deck has: the letter that it begins, if there is one."""
+    for size in range(2, LONGEST_LETTER + 1):
+        try:
+            letter = deck[offset:offset + size].encode(ENCODING).decode("utf-8")
+        except UnicodeDecodeError:
+            continue
+        return f"this byte begins the letter {letter}; {NO_LETTERS}" if letter.isprintable() else None
+    return NO_LETTERS if ord(deck[offset]) > 127 else None
+
+
+def hint_of_size(slot):
+    """How many words the image of a deck has that is too large for its store, and which store is the least for it, if any is large enough."""
+    most = faults.RANGES["STORE"][0][1]
+    listing = ask(["asm", str(slot.number)], lone_job(slot._replace(store=most), 0))
+    if listing.status:
+        return f"the largest store has {most} words, and the image has more" if slot.store < most else None
+    words = len(decks.read_listing(listing.text).image) // decks.WORD
+    return f"the image has {count(words, 'word')}; write STORE {-(-words // GROUP) * GROUP}, or more"
 
 
 def hint_of_job(fault, lines):
@@ -96,9 +129,23 @@ def hint_of_job(fault, lines):
     if fault.name == "PoolKind":
         return f"the pool has punches and printers; a device of kind {line.split(' ')[2]} belongs to a slot, and comes before POOL"
     if fault.name == "ShowRange":
-        store = next(lines[at] for at in range(fault.line - 1, -1, -1) if lines[at].startswith("STORE ") and lines[at + 1] == "DECK")
-        return f"the store has words 0 to {int(store[6:]) - 1}"
+        return hint_of_show(line, lines[:fault.line])
+    if fault.name == "SizeNotGroups":
+        least = GROUP * (int(line[6:]) // GROUP)
+        return f"the nearest are STORE {least} and STORE {least + GROUP}"
     return None
+
+
+def hint_of_show(line, before):
+    """A hint on the addresses of a line SHOW, after these lines of a job."""
+    first, last = map(int, line.split(" ")[1:])
+    if first > last:
+        return f"the first address, {first}, is above the last, {last}"
+    at, store = 0, 0
+    while at < len(before):
+        store = int(before[at][6:]) if before[at].startswith("STORE ") else store
+        at = before.index("ENDDECK", at) if before[at] == "DECK" else at + 1
+    return f"the store has words 0 to {store - 1}"
 
 
 def hint_of_snapshot(fault, lines):
@@ -154,7 +201,7 @@ def expected_at(lines, line):
         return first[word]
     media = {"TR": ["+"], "CR": ["+"], "MT": ["+", "="]}
     has_device = word == "DEVICE" or before[:1] in ("+", "=")
-    own = media.get(faults.device_above(lines, line), []) if has_device else ["SERVICE"] if before == "ENDDECK" else []
+    own = media.get(faults.device_above(lines, line - 1), []) if has_device else ["SERVICE"] if before == "ENDDECK" else []
     return own + ["DEVICE", "SHOW", "SLOT", "POOL", "SCHEDULE"]
 
 
@@ -184,6 +231,13 @@ def hint_of_medium(line, kind, column):
         return "the devices of the pool begin empty, so they have no lines"
     if kind in ("TP", "LP"):
         return f"a device of kind {kind} begins empty, so it has no lines"
-    if line[column - 1:column].islower():
+    wrong = line[column - 1:column]
+    if wrong.isascii() and wrong.islower():
         return "lowercase letters aren't characters"
-    return None
+    if column == 1 and line[:1] == "=":
+        return "only a magnetic tape has lines that begin with ="
+    if kind == "MT" and len(line) == 1:
+        return "a block of a tape has at least 1 character after its sign"
+    if len(line) > faults.LONGEST.get(kind, len(line)) + 1 and not faults.NO_CHARACTER.search(line, 1):
+        return f"{WHAT_IS_LONG[kind]} has at most {faults.LONGEST[kind]} characters, and this one has {len(line) - 1}"
+    return f"{faults.shown(wrong)} isn't a character of the KDF9 (docs/USERCODE.md, Characters)" if wrong.isprintable() and wrong.isascii() and wrong else None

@@ -7,10 +7,13 @@ from kdf9.deck import WORD
 from kdf9.job import read_slots
 from kdf9.program import answer_to
 from kdf9.schedule import cut, job_with, read_schedule, start_of
-from kdf9.timeline import HOLDS, call_of_order, in_flight, lent
-from kdf9.words import count, listed
+from kdf9.timeline import HOLDS, call_of_order, calls_of, in_flight, lent
+from kdf9.words import count, listed, whole
 
 GROUP = 32
+
+# The entries of a turn of a program.
+TURNS = ("RAN", "BUSY", "LOV", "WAIT")
 
 # How many of the last orders are searched for a loop.
 LONGEST_LOOP = 40
@@ -41,10 +44,11 @@ class Stopped:
         return report.read_section(answer_to(["run"], job_with(self.slots, schedule)), number)
 
     def hold_of(self, number):
-        """What a program was held up by last, if it hasn't obeyed an order since; or None."""
+        """What a program was held up by last, if it hasn't obeyed an order since and the transfer that held it up goes on; or None."""
         for kind, *rest in reversed(self.report.entries):
-            if kind in ("RAN", "BUSY", "LOV", "WAIT") and rest[0] == number:
-                return None if kind == "RAN" else Hold(kind, rest[1])
+            if kind in TURNS and rest[0] == number:
+                over = kind == "RAN" or kind == "BUSY" and rest[1] not in self.flying or kind == "LOV" and not self.flights_of(number)
+                return None if over else Hold(kind, rest[1])
         return None
 
     def is_held_for_good(self, number, waiting=()):
@@ -54,10 +58,8 @@ class Stopped:
         hold = self.hold_of(number)
         if hold is None or self.report.sections[number].state != ["LIVE"]:
             return False
-        if hold.kind == "BUSY":
-            return hold.number in self.flying
-        if hold.kind == "LOV":
-            return bool(self.flights_of(number))
+        if hold.kind != "WAIT":
+            return True
         holders = self.holders_of(hold.number).values()
         return all(slot in (number, *waiting) or self.is_held_for_good(slot, (number, *waiting)) for slot in holders)
 
@@ -82,6 +84,9 @@ def story(stopped, case):
         yield from devices_that_are_none(stopped)
     else:
         yield from story_of_loop(stopped, case)
+        yield from story_of_turns(stopped, number)
+        yield from story_of_flights(stopped.flights_of(number))
+        yield from devices_that_are_none(stopped)
 
 
 def story_of_no_turn(stopped, number):
@@ -108,10 +113,29 @@ def story_of_hold(stopped, case, hold):
         words = f"words {first} to {first + GROUP - 1}"
         own = " hold this order, and" if hold.number in groups_of_order(case) else ""
         yield f"it needs group {hold.number}: {words}{own} are locked out by a transfer"
-    for device, call in flights.items():
-        yield f"the transfer of device {device} began at call {call}, and the schedule has no END {device} after it"
+    yield from story_of_flights(flights)
     if hold.kind == "WAIT":
         yield from story_of_wait(stopped, number, hold.number)
+
+
+def story_of_flights(flights):
+    """Which transfers have no end, by their devices, each with the call that it began with."""
+    for device, call in flights.items():
+        yield f"the transfer of device {device} began at call {call}, and the schedule has no END {device} after it"
+
+
+def story_of_turns(stopped, number):
+    """Who had the turns after the last order of a program that nothing holds up, if others had."""
+    others, calls = set(), 0
+    for entry in reversed(stopped.report.entries):
+        if entry[0] in TURNS and entry[1] == number:
+            break
+        if entry[0] == "RAN":
+            others.add(entry[1])
+        calls += calls_of(entry)
+    if others:
+        ran = [f"slot {other}" for other in sorted(others)]
+        yield f"it had no turn in the last {count(calls, 'call')}, in which {listed(ran)} ran"
 
 
 def story_of_wait(stopped, number, kind):
@@ -176,6 +200,6 @@ def story_of_loop(stopped, case):
 def counters(case, earlier, places):
     """The counters that the orders at these places name, now and a round before."""
     rows = [case.layout.row_at(place) for place in places]
-    found = {int(q) for row in rows if row and row.statement for q in COUNTERS.findall(row.statement.text)}
+    found = {whole(q) for row in rows if row and row.statement for q in COUNTERS.findall(row.statement.text)}
     for q in sorted(found):
         yield f"; C{q} = {case.q_store(q)[0]}, and was {earlier.q_stores.get(q, (0, 0, 0))[0]} then"

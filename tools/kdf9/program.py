@@ -1,15 +1,17 @@
-"""How a tool begins and ends, what it is handed, and the program that it asks."""
-import gc
+"""What a tool is handed, and the program that it asks."""
 import os
 import pathlib
+import signal
 import subprocess
-import sys
 from typing import NamedTuple
 
 ROOT = pathlib.Path(__file__).resolve().parents[2]
 
 # A text has one character for each of its bytes, so that offsets in it are those that the program reports.
 ENCODING = "latin-1"
+
+# The status with which the program refuses a text for its length.
+LARGE = 4
 
 
 class BadInput(Exception):
@@ -21,45 +23,6 @@ class Answer(NamedTuple):
 
     status: int
     text: str
-
-
-def begin(main, usage):
-    """Runs `main` on the arguments of the tool and ends with its status; bad input gives one line and status 1. The garbage collector is
-    off: a large text becomes millions of small objects, which are all needed to the end.
-    """
-    gc.disable()
-    sys.exit(ended(main, usage))
-
-
-def ended(main, usage):
-    """The status with which `main` ends."""
-    try:
-        if sys.stdout is None:
-            raise BadInput("standard output is closed")
-        sys.stdout.reconfigure(encoding=ENCODING, errors="replace")
-        status = main(sys.argv[1:])
-        sys.stdout.flush()
-        return status
-    except BadWords:
-        print(f"usage: {usage}", file=sys.stderr)
-    except BadInput as why:
-        print(why, file=sys.stderr)
-    except OSError as why:
-        drop_output()
-        if not isinstance(why, BrokenPipeError):
-            print(f"standard output: {why.strerror}", file=sys.stderr)
-    except KeyboardInterrupt:
-        drop_output()
-    return 1
-
-
-class BadWords(Exception):
-    """The tool doesn't take these arguments."""
-
-
-def drop_output():
-    """Discards what isn't written yet, because writing has already failed."""
-    os.dup2(os.open(os.devnull, os.O_WRONLY), 1)
 
 
 def read_text(name):
@@ -84,13 +47,15 @@ def ask(words, job):
 def answer_to(words, job):
     """The text that the program answers to a job in which it found no fault."""
     answer = ask(words, job)
+    if answer.status == LARGE:
+        raise BadInput(f"with what this tool adds to it, the job has more than {answer.text.split()[1]} bytes")
     if answer.status:
-        raise BadInput(f"the program ended with status {answer.status}: {answer.text.strip()}")
+        raise BadInput(f"{how_ended(answer)}: {answer.text.strip()}" if answer.text else how_ended(answer))
     return answer.text
 
 
-def number(word, least, most):
-    """The number that an argument is, from `least` to `most`."""
-    if not (word.isascii() and word.isdigit() and least <= int(word) <= most):
-        raise BadWords
-    return int(word)
+def how_ended(answer):
+    """How the program ended that found no fault and didn't answer, in words."""
+    if answer.status < 0:
+        return f"the program was stopped by {signal.strsignal(-answer.status) or 'a signal'}, signal {-answer.status}"
+    return f"the program ended with status {answer.status}"

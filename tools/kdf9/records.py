@@ -3,7 +3,7 @@ import json
 import re
 
 from kdf9.job import read_lines
-from kdf9.program import BadInput
+from kdf9.program import ENCODING, BadInput
 
 HEADERS = re.compile(r"KDF9 (REPORT 1|ALONE [0-3])\Z")
 OCTAL = re.compile(r"[0-7]{16}\Z")
@@ -207,7 +207,7 @@ def read_json(text, name):
         raise BadInput(f"{place}: this isn't JSON") from why
     try:
         lines = list(lines_of_report(record))
-        same = all("\n" not in line for line in lines) and record_of_report(Reader(lines)) == record
+        same = all("\n" not in line and line.encode(ENCODING) for line in lines) and record_of_report(Reader(lines)) == record
     except (AttributeError, IndexError, KeyError, TypeError, ValueError) as why:
         raise BadInput(f"{name}: this JSON isn't a report: {f'{why} is missing or unknown' if isinstance(why, KeyError) else 'a part has the wrong form'}") from why
     if not same or not HEADERS.match(lines[0]):

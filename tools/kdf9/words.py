@@ -1,5 +1,14 @@
 """Numbers and lists as people write them."""
 
+# No number of a job or a deck has more digits, but for zeros before it. One with more counts as this large.
+MOST_DIGITS, TOO_LARGE = 18, 10**18
+
+
+def whole(digits):
+    """The number that decimal digits are, however many they are: Python reads no more than some thousands."""
+    digits = digits.lstrip("0")
+    return int(digits or "0") if len(digits) <= MOST_DIGITS else TOO_LARGE
+
 
 def count(number, what, several=None):
     """A number of something, in words. If there are several, they are called so, or the word gets an s."""

@@ -1,0 +1,132 @@
+"""How a tool begins and ends: its arguments, what it says of itself, and what becomes of an error. No error shows a traceback.
+
+A tool calls `main` with its name, a function that adds its arguments to a `Parser`, and a function that does its work and returns the status. Those two
+raise BadWords or BadInput where they can't go on; the text of that says what is wrong, and where.
+"""
+import argparse
+import gc
+import os
+import pathlib
+import signal
+import sys
+from typing import Callable, List, NoReturn
+
+from kdf9.program import ENCODING, BadInput
+from kdf9.tools import TOOLS
+
+# The status for bad input, and for output that can't be written; and the status for wrong arguments.
+BAD_INPUT, BAD_WORDS = 1, 2
+
+# What JOB is in the arguments of a tool, and what SLOT is.
+A_JOB = "a file with a job, or - for standard input"
+A_SLOT = "the number of a slot, 0 to 3; if it is left out, the first slot of the job"
+
+# No number in the arguments has more digits.
+MOST_DIGITS = 18
+
+# From here on Ctrl-C ends a tool at once, by its signal, as it ends the program; so it interrupts no line that is being written. While Python starts, ./kdf9
+# has it ignored, and says so by this variable; in the background of a script it is ignored, and stays so.
+if os.environ.pop("KDF9_STARTING", None) or signal.getsignal(signal.SIGINT) is signal.default_int_handler:
+    signal.signal(signal.SIGINT, signal.SIG_DFL)
+
+
+class BadWords(Exception):
+    """The tool doesn't take these arguments; the text of this exception says why."""
+
+
+class Parser(argparse.ArgumentParser):
+    """The arguments of the tool of this name. For --help it shows the tool's line of the table, and ends."""
+
+    def __init__(self, name: str) -> None:
+        tool = TOOLS[name]
+        super().__init__(
+            prog=f"./kdf9 {name}", usage=tool.usage, description=tool.does, epilog=f"example:\n  {tool.example}", add_help=False, allow_abbrev=False,
+            formatter_class=argparse.RawDescriptionHelpFormatter,
+        )
+        self._positionals.title, self._optionals.title = "arguments", "options"
+        self.add_argument("-h", "--help", action="help", help="says this, and ends")
+
+    def error(self, message: str) -> NoReturn:
+        """Refuses arguments that are wrong in this way."""
+        raise BadWords(message)
+
+
+def number(least: int, most: int) -> Callable[[str], int]:
+    """The type of an argument that is a number from `least` to `most`."""
+
+    def read(word: str) -> int:
+        if word.isascii() and word.isdigit() and len(word) <= MOST_DIGITS and least <= int(word) <= most:
+            return int(word)
+        raise argparse.ArgumentTypeError(f"has to be a number from {least} to {most}, and {word or 'an empty word'} isn't one")
+
+    return read
+
+
+def main(name: str, arguments: Callable[[Parser], None], run: Callable[[argparse.Namespace], int]) -> NoReturn:
+    """Runs the tool of this name on the arguments that were typed, and ends with its status. The garbage collector is off: a large text becomes
+    millions of small objects, which are all needed to the end.
+    """
+    gc.disable()
+    sys.exit(status_of(name, arguments, run, sys.argv[1:]))
+
+
+def status_of(name: str, arguments: Callable[[Parser], None], run: Callable[[argparse.Namespace], int], words: List[str]) -> int:
+    """The status with which a tool ends on these arguments. Bad input, and whatever else keeps it from its end, is said in one line."""
+    try:
+        return answered(name, arguments, run, words)
+    except BadWords as why:
+        tell(f"kdf9 {name}: {why}; usage: {TOOLS[name].usage} (--help says more)")
+        return BAD_WORDS
+    except BadInput as why:
+        tell(str(why))
+    except BrokenPipeError:
+        drop(1)
+    except OSError as why:
+        drop(1)
+        tell(f"{why.filename or 'standard output'}: {why.strerror or why}")
+    except MemoryError:
+        tell(f"kdf9 {name}: this takes more memory than there is")
+    except KeyboardInterrupt:
+        return 128 + signal.SIGINT
+    except Exception as why:  # pylint: disable=broad-except
+        tell(f"kdf9 {name}: {slip(why)}")
+    return BAD_INPUT
+
+
+def answered(name: str, arguments: Callable[[Parser], None], run: Callable[[argparse.Namespace], int], words: List[str]) -> int:
+    """The status of a tool that came to its end, with all that it wrote handed over."""
+    if sys.stdout is None:
+        raise BadInput("standard output is closed")
+    sys.stdout.reconfigure(encoding=ENCODING, errors="replace")
+    parser = Parser(name)
+    arguments(parser)
+    try:
+        status = run(parser.parse_intermixed_args(words))
+    except SystemExit:
+        status = 0
+    sys.stdout.flush()
+    return status
+
+
+def slip(why: Exception) -> str:
+    """What is said of an error that no tool should come to: what it is and where, for those who mend the tool."""
+    at = why.__traceback__
+    while at is not None and at.tb_next is not None:
+        at = at.tb_next
+    place = f" in {pathlib.Path(at.tb_frame.f_code.co_filename).name}:{at.tb_lineno}" if at else ""
+    return f"this is a slip of the tool, not of what it was given: {type(why).__name__}{place}: {why}"
+
+
+def tell(*lines: str) -> None:
+    """Writes lines to standard error, if anything can be written there. A character that isn't printed, such as a newline in the name of a file, is a `?`."""
+    try:
+        for line in lines:
+            if sys.stderr is not None:
+                print("".join(character if character.isprintable() else "?" for character in line), file=sys.stderr)
+    except OSError:
+        drop(2)
+
+
+def drop(stream: int) -> None:
+    """Discards what isn't written yet to standard output, 1, or standard error, 2, because writing has already failed."""
+    os.dup2(os.open(os.devnull, os.O_WRONLY), stream)

@@ -1,0 +1,121 @@
+"""What a deck has where a statement names a reference, a part or a store that it hasn't; and where it has what comes a second time."""
+import re
+from typing import Dict, List, NamedTuple, Optional
+
+from kdf9.deck import CONSTANT, DECLARATION, OPENING, Statement, statements
+from kdf9.job import Slot
+from kdf9.words import listed, whole
+
+# The part that a jump or a store names, and the letter of a Y-store.
+OF_PART = re.compile(r"\d?P(\d+)")
+OF_Y = re.compile(r"A?Y([A-Z]?)\d")
+
+
+class Part(NamedTuple):
+    """A part of a deck: its number, its opening, the highest of its V-stores or None, and its references."""
+
+    number: int
+    opening: Statement
+    highest: Optional[int]
+    references: List[Statement]
+
+    @property
+    def name(self) -> str:
+        """The part in words."""
+        return f"part {self.number}" if self.number else "the main part"
+
+
+class Named:
+    """The names that a deck has, each of which counts for the first time that it comes: parts by their numbers, and the highest Y-stores by their letters."""
+
+    def __init__(self, slot: Slot) -> None:
+        self._slot, self._openings = slot, []
+        self.parts: Dict[int, Part] = {}
+        self.stores: Dict[str, int] = {}
+        for statement in statements(slot.deck):
+            self._add(statement)
+
+    def _add(self, statement: Statement) -> None:
+        opening, declaration = OPENING.match(statement.text), DECLARATION.match(statement.text)
+        if opening:
+            part = Part(whole(opening[1] or ""), statement, whole(opening[2]) if opening[2] else None, [])
+            self._openings.append(part)
+            self.parts.setdefault(part.number, part)
+        elif declaration and not self._openings:
+            self.stores.setdefault(declaration[1], whole(declaration[2]))
+        elif statement.text.isdecimal() and self._openings:
+            self._openings[-1].references.append(statement)
+
+    def part_of(self, statement: Statement) -> Optional[Part]:
+        """The part that a statement names, or else the one in which it stands; None if there is no such part."""
+        found = OF_PART.search(statement.text)
+        if found:
+            return self.parts.get(whole(found[1]))
+        return next((part for part in reversed(self._openings) if part.opening.start < statement.start), None)
+
+    def place(self, statement: Statement) -> str:
+        """Where a statement is in its job, in words."""
+        line, column = self._slot.place(statement.start)
+        return f"{line}:{column}"
+
+
+def hint_of_missing(name: str, slot: Slot, statement: Optional[Statement]) -> Optional[str]:
+    """What there is where this statement of a slot's deck has the fault of this name, or None."""
+    return HINTS[name](Named(slot), statement) if statement else None
+
+
+def hint_of_y_stores(named: Named, statement: Statement) -> Optional[str]:
+    """Which stores of the group that a statement names are declared."""
+    found = OF_Y.search(statement.text)
+    return found and said_of_stores("the deck declares", f"Y{found[1]}", named.stores.get(found[1]))
+
+
+def hint_of_v_stores(named: Named, statement: Statement) -> Optional[str]:
+    """Which V-stores the part has that a statement names, or where the store has a constant already."""
+    part, constant = named.part_of(statement), CONSTANT.match(statement.text)
+    if part is None:
+        return None
+    if constant and part.highest is not None and whole(constant[1]) <= part.highest:
+        return f"V{whole(constant[1])} has a constant already"
+    return said_of_stores(f"{part.name} has", "V", part.highest)
+
+
+def said_of_stores(owner: str, name: str, highest: Optional[int]) -> str:
+    """Which stores of a name somebody has, in words."""
+    if highest is None:
+        return f"{owner} no {name}-stores"
+    return f"{owner} {name}0" + (f" to {name}{highest}" if highest else "")
+
+
+def hint_of_parts(named: Named, _statement: Statement) -> str:
+    """Which parts the deck has."""
+    parts = [f"P{number}" for number in named.parts if number]
+    return f"the deck has {listed(parts)} besides its main part" if parts else "the deck has only its main part"
+
+
+def hint_of_opening(named: Named, statement: Statement) -> str:
+    """Where the part was opened first."""
+    number = whole(OPENING.match(statement.text)[1])
+    return f"the first P{number} is at {named.place(named.parts[number].opening)}"
+
+
+def hint_of_references(named: Named, statement: Statement) -> Optional[str]:
+    """Which references the part has that a statement names."""
+    part = named.part_of(statement)
+    if part is None:
+        return None
+    numbers = list(dict.fromkeys(str(whole(each.text)) for each in part.references))
+    return f"{part.name} has {'references' if len(numbers) > 1 else 'reference'} {listed(numbers)}" if numbers else f"{part.name} has no references"
+
+
+def hint_of_first_reference(named: Named, statement: Statement) -> Optional[str]:
+    """Where the part has the reference first."""
+    part = named.part_of(statement)
+    first = next((each for each in part.references if whole(each.text) == whole(statement.text)), None) if part else None
+    return first and f"the first {whole(first.text)} of {part.name} is at {named.place(first)}"
+
+
+HINTS = {
+    "ReferenceTwice": hint_of_first_reference, "ReferenceMissing": hint_of_references, "PartTwice": hint_of_opening, "PartMissing": hint_of_parts,
+    "VRange": hint_of_v_stores, "YRange": hint_of_y_stores,
+}

@@ -1,0 +1,75 @@
+"""The table of the tools: what each is called, what it takes, what it does, and an example.
+
+`--help` shows it. `./kdf9` and the list in docs/TOOLS.md are compared with it by tests/tools.
+"""
+from typing import NamedTuple
+
+
+class Tool(NamedTuple):
+    """A tool: its name, its arguments as its usage has them, what it does, in a sentence, and an example that works as it is printed, in the folder
+    of `./kdf9`.
+    """
+
+    name: str
+    arguments: str
+    does: str
+    example: str
+
+    @property
+    def usage(self) -> str:
+        """How the tool is used, in one line."""
+        return f"./kdf9 {self.name} {self.arguments}"
+
+
+TOOLS = {tool.name: tool for tool in (
+    Tool(
+        "explain", "JOB [COMMAND] [--strict]",
+        "Runs a job, passes on the output and the status, and says on standard error what is wrong, where and why.",
+        "./kdf9 explain examples/adds-to-nothing.job",
+    ),
+    Tool(
+        "steps", "JOB [SLOT [FROM [TO]]] [--run] [--at STATEMENT] [--watch WORD ..]",
+        "Writes each order of a program as it is obeyed, with its statement and what it changed; or, with --at, each time that the program comes to a statement.",
+        "./kdf9 steps examples/reads-tape.job 0 2",
+    ),
+    Tool(
+        "listing", "JOB [SLOT]",
+        "Writes the image of a deck next to its text, with the names of its words.",
+        "./kdf9 listing examples/walks-over-a-table.job",
+    ),
+    Tool(
+        "schedule", "JOB [DEVICE=N ..] [--after N] [--every N]",
+        "Writes a job again with a schedule in which each transfer ends a fixed number of calls after it began.",
+        "./kdf9 schedule examples/adds-cards.job --after 7 4=30",
+    ),
+    Tool(
+        "same", "JOB [OTHER]",
+        "Says of each program of a job whether it comes to the same alone, or in another job.",
+        "./kdf9 same examples/adds-cards-while-a-tape-is-copied.job",
+    ),
+    Tool(
+        "picture", "[--text] < REPORT",
+        "Draws the journal of a report, as SVG or, with --text, for a terminal.",
+        "./kdf9 picture --text < examples/two-programs-share-a-punch.report",
+    ),
+    Tool(
+        "json", "< REPORT",
+        "Writes a report as JSON.",
+        "./kdf9 json < examples/adds-5-and-7.report",
+    ),
+    Tool(
+        "report", "< JSON",
+        "Writes the report that a JSON text is.",
+        "./kdf9 json < examples/adds-5-and-7.report | ./kdf9 report",
+    ),
+    Tool(
+        "page", "> FILE",
+        "Writes the machine, an editor and the examples as one page for a browser.",
+        "./kdf9 page > kdf9.html",
+    ),
+    Tool(
+        "replay", "JOB > FILE",
+        "Writes the same page with a job in it, which opens at the run of that job.",
+        "./kdf9 replay examples/reads-tape.job > kdf9.html",
+    ),
+)}
