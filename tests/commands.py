@@ -113,7 +113,7 @@ def wrong_words_are_refused() -> Cases:
 def no_texts_are_refused() -> Cases:
     cases = [([name, *([] if name in READS_INPUT else ["-"])], what, text) for name in (*READS_FILE, *READS_INPUT) if name != "replay" for what, text in NO_TEXTS]
     for (words, what, _), run in zip(cases, side_by_side([(words, text.decode("latin-1")) for words, _, text in cases])):
-        good = refused(run) or words[0] == "explain" and run.status == 2 and "Traceback" not in run.err
+        good = refused(run) or words[0] == "explain" and run.status in (2, 4) and "Traceback" not in run.err
         yield f"{what} for {' '.join(words)}", None if good and len(run.err) < 400 else f"{run.status} {run.out[:60]!r} {run.err[:400]!r}"
 
 

@@ -213,7 +213,6 @@ KINDS: Dict[str, Callable[[random.Random, Ask], str]] = {
     "a report": of_report,
     "a job that is cut off": lambda chance, ask: cut(chance, any_job(chance)),
     "a snapshot": of_snapshot,
-    "a job and a schedule": lambda chance, ask: job(chance),
     "a job with strange bytes": lambda chance, ask: with_strange_bytes(chance, any_job(chance)),
     "a changed example": lambda chance, ask: changed(chance, chance.choice(SHORT)),
     "a lone report": of_lone_report,

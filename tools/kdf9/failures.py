@@ -40,7 +40,7 @@ class Case(NamedTuple):
 
     def q_store(self, q):
         """The parts of a Q-store, without signs."""
-        return self.section.q_stores.get(whole(q), (0, 0, 0))
+        return self.section.q_stores.get(whole(str(q)), (0, 0, 0))
 
     def shown_q(self, q):
         """A Q-store with its parts."""
