@@ -104,6 +104,8 @@ SLIPS += [
     ("a character that the KDF9 hasn't", job("PROGRAM; FINISH;", "DEVICE 4 CR\n+AB&C\n"), ["-:8:4: BadMedium", "hint: & isn't a character of the KDF9"]),
     ("a mark on a reader", job("PROGRAM; FINISH;", "DEVICE 2 TR\n=AB\n"), ["-:8:1: BadMedium", "hint: only a magnetic tape has lines that begin with ="]),
     ("a device without a kind, after another", job("PROGRAM; FINISH;", "DEVICE 2 TR\nDEVICE 3\n"), ["-:8:1: BadLine: DEVICE 3", "hint: the form of this line is DEVICE d k, or DEVICE d MT label"]),
+    ("a number that is too large", job("PROGRAM; SET 40000; FINISH;"), ["-:5:10: BadNumber: SET 40000", "hint: the largest number here is 32767"]),
+    ("a reference that is too large", job("PROGRAM; 1; J10000; FINISH;"), ["-:5:13: BadNumber: J10000", "hint: the largest number here is 9999"]),
     ("a number of 5,000 digits", PLAIN.replace("ORDERS 40", "ORDERS 4" + "0" * 5000), ["-:8:8: BadNumber", "hint: this has to be a number from 1 to 20000000"]),
     ("a store with 5,000 zeros before its number", job(f"PROGRAM; ZERO; =E{'0' * 5000}64; FINISH;"), ["-:5:16: LIV: =E0", "its address is 64; the store has words 0 to 63"]),
     ("an empty block", job("PROGRAM; FINISH;", "DEVICE 2 MT A\n+\n"), ["-:8:1: BadMedium", "hint: a block of a tape has at least 1 character after its sign"]),

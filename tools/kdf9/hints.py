@@ -6,7 +6,7 @@ from kdf9 import deck as decks
 from kdf9 import fault as faults
 from kdf9 import named, saved
 from kdf9.job import lone_job
-from kdf9.names import distance_is_one, has_form, hint_of_name
+from kdf9.names import distance_is_one, has_form, hint_of_name, hint_of_range
 from kdf9.program import ENCODING, ask
 from kdf9.words import count, listed
 
@@ -76,6 +76,8 @@ def hint_of_deck(fault):
         return "the KDF9 has this order, but this machine leaves out floating point and works in whole numbers"
     if fault.name in ("UnknownOrder", "ConstantRange"):
         return hint_of_statement(fault)
+    if fault.name == "BadNumber":
+        return hint_of_range(decks.statement_at(fault.slot.deck, fault.offset).text, fault.name)
     if fault.name == "NoSemicolon":
         line, column = fault.slot.place(len(decks.without_comments(fault.slot.deck).rstrip()))
         return f"a ; is missing at {line}:{column}"

@@ -4,6 +4,10 @@ import re
 
 from kdf9.job import Slot, lone_job
 from kdf9.program import ask
+from kdf9.words import whole
+
+# No number of a statement is larger.
+MOST_NUMBER = 2**48
 
 FORMLESS = ("UnknownOrder", "Floating", "ConstantRange", "BadByte", "CommentOpen", "NoSemicolon")
 
@@ -27,10 +31,28 @@ ELSEWHERE = {
 }
 
 
+def fault_in(statement):
+    """The name of the fault that the program finds in a deck of this statement alone, or None."""
+    answer = ask(["asm", "0"], lone_job(Slot(0, 8192, 5, f"PROGRAM;\n{statement};\nFINISH;\n", []), 0))
+    return answer.text.split()[2] if answer.status == 3 else None
+
+
 def has_form(statement):
     """Whether the program knows a statement of this text, whatever the sequence and the stores of the deck are."""
-    answer = ask(["asm", "0"], lone_job(Slot(0, 8192, 5, f"PROGRAM;\n{statement};\nFINISH;\n", []), 0))
-    return answer.status == 0 or (answer.status == 3 and answer.text.split()[2] not in FORMLESS)
+    return fault_in(statement) not in FORMLESS
+
+
+def hint_of_range(text, name):
+    """The largest number that the program takes in a statement that has the fault of this name, in the place of the first number that is at fault; or None."""
+    for number in re.finditer(r"(?<![B\d])\d+", text):
+        before, after = text[:number.start()], text[number.end():]
+        if fault_in(f"{before}1{after}") != name:
+            least, most = 1, min(whole(number[0]), MOST_NUMBER)
+            while most - least > 1:
+                middle = (least + most) // 2
+                least, most = (least, middle) if fault_in(f"{before}{middle}{after}") == name else (middle, most)
+            return f"the largest number here is {least}"
+    return None
 
 
 def distance_is_one(one, other):
