@@ -42,8 +42,8 @@ WRONG_WORDS = [
 
 # What is no text of a tool: its name and its bytes.
 NO_TEXTS = [
-    ("an empty file", b""), ("a newline", b"\n"), ("no UTF-8", b"\xff\xfe\x00K\x00D\x00F\x009"), ("letters of another alphabet", "Жобф 1\n".encode()), ("5 MB", b"x" * 5000000),
-    ("5 MB of lines", b"\n" * 5000000), ("5 MB after the first line of a job", b"KDF9 JOB 1\n" + b"x\n" * 2500000), ("a job with zeros", b"KDF9 JOB 1\n\x00\x00\n"),
+    ("an empty file", b""), ("a newline", b"\n"), ("no UTF-8", b"\xff\xfe\x00K\x00D\x00F\x009"), ("letters of another alphabet", "Жобф 1\n".encode()),
+    ("5 MB", b"x" * 5000000), ("5 MB of lines", b"\n" * 5000000), ("5 MB after the first line of a job", b"KDF9 JOB 1\n" + b"x\n" * 2500000), ("a job with zeros", b"KDF9 JOB 1\n\x00\x00\n"),
 ]
 
 # A job that runs for some seconds, and the tools that take as long over it.
@@ -162,7 +162,8 @@ def interrupts_are_silent() -> Cases:
         for words in SLOW:
             for seconds in (0.03, 0.1, 0.3, 1.0):
                 with open(pathlib.Path(folder, "long"), "rb") as stdin:
-                    process = subprocess.Popen([ROOT / "kdf9", *words], stdin=stdin, stdout=subprocess.DEVNULL, stderr=subprocess.PIPE, env=ENVIRONMENT, start_new_session=True)
+                    streams = {"stdin": stdin, "stdout": subprocess.DEVNULL, "stderr": subprocess.PIPE}
+                    process = subprocess.Popen([ROOT / "kdf9", *words], env=ENVIRONMENT, start_new_session=True, **streams)
                 interrupt(process, seconds)
                 _, err = process.communicate()
                 good = process.returncode in (-signal.SIGINT, 128 + signal.SIGINT) and not err

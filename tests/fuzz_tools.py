@@ -34,6 +34,10 @@ signal.signal(signal.SIGINT, signal.default_int_handler)
 OF_FAULTS = (2, 3, 4, 8)
 READS_REPORTS = ("picture", "json")
 
+# Arguments of steps and of schedule.
+ORDERS = [["0", "1", "3"], ["0", "7", "9"], ["2", "1", "2"], ["1"]]
+DELAYS = [[], ["--after", "0"], ["--after", "7"], ["--every", "2", "--after", "3"], ["2=5"], ["--after", "20000000", "--every", "1"]]
+
 # What no tool may say: the last is that it reads a deck in another way than the program.
 SLIPS = ("Traceback", "slip of the tool", OTHER_DECK)
 
@@ -72,9 +76,8 @@ def words_of(name: str, given: Text) -> List[str]:
     slot = chance.choice([[], [], ["0"], ["1"], ["3"]])
     some = {
         "explain": [*chance.choice([[], [], ["run"], ["resume"], ["check"]]), *chance.choice([[], ["--strict"]])],
-        "steps": [*chance.choice([["0", "1", "3"], ["0", "7", "9"], ["2", "1", "2"], ["1"]]), *chance.choice([[], ["--run"], ["--run"], ["--at", "100"], ["--at", "2/3"], ["--watch", "Y0"]])],
-        "listing": slot, "picture": chance.choice([[], ["--text"]]),
-        "schedule": [*chance.choice([[], ["--after", "0"], ["--after", "7"], ["--every", "2", "--after", "3"], ["2=5"], ["--after", "20000000", "--every", "1"]])],
+        "steps": [*chance.choice(ORDERS), *chance.choice([[], ["--run"], ["--run"], ["--at", "100"], ["--at", "2/3"], ["--watch", "Y0"]])],
+        "listing": slot, "picture": chance.choice([[], ["--text"]]), "schedule": chance.choice(DELAYS),
     }.get(name, [])
     wrong = [chance.choice(["--x", "7", "-1", "", "x", "0", "--after", "é"])] if chance.random() < 0.03 else []
     return [*([] if name in ("picture", "json", "report", "page") else ["-"]), *some, *wrong]
@@ -98,7 +101,7 @@ def why_wrong(name: str, given: Text, run: Run) -> Optional[str]:
 
 
 def failures_of(number: int, seed: int) -> List[str]:
-    """What the tools do wrong with the text of this number, and how many runs there were, as the lines that are told."""
+    """What the tools do wrong with the text of this number, in a line each. The tool page reads nothing."""
     given = text_of(seed, number, ask)
     told = []
     for name in TOOLS:

@@ -22,14 +22,18 @@ SOUND = [
     "SET {}; SET 3; DIVI; ERASE; ERASE", "SET {}; =M9; M9; ERASE", "SET 9; OUT; ERASE", "DUMMY", "*", "(a comment; PROGRAM)", "SET {}; TOB; FRB; ERASE",
     "SET {}; SET 1; SET 2; CAB; ERASE; ERASE; ERASE", "SET {}; =C8; C8; ERASE", "VR", "SET {}; SET {}; J@=; @; ERASE",
 ]
-FAILING = ["+", "ERASE; ERASE; ERASE", "SET 9000; =M2; M0M2", "E8000", "SET {}; OUT", "EXIT 1", "PRQ7", "SET {}; SET 4; OUT", "SET {}; SET 5; OUT", "SET -1; =LINK; EXIT", "XD", "=E40; +"]
+FAILING = [
+    "+", "ERASE; ERASE; ERASE", "SET 9000; =M2; M0M2", "E8000", "SET {}; OUT", "EXIT 1", "PRQ7", "SET {}; SET 4; OUT", "SET {}; SET 5; OUT", "SET -1; =LINK; EXIT",
+    "XD", "=E40; +",
+]
 STRANGE = ["\x00", "\t", "\r", "\x1b[31m", "é", "\xff", "ü", "\x80", "\xa0", "\u00ad", "~", "\x7f", "\xef\xbb\xbf"]
 LINES = [
-    "", " ", "SLOT 1", "SLOT 4", "STORE 33", "DECK", "ENDDECK", "SERVICE", "DEVICE 3", "DEVICE 3 XX", "DEVICE 16 TR", "DEVICE 2 MT", "+", "=", "SHOW 3 2", "SHOW 32", "POOL", "SCHEDULE",
-    "ORDERS", "ORDERS 0", "ORDERS 7", "ORDERS 20000001", "MOVE 3", "MOVE 3 0", "END", "END 99", "END 3", "CLOCK 1", "CLOCK -1", "SWAP 0", "SWAP 0 4", "ENDJOB", "JOURNAL", "SEAL", "ENDSNAPSHOT",
-    "KDF9 JOB 1", "KDF9 REPORT 1", "ENDREPORT", "RAN 0 1", "RAN 0 00", "START 0 3 1", "FAIL 0 LIV", "IDLE 5", "BUSY 0 3", "TAKE 0 9", "GIVE 0 9", "WAIT 0 TP", "LOV 0 1", "ENDED 0", "STATE", "STATE FAILED",
-    "STATE FAILED NOSUCH", "STATE LIVE", "ORDERS x", "AT 1", "AT 1 9", "FLAGS", "NEST 2 0", "NEST", "LINKS 1", "LINKS 1 9/9", "LINKS 2 1/1 x", "Q 1 2 3", "Q 99 0 0 0", "WORD 1", "WORD 0 8888888888888888",
-    "SPOOL 1", "DEVICE 3 TR HELD", "BLOCK", "LAST X", "POOL 9 TP HELD PLACE 0 FLAG 0", "FINISH;", "PROGRAM;", "P1; 1;", "V1 = Q0/99999/1;", "(", ";", "1: SET 5;", "DUPP;", "J99;", "+F;",
+    "", " ", "SLOT 1", "SLOT 4", "STORE 33", "DECK", "ENDDECK", "SERVICE", "DEVICE 3", "DEVICE 3 XX", "DEVICE 16 TR", "DEVICE 2 MT", "+", "=", "SHOW 3 2", "SHOW 32", "POOL",
+    "SCHEDULE", "ORDERS", "ORDERS 0", "ORDERS 7", "ORDERS 20000001", "ORDERS 4" + "0" * 5000, "MOVE 3", "MOVE 3 0", "END", "END 99", "END 3", "CLOCK 1", "CLOCK -1", "SWAP 0",
+    "SWAP 0 4", "ENDJOB", "JOURNAL", "SEAL", "ENDSNAPSHOT", "KDF9 JOB 1", "KDF9 REPORT 1", "ENDREPORT", "RAN 0 1", "RAN 0 00", "START 0 3 1", "FAIL 0 LIV", "IDLE 5", "BUSY 0 3",
+    "TAKE 0 9", "GIVE 0 9", "WAIT 0 TP", "LOV 0 1", "ENDED 0", "STATE", "STATE FAILED", "STATE FAILED NOSUCH", "STATE LIVE", "ORDERS x", "AT 1", "AT 1 9", "FLAGS", "NEST 2 0",
+    "NEST", "LINKS 1", "LINKS 1 9/9", "LINKS 2 1/1 x", "Q 1 2 3", "Q 99 0 0 0", "WORD 1", "WORD 0 8888888888888888", "SPOOL 1", "DEVICE 3 TR HELD", "BLOCK", "LAST X",
+    "POOL 9 TP HELD PLACE 0 FLAG 0", "FINISH;", "PROGRAM;", "P1; 1;", "V1 = Q0/99999/1;", "(", ";", "1: SET 5;", "DUPP;", "J99;", "+F;", "Y40000;", "SET 40000;", "000000001;",
 ]
 
 
@@ -119,7 +123,8 @@ def schedule(chance: random.Random, devices: List[int]) -> List[str]:
         lines.append(f"ORDERS {chance.choice([1, 2, 5, 20, 60])}")
         kind, device = chance.choice(["END", "END", "END", "MOVE", "CLOCK", "SWAP", ""]), chance.choice([*devices, *devices, *devices, 7])
         time += chance.randint(0, 9)
-        lines += {"END": [f"END {device}"], "MOVE": [f"MOVE {device} {chance.randint(1, 3)}"], "CLOCK": [f"CLOCK {time}"], "SWAP": [f"SWAP {chance.randint(0, 3)} {chance.randint(0, 3)}"]}.get(kind, [])
+        event = {"END": f"END {device}", "MOVE": f"MOVE {device} {chance.randint(1, 3)}", "CLOCK": f"CLOCK {time}", "SWAP": f"SWAP {chance.randint(0, 3)} {chance.randint(0, 3)}"}
+        lines += [event[kind]] if kind else []
     return lines
 
 
