@@ -155,6 +155,17 @@ def streams_that_fail_are_said() -> Cases:
     yield "listing | head -1", None if done.stdout.count(b"\n") == 1 and not done.stderr else f"{done}"
 
 
+def want_of_memory_is_said() -> Cases:
+    """A long report is more than some tools have room for; how much they have is limited as by the shell."""
+    rounds = "RAN 0 1\nRAN 1 1\n" * 300000
+    report = f"KDF9 REPORT 1\n{rounds}SLOT 0\nSTATE LIVE\nORDERS 1\nAT 1 0\nFLAGS 0 0\nNEST 0\nLINKS 0\nENDREPORT\n"
+    for kilobytes in (60000, 100000):
+        whole = ["bash", "-c", f"ulimit -v {kilobytes}; exec {sys.executable} -S tools/json > /dev/null"]
+        done = subprocess.run(whole, cwd=ROOT, env=ENVIRONMENT, input=report.encode("ascii"), stderr=subprocess.PIPE, check=False)
+        good = (done.returncode, done.stderr) == (1, b"kdf9 json: this takes more memory than there is\n")
+        yield f"json with {kilobytes} kB of memory", None if good else f"{done.returncode} {done.stderr[-600:]}"
+
+
 def interrupts_are_silent() -> Cases:
     """Ctrl-C ends a tool at once, whenever it comes, and says nothing."""
     with tempfile.TemporaryDirectory() as folder:
@@ -202,5 +213,5 @@ def fuzz_finds_nothing() -> Cases:
 
 SUITES = (
     tools_say_what_they_are_for, examples_of_tools_work, tools_are_listed, wrong_words_are_refused, no_texts_are_refused, names_of_no_files_are_refused,
-    streams_that_fail_are_said, interrupts_are_silent, fuzz_finds_nothing,
+    streams_that_fail_are_said, want_of_memory_is_said, interrupts_are_silent, fuzz_finds_nothing,
 )

@@ -73,6 +73,17 @@ def main(name: str, arguments: Callable[[Parser], None], run: Callable[[argparse
 def status_of(name: str, arguments: Callable[[Parser], None], run: Callable[[argparse.Namespace], int], words: List[str]) -> int:
     """The status with which a tool ends on these arguments. Bad input, and whatever else keeps it from its end, is said in one line."""
     try:
+        return ended(name, arguments, run, words)
+    except MemoryError:
+        pass
+    # Only here is the memory free again that the tool took: until then, the error still has all of its values.
+    tell(f"kdf9 {name}: this takes more memory than there is")
+    return BAD_INPUT
+
+
+def ended(name: str, arguments: Callable[[Parser], None], run: Callable[[argparse.Namespace], int], words: List[str]) -> int:
+    """The status of a tool that ends in any way but for want of memory."""
+    try:
         return answered(name, arguments, run, words)
     except BadWords as why:
         tell(f"kdf9 {name}: {why}; usage: {TOOLS[name].usage} (--help says more)")
@@ -84,10 +95,10 @@ def status_of(name: str, arguments: Callable[[Parser], None], run: Callable[[arg
     except OSError as why:
         drop(1)
         tell(f"{why.filename or 'standard output'}: {why.strerror or why}")
-    except MemoryError:
-        tell(f"kdf9 {name}: this takes more memory than there is")
     except KeyboardInterrupt:
         return 128 + signal.SIGINT
+    except MemoryError:
+        raise
     except Exception as why:  # pylint: disable=broad-except
         tell(f"kdf9 {name}: {slip(why)}")
     return BAD_INPUT
