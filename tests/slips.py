@@ -97,6 +97,7 @@ SLIPS += [
     ("a deck too large for its store", job("Y99; PROGRAM; FINISH;"), ["TooLarge", "hint: the image has 101 words; write STORE 128, or more"]),
     ("a store that isn't whole groups", PLAIN.replace("STORE 64", "STORE 70"), ["-:3:7: SizeNotGroups: STORE 70", "hint: the nearest are STORE 64 and STORE 96"]),
     ("a letter of another alphabet", job("PROGRAM; (gr\xc3\xbc\xc3\x9f) ZERO; OUT; FINISH;"), ["-:5:13: BadByte: byte 195", "hint: this byte begins the letter \xc3\xbc; a deck has only the characters of"]),
+    ("a letter whose capital is no byte", job("PROGRAM; dup\xff; FINISH;"), ["-:5:10: UnknownOrder: dup", "(docs/USERCODE.md, fault 4)"]),
     ("a byte that is no letter", job("PROGRAM; (gr\xfc) ZERO; OUT; FINISH;"), ["-:5:13: BadByte: byte 252", "hint: a deck has only the characters of"]),
     ("SHOW's addresses exchanged", PLAIN.replace("SCHEDULE", "SHOW 9 3\nSCHEDULE"), ["-:7:6: ShowRange: SHOW 9 3", "hint: the first address, 9, is above the last, 3"]),
     ("SHOW with one address", PLAIN.replace("SCHEDULE", "SHOW 32\nSCHEDULE"), ["-:7:1: BadLine: SHOW 32", "hint: the form of this line is SHOW a b"]),

@@ -7,7 +7,7 @@ from kdf9 import job as jobs
 from kdf9 import saved
 from kdf9.job import HEADER
 from kdf9.program import LARGE, ROOT, BadInput, ask, how_ended
-from kdf9.words import listed, whole
+from kdf9.words import capitals, listed, whole
 
 # The bytes that some editors write first, and how many blank lines before a job count as a slip.
 BYTE_ORDER_MARK = "\xef\xbb\xbf"
@@ -184,7 +184,7 @@ def hint_of_header(lines):
         return f"; {BYTE_13}"
     if first.startswith(BYTE_ORDER_MARK):
         return "; the text begins with a byte-order mark; save it without one"
-    if first.upper() == HEADER:
+    if capitals(first) == HEADER:
         return f"; lowercase letters aren't allowed here; write {HEADER}"
     if not first.strip() and HEADER in lines[:BLANK_LINES]:
         return "; nothing may come before it, not even a blank line"

@@ -8,7 +8,7 @@ from kdf9 import named, saved
 from kdf9.job import lone_job
 from kdf9.names import distance_is_one, has_form, hint_of_name, hint_of_range
 from kdf9.program import ENCODING, ask
-from kdf9.words import count, listed
+from kdf9.words import capitals, count, listed
 
 # The words of a group. A store is whole groups.
 GROUP = 32
@@ -63,8 +63,8 @@ def hint_of_statement(fault):
     for left_out, nearest in LEFT_OUT.items():
         if re.fullmatch(left_out, text):
             return f"the KDF9 has this order, but this machine leaves it out; {nearest}"
-    if text != text.upper() and has_form(text.upper()):
-        return CAPITALS.format(faults.brief(statement.written.upper()))
+    if text != capitals(text) and has_form(capitals(text)):
+        return CAPITALS.format(faults.brief(capitals(statement.written)))
     return lost_semicolon(fault, statement) or (hint_of_name(text) if fault.name == "UnknownOrder" else None)
 
 
@@ -116,9 +116,9 @@ def hint_of_job(fault, lines):
         return faults.BYTE_13
     if fault.name == "BadMedium":
         return hint_of_medium(line, faults.device_above(lines, fault.line), fault.column)
-    capitals = line.upper()
-    if line != capitals and not faults.KEYWORDS.isdisjoint(capitals.split()[:1]):
-        return CAPITALS.format(faults.brief(faults.shown(capitals)))
+    as_capitals = capitals(line)
+    if line != as_capitals and not faults.KEYWORDS.isdisjoint(as_capitals.split()[:1]):
+        return CAPITALS.format(faults.brief(faults.shown(as_capitals)))
     if line != " ".join(line.split()):
         return "fields are separated by exactly one space, and a line doesn't begin or end with one"
     if re.search(r" 0[0-9]", line) and fault.name == "BadNumber":

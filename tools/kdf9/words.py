@@ -4,6 +4,15 @@
 MOST_DIGITS, TOO_LARGE = 18, 10**18
 
 
+# The capital of each letter that has one in a job; the others stay, since theirs may be more than a byte.
+CAPITALS = {ord(letter): letter.upper() for letter in "abcdefghijklmnopqrstuvwxyz"}
+
+
+def capitals(text):
+    """A text of bytes with its letters from a to z as capitals."""
+    return text.translate(CAPITALS)
+
+
 def whole(digits):
     """The number that decimal digits are, however many they are: Python reads no more than some thousands."""
     digits = digits.lstrip("0")

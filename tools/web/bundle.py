@@ -69,7 +69,7 @@ def jobs_of_first_hour():
     tour = read("docs/TOUR.md")
     for name, job in re.findall(r"^```job (\S+)\n(.*?)^```$", tour, re.MULTILINE | re.DOTALL):
         answer = re.search(rf"^```sh\n\./kdf9 run < {re.escape(name)}\n```\n+```answer\n(.*?)^```$", tour, re.MULTILINE | re.DOTALL)
-        yield f"{FIRST_HOUR}/{name.removesuffix('.job')}", {"group": FIRST_HOUR, "job": job, "args": ["run"], "report": answer and answer[1]}
+        yield f"{FIRST_HOUR}/{name[:-len('.job')]}", {"group": FIRST_HOUR, "job": job, "args": ["run"], "report": answer and answer[1]}
 
 
 def jobs_of_examples():
