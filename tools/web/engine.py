@@ -27,7 +27,7 @@ PLACES = {
     "Lines.antt.txt": "proofs/lines_of/Answers.antt", "OwnWords.antt.txt": "proofs/own_words/Invariants.antt",
     "WordsOf.antt.txt": "proofs/words_of/Answers.antt",
 }
-CRATE, USES = "page", ["kdf_top", "kdf_io", "kdf_director", "kdf_service", "kdf_job", "kdf_journal", "kdf_schedule", "kdf_transfer", "kdf_check", "kdf_text"]
+CRATE, USES = "page", ["kdf_top", "kdf_io", "kdf_director", "kdf_theory", "kdf_service", "kdf_job", "kdf_journal", "kdf_schedule", "kdf_transfer", "kdf_check", "kdf_text"]
 
 TARGET = ["--target=wasm64-unknown-unknown", "-mcpu=lime1", "--no-default-config"]
 

@@ -10,9 +10,9 @@ use Rattle.kdf_transfer.specs.Slots.{Slot}
 use Rattle.kdf_schedule.specs.Calls.{Call, AnOrder}
 use Rattle.kdf_course.specs.Follows.{call_of, Reaches}
 use Rattle.kdf_course.proofs.Reaching.{reach-added, reach-nil}
-use Rattle.kdf_director.specs.Legal.{IsLegal}
-use Rattle.kdf_director.specs.Next.{any_live, lone_dispatched, next}
-use Rattle.kdf_director.specs.ByJournal.{lone_world}
+use Rattle.kdf_theory.specs.Legal.{IsLegal}
+use Rattle.kdf_theory.specs.Next.{any_live, lone_dispatched, next}
+use Rattle.kdf_theory.specs.ByJournal.{lone_world}
 use Rattle.kdf_check.specs.declared.table.Pending.{Pending}
 use Rattle.kdf_check.specs.declared.program.Program.{Program}
 use Rattle.kdf_check.specs.Keeps.{GoesOn, Keeps}

@@ -9,7 +9,7 @@ use Rattle.kdf_processor.specs.Needs.{needs, next_effect}
 use Rattle.kdf_processor.specs.Outcome.{done, held_or, outcome}
 use Rattle.kdf_processor.specs.Row.{next_of}
 use Rattle.kdf_processor.specs.View.{by_itself, first_pending, is_pending}
-use Rattle.kdf_director.specs.World.{World, first_need}
+use Rattle.kdf_theory.specs.World.{World, first_need}
 use Rattle.kdf_check.specs.Watching.{view_in}
 
 -- an effect comes to the same by what is shown and by the state alone

@@ -5,7 +5,7 @@ use Rattle.std.proofs.lemmas.List.{take_all, length-take}
 use Rattle.kdf_transfer.specs.Slots.{Slot}
 use Rattle.kdf_journal.specs.declared.entry.Entry.{Entry}
 use Rattle.kdf_schedule.specs.declared.event.Event.{Event}
-use Rattle.kdf_director.specs.Served.{IsJournalFor}
+use Rattle.kdf_theory.specs.Served.{IsJournalFor}
 use Rattle.kdf_director.proofs.Course.OneJournal.{one_for}
 use Rattle.kdf_check.specs.Differs.{IsDifference}
 use Rattle.kdf_check.specs.declared.verdict.Verdict.{Verdict}

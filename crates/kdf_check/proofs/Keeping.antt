@@ -17,16 +17,16 @@ use Rattle.kdf_processor.specs.Lone.{is_live}
 use Rattle.kdf_processor.specs.State.{State}
 use Rattle.kdf_processor.proofs.RowFacts.{counts_lone}
 use Rattle.kdf_alone.specs.Bench.{state_with}
-use Rattle.kdf_director.specs.Legal.{IsLegal, Meets}
-use Rattle.kdf_director.specs.Next.{next}
-use Rattle.kdf_director.specs.Served.{is_true_for, IsTrueFor}
-use Rattle.kdf_director.specs.Slots.{slot_of, start}
-use Rattle.kdf_director.specs.ByJournal.{lone_world, own}
-use Rattle.kdf_director.specs.World.{need_of}
+use Rattle.kdf_theory.specs.Legal.{IsLegal, Meets}
+use Rattle.kdf_theory.specs.Next.{next}
+use Rattle.kdf_theory.specs.Served.{is_true_for, IsTrueFor}
+use Rattle.kdf_theory.specs.Slots.{slot_of, start}
+use Rattle.kdf_theory.specs.ByJournal.{lone_world, own}
+use Rattle.kdf_theory.specs.World.{need_of}
 use Rattle.kdf_director.proofs.Course.OneJournal.{true_for_added, true_of_for}
-use Rattle.kdf_director.proofs.Course.WorldsJudged.{legal_added}
-use Rattle.kdf_director.proofs.Course.OwnSteps.{asked-start, own-ran, own-same}
-use Rattle.kdf_director.proofs.Course.Worlds.{next_on, next_slot}
+use Rattle.kdf_theory.proofs.Course.WorldsJudged.{legal_added}
+use Rattle.kdf_theory.proofs.Course.OwnSteps.{asked-start, own-ran, own-same}
+use Rattle.kdf_theory.proofs.Course.Worlds.{next_on, next_slot}
 use Rattle.kdf_check.specs.Around.{Around}
 use Rattle.kdf_check.specs.declared.table.Pending.{Pending}
 use Rattle.kdf_check.specs.declared.program.Program.{Program}

@@ -14,15 +14,15 @@ use Rattle.kdf_processor.specs.Needs.{next_effect}
 use Rattle.kdf_processor.specs.Row.{done_by, next_of}
 use Rattle.kdf_transfer.specs.Slots.{Slot}
 use Rattle.kdf_processor.specs.State.{State}
-use Rattle.kdf_director.specs.Flights.{Flight, beginning, flights_after, touches, with_flight}
-use Rattle.kdf_director.specs.Legal.{IsLegal, Meets, note_of_outcome}
-use Rattle.kdf_director.specs.Slots.{AreSlots}
-use Rattle.kdf_director.specs.ByJournal.{flights_of, further, lone_world, own}
-use Rattle.kdf_director.specs.True.{truth}
-use Rattle.kdf_director.proofs.Course.FlightsAdded.{flights-end, flights-move, pending_behind, pending-obeys}
-use Rattle.kdf_director.proofs.Course.LegalFacts.{legal_asked}
-use Rattle.kdf_director.proofs.Course.OrdersObeyed.{obeys-flights, obeys-others}
-use Rattle.kdf_director.proofs.Course.FlightsOnCourse.{flights-quiet, legal-course}
+use Rattle.kdf_theory.specs.Flights.{Flight, beginning, flights_after, touches, with_flight}
+use Rattle.kdf_theory.specs.Legal.{IsLegal, Meets, note_of_outcome}
+use Rattle.kdf_theory.specs.Slots.{AreSlots}
+use Rattle.kdf_theory.specs.ByJournal.{flights_of, further, lone_world, own}
+use Rattle.kdf_theory.specs.True.{truth}
+use Rattle.kdf_theory.proofs.Course.FlightsAdded.{flights-end, flights-move, pending_behind, pending-obeys}
+use Rattle.kdf_theory.proofs.Course.LegalFacts.{legal_asked}
+use Rattle.kdf_theory.proofs.Course.OrdersObeyed.{obeys-flights, obeys-others}
+use Rattle.kdf_theory.proofs.Course.FlightsOnCourse.{flights-quiet, legal-course}
 use Rattle.kdf_check.specs.declared.table.Pending.{Pending}
 use Rattle.kdf_check.specs.Around.{is_among}
 use Rattle.kdf_check.specs.Desk.{groups_in, table_after, IsInTable}

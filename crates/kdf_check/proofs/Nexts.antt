@@ -11,10 +11,10 @@ use Rattle.kdf_course.specs.World.{can_go, lives, stands}
 use Rattle.kdf_processor.specs.Lone.{is_live}
 use Rattle.kdf_processor.specs.State.{State, Stock}
 use Rattle.kdf_processor.specs.View.{is_pending}
-use Rattle.kdf_director.specs.Next.{any_live, lone_dispatched, next, there_in}
-use Rattle.kdf_director.specs.ByJournal.{lone_world}
-use Rattle.kdf_director.specs.World.{need_of}
-use Rattle.kdf_director.proofs.Course.LegalFacts.{legal_alive}
+use Rattle.kdf_theory.specs.Next.{any_live, lone_dispatched, next, there_in}
+use Rattle.kdf_theory.specs.ByJournal.{lone_world}
+use Rattle.kdf_theory.specs.World.{need_of}
+use Rattle.kdf_theory.proofs.Course.LegalFacts.{legal_alive}
 use Rattle.kdf_check.specs.Around.{Around}
 use Rattle.kdf_check.specs.declared.table.Pending.{Pending}
 use Rattle.kdf_check.specs.declared.program.Program.{Program}

@@ -19,14 +19,14 @@ use Rattle.kdf_processor.specs.Effect.{Question, IsBusy, IsOut, Time, FreeOf, Of
 use Rattle.kdf_processor.specs.State.{Claims, device_in, word_in}
 use Rattle.kdf_processor.specs.View.{groups_of, is_pending}
 use Rattle.kdf_processor.proofs.RowFacts.{pool_lone}
-use Rattle.kdf_director.specs.Flights.{Flight, touches}
-use Rattle.kdf_director.specs.Legal.{IsLegal, IsTrue}
-use Rattle.kdf_director.specs.Seen.{touched_below}
-use Rattle.kdf_director.specs.Slots.{AreSlots, start}
-use Rattle.kdf_director.specs.ByJournal.{flight_of, flights_of, free_after, is_free_after, is_pending_after, lone_world, mine_after, own}
-use Rattle.kdf_director.specs.ByJournal as journal
-use Rattle.kdf_director.specs.True.{one_if, truth}
-use Rattle.kdf_director.proofs.Course.DevicesHeld.{legal_taken}
+use Rattle.kdf_theory.specs.Flights.{Flight, touches}
+use Rattle.kdf_theory.specs.Legal.{IsLegal, IsTrue}
+use Rattle.kdf_theory.specs.Seen.{touched_below}
+use Rattle.kdf_theory.specs.Slots.{AreSlots, start}
+use Rattle.kdf_theory.specs.ByJournal.{flight_of, flights_of, free_after, is_free_after, is_pending_after, lone_world, mine_after, own}
+use Rattle.kdf_theory.specs.ByJournal as journal
+use Rattle.kdf_theory.specs.True.{one_if, truth}
+use Rattle.kdf_theory.proofs.Course.DevicesHeld.{legal_taken}
 use Rattle.kdf_check.specs.Around.{Around, covers, free_in, is_among, is_busy_in, is_free_in, is_of, is_out_in, mine_in}
 use Rattle.kdf_check.specs.declared.table.Pending.{Pending}
 use Rattle.kdf_check.specs.Desk.{answer_in, shown_by, taken_in}

@@ -17,8 +17,8 @@ use Rattle.kdf_alone.specs.declared.bench.Bench.{Bench}
 use Rattle.kdf_alone.specs.Bench.{state_with, stock_of}
 use Rattle.kdf_director.specs.Advance.{IsHeard}
 use Rattle.kdf_director.specs.Fields.TurnTaken.{HasAsked}
-use Rattle.kdf_director.specs.ByJournal.{lone_world, own}
-use Rattle.kdf_director.specs.World.{first_need}
+use Rattle.kdf_theory.specs.ByJournal.{lone_world, own}
+use Rattle.kdf_theory.specs.World.{first_need}
 use Rattle.kdf_director.proofs.Turns.HeardWords.{heard_so, heard_then}
 use Rattle.kdf_check.specs.Around.{Around, around_by}
 use Rattle.kdf_check.specs.declared.desk.Desk.{Desk}

@@ -10,10 +10,10 @@ use Rattle.kdf_processor.specs.Ahead.{word_asked}
 use Rattle.kdf_processor.specs.Effect.{Effect, Asking, IsBusy, IsOut, Time, FreeOf, OfService}
 use Rattle.kdf_processor.specs.Needs.{next_effect}
 use Rattle.kdf_text.specs.Lines.{is_text, line, lines as lines_in}
-use Rattle.kdf_director.specs.Legal.{IsAnswer}
-use Rattle.kdf_director.specs.Served.{is_served, is_true_for, IsJournalFor}
-use Rattle.kdf_director.specs.Slots.{NoneServed}
-use Rattle.kdf_director.specs.ByJournal.{own}
+use Rattle.kdf_theory.specs.Legal.{IsAnswer}
+use Rattle.kdf_theory.specs.Served.{is_served, is_true_for, IsJournalFor}
+use Rattle.kdf_theory.specs.Slots.{NoneServed}
+use Rattle.kdf_theory.specs.ByJournal.{own}
 use Rattle.kdf_director.proofs.Course.OneJournal.{own_unserved}
 use Rattle.kdf_director.proofs.Turns.HeardWords.{none_asked}
 use Rattle.kdf_check.specs.declared.verdict.Verdict.{Verdict}

@@ -17,7 +17,7 @@ use Rattle.kdf_processor.specs.Row.{at_once}
 use Rattle.kdf_processor.specs.State.{Claims, Stock, device_in, device_limit, word_in}
 use Rattle.kdf_processor.specs.View.{View, groups_of}
 use Rattle.kdf_alone.specs.Bench.{stock_of, HasRoom as HasBenchRoom}
-use Rattle.kdf_director.specs.True.{one_if}
+use Rattle.kdf_theory.specs.True.{one_if}
 use Rattle.kdf_check.specs.Around.{Around, around_by, free_in, is_busy_in, is_out_in, mine_in}
 use Rattle.kdf_check.specs.declared.table.Pending.{Pending}
 use Rattle.kdf_check.specs.declared.desk.Desk.{Desk}

@@ -7,7 +7,7 @@ use Rattle.kdf_journal.specs.Joined.{pushed}
 use Rattle.kdf_journal.specs.Steps.{held}
 use Rattle.kdf_processor.specs.declared.step.Step.{Step as Ending}
 use Rattle.kdf_processor.specs.declared.step.Step.TheVariants as ending
-use Rattle.kdf_director.specs.World.{hold_of}
+use Rattle.kdf_theory.specs.World.{hold_of}
 
 -- a journal with the entry that tells of an order, if there is one
 abbrev pub with_entry : List Entry → Option Entry → List Entry

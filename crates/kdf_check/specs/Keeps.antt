@@ -13,11 +13,11 @@ use Rattle.kdf_processor.specs.declared.step.Need.{Need}
 use Rattle.kdf_processor.specs.Lone.{is_live}
 use Rattle.kdf_processor.specs.View.{is_pending}
 use Rattle.kdf_alone.specs.Bench.{state_with, stock_of}
-use Rattle.kdf_director.specs.Legal.{IsLegal, Meets}
-use Rattle.kdf_director.specs.Served.{is_true_for, IsTrueFor}
-use Rattle.kdf_director.specs.Slots.{AreSlots, slot_of}
-use Rattle.kdf_director.specs.ByJournal.{lone_world, own}
-use Rattle.kdf_director.specs.World.{need_of}
+use Rattle.kdf_theory.specs.Legal.{IsLegal, Meets}
+use Rattle.kdf_theory.specs.Served.{is_true_for, IsTrueFor}
+use Rattle.kdf_theory.specs.Slots.{AreSlots, slot_of}
+use Rattle.kdf_theory.specs.ByJournal.{lone_world, own}
+use Rattle.kdf_theory.specs.World.{need_of}
 use Rattle.kdf_check.specs.Around.{Around}
 use Rattle.kdf_check.specs.declared.table.Pending.{Pending}
 use Rattle.kdf_check.specs.declared.program.Program.{Program}

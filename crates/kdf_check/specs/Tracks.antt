@@ -4,8 +4,8 @@ use Rattle.kdf_journal.specs.declared.entry.Entry.{Entry}
 use Rattle.kdf_journal.specs.Counts.{clock, holder, pending}
 use Rattle.kdf_transfer.specs.Slots.{Slot}
 use Rattle.kdf_processor.specs.State.{device_limit}
-use Rattle.kdf_director.specs.Flights.{touches}
-use Rattle.kdf_director.specs.ByJournal.{flights_of}
+use Rattle.kdf_theory.specs.Flights.{touches}
+use Rattle.kdf_theory.specs.ByJournal.{flights_of}
 use Rattle.kdf_check.specs.Around.{Around, is_among}
 use Rattle.kdf_check.specs.declared.table.Pending.{Pending}
 

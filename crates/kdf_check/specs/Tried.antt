@@ -12,11 +12,11 @@ use Rattle.kdf_processor.specs.Outcome.{Outcome, held_or}
 use Rattle.kdf_processor.specs.Row.{next_of, taken}
 use Rattle.kdf_alone.specs.declared.bench.Bench.{Bench}
 use Rattle.kdf_alone.specs.Bench.{state_with}
-use Rattle.kdf_director.specs.Legal.{note_of, IsLegal, IsTrue}
-use Rattle.kdf_director.specs.Slots.{AreSlots}
-use Rattle.kdf_director.specs.ByJournal.{lone_world, own}
-use Rattle.kdf_director.specs.True.{truth}
-use Rattle.kdf_director.specs.World.{first_need, hold_of}
+use Rattle.kdf_theory.specs.Legal.{note_of, IsLegal, IsTrue}
+use Rattle.kdf_theory.specs.Slots.{AreSlots}
+use Rattle.kdf_theory.specs.ByJournal.{lone_world, own}
+use Rattle.kdf_theory.specs.True.{truth}
+use Rattle.kdf_theory.specs.World.{first_need, hold_of}
 use Rattle.kdf_check.specs.Around.{Around}
 use Rattle.kdf_check.specs.declared.table.Pending.{Pending}
 use Rattle.kdf_check.specs.Desk.{entry_after, IsInTable, table_after}

@@ -6,8 +6,8 @@ use Rattle.kdf_journal.specs.Counts.{last_hold}
 use Rattle.kdf_schedule.specs.Calls.{AnOrder}
 use Rattle.kdf_transfer.specs.Slots.{Slot}
 use Rattle.kdf_alone.specs.Bench.{state_with}
-use Rattle.kdf_director.specs.ByJournal.{own}
-use Rattle.kdf_director.specs.World.{need_of}
+use Rattle.kdf_theory.specs.ByJournal.{own}
+use Rattle.kdf_theory.specs.World.{need_of}
 use Rattle.kdf_check.specs.declared.table.Pending.{Pending}
 use Rattle.kdf_check.specs.declared.program.Program.{Program}
 use Rattle.kdf_check.specs.Keeps.{GoesOn}

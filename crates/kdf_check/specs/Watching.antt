@@ -5,7 +5,7 @@ use Rattle.kdf_processor.specs.declared.step.Need.TheVariants.{Group, Device, Po
 use Rattle.kdf_processor.specs.Effect.{Question}
 use Rattle.kdf_processor.specs.State.{device_in, word_in}
 use Rattle.kdf_processor.specs.View.{View}
-use Rattle.kdf_director.specs.World.{World}
+use Rattle.kdf_theory.specs.World.{World}
 
 -- its state, and what of it is pending, where an order that asks is answered so
 abbrev pub view_in : World → (Question → ℕ) → ℕ → View

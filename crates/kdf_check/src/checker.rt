@@ -5,8 +5,8 @@ ghost use Rattle.kdf_job.specs.WellFormed.{IsJob};
 ghost use Rattle.kdf_place.specs.declared.image.Image.{Image};
 ghost use Rattle.kdf_service.specs.Rules.{IsService};
 ghost use Rattle.kdf_director.specs.Loading.{HaveImages, slots_of};
-ghost use Rattle.kdf_director.specs.Served.{unasked};
-ghost use Rattle.kdf_director.specs.Slots.{NoneServed};
+ghost use Rattle.kdf_theory.specs.Served.{unasked};
+ghost use Rattle.kdf_theory.specs.Slots.{NoneServed};
 ghost use Rattle.kdf_check.specs.Report.{verdict_at, IsCheck};
 
 use crate::Verdict;

@@ -5,7 +5,7 @@ ghost use Rattle.kdf_journal.specs.declared.entry.Entry.TheVariants.{Ran};
 ghost use Rattle.kdf_journal.specs.Joined.{pushed};
 ghost use Rattle.kdf_journal.specs.Steps.{held};
 ghost use Rattle.kdf_director.specs.Fields.TurnTaken.{hold_left};
-ghost use Rattle.kdf_director.specs.World.{hold_of};
+ghost use Rattle.kdf_theory.specs.World.{hold_of};
 ghost use Rattle.kdf_check.specs.Entered.{entered, with_entry, IsNote};
 
 use kdf_journal::{CALL_LIMIT, Entry, Journal, MOVE_LIMIT};

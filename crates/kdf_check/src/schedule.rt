@@ -8,9 +8,9 @@ ghost use Rattle.kdf_schedule.specs.Calls.{AnOrder, calls_made, calls_of, orders
 ghost use Rattle.kdf_schedule.specs.Events.{IsInRange};
 ghost use Rattle.kdf_course.specs.Follows.{Reaches};
 ghost use Rattle.kdf_transfer.specs.Slots.{Slot};
-ghost use Rattle.kdf_director.specs.Follows.{IsRising, time_behind};
-ghost use Rattle.kdf_director.specs.Next.{any_live, lone_dispatched};
-ghost use Rattle.kdf_director.specs.Served.{IsJournalFor};
+ghost use Rattle.kdf_theory.specs.Follows.{IsRising, time_behind};
+ghost use Rattle.kdf_theory.specs.Next.{any_live, lone_dispatched};
+ghost use Rattle.kdf_theory.specs.Served.{IsJournalFor};
 ghost use Rattle.kdf_service.specs.Rules.{IsService};
 ghost use Rattle.kdf_check.specs.Keeps.{Keeps};
 

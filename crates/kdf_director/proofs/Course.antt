@@ -1,22 +1,9 @@
 -- What a journal tells of the programs, and what its steps make of that.
-pub mod CountsBounded
-pub mod DevicesHeld
 pub mod EventsInTurn
-pub mod FlightsAdded
-pub mod FlightsOnCourse
 pub mod HoldsInside
-pub mod LegalFacts
-pub mod LoneRuns
 pub mod OneJournal
-pub mod OrdersObeyed
 pub mod OthersStay
-pub mod OwnSteps
-pub mod SeenJournals
-pub mod SlotsAtStart
-pub mod StillNext
 pub mod WorkedFlights
 pub mod WorkedPools
 pub mod WorkedSlots
 pub mod WorkedSwaps
-pub mod Worlds
-pub mod WorldsJudged

@@ -1,6 +1,7 @@
 -- One order of one program, over the fields of the machine.
 pub mod AfterTheTry
 pub mod Batching
+pub mod Borrowers
 pub mod DevicesLeave
 pub mod DevicesSettled
 pub mod FirstGoesOn
@@ -8,8 +9,8 @@ pub mod FlightsMove
 pub mod HeardWords
 pub mod MomentsKept
 pub mod OneOrder
-pub mod OneProgram
 pub mod OrdersTried
 pub mod ProgramsRetire
 pub mod TurnsKeep
 pub mod TurnsShow
+pub mod YardTurns

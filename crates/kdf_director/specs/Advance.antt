@@ -14,13 +14,13 @@ use Rattle.kdf_director.specs.declared.machine.Progress.{Progress}
 use Rattle.kdf_director.specs.declared.machine.Progress.TheVariants as progress
 use Rattle.kdf_director.specs.declared.note.Note.{Note as Noted}
 use Rattle.kdf_director.specs.declared.note.Note.TheVariants as noted
-use Rattle.kdf_director.specs.Legal.{note_of}
-use Rattle.kdf_director.specs.Next.{any_live, next}
-use Rattle.kdf_director.specs.Seen.{begun_row}
-use Rattle.kdf_director.specs.Shown.{Shown, entered, state_at, state_of, world_of}
-use Rattle.kdf_director.specs.ByJournal.{is_of}
-use Rattle.kdf_director.specs.True.{truth}
-use Rattle.kdf_director.specs.World.{first_need, hold_of}
+use Rattle.kdf_theory.specs.Legal.{note_of}
+use Rattle.kdf_theory.specs.Next.{any_live, next}
+use Rattle.kdf_theory.specs.Seen.{begun_row}
+use Rattle.kdf_theory.specs.Shown.{Shown, entered, state_at, state_of, world_of}
+use Rattle.kdf_theory.specs.ByJournal.{is_of}
+use Rattle.kdf_theory.specs.True.{truth}
+use Rattle.kdf_theory.specs.World.{first_need, hold_of}
 
 -- the states after program p obeyed its next order, by which a transfer only begins, and which was answered so, if it
 -- asked

@@ -1,10 +1,13 @@
 -- The fields of a machine: its store, places, slots and programs, and what an order, a call and an event make of them.
 pub mod Agrees
 pub mod Batches
+pub mod Begun
+pub mod CanTurn
 pub mod Filled
 pub mod Following
 pub mod Going
 pub mod Keeping
+pub mod Machines
 pub mod Notes
 pub mod Owners
 pub mod Parts
@@ -12,8 +15,10 @@ pub mod Running
 pub mod Settled
 pub mod Shared
 pub mod Sound
+pub mod Standing
 pub mod Stints
 pub mod Turn
 pub mod TurnTaken
 pub mod Turned
 pub mod Viewed
+pub mod Yards

@@ -11,11 +11,11 @@ use Rattle.kdf_processor.specs.Claims.{is_claimed}
 use Rattle.kdf_processor.specs.Needs.{group_of}
 use Rattle.kdf_transfer.specs.Slots.{Slot}
 use Rattle.kdf_processor.specs.State.{State, device_at, fixture_at, word_at}
-use Rattle.kdf_director.specs.Flights.{Flight, move_count, touches}
+use Rattle.kdf_theory.specs.Flights.{Flight, move_count, touches}
 use Rattle.kdf_director.specs.Fields.Parts.{window_at}
-use Rattle.kdf_director.specs.Shown.{Shown, state_of}
-use Rattle.kdf_director.specs.Slots.{slot_of}
-use Rattle.kdf_director.specs.ByJournal.{flights_of, is_pending_after, own_after}
+use Rattle.kdf_theory.specs.Shown.{Shown, state_of}
+use Rattle.kdf_theory.specs.Slots.{slot_of}
+use Rattle.kdf_theory.specs.ByJournal.{flights_of, is_pending_after, own_after}
 
 -- ---- windows
 

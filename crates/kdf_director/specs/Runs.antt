@@ -1,5 +1,5 @@
 -- What calls of a machine in turn come to where several are made at once.
-use Rattle.std.specs.Prelude.{◌≡◌, ◌<◌, ◌≤◌, ◌+◌, ◌++◌, ℕ, zero, suc, true, List, Option, None, Result, Ok, Err, replicate, unwrap_or}
+use Rattle.std.specs.Prelude.{◌≡◌, ◌<◌, ◌≤◌, ◌+◌, ◌++◌, ◌⊎◌, ℕ, zero, suc, true, false, List, Option, None, Result, Ok, Err, replicate, unwrap_or}
 use Rattle.kdf_journal.specs.declared.entry.Entry.{Entry}
 use Rattle.kdf_journal.specs.Counts.{calls, clock}
 use Rattle.kdf_journal.specs.Steps.{Step as Told, Obeys, Quiet, Waits, added, steps}
@@ -10,16 +10,16 @@ use Rattle.kdf_course.specs.Follows.{EachLive, answered}
 use Rattle.kdf_director.specs.declared.machine.Progress.{Progress}
 use Rattle.kdf_director.specs.declared.note.Note.{Note}
 use Rattle.kdf_director.specs.Advance.{AdvanceWith}
-use Rattle.kdf_director.specs.Legal.{IsLegal}
-use Rattle.kdf_director.specs.Next.{lone_dispatched}
+use Rattle.kdf_theory.specs.Legal.{IsLegal}
+use Rattle.kdf_theory.specs.Next.{lone_dispatched}
 use Rattle.kdf_director.specs.Orders.{HasMade}
 use Rattle.kdf_director.specs.Fields.Parts.{Reach, Seat}
 use Rattle.kdf_places.specs.Shared.{Shared}
 use Rattle.kdf_director.specs.Fields.Running.{reach_at, seat_at}
 use Rattle.kdf_director.specs.Progressed.{found_live}
-use Rattle.kdf_director.specs.Served.{IsAnswered, IsTrueFor}
+use Rattle.kdf_theory.specs.Served.{IsAnswered, IsTrueFor}
 use Rattle.kdf_director.specs.Fields.Shared.{moment}
-use Rattle.kdf_director.specs.Shown.{Shown}
+use Rattle.kdf_theory.specs.Shown.{Shown}
 use Rattle.kdf_director.specs.Fields.TurnTaken.{HasAsked, hold_left, progress_of, step_told}
 use Rattle.kdf_director.specs.Fields.Turned.{word_over, HasTurned}
 
@@ -85,6 +85,13 @@ pub record HasMadeSome (answers : ℕ → ℕ → Type 0) (n : ℕ) (old new : S
   pub answered : IsAnswered answers between.slots between.journal new.journal
   pub count : before + 1 ≡ n
   pub all_on : found_live progress ≡ true → HasMadeOn answers n old new
+
+-- so many calls at most, of which the last answers so: fewer only where that found no live program
+pub record HasMadeAtMost (answers : ℕ → ℕ → Type 0) (n : ℕ) (old new : Shown) (progress : Progress) : Type 0 where
+  pub made : ℕ
+  pub some : HasMadeSome answers made old new progress
+  pub within : made ≤ n
+  pub whole : (made ≡ n) ⊎ (found_live progress ≡ false)
 
 -- some of so many calls, and not the last
 abbrev pub HasMadeButFewer : (answers : ℕ → ℕ → Type 0) → ℕ → Shown → Shown → Type 0

@@ -12,8 +12,8 @@ use Rattle.kdf_transfer.specs.Examples.{having, paper, writer}
 use Rattle.kdf_transfer.specs.Slots.{Slot}
 use Rattle.kdf_transfer.specs.ByNumber.{device_count}
 use Rattle.kdf_processor.specs.State.{Lending, device_at, lendings, word_at}
-use Rattle.kdf_director.specs.Course.{course}
-use Rattle.kdf_director.specs.ByJournal.{seen_of}
+use Rattle.kdf_theory.specs.Course.{course}
+use Rattle.kdf_theory.specs.ByJournal.{seen_of}
 
 -- the journal of slots under a schedule
 abbrev pub journal_under : List Slot → List Event → List Entry

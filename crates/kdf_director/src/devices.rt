@@ -8,13 +8,13 @@ ghost use Rattle.kdf_director.specs.Fields.Parts.{fixture_owned, numbers, owns};
 ghost use Rattle.kdf_transfer.specs.Devices.{is_kind, is_wanted, kind_in};
 ghost use Rattle.kdf_processor.specs.View.{head};
 ghost use Rattle.kdf_transfer.specs.ByNumber.{by_number};
-ghost use Rattle.kdf_director.specs.Fields.Shared.{free_in, is_free_in};
+ghost use Rattle.kdf_director.specs.Fields.Shared.{free_in, is_free_in, is_taken_by};
+ghost use Rattle.kdf_theory.specs.Holders.{held_by, is_held};
 ghost use Rattle.kdf_places.specs.Spots.{is_flying, own_from, spot_of, spot_at};
 
 use crate::Place;
 use kdf_job::kind_lent;
-use kdf_journal::Kind;
-use kdf_places::holder_in;
+use kdf_journal::{Journal, Kind};
 use kdf_processor::least;
 use kdf_transfer::{Device, Wanted};
 
@@ -95,20 +95,49 @@ pub(crate) fn is_free(
     owns(devices, d) && !claimed[usize::from(d)] && places[usize::from(d)].is_wanted(wanted)
 }
 
-/// The least device of this kind in the pool that is nobody's.
-pub(crate) fn first_free(pool: &[(u8, Kind)], places: &[Place], kind: Kind) -> Option<u8>
-    ensures least { result ≡ free_in (by_number (lent_kind pool.now)) (map spot_of places.now) kind }
+/// The least device of this kind in the pool that has no holder, and that a program with these marks hasn't claimed.
+pub(crate) fn first_free(
+    pool: &[(u8, Kind)],
+    claimed: &[bool; 16],
+    journal: &Journal,
+    kind: Kind,
+) -> Option<u8>
+    ensures least { result ≡ free_in (by_number (lent_kind pool.now))
+        (is_taken_by claimed.now (held_by journal.now.entries)) kind }
     ensures number { IfSome result (λ d. d < 16) }
 {
-    least(|d| is_free_in(pool, places, kind, d))
+    least(|d| is_free_in(pool, claimed, journal, kind, d))
 }
 
-/// Whether a device is one of this kind in the pool, and nobody's.
-fn is_free_in(pool: &[(u8, Kind)], places: &[Place], kind: Kind, d: u8) -> bool
+/// Whether a device is one of this kind in the pool that has no holder, and that a program with these marks hasn't
+/// claimed.
+fn is_free_in(
+    pool: &[(u8, Kind)],
+    claimed: &[bool; 16],
+    journal: &Journal,
+    kind: Kind,
+    d: u8,
+) -> bool
     requires { d < 16 }
-    ensures { result ≡ is_free_in (by_number (lent_kind pool.now)) (map spot_of places.now) kind d }
+    ensures { result ≡ is_free_in (by_number (lent_kind pool.now))
+        (is_taken_by claimed.now (held_by journal.now.entries)) kind d }
 {
-    is_lent_kind(pool, d, kind) && holder_in(places, d).is_none()
+    !claimed[usize::from(d)] && is_unheld(pool, journal, kind, d)
+}
+
+/// The least device of this kind in the pool that has no holder.
+pub(crate) fn first_unheld(pool: &[(u8, Kind)], journal: &Journal, kind: Kind) -> Option<u8>
+    ensures { result ≡ free_in (by_number (lent_kind pool.now)) (is_held journal.now.entries) kind }
+{
+    least(|d| is_unheld(pool, journal, kind, d))
+}
+
+/// Whether a device is one of this kind in the pool, and has no holder.
+fn is_unheld(pool: &[(u8, Kind)], journal: &Journal, kind: Kind, d: u8) -> bool
+    requires { d < 16 }
+    ensures { result ≡ is_free_in (by_number (lent_kind pool.now)) (is_held journal.now.entries) kind d }
+{
+    is_lent_kind(pool, d, kind) && journal.holder(d).is_none()
 }
 
 /// Whether the pool's device of this number is of this kind, and isn't claimed.

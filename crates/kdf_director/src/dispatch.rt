@@ -1,22 +1,25 @@
 //! The orders of one program, as long as nothing is noted of them.
-ghost use Rattle.std.specs.Prelude.{◌≡◌, ◌+◌, ◌*◌, ◌%◌, ◌<◌, ◌≤◌, length, map, IfOk, OnErr};
+ghost use Rattle.std.specs.Prelude.{◌≡◌, ◌+◌, ◌<◌, ◌≤◌, length, IfOk, OnErr};
 ghost use Rattle.kdf_lockout.specs.Groups.{Cells};
 ghost use Rattle.kdf_processor.specs.Buffered.{Agrees};
 ghost use Rattle.kdf_director.specs.declared.note.Note.TheVariants.{Quiet};
-ghost use Rattle.kdf_director.specs.Fields.Batches.{AreQuiet, HasBatch, HasTurnedOn};
-ghost use Rattle.kdf_director.specs.Fields.Keeping.{IsActive, IsKept};
-ghost use Rattle.kdf_director.specs.Fields.Parts.{part_in, reach_of, seat_of, window_at};
+ghost use Rattle.kdf_director.specs.Fields.Batches.{AreQuiet, HasBatch};
+ghost use Rattle.kdf_director.specs.Fields.CanTurn.{CanTurn};
+ghost use Rattle.kdf_director.specs.Fields.Parts.{reach_of, seat_of, window_at};
 ghost use Rattle.kdf_places.specs.Shared.{shared_in};
 ghost use Rattle.kdf_director.specs.Fields.Settled.{both_of, retired, settled};
 ghost use Rattle.kdf_director.specs.Fields.Shared.{moment};
-ghost use Rattle.kdf_director.specs.Fields.Running.{reaches_in, seat_at, seats_in, IsRunning};
+ghost use Rattle.kdf_director.specs.Fields.Standing.{IsSameYard};
 ghost use Rattle.kdf_places.specs.Spots.{AreDry};
-ghost use Rattle.kdf_director.specs.Fields.Turn.{reach_in, seat_in, shared, shown, SameProgram};
+ghost use Rattle.kdf_director.specs.Fields.Turn.{held_in, reach_in, seat_in, shared, shown, SameProgram};
+ghost use Rattle.kdf_theory.specs.Holders.{held_by};
 ghost use Rattle.kdf_director.specs.Fields.Turned.{HasRun, HasTried};
+ghost use Rattle.kdf_director.specs.Fields.Yards.{registers_in, AreLentIn, HasTurnedIn, HasTurnedQuietly};
 
 use crate::stint::retire;
 use crate::turn::Turn;
-use crate::{Moment, Note, Place, Program, Site, Stand};
+use crate::{Moment, Note, Place, Program, Stand, Yard};
+use kdf_journal::Journal;
 use kdf_lockout::Store;
 use kdf_processor::{Buffer, Life, Registers, Step, obey_buffered};
 use kdf_relocate::Window;
@@ -35,7 +38,7 @@ fn obey_next(
     requires ran { registers.old.ran < u32.MAX }
     requires quiet { turn.old.note ≡ Quiet }
     requires agrees { Agrees (shown turn.old) held.old }
-    ensures tried { IfOk result (λ step. HasTried (reach_in turn.old) turn.old.moment
+    ensures tried { IfOk result (λ step. HasTried (reach_in turn.old) (held_in turn.old) turn.old.moment
         (seat_in turn.old registers.old) (shared turn.old) (seat_in turn.new registers.new) (shared turn.new)
         step turn.new.note) }
     ensures err { OnErr result ((seat_in turn.new registers.new ≡ seat_in turn.old registers.old)
@@ -61,9 +64,9 @@ fn obey_quiet(
     requires some { 0 < most }
     requires ran { registers.old.ran + most ≤ u32.MAX }
     requires quiet { turn.old.note ≡ Quiet }
-    ensures tried { IfOk result.1 (λ x. HasBatch (HasTried (reach_in turn.old) turn.old.moment) result.0
+    ensures tried { IfOk result.1 (λ x. HasBatch (HasTried (reach_in turn.old) (held_in turn.old) turn.old.moment) result.0
         (seat_in turn.old registers.old) (shared turn.old) (seat_in turn.new registers.new) (shared turn.new) x.0 x.1) }
-    ensures err { OnErr result.1 (AreQuiet (HasTried (reach_in turn.old) turn.old.moment) result.0
+    ensures err { OnErr result.1 (AreQuiet (HasTried (reach_in turn.old) (held_in turn.old) turn.old.moment) result.0
         (seat_in turn.old registers.old) (shared turn.old) (seat_in turn.new registers.new) (shared turn.new)) }
     ensures within { result.0 < most }
     ensures same { SameProgram turn.old turn.new }
@@ -88,6 +91,7 @@ fn obey_quiet(
 fn try_next(
     stand: &Stand<'_>,
     moment: Moment,
+    journal: &Journal,
     program: &mut Program,
     store: &mut Store,
     places: &mut Vec<Place>,
@@ -96,21 +100,13 @@ fn try_next(
     requires live { program.old.registers.state ≡ Life.Live }
     requires some { 0 < most }
     requires ran { program.old.registers.ran + most ≤ u32.MAX }
-    requires at_group { (window_at stand.now.windows.now stand.now.slot.now.p).base % 32 ≡ 0 }
-    requires in_store { (window_at stand.now.windows.now stand.now.slot.now.p).base
-        + (window_at stand.now.windows.now stand.now.slot.now.p).size ≤ 32 * length store.old }
-    requires sixteen { length places.old.items ≡ 16 }
-    requires dry { AreDry places.old.items }
-    requires kept { IsKept (part_in (seat_of program.old) (reach_of stand.now.windows.now stand.now.slot.now))
-        (shared_in store.old places.old.items) }
-    requires active { IsActive (part_in (seat_of program.old) (reach_of stand.now.windows.now stand.now.slot.now))
-        (shared_in store.old places.old.items) }
+    requires can { CanTurn stand.now.windows.now stand.now.slot.now program.old store.old places.old.items }
     ensures tried { IfOk result.1 (λ x. HasBatch
-        (HasTried (reach_of stand.now.windows.now stand.now.slot.now) moment) result.0
+        (HasTried (reach_of stand.now.windows.now stand.now.slot.now) (held_by journal.now.entries) moment) result.0
         (seat_of program.old) (shared_in store.old places.old.items)
         (seat_of program.new) (shared_in store.new places.new.items) x.0 x.1) }
     ensures err { OnErr result.1 (AreQuiet
-        (HasTried (reach_of stand.now.windows.now stand.now.slot.now) moment) result.0
+        (HasTried (reach_of stand.now.windows.now stand.now.slot.now) (held_by journal.now.entries) moment) result.0
         (seat_of program.old) (shared_in store.old places.old.items)
         (seat_of program.new) (shared_in store.new places.new.items)) }
     ensures within { result.0 < most }
@@ -123,6 +119,7 @@ fn try_next(
         p: program.p,
         window: window_of(stand.windows, stand.slot.p),
         moment,
+        journal,
         slot: stand.slot,
         claimed: &mut program.claimed,
         spooled: &mut program.spooled,
@@ -167,6 +164,7 @@ fn settle(alloc: Global, program: &mut Program, places: &mut Vec<Place>)
 pub(crate) fn run(
     stand: &Stand<'_>,
     moment: Moment,
+    journal: &Journal,
     program: &mut Program,
     store: &mut Store,
     places: &mut Vec<Place>,
@@ -175,28 +173,20 @@ pub(crate) fn run(
     requires live { program.old.registers.state ≡ Life.Live }
     requires some { 0 < most }
     requires ran { program.old.registers.ran + most ≤ u32.MAX }
-    requires at_group { (window_at stand.now.windows.now stand.now.slot.now.p).base % 32 ≡ 0 }
-    requires in_store { (window_at stand.now.windows.now stand.now.slot.now.p).base
-        + (window_at stand.now.windows.now stand.now.slot.now.p).size ≤ 32 * length store.old }
-    requires sixteen { length places.old.items ≡ 16 }
-    requires dry { AreDry places.old.items }
-    requires kept { IsKept (part_in (seat_of program.old) (reach_of stand.now.windows.now stand.now.slot.now))
-        (shared_in store.old places.old.items) }
-    requires active { IsActive (part_in (seat_of program.old) (reach_of stand.now.windows.now stand.now.slot.now))
-        (shared_in store.old places.old.items) }
+    requires can { CanTurn stand.now.windows.now stand.now.slot.now program.old store.old places.old.items }
     ensures ran { IfOk result.1 (λ x. HasBatch
-        (HasRun (reach_of stand.now.windows.now stand.now.slot.now) moment) result.0
+        (HasRun (reach_of stand.now.windows.now stand.now.slot.now) (held_by journal.now.entries) moment) result.0
         (seat_of program.old) (shared_in store.old places.old.items)
         (seat_of program.new) (shared_in store.new places.new.items) x.0 x.1) }
     ensures err { OnErr result.1 (AreQuiet
-        (HasRun (reach_of stand.now.windows.now stand.now.slot.now) moment) result.0
+        (HasRun (reach_of stand.now.windows.now stand.now.slot.now) (held_by journal.now.entries) moment) result.0
         (seat_of program.old) (shared_in store.old places.old.items)
         (seat_of program.new) (shared_in store.new places.new.items)) }
     ensures within { result.0 < most }
     ensures hold { program.new.hold ≡ program.old.hold }
     ensures dry { AreDry places.new.items }
 {
-    let tried = try_next(stand, moment, program, store, places, most);
+    let tried = try_next(stand, moment, journal, program, store, places, most);
     settle(stand.alloc, program, places);
     tried
 }
@@ -211,62 +201,51 @@ pub(crate) fn window_of(windows: &[Window; 4], p: u8) -> Window
     }
 }
 
-/// Orders of program `i` of all: so many at most, at this time.
+/// Orders of program `i` of all: so many at most, at this time, after what this journal tells.
 #[derive(Clone, Copy)]
-pub struct Batch {
+pub struct Batch<'a> {
     pub i: usize,
     pub time: u64,
+    pub journal: &'a Journal,
     pub most: u32,
 }
 
-/// Tries orders of a batch, as `obey_quiet` does, where this was heard of the service.
-pub(crate) fn turn(
-    site: &Site<'_>,
-    programs: &mut Vec<Program>,
-    store: &mut Store,
-    places: &mut Vec<Place>,
-    batch: Batch,
-    heard: Word,
-) -> (u32, Result<(Step, Note), AllocError>)
-    requires there { batch.i < length programs.old.items }
-    requires slots { length site.now.slots.now ≡ length programs.old.items }
-    requires live { (seat_at (seats_in programs.old.items) batch.i).registers.state ≡ Life.Live }
-    requires some { 0 < batch.most }
-    requires ran { (seat_at (seats_in programs.old.items) batch.i).registers.ran + batch.most ≤ u32.MAX }
-    requires running { IsRunning (reaches_in site.now.windows.now site.now.slots.now) (seats_in programs.old.items)
-        (shared_in store.old places.old.items) }
-    requires dry { AreDry places.old.items }
-    ensures turned { IfOk result.1 (λ x. HasBatch (HasTurnedOn (reaches_in site.now.windows.now site.now.slots.now)
-        (moment batch.time heard) batch.i) result.0
-        (seats_in programs.old.items) (shared_in store.old places.old.items)
-        (seats_in programs.new.items) (shared_in store.new places.new.items) x.0 x.1) }
-    ensures running { IsRunning (reaches_in site.now.windows.now site.now.slots.now) (seats_in programs.new.items)
-        (shared_in store.new places.new.items) }
-    ensures err { OnErr result.1 (AreQuiet (HasTurnedOn (reaches_in site.now.windows.now site.now.slots.now)
-        (moment batch.time heard) batch.i) result.0
-        (seats_in programs.old.items) (shared_in store.old places.old.items)
-        (seats_in programs.new.items) (shared_in store.new places.new.items)) }
-    ensures within { result.0 < batch.most }
-    ensures dry { AreDry places.new.items }
-    ensures many { length programs.new.items ≡ length programs.old.items }
-    ensures holds { map (λ (x : Program). x.hold) programs.new.items
-        ≡ map (λ (x : Program). x.hold) programs.old.items }
-{
-    let stand = Stand {
-        alloc: site.alloc,
-        windows: site.windows,
-        slot: &site.slots[batch.i],
-    };
-    let moment = Moment {
-        time: batch.time,
-        heard,
-    };
-    run(
-        &stand,
-        moment,
-        &mut programs[batch.i],
-        store,
-        places,
-        batch.most,
-    )
+impl Yard {
+    /// Tries orders of a batch, as `obey_quiet` does, where this was heard of the service.
+    #[inline(always)]
+    pub(crate) fn turn(
+        &mut self,
+        batch: Batch<'_>,
+        heard: Word,
+    ) -> (u32, Result<(Step, Note), AllocError>)
+        requires there { batch.i < length self.old.seats }
+        requires live { (registers_in self.old batch.i).state ≡ Life.Live }
+        requires some { 0 < batch.most }
+        requires ran { (registers_in self.old batch.i).ran + batch.most ≤ u32.MAX }
+        requires lent { AreLentIn self.old batch.journal.now.entries }
+        ensures turned { IfOk result.1 (λ x. HasTurnedIn (moment batch.entry.time heard) batch.entry.i result.0
+            self.old self.new x.0 x.1) }
+        ensures err { OnErr result.1 (HasTurnedQuietly (moment batch.entry.time heard) batch.entry.i result.0 self.old self.new) }
+        ensures within { result.0 < batch.entry.most }
+        ensures same { IsSameYard self.old self.new }
+    {
+        let stand = Stand {
+            alloc: self.alloc,
+            windows: &self.windows,
+            slot: &self.slots[batch.i],
+        };
+        let moment = Moment {
+            time: batch.time,
+            heard,
+        };
+        run(
+            &stand,
+            moment,
+            batch.journal,
+            &mut self.programs[batch.i],
+            &mut self.store,
+            &mut self.places,
+            batch.most,
+        )
+    }
 }

@@ -8,7 +8,7 @@ ghost use Rattle.kdf_director.specs.Advance.{note_beside, note_told};
 ghost use Rattle.kdf_director.specs.Fields.Parts.{seat_of};
 ghost use Rattle.kdf_director.specs.Runs.{held_after, ran_on};
 ghost use Rattle.kdf_director.specs.Fields.TurnTaken.{hold_left, progress_of, step_told};
-ghost use Rattle.kdf_director.specs.World.{hold_of};
+ghost use Rattle.kdf_theory.specs.World.{hold_of};
 
 use crate::{Note, Program, Progress};
 use kdf_journal::{CALL_LIMIT, Entry, Journal, MOVE_LIMIT};

@@ -7,8 +7,8 @@ ghost use Rattle.kdf_transfer.specs.Examples.{all_a, all_b, having, placed};
 ghost use Rattle.kdf_transfer.specs.Devices.{new_progress};
 ghost use Rattle.kdf_processor.specs.declared.step.Need.TheVariants.{Device, Group};
 ghost use Rattle.kdf_director.specs.Examples.{backwards, behind, both, done, reading, ready, sevens, wound};
-ghost use Rattle.kdf_director.specs.Flights.{moved_to, with_flight};
-ghost use Rattle.kdf_director.specs.Seen.{pending, seen, with_both, with_store};
+ghost use Rattle.kdf_theory.specs.Flights.{moved_to, with_flight};
+ghost use Rattle.kdf_theory.specs.Seen.{pending, seen, with_both, with_store};
 
 /// A reader and a punch whose transfers are both in flight: the words that were moved to the store are seen, and of the
 /// devices nothing.

@@ -1,20 +1,24 @@
 //! Laws of what is seen, each the contract of a function that does nothing; those of journals stand in `journals` and
 //! `served`. In each of them `flights` are a program's transfers by the number of their device, `mine` are devices on
 //! which it has one, and `s` is its lone state.
-ghost use Rattle.std.specs.Prelude.{◌≡◌, ℕ, ◌+◌, List, Option, Some, None, true, false, find, length, min, slice_set, take};
+ghost use Rattle.std.specs.Prelude.{◌≡◌, ℕ, ◌+◌, ◌==◌, ◌&&◌, not, List, Option, Some, None, true, false, find, length, min, slice_set, take};
+ghost use Rattle.std.specs.List.{filter};
 ghost use Rattle.kdf_transfer.specs.AtOnce.{written};
 ghost use Rattle.kdf_transfer.specs.declared.order.TransferOrder.{TransferOrder};
+ghost use Rattle.kdf_transfer.specs.Slots.{Slot};
 ghost use Rattle.kdf_processor.specs.declared.registers.Registers.{Registers};
+ghost use Rattle.kdf_processor.specs.Claims.{is_claimed};
 ghost use Rattle.kdf_processor.specs.Effect.{Question, Starting};
 ghost use Rattle.kdf_processor.specs.Frame.{HidesNone};
-ghost use Rattle.kdf_processor.specs.Lone.{is_live};
+ghost use Rattle.kdf_processor.specs.Lone.{is_live, lone};
 ghost use Rattle.kdf_processor.specs.Needs.{needs, next_effect};
 ghost use Rattle.kdf_processor.specs.Row.{row};
-ghost use Rattle.kdf_processor.specs.State.{State, device_in};
-ghost use Rattle.kdf_director.specs.Flights.{Flight, beginning, completed, flights_after, move_count, unmoved};
-ghost use Rattle.kdf_director.specs.Flights.{mine_of, with_flight, with_moved};
-ghost use Rattle.kdf_director.specs.Flying.{AreFlying};
-ghost use Rattle.kdf_director.specs.Seen.{begun_row, pending, seen, with_both, with_store};
+ghost use Rattle.kdf_processor.specs.State.{Lending, State, begin, device_in, is_pooled, lendings};
+ghost use Rattle.kdf_theory.specs.Flights.{Flight, beginning, completed, flights_after, move_count, unmoved};
+ghost use Rattle.kdf_theory.specs.Flights.{mine_of, with_flight, with_moved};
+ghost use Rattle.kdf_theory.specs.Flying.{AreFlying};
+ghost use Rattle.kdf_theory.specs.Seen.{begun_row, pending, seen, with_both, with_store};
+ghost use Rattle.kdf_theory.specs.Slots.{IsSlot};
 
 pub mod journals;
 pub mod served;
@@ -98,4 +102,19 @@ pub fn nothing_in_flight()
     ensures flying { (flights : ℕ → Option Flight) (s : State) →
         length s.stock.store ≡ s.stock.claims.size → ((d : ℕ) → flights d ≡ None)
         → AreFlying flights s }
+{}
+
+/// Of a device of the pool that a program has claimed there is exactly one stint that isn't given back, and of one that it
+/// hasn't claimed there is none, whatever the program is answered and however many orders it obeys.
+pub fn stints_held()
+    ensures claimed { (slot : Slot) (answers : List ℕ) (n d : ℕ) → IsSlot slot →
+        is_pooled (lone (begin slot) answers n).stock.claims d ≡ true →
+        is_claimed (lone (begin slot) answers n).stock.claims d ≡ true →
+        length (filter (λ (x : Lending). x.device == d && not x.given)
+        (lendings (lone (begin slot) answers n).stock)) ≡ 1 }
+    ensures free { (slot : Slot) (answers : List ℕ) (n d : ℕ) → IsSlot slot →
+        is_pooled (lone (begin slot) answers n).stock.claims d ≡ true →
+        is_claimed (lone (begin slot) answers n).stock.claims d ≡ false →
+        length (filter (λ (x : Lending). x.device == d && not x.given)
+        (lendings (lone (begin slot) answers n).stock)) ≡ 0 }
 {}

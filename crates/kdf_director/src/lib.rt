@@ -25,6 +25,7 @@ mod slot;
 mod stint;
 mod turn;
 pub mod worked;
+mod yard;
 
 use kdf_places::Place;
 pub use machine::{EVENT_LIMIT, Machine, Progress};
@@ -32,6 +33,7 @@ use moment::Moment;
 use note::Note;
 use program::Program;
 pub use schedule::{follow, follow_on};
-use site::{Site, Stand};
+use site::Stand;
 use slot::Loaded;
-use stint::{Loan, Stint};
+use stint::Stint;
+use yard::Yard;

@@ -11,14 +11,15 @@ ghost use Rattle.kdf_relocate.specs.Windows.{have_windows, windows_from, IsBefor
 ghost use Rattle.kdf_director.specs.declared.program.Program.{Program};
 ghost use Rattle.kdf_director.specs.declared.slot.Loaded.{Loaded};
 ghost use Rattle.kdf_director.specs.Loading.{HaveImages, load_of, loads};
-ghost use Rattle.kdf_director.specs.Fields.Filled.{AreLoads, IsLoaded, first_seat, idle_place, idle_ring, idle_spot, loaded, own_spot, pool_in, pool_spot, size_at, sizes_of};
+ghost use Rattle.kdf_director.specs.Fields.Begun.{IsLoaded};
+ghost use Rattle.kdf_director.specs.Fields.Filled.{AreLoads, first_seat, idle_place, idle_ring, idle_spot, loaded, own_spot, pool_in, pool_spot, size_at, sizes_of};
 ghost use Rattle.kdf_director.specs.Fields.Parts.{seat_of};
 ghost use Rattle.kdf_transfer.specs.ByNumber.{by_number};
 ghost use Rattle.kdf_director.specs.Fields.Running.{seats_in};
 ghost use Rattle.kdf_places.specs.Spots.{AreDry, spot_of};
 
 use crate::fill::filled_store;
-use crate::{Loaded, Place, Program};
+use crate::{Loaded, Place, Program, Yard};
 use kdf_job::{SlotJob, device_numbered, kind_lent};
 use kdf_journal::Kind;
 use kdf_lockout::Store;
@@ -28,47 +29,39 @@ use kdf_relocate::{Window, windows};
 use kdf_transfer::{Device, Ring};
 use std::alloc::{AllocError, Global};
 
-/// What a machine has that was loaded.
-pub struct Parts {
-    pub slots: Vec<Loaded>,
-    pub windows: [Window; 4],
-    pub store: Store,
-    pub programs: Vec<Program>,
-    pub devices: Vec<Place>,
-}
-
 /// Loads the slots of a job, each with its image, which fits its store. The image's words are at the front of the
 /// slot's window, each program is before its first order, and the places have copies of the devices. At Err nothing is
 /// left.
-pub(crate) fn load_parts(
+pub(crate) fn load_yard(
     alloc: Global,
     slots: &[SlotJob],
     images: &[Image],
-) -> Result<Parts, AllocError>
+) -> Result<Yard, AllocError>
     requires slots { AreSlots (map shown_slot slots.now) }
     requires images { HaveImages (map shown_slot slots.now) (map (λ (x : Image). x.words.items) images.now) }
-    ensures loaded { IfOk result (λ m. IsLoaded
-        (loads (map shown_slot slots.now) (map (λ (x : Image). x.words.items) images.now)) m) }
+    ensures loaded { IfOk result (IsLoaded
+        (loads (map shown_slot slots.now) (map (λ (x : Image). x.words.items) images.now))) }
 {
     let loaded = load_slots(alloc, slots, images)?;
     equip(alloc, loaded)
 }
 
-/// The machine of slots before their first orders.
-fn equip(alloc: Global, slots: Vec<Loaded>) -> Result<Parts, AllocError>
+/// The yard of slots before their first orders.
+fn equip(alloc: Global, slots: Vec<Loaded>) -> Result<Yard, AllocError>
     requires { AreLoads (map loaded slots.items) }
-    ensures { IfOk result (λ m. IsLoaded (map loaded slots.items) m) }
+    ensures { IfOk result (IsLoaded (map loaded slots.items)) }
 {
     let windows = windows_of(&slots);
     let store = filled_store(alloc, &windows, &slots)?;
     let programs = first_programs(alloc, &slots)?;
-    let devices = places(alloc, &slots)?;
-    Ok(Parts {
-        slots,
+    let places = places(alloc, &slots)?;
+    Ok(Yard {
+        alloc,
         windows,
+        slots,
         store,
         programs,
-        devices,
+        places,
     })
 }
 
@@ -196,8 +189,8 @@ fn places(alloc: Global, slots: &[Loaded]) -> Result<Vec<Place>, AllocError>
     Ok(places)
 }
 
-/// What stands in a place that has no transfer: a device, its ring, and the program whose device it is, if it is one's.
-type Standing = (Device, Ring, Option<u8>);
+/// What stands in a place that has no transfer: a device and its ring.
+type Standing = (Device, Ring);
 
 /// What stands in the place of a number: a copy of the first slot's device of that number, or else a blank one of the
 /// pool.
@@ -207,19 +200,19 @@ fn idle_of(alloc: Global, slots: &[Loaded], d: u8) -> Result<Option<Standing>, A
 {
     for slot in slots.iter() {
         if let Some(device) = device_numbered(&slot.devices, d) {
-            return Ok(Some(owned(alloc, device, slot.p)?));
+            return Ok(Some(owned(alloc, device)?));
         }
     }
     pooled_of(alloc, slots, d)
 }
 
 /// What stands in the place of a device that a program owns: a copy of it.
-fn owned(alloc: Global, device: &(u8, Device), p: u8) -> Result<Standing, AllocError>
-    ensures spot { IfOk result (λ x. spot_of (idle_place (Some x)) ≡ own_spot p (shown_device device.now)) }
+fn owned(alloc: Global, device: &(u8, Device)) -> Result<Standing, AllocError>
+    ensures spot { IfOk result (λ x. spot_of (idle_place (Some x)) ≡ own_spot (shown_device device.now)) }
     ensures ring { IfOk result (λ x. idle_ring (Some x) ≡ []) }
 {
     let ring = Ring::new(alloc)?;
-    Ok((device.1.copy(alloc)?, ring, Some(p)))
+    Ok((device.1.copy(alloc)?, ring))
 }
 
 /// A blank device of the pool's kind of a number, if the pool has one.
@@ -231,7 +224,7 @@ fn pooled_of(alloc: Global, slots: &[Loaded], d: u8) -> Result<Option<Standing>,
     match kind_lent(pool_in(slots), d) {
         Some(kind) => {
             let ring = Ring::new(alloc)?;
-            Ok(Some((Device::blank(alloc, kind), ring, None)))
+            Ok(Some((Device::blank(alloc, kind), ring)))
         }
         None => Ok(None),
     }
@@ -265,11 +258,7 @@ fn place_of(found: Option<Standing>) -> Place
     ensures { result ≡ idle_place found }
 {
     match found {
-        Some((device, ring, holder)) => Place::Idle {
-            device,
-            ring,
-            holder,
-        },
+        Some((device, ring)) => Place::Idle { device, ring },
         None => Place::Absent,
     }
 }

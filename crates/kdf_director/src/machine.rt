@@ -12,31 +12,34 @@ ghost use Rattle.kdf_processor.specs.State.{State, begin, fixture_at, is_pooled,
 ghost use Rattle.kdf_processor.specs.Stints.{IsStint};
 ghost use Rattle.kdf_service.specs.Rules.{IsService};
 ghost use Rattle.kdf_director.specs.Advance.{AdvanceWith, Enters, OthersStay};
-ghost use Rattle.kdf_director.specs.Legal.{IsLegal, IsTrue};
+ghost use Rattle.kdf_theory.specs.Legal.{IsLegal, IsTrue};
 ghost use Rattle.kdf_director.specs.Lends.{IsLent, IsStored, window_in};
 ghost use Rattle.kdf_director.specs.Loading.{HaveImages, slots_of};
-ghost use Rattle.kdf_director.specs.Fields.Filled.{IsLoaded, loaded};
-ghost use Rattle.kdf_director.specs.Next.{any_live};
-ghost use Rattle.kdf_director.specs.Runs.{HasMadeButFewer, HasMadeSome};
-ghost use Rattle.kdf_director.specs.Served.{unasked, IsAnswered, IsTrueFor};
-ghost use Rattle.kdf_director.specs.Shown.{IsDeviceAt, ShowsSeen, state_of};
-ghost use Rattle.kdf_director.specs.Slots.{NoneServed};
-ghost use Rattle.kdf_director.specs.Fields.Viewed.{slot_loaded};
+ghost use Rattle.kdf_director.specs.Fields.Agrees.{IsReady};
+ghost use Rattle.kdf_director.specs.Fields.Standing.{shown_of};
+ghost use Rattle.kdf_theory.specs.Next.{any_live};
+ghost use Rattle.kdf_director.specs.Runs.{HasMadeAtMost, HasMadeButFewer};
+ghost use Rattle.kdf_theory.specs.Served.{unasked, IsAnswered, IsTrueFor};
+ghost use Rattle.kdf_theory.specs.Shown.{IsDeviceAt, ShowsSeen, state_of};
+ghost use Rattle.kdf_theory.specs.Slots.{NoneServed};
 
-use crate::advance::{Calls, advance};
+#[cfg(test)]
+mod fields;
+
+use crate::advance::Calls;
 use crate::dispatch::window_of;
-use crate::load::{Parts, load_parts};
-use crate::moves::{Move, ending, moving, word_of};
+use crate::load::load_yard;
+use crate::moves::word_of;
 use crate::next::is_any_on;
 use crate::shown::{
     device_in, is_claimed_in, registers_of, stint_in, stints_of, texts_of, window_given,
 };
-use crate::{Loaded, Place, Program};
+use crate::{Loaded, Place, Program, Yard};
 use kdf_job::Job;
 use kdf_journal::{CALL_LIMIT, Entry, Journal};
 use kdf_lockout::Store;
 use kdf_place::Image;
-use kdf_places::{cancel_all, transfer_in};
+use kdf_places::{cancel_all, end_at, move_at, transfer_in};
 use kdf_processor::{Need, Registers, Spooled};
 use kdf_relocate::Window;
 use kdf_service::Service;
@@ -44,6 +47,7 @@ use kdf_transfer::{Device, Transfer};
 use kdf_word::Word;
 use std::alloc::{AllocError, Global};
 use std::marker::Model;
+use std::mem;
 
 /// What a call of a machine did.
 #[derive(Clone, Copy, PartialEq, Eq)]
@@ -75,18 +79,15 @@ pub struct Machine {
 }
 
 impl Model for Machine {
-    ghost use Rattle.kdf_director.specs.Shown.{Shown};
-    ghost use Rattle.kdf_director.specs.Fields.Viewed.{viewed};
+    ghost use Rattle.kdf_theory.specs.Shown.{Shown};
 
     ghost Value = { Shown };
 
-    ghost use Rattle.kdf_director.specs.Fields.Agrees.{IsReady};
+    ghost use Rattle.kdf_director.specs.Fields.Machines.{shown, IsMachine};
 
-    ghost view = { λ m. viewed m.slots.items m.windows m.store m.programs.items m.devices.items
-        m.journal.entries m.room };
+    ghost view = { shown };
 
-    ghost invariant = { λ m. IsReady m.slots.items m.windows m.store m.programs.items m.devices.items
-        m.journal.entries m.journal.spare m.room };
+    ghost invariant = { IsMachine };
 }
 
 impl Machine {
@@ -106,8 +107,8 @@ impl Machine {
         let room = job.events.len() as u32;
         let mut journal = Journal::new(alloc);
         journal.reserve(room)?;
-        let parts = load_parts(alloc, &job.slots, images)?;
-        Ok(first(alloc, parts, journal, room))
+        let yard = load_yard(alloc, &job.slots, images)?;
+        Ok(machine_of(yard, journal, room))
     }
 
     /// One call: the program of the highest priority that is live and has no standing hold obeys its next order, or is
@@ -144,41 +145,53 @@ impl Machine {
         ensures room { self.new.room ≡ self.old.room }
         ensures err { OnErr result (self.new ≡ self.old) }
     {
-        let (_, progress) = self.calls_with(1, service)?;
-        Ok(progress)
+        self.calls_with(1, service)
     }
 
-    /// Some of so many calls, one at least, each as `order_with` makes it: as many as can be made at once. Answers how
-    /// many, and what the last did. At Err some are made, and the one that had no memory has changed nothing.
+    /// So many calls in turn, one at least, each as `order_with` makes it, or fewer, where the last found no live
+    /// program. Answers what the last did. At Err some are made, and the one that had no memory has changed nothing.
+    #[inline(always)]
     pub(crate) fn calls_with<F: Fn(u64) -> u64>(
         &mut self,
         most: u32,
         service: &Service<F>,
-    ) -> Result<(u32, Progress), AllocError>
+    ) -> Result<Progress, AllocError>
         requires service { IsService (F.pre service.now) (F.post service.now) }
         requires some { 0 < most }
         requires few { calls self.old.journal + most ≤ CALL_LIMIT }
-        ensures made { IfOk result (λ x. HasMadeSome (F.post service.now) x.0 self.old self.new x.1) }
-        ensures within { IfOk result (λ x. x.0 ≤ most) }
+        ensures made { IfOk result (HasMadeAtMost (F.post service.now) most self.old self.new) }
         ensures slots { self.new.slots ≡ self.old.slots }
         ensures room { self.new.room ≡ self.old.room }
         ensures err { OnErr result (HasMadeButFewer (F.post service.now) most self.old self.new) }
     {
         let due = Calls {
-            alloc: self.alloc,
-            windows: &self.windows,
-            slots: &self.slots,
             service,
             room: self.room,
             most,
         };
-        advance(
-            &due,
-            &mut self.programs,
-            &mut self.store,
-            &mut self.devices,
-            &mut self.journal,
-        )
+        let mut yard = Yard {
+            alloc: self.alloc,
+            windows: self.windows,
+            slots: mem::replace(&mut self.slots, Vec::new(self.alloc)),
+            store: mem::replace(&mut self.store, Store::none(self.alloc)),
+            programs: mem::replace(&mut self.programs, Vec::new(self.alloc)),
+            places: mem::replace(&mut self.devices, Vec::new(self.alloc)),
+        };
+        let made = yard.orders(&mut self.journal, &due);
+        // What stood in the fields meanwhile is empty and has no memory, so there is nothing to drop.
+        let Yard {
+            alloc: _,
+            windows: _,
+            slots,
+            store,
+            programs,
+            places,
+        } = yard;
+        mem::forget(mem::replace(&mut self.slots, slots));
+        mem::forget(mem::replace(&mut self.store, store));
+        mem::forget(mem::replace(&mut self.programs, programs));
+        mem::replace(&mut self.devices, places).destroy_empty();
+        made
     }
 
     /// How many events more can be entered.
@@ -206,14 +219,7 @@ impl Machine {
         ensures entered { Enters self.old self.new (Moves d n) }
         ensures others { OthersStay self.old self.new d }
     {
-        moving(
-            &self.windows,
-            &self.slots,
-            &self.programs,
-            &self.store,
-            &mut self.devices,
-            Move { d, n },
-        );
+        move_at(&mut self.devices, usize::from(d), n);
         self.journal.push(Entry::Move { d, n });
         self.room -= 1;
     }
@@ -226,14 +232,7 @@ impl Machine {
         ensures entered { Enters self.old self.new (Ends d) }
         ensures others { OthersStay self.old self.new d }
     {
-        ending(
-            &self.windows,
-            &self.slots,
-            &self.programs,
-            &mut self.store,
-            &mut self.devices,
-            d,
-        );
+        end_at(&mut self.devices, usize::from(d), &mut self.store);
         self.journal.push(Entry::End { d });
         self.room -= 1;
     }
@@ -319,7 +318,7 @@ impl Machine {
         ensures none { All (λ (state : State). fixture_at state.stock.claims d ≡ None) self.now.states
             → result ≡ false }
     {
-        is_claimed_in(&self.slots, &self.programs, &self.devices, d)
+        is_claimed_in(&self.slots, &self.programs, &self.journal, d)
     }
 
     /// How many stints program `p` has: how often it took a device from the pool.
@@ -389,31 +388,26 @@ impl Machine {
     }
 }
 
-/// The machine of what was loaded, before its first order.
-fn first(alloc: Global, parts: Parts, journal: Journal, room: u32) -> Machine
-    requires loaded { IsLoaded (map loaded parts.slots.items) parts }
-    requires empty { journal.entries ≡ [] }
-    requires fits { room ≤ journal.spare }
-    requires few_events { room ≤ EVENT_LIMIT }
-    ensures slots { result.slots ≡ map slot_loaded parts.slots.items }
-    ensures states { result.states ≡ map begin result.slots }
-    ensures journal { result.journal ≡ [] }
-    ensures room { result.room ≡ room }
+/// The machine that stands as a yard does, with what is recorded of it, and room for so many events.
+fn machine_of(yard: Yard, journal: Journal, room: u32) -> Machine
+    requires ready { IsReady yard journal room }
+    ensures shown { result ≡ shown_of yard journal room }
 {
-    let Parts {
-        slots,
+    let Yard {
+        alloc,
         windows,
+        slots,
         store,
         programs,
-        devices,
-    } = parts;
+        places,
+    } = yard;
     Machine {
         alloc,
         slots,
         windows,
         store,
         programs,
-        devices,
+        devices: places,
         journal,
         room,
     }

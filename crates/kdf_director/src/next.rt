@@ -1,17 +1,19 @@
 //! Which program is next: of those that are live and aren't held up still, the one of the highest priority.
-ghost use Rattle.std.specs.Prelude.{◌≡◌, ℕ, ◌+◌, ◌*◌, ◌/◌, ◌%◌, ◌<◌, ◌≤◌, IfSome, length, map, true};
-ghost use Rattle.kdf_journal.specs.Counts.{slot_numbers};
+ghost use Rattle.std.specs.Prelude.{◌≡◌, ◌+◌, ◌*◌, ◌/◌, ◌%◌, ◌<◌, ◌≤◌, IfSome, length, true};
+ghost use Rattle.kdf_journal.specs.Counts.{priorities, slot_numbers};
 ghost use Rattle.kdf_lockout.specs.Groups.{is_out};
 ghost use Rattle.kdf_processor.specs.Lone.{is_live};
-ghost use Rattle.kdf_director.specs.declared.program.Program.{Program};
-ghost use Rattle.kdf_director.specs.Fields.Going.{any_on, first_going, goes, goes_at, if_goes, is_stopped, place_of, AreNearHolds, IsNearHold};
+ghost use Rattle.kdf_theory.specs.Holders.{is_held};
+ghost use Rattle.kdf_director.specs.Fields.Going.{any_on, goes, is_stopped, place_of, IsNearHold};
 ghost use Rattle.kdf_director.specs.Fields.Parts.{reach_of, seat_of, window_at};
 ghost use Rattle.kdf_places.specs.Shared.{shared_in, is_busy_in};
-ghost use Rattle.kdf_director.specs.Fields.Running.{reaches_in, seat_at, seats_in, IsRunning};
+ghost use Rattle.kdf_director.specs.Fields.Running.{seats_in, AreNumbered};
+ghost use Rattle.kdf_director.specs.Fields.Yards.{any_in, first_in, goes_in, AreLentIn, AreNear, AreOfFour};
 
-use crate::devices::first_free;
+use crate::devices::first_unheld;
 use crate::dispatch::window_of;
-use crate::{Loaded, Place, Program};
+use crate::{Loaded, Place, Program, Yard};
+use kdf_journal::Journal;
 use kdf_lockout::Store;
 use kdf_processor::{Life, Need};
 use kdf_relocate::Window;
@@ -61,19 +63,21 @@ fn is_stopped(
     slot: &Loaded,
     store: &Store,
     places: &[Place],
+    journal: &Journal,
     hold: Option<Need>,
 ) -> bool
     requires near { IsNearHold (window_at windows.now slot.now.p).size hold }
     requires at_group { (window_at windows.now slot.now.p).base % 32 ≡ 0 }
     requires in_store { (window_at windows.now slot.now.p).base
         + (window_at windows.now slot.now.p).size ≤ 32 * length store.now }
-    ensures { result ≡ is_stopped (reach_of windows.now slot.now) (shared_in store.now places.now) hold }
+    ensures { result ≡ is_stopped (reach_of windows.now slot.now) (is_held journal.now.entries)
+        (shared_in store.now places.now) hold }
 {
     match hold {
         None => false,
         Some(Need::Group(g)) => is_out_at(store, place_in(window_of(windows, slot.p), g)),
         Some(Need::Device(d)) => is_busy_at(store, places, d),
-        Some(Need::Pool(kind)) => first_free(&slot.pool, places, kind).is_none(),
+        Some(Need::Pool(kind)) => first_unheld(&slot.pool, journal, kind).is_none(),
     }
 }
 
@@ -85,15 +89,17 @@ fn goes(
     program: &Program,
     store: &Store,
     places: &[Place],
+    journal: &Journal,
 ) -> bool
     requires near { IsNearHold (window_at windows.now slot.now.p).size program.now.hold }
     requires at_group { (window_at windows.now slot.now.p).base % 32 ≡ 0 }
     requires in_store { (window_at windows.now slot.now.p).base
         + (window_at windows.now slot.now.p).size ≤ 32 * length store.now }
-    ensures { result ≡ goes (seat_of program.now) (reach_of windows.now slot.now)
+    ensures { result ≡ goes (seat_of program.now) (reach_of windows.now slot.now) (is_held journal.now.entries)
         (shared_in store.now places.now) program.now.hold }
 {
-    is_on(program.registers.state) && !is_stopped(windows, slot, store, places, program.hold)
+    is_on(program.registers.state)
+        && !is_stopped(windows, slot, store, places, journal, program.hold)
 }
 
 /// Which of the programs is in this slot.
@@ -109,28 +115,6 @@ fn place_of(programs: &[Program], p: u8) -> Option<usize>
     None
 }
 
-/// Whether the program at this place is live, and isn't held up still.
-#[inline(always)]
-fn goes_at(
-    windows: &[Window; 4],
-    slots: &[Loaded],
-    programs: &[Program],
-    store: &Store,
-    places: &[Place],
-    i: usize,
-) -> bool
-    requires there { i < length programs.now }
-    requires slots { length slots.now ≡ length programs.now }
-    requires running { IsRunning (reaches_in windows.now slots.now) (seats_in programs.now)
-        (shared_in store.now places.now) }
-    requires near { AreNearHolds (reaches_in windows.now slots.now)
-        (map (λ (x : Program). x.hold) programs.now) }
-    ensures { result ≡ goes_at (reaches_in windows.now slots.now) (seats_in programs.now)
-        (map (λ (x : Program). x.hold) programs.now) (shared_in store.now places.now) i }
-{
-    goes(windows, &slots[i], &programs[i], store, places)
-}
-
 /// The priorities that the slots have before any exchange, 0 to 3, as the bytes of one number.
 const FIRST_PRIORITIES: u32 = 0x0302_0100;
 
@@ -143,85 +127,97 @@ fn are_first(priorities: &[u8; 4]) -> bool
     u32::from_le_bytes(*priorities) == FIRST_PRIORITIES
 }
 
-/// The program that is next, if one is, before any exchange of priorities: the programs stand in the order of their
-/// slots.
-#[inline(always)]
-fn first_of_all(
-    windows: &[Window; 4],
-    slots: &[Loaded],
-    programs: &[Program],
-    store: &Store,
-    places: &[Place],
-) -> Option<usize>
-    requires slots { length slots.now ≡ length programs.now }
-    requires running { IsRunning (reaches_in windows.now slots.now) (seats_in programs.now)
-        (shared_in store.now places.now) }
-    requires near { AreNearHolds (reaches_in windows.now slots.now)
-        (map (λ (x : Program). x.hold) programs.now) }
-    requires four { (i : ℕ) → i < length programs.now → (seat_at (seats_in programs.now) i).p < 4 }
-    ensures { result ≡ first_going (reaches_in windows.now slots.now) (seats_in programs.now)
-        (map (λ (x : Program). x.hold) programs.now) (shared_in store.now places.now) slot_numbers }
-{
-    for i in 0..programs.len() {
-        if goes_at(windows, slots, programs, store, places, i) {
-            return Some(i);
-        }
+impl Yard {
+    /// Which of the programs is in this slot.
+    fn place_of(&self, p: u8) -> Option<usize>
+        ensures result { result ≡ place_of self.now.seats p }
+        ensures there { IfSome result (λ i. i < length self.now.seats) }
+    {
+        place_of(&self.programs, p)
     }
-    None
-}
 
-/// The program that is next, if one is, by these priorities.
-fn first_by(
-    windows: &[Window; 4],
-    slots: &[Loaded],
-    programs: &[Program],
-    store: &Store,
-    places: &[Place],
-    priorities: &[u8; 4],
-) -> Option<usize>
-    requires slots { length slots.now ≡ length programs.now }
-    requires running { IsRunning (reaches_in windows.now slots.now) (seats_in programs.now)
-        (shared_in store.now places.now) }
-    requires near { AreNearHolds (reaches_in windows.now slots.now)
-        (map (λ (x : Program). x.hold) programs.now) }
-    ensures { result ≡ first_going (reaches_in windows.now slots.now) (seats_in programs.now)
-        (map (λ (x : Program). x.hold) programs.now) (shared_in store.now places.now)
-        priorities.now }
-{
-    for p in priorities {
-        if let Some(i) = place_of(programs, *p) {
-            if goes_at(windows, slots, programs, store, places, i) {
+    /// Whether the program at this place is live, and isn't held up still.
+    #[inline(always)]
+    fn goes_at(&self, journal: &Journal, i: usize) -> bool
+        requires there { i < length self.now.seats }
+        requires near { AreNear self.now }
+        requires lent { AreLentIn self.now journal.now.entries }
+        ensures { result ≡ goes_in self.now i }
+    {
+        goes(
+            &self.windows,
+            &self.slots[i],
+            &self.programs[i],
+            &self.store,
+            &self.places,
+            journal,
+        )
+    }
+
+    /// How many programs there are.
+    #[inline(always)]
+    fn count(&self) -> usize
+        ensures { result ≡ length self.now.seats }
+    {
+        self.programs.len()
+    }
+
+    /// The program that is next, if one is, before any exchange of priorities: the programs stand in the order of their
+    /// slots.
+    #[inline(always)]
+    fn first_of_all(&self, journal: &Journal) -> Option<usize>
+        requires near { AreNear self.now }
+        requires lent { AreLentIn self.now journal.now.entries }
+        requires four { AreOfFour self.now }
+        requires numbered { AreNumbered self.now.seats }
+        ensures { result ≡ first_in self.now slot_numbers }
+    {
+        for i in 0..self.count() {
+            if self.goes_at(journal, i) {
                 return Some(i);
             }
         }
+        None
     }
-    None
-}
 
-/// The program that is next, if one is.
-#[inline(always)]
-pub(crate) fn next_of(
-    windows: &[Window; 4],
-    slots: &[Loaded],
-    programs: &[Program],
-    store: &Store,
-    places: &[Place],
-    priorities: &[u8; 4],
-) -> Option<usize>
-    requires slots { length slots.now ≡ length programs.now }
-    requires running { IsRunning (reaches_in windows.now slots.now) (seats_in programs.now)
-        (shared_in store.now places.now) }
-    requires near { AreNearHolds (reaches_in windows.now slots.now)
-        (map (λ (x : Program). x.hold) programs.now) }
-    requires four { (i : ℕ) → i < length programs.now → (seat_at (seats_in programs.now) i).p < 4 }
-    ensures { result ≡ first_going (reaches_in windows.now slots.now) (seats_in programs.now)
-        (map (λ (x : Program). x.hold) programs.now) (shared_in store.now places.now)
-        priorities.now }
-{
-    if are_first(priorities) {
-        first_of_all(windows, slots, programs, store, places)
-    } else {
-        first_by(windows, slots, programs, store, places, priorities)
+    /// The program that is next, if one is, by these priorities.
+    fn first_by(&self, journal: &Journal, priorities: &[u8; 4]) -> Option<usize>
+        requires near { AreNear self.now }
+        requires lent { AreLentIn self.now journal.now.entries }
+        ensures { result ≡ first_in self.now priorities.now }
+    {
+        for p in priorities {
+            if let Some(i) = self.place_of(*p) {
+                if self.goes_at(journal, i) {
+                    return Some(i);
+                }
+            }
+        }
+        None
+    }
+
+    /// The program that is next, if one is.
+    #[inline(always)]
+    pub(crate) fn next_of(&self, journal: &Journal) -> Option<usize>
+        requires near { AreNear self.now }
+        requires lent { AreLentIn self.now journal.now.entries }
+        requires four { AreOfFour self.now }
+        requires numbered { AreNumbered self.now.seats }
+        ensures { result ≡ first_in self.now (priorities journal.now.entries) }
+    {
+        let priorities = journal.priorities();
+        if are_first(&priorities) {
+            self.first_of_all(journal)
+        } else {
+            self.first_by(journal, &priorities)
+        }
+    }
+
+    /// Whether a program is live.
+    pub(crate) fn is_any_on(&self) -> bool
+        ensures { result ≡ any_in self.now }
+    {
+        is_any_on(&self.programs)
     }
 }
 

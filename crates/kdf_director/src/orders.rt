@@ -4,14 +4,18 @@ ghost use Rattle.kdf_journal.specs.Counts.{calls, clock};
 ghost use Rattle.kdf_journal.specs.Steps.{steps};
 ghost use Rattle.kdf_schedule.specs.Calls.{AnOrder};
 ghost use Rattle.kdf_course.specs.Follows.{Reaches};
-ghost use Rattle.kdf_director.specs.Next.{lone_dispatched};
+ghost use Rattle.kdf_director.specs.Fields.Agrees.{IsReady};
+ghost use Rattle.kdf_director.specs.Fields.Standing.{shown_of};
+ghost use Rattle.kdf_theory.specs.Next.{lone_dispatched};
 ghost use Rattle.kdf_director.specs.Orders.{HasMadeAll, HasMadeFewer};
 ghost use Rattle.kdf_director.specs.Progressed.{found_live};
-ghost use Rattle.kdf_director.specs.Served.{IsTrueFor};
+ghost use Rattle.kdf_director.specs.Runs.{HasMadeAtMost, HasMadeButFewer};
+ghost use Rattle.kdf_theory.specs.Served.{IsTrueFor};
 ghost use Rattle.kdf_service.specs.Rules.{IsService};
 
-use crate::{Machine, Progress};
-use kdf_journal::CALL_LIMIT;
+use crate::advance::Calls;
+use crate::{Machine, Progress, Yard};
+use kdf_journal::{CALL_LIMIT, Journal};
 use kdf_service::Service;
 use std::alloc::AllocError;
 
@@ -25,6 +29,41 @@ fn found_live(progress: Progress) -> bool
         Progress::Held(_, _) => true,
         Progress::Idle => true,
         Progress::AllEnded => false,
+    }
+}
+
+impl Yard {
+    /// So many calls in turn, one at least, or fewer, where the last found no live program. Answers what the last did.
+    /// At Err some are made, and the one that had no memory has changed nothing.
+    #[inline(always)]
+    pub(crate) fn orders<F: Fn(u64) -> u64>(
+        &mut self,
+        journal: &mut Journal,
+        due: &Calls<'_, F>,
+    ) -> Result<Progress, AllocError>
+        requires service { IsService (F.pre due.now.service.now) (F.post due.now.service.now) }
+        requires ready { IsReady self.old journal.old due.now.room }
+        requires some { 0 < due.now.most }
+        requires few { calls journal.old.entries + due.now.most ≤ CALL_LIMIT }
+        ensures ready { IsReady self.new journal.new due.now.room }
+        ensures made { IfOk result (HasMadeAtMost (F.post due.now.service.now) due.now.most
+            (shown_of self.old journal.old due.now.room) (shown_of self.new journal.new due.now.room)) }
+        ensures err { OnErr result (HasMadeButFewer (F.post due.now.service.now) due.now.most
+            (shown_of self.old journal.old due.now.room) (shown_of self.new journal.new due.now.room)) }
+    {
+        let mut left = due.most;
+        loop {
+            let calls = Calls {
+                service: due.service,
+                room: due.room,
+                most: left,
+            };
+            let (made, progress) = self.advance(journal, &calls)?;
+            left -= made;
+            if left == 0 || !found_live(progress) {
+                return Ok(progress);
+            }
+        }
     }
 }
 
@@ -56,13 +95,6 @@ impl Machine {
         ensures err { OnErr result (HasMadeFewer (F.post service.now) n self.old self.new) }
     {
         let _journal = self.journal();
-        let mut left = n;
-        loop {
-            let (made, progress) = self.calls_with(left, service)?;
-            left -= made;
-            if left == 0 || !found_live(progress) {
-                return Ok(progress);
-            }
-        }
+        self.calls_with(n, service)
     }
 }

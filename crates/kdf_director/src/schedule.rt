@@ -6,11 +6,11 @@ ghost use Rattle.kdf_journal.specs.Steps.{steps};
 ghost use Rattle.kdf_schedule.specs.Calls.{calls_made, calls_of, orders_in, order_count};
 ghost use Rattle.kdf_schedule.specs.Events.{IsInRange};
 ghost use Rattle.kdf_course.specs.Follows.{Reaches};
-ghost use Rattle.kdf_director.specs.Follows.{IsRising, entries_in, time_behind};
-ghost use Rattle.kdf_director.specs.Legal.{IsLegal};
-ghost use Rattle.kdf_director.specs.Next.{any_live, lone_dispatched};
-ghost use Rattle.kdf_director.specs.Served.{IsJournalFor, IsTrueFor};
-ghost use Rattle.kdf_director.specs.Shown.{ShowsSeen};
+ghost use Rattle.kdf_theory.specs.Follows.{IsRising, entries_in, time_behind};
+ghost use Rattle.kdf_theory.specs.Legal.{IsLegal};
+ghost use Rattle.kdf_theory.specs.Next.{any_live, lone_dispatched};
+ghost use Rattle.kdf_theory.specs.Served.{IsJournalFor, IsTrueFor};
+ghost use Rattle.kdf_theory.specs.Shown.{ShowsSeen};
 ghost use Rattle.kdf_service.specs.Rules.{IsService};
 
 use crate::Machine;

@@ -11,9 +11,9 @@ ghost use Rattle.kdf_director.specs.Fields.Running.{seats_in};
 use crate::devices::owns;
 use crate::dispatch::window_of;
 use crate::load::pool_in;
-use crate::{Loaded, Loan, Place, Program, Stint};
+use crate::{Loaded, Place, Program, Stint};
 use kdf_job::kind_lent;
-use kdf_places::holder_in;
+use kdf_journal::Journal;
 use kdf_processor::{Registers, Spooled};
 use kdf_relocate::Window;
 use kdf_transfer::Device;
@@ -62,14 +62,13 @@ pub(crate) fn stints_of(programs: &[Program], p: u8) -> &[Stint]
 /// The number of a stint's device, whether it was given back, and the device, as its transfer found it where it has
 /// one.
 fn stint_told<'a>(stint: &'a Stint, places: &'a [Place]) -> (u8, bool, &'a Device)
-    requires { is_lent (loan_of stint.now.loan) ≡ true
+    requires { is_lent (loan_of stint.now.given stint.now.device) ≡ true
         → is_some (spot_at (map spot_of places.now) stint.now.d).fixture ≡ true }
     ensures { IsTold (map spot_of places.now) (keeping_of stint.now) result.0 result.1 result.2.now }
 {
-    match &stint.loan {
-        Loan::Left(device) => (stint.d, false, device),
-        Loan::Back(device) => (stint.d, true, device),
-        Loan::Lent => match device_at(places, stint.d) {
+    match &stint.device {
+        Some(device) => (stint.d, stint.given, device),
+        None => match device_at(places, stint.d) {
             Some(device) => (stint.d, false, device),
             None => unreachable!(),
         },
@@ -126,14 +125,19 @@ fn device_at(places: &[Place], d: u8) -> Option<&Device>
 
 /// Whether the program that has the device of this number has claimed it; where no slot has one, whether the pool has
 /// lent it.
-pub(crate) fn is_claimed_in(slots: &[Loaded], programs: &[Program], places: &[Place], d: u8) -> bool
+pub(crate) fn is_claimed_in(
+    slots: &[Loaded],
+    programs: &[Program],
+    journal: &Journal,
+    d: u8,
+) -> bool
     requires { length slots.now ≡ length programs.now }
     ensures { result ≡ is_claimed_by (owner_in slots.now d) (seats_in programs.now)
-        (pool_in (map loaded slots.now)) (map spot_of places.now) d }
+        (pool_in (map loaded slots.now)) journal.now.entries d }
 {
     match owner_of(slots, d) {
         Some(owner) => d < 16 && programs[owner].claimed[usize::from(d)],
-        None => kind_lent(pool_in(slots), d).is_some() && holder_in(places, d).is_some(),
+        None => d < 16 && kind_lent(pool_in(slots), d).is_some() && journal.holder(d).is_some(),
     }
 }
 

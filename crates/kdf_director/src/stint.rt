@@ -11,23 +11,15 @@ use kdf_places::take_back_at;
 use kdf_transfer::Device;
 use std::alloc::Global;
 
-/// Where the device of a stint is.
-#[derive(Drop)]
-pub enum Loan {
-    /// In the place of its number.
-    Lent,
-    /// With the program, which is over and hasn't given it back.
-    Left(Device),
-    /// With the program, which gave it back.
-    Back(Device),
-}
-
 /// That a program took a device from the pool.
 #[derive(Drop)]
 pub struct Stint {
     /// The number of the device.
     pub d: u8,
-    pub loan: Loan,
+    /// The program gave it back: then it has the device.
+    pub given: bool,
+    /// The device, where the place of its number doesn't hold it: the program gave it back, or is over and has kept it.
+    pub device: Option<Device>,
 }
 
 /// Takes the device of a stint of a program that is over out of its place, if it is lent still and has no transfer.
@@ -40,9 +32,10 @@ pub(crate) fn retire(alloc: Global, stint: &mut Stint, places: &mut Vec<Place>)
     ensures dry { AreDry places.old.items → AreDry places.new.items }
     ensures len { length places.new.items ≡ length places.old.items }
 {
-    if let Loan::Lent = stint.loan {
+    if stint.device.is_none() {
         if let Some(device) = take_back_at(alloc, places, usize::from(stint.d)) {
-            stint.loan = Loan::Left(device);
+            stint.given = false;
+            stint.device = Some(device);
         }
     }
 }
@@ -55,7 +48,11 @@ pub(crate) fn hand_in(stints: &mut Vec<Stint>, d: u8, device: Device)
         ≡ map (with_loan d (Back (fixture_of device) (progress_of device))) (map keeping_of stints.old.items) }
 {
     if let Some(i) = open_stint(stints, d) {
-        stints[i].loan = Loan::Back(device);
+        stints[i] = Stint {
+            d,
+            given: true,
+            device: Some(device),
+        };
     }
 }
 
@@ -82,6 +79,6 @@ impl Stint {
     fn is_open(&self, d: u8) -> bool
         ensures { result ≡ is_open_of d (keeping_of self.now) }
     {
-        self.d == d && !matches!(self.loan, Loan::Back(_))
+        self.d == d && !(self.given && self.device.is_some())
     }
 }

@@ -1,7 +1,7 @@
 //! The port of one program of the machine for its orders at a moment: a window of the store, the devices of its slot,
 //! and those that the pool lends.
 ghost use Rattle.std.specs.Prelude.{◌≡◌, ◌+◌, ◌*◌, ◌%◌, ◌<◌, ◌≤◌, [], length};
-ghost use Rattle.kdf_director.specs.True.{one_if};
+ghost use Rattle.kdf_theory.specs.True.{one_if};
 ghost use Rattle.kdf_director.specs.Fields.Keeping.{IsActive, IsActiveBy, IsKept, IsKeptBy};
 ghost use Rattle.kdf_director.specs.Fields.Parts.{part_with};
 ghost use Rattle.kdf_places.specs.Shared.{shared_in};
@@ -10,11 +10,11 @@ ghost use Rattle.kdf_places.specs.Spots.{AreDry};
 use crate::devices::{first_free, first_of, is_free, kind_claimed, may_be_taken};
 use crate::next::is_busy_at;
 use crate::stint::hand_in;
-use crate::{Loaded, Loan, Moment, Note, Place, Stint};
+use crate::{Loaded, Moment, Note, Place, Stint};
 use kdf_job::kind_lent;
-use kdf_journal::Kind;
+use kdf_journal::{Journal, Kind};
 use kdf_lockout::Store;
-use kdf_places::{Start, lend_at, make_ready_at, start_at, take_back_at, test_in, text_of};
+use kdf_places::{Start, make_ready_at, start_at, take_back_at, test_in, text_of};
 use kdf_processor::{Port, Reserve, Spooled, Test, Wanted, least};
 use kdf_relocate::Window;
 use kdf_transfer::{Area, TransferOrder, characters_in};
@@ -29,6 +29,8 @@ pub struct Turn<'a> {
     pub alloc: Global,
     pub window: Window,
     pub moment: Moment,
+    /// The journal, which tells who has the devices of the pool.
+    pub journal: &'a Journal,
     /// Its slot, which has its devices and those of the pool, and says whether the installation's service answers it.
     /// An order reads of it only what it needs.
     pub slot: &'a Loaded,
@@ -47,7 +49,7 @@ pub struct Turn<'a> {
     ghost sixteen: { length places.now.items ≡ 16 },
     ghost dry: { AreDry places.now.items },
     ghost kept: { IsKeptBy p window slot.now stints.now.items places.now.items },
-    ghost active: { IsActiveBy p window slot.now claimed.now stints.now.items places.now.items },
+    ghost active: { IsActiveBy p window slot.now claimed.now stints.now.items },
     ghost blank: { block.now.items ≡ [] },
 }
 
@@ -57,9 +59,9 @@ impl<'a> Turn<'a> {
     ghost use Rattle.kdf_processor.specs.Effect.{Acquires, Asks, Question, Releases};
     ghost use Rattle.kdf_processor.specs.View.{groups_of};
     ghost use Rattle.kdf_director.specs.Fields.Parts.{in_pool, own_claims};
-    ghost use Rattle.kdf_director.specs.Fields.Shared.{free_in, is_out_of, is_pool_taken};
+    ghost use Rattle.kdf_director.specs.Fields.Shared.{free_in, is_out_of, is_pool_taken, is_taken_by};
     ghost use Rattle.kdf_places.specs.Shared.{is_busy_in};
-    ghost use Rattle.kdf_director.specs.Fields.Turn.{part_of, shared, Acts};
+    ghost use Rattle.kdf_director.specs.Fields.Turn.{held_in, part_of, shared, Acts};
     ghost use Rattle.kdf_director.specs.declared.note.Note.TheVariants.{Quiet};
     ghost use Rattle.kdf_director.specs.Fields.Notes.{IsPlain};
 
@@ -144,11 +146,13 @@ impl<'a> Turn<'a> {
     /// The least device of this kind in the pool that is nobody's; there is one.
     #[inline(never)]
     fn least_free(&self, kind: Kind) -> u8
-        requires { is_pool_taken (part_of self.now).pool (shared self.now) kind ≡ false }
-        ensures least { free_in (part_of self.now).pool (shared self.now).spots kind ≡ Some result }
+        requires { is_pool_taken (part_of self.now).pool (is_taken_by self.now.claimed.now (held_in self.now)) kind
+            ≡ false }
+        ensures least { free_in (part_of self.now).pool (is_taken_by self.now.claimed.now (held_in self.now)) kind
+            ≡ Some result }
         ensures number { result < 16 }
     {
-        match first_free(&self.slot.pool, self.places, kind) {
+        match first_free(&self.slot.pool, self.claimed, self.journal, kind) {
             Some(d) => d,
             None => unreachable!(),
         }
@@ -300,17 +304,16 @@ impl Port for Turn<'_> {
     }
 
     fn pool_free(&self, kind: Kind) -> bool {
-        first_free(&self.slot.pool, self.places, kind).is_some()
+        first_free(&self.slot.pool, self.claimed, self.journal, kind).is_some()
     }
 
     fn take_pool(&mut self, kind: Kind) -> u8 {
         let d = self.least_free(kind);
-        let p = self.p;
-        lend_at(self.places, usize::from(d), p);
         self.claimed[usize::from(d)] = true;
         self.stints.push_reserved(Stint {
             d,
-            loan: Loan::Lent,
+            given: false,
+            device: None,
         });
         self.note = Note::Took(d);
         d
@@ -334,6 +337,7 @@ impl Port for Turn<'_> {
     ghost stays = { λ _. record {
       same = record {
         moment = refl;
+        journal = refl;
         claimed = refl;
         spooled = refl;
         stints = refl;
@@ -365,6 +369,7 @@ impl Reserve for Turn<'_> {
     ghost itself = { λ _. record {
       same = record {
         moment = refl;
+        journal = refl;
         claimed = refl;
         spooled = refl;
         stints = refl;

@@ -8,7 +8,7 @@ ghost use Rattle.kdf_journal.specs.declared.failure.Failure.TheVariants.{Liv};
 ghost use Rattle.kdf_schedule.specs.declared.event.Event.TheVariants.{Orders, Move, End, Clock, Swap};
 ghost use Rattle.kdf_transfer.specs.Examples.{having, placed};
 ghost use Rattle.kdf_course.specs.Cut.{cut};
-ghost use Rattle.kdf_director.specs.Slots.{AreSlots};
+ghost use Rattle.kdf_theory.specs.Slots.{AreSlots};
 ghost use Rattle.kdf_director.specs.Worked.{asks, borrowers, borrowing, device_seen, journal_under, keeps, looks, loops};
 ghost use Rattle.kdf_director.specs.Worked.{loops_two, one_stint, overruns, stints_seen};
 ghost use Rattle.kdf_director.specs.Worked.{prints, punches, reads, reads_journal, words_seen};

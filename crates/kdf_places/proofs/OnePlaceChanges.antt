@@ -21,9 +21,9 @@ pub spot_known : (places : List Place) (d : ℕ) (x : Place) → x ≡ get_or pl
 spot_known places d x was = ap spot_of was ∙ sym (spot_there places d)
 
 -- words of its transfer have moved
-pub spot_moved : (p n : ℕ) (t t' : Motion) → t' ≡ moved_by n t → (let x : Spot = record { fixture = Some t'.fixture; progress = t'.progress; flight = Some (record { p = p; motion = t' }); holder = Some p } in x) ≡ moved_spot n (spot_of (Busy p t))
+pub spot_moved : (p n : ℕ) (t t' : Motion) → t' ≡ moved_by n t → (let x : Spot = record { fixture = Some t'.fixture; progress = t'.progress; flight = Some (record { p = p; motion = t' }) } in x) ≡ moved_spot n (spot_of (Busy p t))
 unfolding moved_by
-spot_moved p n t t' is = ap (λ (m : Motion). let x : Spot = record { fixture = Some m.fixture; progress = m.progress; flight = Some (record { p = p; motion = m }); holder = Some p } in x) is
+spot_moved p n t t' is = ap (λ (m : Motion). let x : Spot = record { fixture = Some m.fixture; progress = m.progress; flight = Some (record { p = p; motion = m }) } in x) is
 
 -- what was done to a place
 pub set_spot : (places : List Place) (d : ℕ) (old new : Place) (f : Spot → Spot) → old ≡ get_or places d Absent → spot_of new ≡ f (spot_of old) → map spot_of (set places d new) ≡ set (map spot_of places) d (f (spot_at (map spot_of places) d))

@@ -17,27 +17,24 @@ pub record Held : Type 0 where
   pub p : ℕ
   pub motion : Motion
 
--- a place: the device, as it was at the begin where it has a transfer, and the program whose device it is: that of its
--- slot, or the one to which the pool lent it
+-- a place: the device, as it was at the begin where it has a transfer
 pub record Spot : Type 0 where
   pub fixture : Option Fixture
   pub progress : Progress
   pub flight : Option Held
-  pub holder : Option ℕ
 
 abbrev pub no_spot : Spot
-no_spot = record { fixture = None; progress = new_progress; flight = None; holder = None }
+no_spot = record { fixture = None; progress = new_progress; flight = None }
 
 abbrev pub spot_of : Place → Spot
 spot_of Absent = no_spot
-spot_of (Idle device ring holder) =
-    record { fixture = Some (fixture_of device); progress = progress_of device; flight = None; holder = holder }
+spot_of (Idle device ring) =
+    record { fixture = Some (fixture_of device); progress = progress_of device; flight = None }
 spot_of (Busy p t) =
     record {
       fixture = Some t.fixture;
       progress = t.progress;
       flight = Some (record { p = p; motion = t });
-      holder = Some p;
     }
 
 abbrev pub spot_at : List Spot → ℕ → Spot
@@ -46,27 +43,17 @@ spot_at spots d = slice_index_or spots d no_spot
 abbrev pub is_flying : Spot → Bool
 is_flying s = is_some s.flight
 
--- the device is this program's
-abbrev pub is_holder : ℕ → Option ℕ → Bool
-is_holder p None = false
-is_holder p (Some q) = q == p
-
--- a place whose device the pool lends to a program
-abbrev pub lent_spot : ℕ → Spot → Spot
-lent_spot p x = record x { holder = Some p }
-
 -- there is a device, and it has no transfer
 abbrev pub can_leave : Spot → Bool
 can_leave x = is_some x.fixture && is_none x.flight
 
--- a place whose device left it: a blank one of the same kind, which is nobody's, stands there
+-- a place whose device left it: a blank one of the same kind stands there
 abbrev pub blank_spot : Spot → Spot
 blank_spot x =
     record {
       fixture = option_map (λ (f : Fixture). blank_fixture f.kind) x.fixture;
       progress = new_progress;
       flight = None;
-      holder = None;
     }
 
 -- a place whose device left it, if it can
@@ -99,7 +86,7 @@ fixture_or (Some f) = f
 -- the words in the ring of a device without a transfer
 abbrev pub ring_in : Place → List ℕ
 ring_in Absent = []
-ring_in (Idle device ring holder) = ring
+ring_in (Idle device ring) = ring
 ring_in (Busy p t) = []
 
 -- the ring of each device without a transfer is empty
@@ -110,7 +97,7 @@ AreDry places = (d : ℕ) → ring_in (slice_index_or places d Absent) ≡ []
 -- blocks yet
 abbrev pub IsReady : TransferOrder → Place → Type 0
 IsReady order Absent = Unit {0}
-IsReady order (Idle device ring holder) = HasSpare order device
+IsReady order (Idle device ring) = HasSpare order device
 IsReady order (Busy p t) = Unit {0}
 
 -- the kind of the device, if there is one

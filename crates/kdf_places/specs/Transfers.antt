@@ -34,7 +34,6 @@ start_spot p o first last cells s =
           moved = 0;
         };
       });
-      holder = Some p;
     }
 
 -- the places are in the store, no more than 4,096, and none of their groups is out

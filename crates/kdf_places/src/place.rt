@@ -16,23 +16,15 @@ use std::mem;
 pub enum Place {
     /// Neither a slot nor the pool has a device of this number.
     Absent,
-    /// A device without a transfer, the ring of its next one, which is empty, and the program whose device it is: that
-    /// of its slot, or the one to which the pool lent it.
-    Idle {
-        device: Device,
-        ring: Ring,
-        holder: Option<u8>,
-    },
-    /// A device with a transfer of slot `p`, whose device it is.
-    Busy {
-        p: u8,
-        transfer: Transfer,
-    },
+    /// A device without a transfer, and the ring of its next one, which is empty.
+    Idle { device: Device, ring: Ring },
+    /// A device with a transfer of slot `p`.
+    Busy { p: u8, transfer: Transfer },
 }
 
 impl Place {
     ghost use Rattle.std.specs.Option.{option_copied};
-    ghost use Rattle.kdf_places.specs.Spots.{IsDeviceOf, Held, can_leave, left_spot, lent_spot, spot_of, spot_kind, is_flying, is_of, lease_held, ring_in, IsReady};
+    ghost use Rattle.kdf_places.specs.Spots.{IsDeviceOf, Held, can_leave, left_spot, spot_of, spot_kind, is_flying, is_of, lease_held, ring_in, IsReady};
     ghost use Rattle.kdf_places.specs.Transfers.{moved_spot};
     ghost use Rattle.kdf_transfer.specs.Devices.{fixture_of, progress_of};
 
@@ -89,31 +81,7 @@ impl Place {
         }
     }
 
-    /// The program whose device it is, if it is one's.
-    pub fn holder(&self) -> Option<u8>
-        ensures { result ≡ (spot_of self.now).holder }
-    {
-        match self {
-            Place::Absent => None,
-            Place::Idle { holder, .. } => *holder,
-            Place::Busy { p, .. } => Some(*p),
-        }
-    }
-
-    /// Lends the device, which has no transfer, to program `p`.
-    pub fn lend(&mut self, p: u8)
-        requires { can_leave (spot_of self.old) ≡ true }
-        ensures spot { spot_of self.new ≡ lent_spot p (spot_of self.old) }
-        ensures ring { ring_in self.new ≡ ring_in self.old }
-    {
-        match self {
-            Place::Absent | Place::Busy { .. } => {}
-            Place::Idle { holder, .. } => *holder = Some(p),
-        }
-    }
-
-    /// Takes the device out, if there is one and it has no transfer. A blank one of the same kind takes its place,
-    /// which is nobody's.
+    /// Takes the device out, if there is one and it has no transfer. A blank one of the same kind takes its place.
     pub fn take_back(&mut self, alloc: Global) -> Option<Device>
         ensures spot { spot_of self.new ≡ left_spot (spot_of self.old) }
         ensures ring { ring_in self.new ≡ ring_in self.old }
@@ -123,9 +91,8 @@ impl Place {
     {
         match self {
             Place::Absent | Place::Busy { .. } => None,
-            Place::Idle { device, holder, .. } => {
+            Place::Idle { device, .. } => {
                 let blank = Device::blank(alloc, device.kind());
-                *holder = None;
                 Some(mem::replace(device, blank))
             }
         }

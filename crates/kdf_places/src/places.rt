@@ -5,7 +5,7 @@ ghost use Rattle.kdf_transfer.specs.Devices.{test_of};
 ghost use Rattle.kdf_transfer.specs.ByNumber.{device_count};
 ghost use Rattle.kdf_places.specs.Words.{word_at_place, word_out};
 ghost use Rattle.kdf_transfer.specs.Devices.{fixture_of, progress_of};
-ghost use Rattle.kdf_places.specs.Spots.{Held, can_leave, left_spot, lent_spot, spot_of, spot_at, spot_kind, is_flying, leases_of, AreDry, IsReady};
+ghost use Rattle.kdf_places.specs.Spots.{Held, can_leave, left_spot, spot_of, spot_at, spot_kind, is_flying, leases_of, AreDry, IsReady};
 ghost use Rattle.kdf_places.specs.declared.place.Place.TheVariants.{Absent};
 
 use crate::Place;
@@ -60,19 +60,6 @@ pub fn make_ready_at(
     }
 }
 
-/// Lends a device that has no transfer to program `p`.
-pub fn lend_at(places: &mut Vec<Place>, d: usize, p: u8)
-    requires there { d < length places.old.items }
-    requires idle { can_leave (spot_at (map spot_of places.old.items) d) ≡ true }
-    ensures spots { map spot_of places.new.items ≡ slice_set (map spot_of places.old.items) d
-        (lent_spot p (spot_at (map spot_of places.old.items) d)) }
-    ensures dry { AreDry places.old.items → AreDry places.new.items }
-    ensures len { length places.new.items ≡ length places.old.items }
-{
-    let place = &mut places[d];
-    place.lend(p);
-}
-
 /// Takes a device out of its place, if there is one and it has no transfer.
 pub fn take_back_at(alloc: Global, places: &mut Vec<Place>, d: usize) -> Option<Device>
     ensures spots { map spot_of places.new.items ≡ slice_set (map spot_of places.old.items) d
@@ -90,16 +77,6 @@ pub fn take_back_at(alloc: Global, places: &mut Vec<Place>, d: usize) -> Option<
         place.take_back(alloc)
     } else {
         None
-    }
-}
-
-/// The program whose device it is, if it is one's.
-pub fn holder_in(places: &[Place], d: u8) -> Option<u8>
-    ensures { result ≡ (spot_at (map spot_of places.now) d).holder }
-{
-    match places.get(usize::from(d)) {
-        Some(place) => place.holder(),
-        None => None,
     }
 }
 

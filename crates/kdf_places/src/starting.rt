@@ -67,11 +67,7 @@ fn begin_place(place: Place, start: Start, store: &mut Store, block: Vec<u8>) ->
         ≡ start_cells start.order start.area.first start.area.last store.old }
 {
     match place {
-        Place::Idle {
-            device,
-            ring,
-            holder: _,
-        } => {
+        Place::Idle { device, ring } => {
             let Start { p, order, area } = start;
             let lease = take_lease(store, order, area);
             let transfer = Transfer::begin(device, order, area, lease, block, ring);
@@ -139,25 +135,13 @@ fn end_place(place: Place, store: &mut Store) -> Place
     ensures store { store.new ≡ back_cells (last_lease (spot_of place).flight) store.old }
 {
     match place {
-        Place::Busy { p, transfer } => {
+        Place::Busy { p: _, transfer } => {
             let (device, lease, ring) = transfer.end();
             put_back(store, lease);
-            Place::Idle {
-                device,
-                ring,
-                holder: Some(p),
-            }
+            Place::Idle { device, ring }
         }
         Place::Absent => Place::Absent,
-        Place::Idle {
-            device,
-            ring,
-            holder,
-        } => Place::Idle {
-            device,
-            ring,
-            holder,
-        },
+        Place::Idle { device, ring } => Place::Idle { device, ring },
     }
 }
 
@@ -228,11 +212,7 @@ fn cancel(place: Place, store: &mut Store)
 {
     match place {
         Place::Absent => {}
-        Place::Idle {
-            device: _,
-            ring: _,
-            holder: _,
-        } => {}
+        Place::Idle { device: _, ring: _ } => {}
         Place::Busy { p: _, transfer } => cancel_transfer(transfer, store),
     }
 }

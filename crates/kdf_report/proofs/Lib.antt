@@ -3,6 +3,7 @@ pub mod JobForms
 pub mod Loaded
 pub mod LoadedJobs
 pub mod Numbers
+pub mod PooledSlots
 pub mod SectionTexts
 pub mod SeenPrograms
 pub mod SummaryTexts

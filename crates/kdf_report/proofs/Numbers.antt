@@ -11,7 +11,7 @@ use Rattle.kdf_processor.specs.Stints.{IsStint}
 use Rattle.kdf_job.specs.Job.{JobDevice, SlotJob}
 use Rattle.kdf_job.specs.Shows.{shown_device}
 use Rattle.kdf_alone.specs.Program as alone
-use Rattle.kdf_director.specs.Shown as machine
+use Rattle.kdf_theory.specs.Shown as machine
 use Rattle.kdf_report.specs.Devices.{device_numbers, has_device}
 use Rattle.kdf_report.specs.MadeFrom.{own_numbers}
 

@@ -11,13 +11,13 @@ use Rattle.kdf_transfer.specs.Slots.{Slot}
 use Rattle.kdf_processor.specs.State.{State}
 use Rattle.kdf_job.specs.Job.{Job, SlotJob}
 use Rattle.kdf_job.specs.WellFormed.{AreRising, AreSlots, IsSlot}
-use Rattle.kdf_director.specs.Flights.{Flight}
+use Rattle.kdf_theory.specs.Flights.{Flight}
 use Rattle.kdf_director.specs.Loading as loading
 use Rattle.kdf_director.specs.Loading.{HaveImages, load_of, slots_of}
-use Rattle.kdf_director.specs.Seen.{seen}
-use Rattle.kdf_director.specs.Shown.{Shown, ShowsSeen, state_at, state_in, state_of}
-use Rattle.kdf_director.specs.Slots.{slot_of, start_of}
-use Rattle.kdf_director.specs.ByJournal.{flights_of, own, seen_of}
+use Rattle.kdf_theory.specs.Seen.{seen}
+use Rattle.kdf_theory.specs.Shown.{Shown, ShowsSeen, state_at, state_in, state_of}
+use Rattle.kdf_theory.specs.Slots.{slot_of, start_of}
+use Rattle.kdf_theory.specs.ByJournal.{flights_of, own, seen_of}
 use Rattle.kdf_text.specs.Text.{text}
 use Rattle.kdf_report.specs.MadeFrom.{HasProgram, IsProgramOf}
 use Rattle.kdf_report.specs.Text.{end_line, entry_line, head_line, report_lines, report_text, section}

@@ -3,8 +3,8 @@ use Rattle.std.proofs.Common.{◌≡◌, ℕ, List, [], ◌∷◌, ◌++◌, map
 use Rattle.kdf_journal.specs.declared.entry.Entry.{Entry}
 use Rattle.kdf_processor.specs.State.{State}
 use Rattle.kdf_job.specs.Job.{Job, SlotJob}
-use Rattle.kdf_director.specs.Shown.{Shown, ShowsSeen, state_at}
-use Rattle.kdf_director.specs.ByJournal.{seen_of}
+use Rattle.kdf_theory.specs.Shown.{Shown, ShowsSeen, state_at}
+use Rattle.kdf_theory.specs.ByJournal.{seen_of}
 use Rattle.kdf_text.specs.Text.{text}
 use Rattle.kdf_text.proofs.Texts.{text_more}
 use Rattle.kdf_report.specs.MadeFrom.{HasProgram}

@@ -14,13 +14,13 @@ use Rattle.kdf_job.specs.Job.{Job, SlotJob}
 use Rattle.kdf_job.specs.Reading.{job, job_fault}
 use Rattle.kdf_job.specs.SlotLines.{pool_lines, slot_lines}
 use Rattle.kdf_job.proofs.SlotReadings.{slots_told_alike}
-use Rattle.kdf_director.specs.Legal.{IsLegal}
+use Rattle.kdf_theory.specs.Legal.{IsLegal}
 use Rattle.kdf_director.specs.Loading as loading
 use Rattle.kdf_director.specs.Loading.{load_of}
-use Rattle.kdf_director.specs.Slots.{AreSlots, slot_of, start, start_of}
-use Rattle.kdf_director.specs.ByJournal.{own, seen_of}
-use Rattle.kdf_director.proofs.Course.FlightsOnCourse.{legal-course}
-use Rattle.kdf_director.proofs.Course.SeenJournals.{two-ends}
+use Rattle.kdf_theory.specs.Slots.{AreSlots, slot_of, start, start_of}
+use Rattle.kdf_theory.specs.ByJournal.{own, seen_of}
+use Rattle.kdf_theory.proofs.Course.FlightsOnCourse.{legal-course}
+use Rattle.kdf_theory.proofs.Course.SeenJournals.{two-ends}
 use Rattle.kdf_report.specs.Loaded.{images_of, slot_numbered, slots_of}
 use Rattle.kdf_report.specs.Text.{end_line, entry_line, head_line, report_lines, section}
 use Rattle.kdf_report.specs.Worlds.{section_of}

@@ -4,7 +4,7 @@ use Rattle.std.specs.Prelude.{◌≡◌, ℕ, ◌<◌, List, All, IsSomeAnd, is_
 use Rattle.std.specs.List.{filter, range_with_len}
 use Rattle.kdf_processor.specs.State.{State, device_limit, own_fixture_at}
 use Rattle.kdf_job.specs.Job.{SlotJob}
-use Rattle.kdf_director.specs.Shown.{Shown, state_of}
+use Rattle.kdf_theory.specs.Shown.{Shown, state_of}
 use Rattle.kdf_report.specs.Devices.{device_numbers}
 
 -- the numbers of the program's own devices, rising

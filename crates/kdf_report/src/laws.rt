@@ -4,16 +4,17 @@ ghost use Rattle.kdf_journal.specs.declared.entry.Entry.{Entry};
 ghost use Rattle.kdf_journal.specs.Counts.{answers};
 ghost use Rattle.kdf_processor.specs.Lone.{is_live, lone};
 ghost use Rattle.kdf_processor.specs.State.{State, begin};
+ghost use Rattle.kdf_processor.specs.Stints.{HasPool, IsLent};
 ghost use Rattle.kdf_job.specs.Job.{Job, SlotJob};
 ghost use Rattle.kdf_job.specs.Reading.{job, job_fault};
 ghost use Rattle.kdf_job.specs.SlotLines.{pool_lines, slot_lines};
 ghost use Rattle.kdf_job.specs.Slots.{slot_of};
 ghost use Rattle.kdf_job.specs.WellFormed.{AreSlots, IsSlot};
-ghost use Rattle.kdf_director.specs.Legal.{IsLegal};
+ghost use Rattle.kdf_theory.specs.Legal.{IsLegal};
 ghost use Rattle.kdf_director.specs.Loading as loading;
 ghost use Rattle.kdf_director.specs.Loading.{HaveImages};
-ghost use Rattle.kdf_director.specs.Shown.{Shown, ShowsSeen, state_at};
-ghost use Rattle.kdf_director.specs.ByJournal.{own, seen_of};
+ghost use Rattle.kdf_theory.specs.Shown.{Shown, ShowsSeen, state_at};
+ghost use Rattle.kdf_theory.specs.ByJournal.{own, seen_of};
 ghost use Rattle.kdf_report.specs.Loaded.{slot_numbered, slots_of};
 ghost use Rattle.kdf_report.specs.MadeFrom.{HasProgram, IsProgramOf};
 ghost use Rattle.kdf_report.specs.Summary.{summary_text};
@@ -73,4 +74,14 @@ pub fn two_worlds()
         is_live (own (slots_of (job second)) K p).registers.state ≡ false →
         section_of p (job first) (seen_of (slots_of (job first)) J)
         ≡ section_of p (job second) (seen_of (slots_of (job second)) K) }
+{}
+
+/// Each slot of a job without a fault has the pool as `begin` wants it, whatever image is loaded: the pool's devices have numbers below
+/// sixteen, none is the slot's own, and each is without a block, at place 0 and with flag 0. So what holds of stints holds of the slot's
+/// program, whatever it is answered and however many orders it obeys.
+pub fn pools_of_slots()
+    ensures pool { (bytes words : List ℕ) → job_fault bytes ≡ None →
+        All (λ (s : SlotJob). HasPool (slot_of s words)) (job bytes).slots }
+    ensures lent { (bytes words answers : List ℕ) (n : ℕ) → job_fault bytes ≡ None →
+        All (λ (s : SlotJob). IsLent (lone (begin (slot_of s words)) answers n)) (job bytes).slots }
 {}

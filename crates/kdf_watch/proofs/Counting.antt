@@ -15,15 +15,15 @@ use Rattle.kdf_processor.specs.State.{State}
 use Rattle.kdf_processor.specs.Lone.{lone}
 use Rattle.kdf_processor.proofs.LoneLemmas.{longer}
 use Rattle.kdf_course.specs.Follows.{answered, call_of, EachLive}
-use Rattle.kdf_director.specs.Follows.{entries_in}
-use Rattle.kdf_director.specs.Legal.{EachMeets, IsLegal}
-use Rattle.kdf_director.specs.Next.{lone_dispatched}
-use Rattle.kdf_director.specs.Served.{IsTrueFor}
-use Rattle.kdf_director.specs.Shown.{Shown}
+use Rattle.kdf_theory.specs.Follows.{entries_in}
+use Rattle.kdf_theory.specs.Legal.{EachMeets, IsLegal}
+use Rattle.kdf_theory.specs.Next.{lone_dispatched}
+use Rattle.kdf_theory.specs.Served.{IsTrueFor}
+use Rattle.kdf_theory.specs.Shown.{Shown}
 use Rattle.kdf_director.proofs.Course.OneJournal.{true_for_nil}
-use Rattle.kdf_director.specs.Slots.{start}
-use Rattle.kdf_director.specs.ByJournal.{own, own_after}
-use Rattle.kdf_director.proofs.Course.LegalFacts.{legal_asked}
+use Rattle.kdf_theory.specs.Slots.{start}
+use Rattle.kdf_theory.specs.ByJournal.{own, own_after}
+use Rattle.kdf_theory.proofs.Course.LegalFacts.{legal_asked}
 use Rattle.kdf_watch.specs.declared.cursor.Cursor.{Cursor}
 use Rattle.kdf_watch.specs.declared.look.Look.{Look}
 use Rattle.kdf_watch.specs.declared.stop.Stop.{Stop}

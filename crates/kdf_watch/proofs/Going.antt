@@ -15,10 +15,10 @@ use Rattle.kdf_schedule.proofs.Schedules.{order_count-drop}
 use Rattle.kdf_transfer.specs.Slots.{Slot}
 use Rattle.kdf_course.specs.Follows.{call_of, answered, EachLive}
 use Rattle.kdf_director.specs.Advance.{Enters}
-use Rattle.kdf_director.specs.Follows.{Follows, IsRising, IsWhole, entries_in, time_behind}
-use Rattle.kdf_director.specs.Legal.{IsLegal}
-use Rattle.kdf_director.specs.Next.{any_live, lone_dispatched}
-use Rattle.kdf_director.specs.Shown.{Shown}
+use Rattle.kdf_theory.specs.Follows.{Follows, IsRising, IsWhole, entries_in, time_behind}
+use Rattle.kdf_theory.specs.Legal.{IsLegal}
+use Rattle.kdf_theory.specs.Next.{any_live, lone_dispatched}
+use Rattle.kdf_theory.specs.Shown.{Shown}
 use Rattle.kdf_director.proofs.Course.EventsInTurn.{rises-first, rises-from, rises-rest}
 use Rattle.kdf_watch.specs.declared.cursor.Cursor.{Cursor}
 use Rattle.kdf_watch.specs.Called.{Tells}

@@ -9,10 +9,10 @@ use Rattle.kdf_schedule.specs.declared.event.Event.TheVariants.{Orders, Move, En
 use Rattle.kdf_transfer.specs.Slots.{Slot}
 use Rattle.kdf_director.specs.Advance.{Enters}
 use Rattle.kdf_schedule.specs.Calls.{calls_made}
-use Rattle.kdf_director.specs.Follows.{IsWhole}
-use Rattle.kdf_director.specs.Legal.{IsLegal}
-use Rattle.kdf_director.specs.Served.{IsTrueFor}
-use Rattle.kdf_director.specs.Shown.{Shown}
+use Rattle.kdf_theory.specs.Follows.{IsWhole}
+use Rattle.kdf_theory.specs.Legal.{IsLegal}
+use Rattle.kdf_theory.specs.Served.{IsTrueFor}
+use Rattle.kdf_theory.specs.Shown.{Shown}
 use Rattle.kdf_director.proofs.Course.OneJournal.{true_entered}
 use Rattle.kdf_watch.specs.declared.look.Look.{Look}
 use Rattle.kdf_watch.specs.declared.stop.Stop.{Stop}

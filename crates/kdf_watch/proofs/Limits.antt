@@ -10,10 +10,10 @@ use Rattle.kdf_schedule.specs.Calls.{Call, AnOrder, calls_made, order_count}
 use Rattle.kdf_schedule.specs.Events.{IsInRange}
 use Rattle.kdf_schedule.proofs.Schedules.{calls_made-append, calls_made-one}
 use Rattle.kdf_course.specs.Follows.{answered}
-use Rattle.kdf_director.specs.Follows.{IsRising, IsWhole}
-use Rattle.kdf_director.specs.Legal.{IsLegal}
-use Rattle.kdf_director.specs.Shown.{Shown}
-use Rattle.kdf_director.proofs.Course.CountsBounded.{few-calls, rising-on}
+use Rattle.kdf_theory.specs.Follows.{IsRising, IsWhole}
+use Rattle.kdf_theory.specs.Legal.{IsLegal}
+use Rattle.kdf_theory.specs.Shown.{Shown}
+use Rattle.kdf_theory.proofs.Course.CountsBounded.{few-calls, rising-on}
 use Rattle.kdf_director.proofs.Course.EventsInTurn.{order_count-append}
 use Rattle.kdf_watch.specs.declared.cursor.Cursor.{Cursor}
 use Rattle.kdf_watch.specs.Cursors.{IsUpTo, KeepsLimits, calls_left}

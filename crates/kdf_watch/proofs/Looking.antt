@@ -16,18 +16,18 @@ use Rattle.kdf_processor.specs.State.{State}
 use Rattle.kdf_director.specs.declared.machine.Progress.{Progress}
 use Rattle.kdf_director.specs.declared.machine.Progress.TheVariants as progress
 use Rattle.kdf_director.specs.Advance.{Advance, AdvanceWith, HeldUp, Obeyed, Waited}
-use Rattle.kdf_director.specs.Legal.{IsLegal, note_of}
-use Rattle.kdf_director.specs.Next.{lives}
+use Rattle.kdf_theory.specs.Legal.{IsLegal, note_of}
+use Rattle.kdf_theory.specs.Next.{lives}
 use Rattle.kdf_director.specs.Orders.{HasMade, HasMadeAll, HasMadeFewer}
-use Rattle.kdf_director.specs.Shown.{Shown, ShowsSeen, state_at, state_in, state_of, world_of}
-use Rattle.kdf_director.specs.Slots.{slot_of, start, start_of}
-use Rattle.kdf_director.specs.ByJournal.{own, seen_of}
-use Rattle.kdf_director.specs.True.{truth}
-use Rattle.kdf_director.specs.World.{hold_of}
+use Rattle.kdf_theory.specs.Shown.{Shown, ShowsSeen, state_at, state_in, state_of, world_of}
+use Rattle.kdf_theory.specs.Slots.{slot_of, start, start_of}
+use Rattle.kdf_theory.specs.ByJournal.{own, seen_of}
+use Rattle.kdf_theory.specs.True.{truth}
+use Rattle.kdf_theory.specs.World.{hold_of}
 use Rattle.kdf_director.proofs.Calls.OneCall.{calls-took, clock-took}
-use Rattle.kdf_director.proofs.Course.LegalFacts.{legal_alive}
+use Rattle.kdf_theory.proofs.Course.LegalFacts.{legal_alive}
 use Rattle.kdf_director.proofs.Calls.FoundLive.{found_is, next_four}
-use Rattle.kdf_director.proofs.Course.Worlds.{next_slot}
+use Rattle.kdf_theory.proofs.Course.Worlds.{next_slot}
 use Rattle.kdf_watch.specs.declared.call.Called.TheVariants.{Seen, Unseen}
 use Rattle.kdf_watch.specs.declared.look.Look.{Look}
 use Rattle.kdf_watch.specs.Called.{HasCalled}

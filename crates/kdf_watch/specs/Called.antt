@@ -5,8 +5,8 @@ use Rattle.kdf_journal.specs.Steps.{Note, Step, Obeys, added}
 use Rattle.kdf_schedule.specs.Calls.{AnOrder}
 use Rattle.kdf_transfer.specs.Slots.{Slot}
 use Rattle.kdf_course.specs.Follows.{call_of}
-use Rattle.kdf_director.specs.Next.{any_live}
-use Rattle.kdf_director.specs.Shown.{Shown}
+use Rattle.kdf_theory.specs.Next.{any_live}
+use Rattle.kdf_theory.specs.Shown.{Shown}
 use Rattle.kdf_watch.specs.declared.call.Called.{Called}
 use Rattle.kdf_watch.specs.declared.call.Called.TheVariants.{Seen, Unseen, Over}
 use Rattle.kdf_watch.specs.Looks.{look_at, looks_in}

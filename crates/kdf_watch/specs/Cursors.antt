@@ -5,8 +5,8 @@ use Rattle.kdf_schedule.specs.declared.event.Event.{Event}
 use Rattle.kdf_schedule.specs.declared.event.Event.TheVariants.{Orders}
 use Rattle.kdf_schedule.specs.Events.{IsInRange}
 use Rattle.kdf_schedule.specs.Calls.{Call, calls_made, orders_in, order_count}
-use Rattle.kdf_director.specs.Follows.{Follows, IsRising, entries_in}
-use Rattle.kdf_director.specs.Shown.{Shown}
+use Rattle.kdf_theory.specs.Follows.{Follows, IsRising, entries_in}
+use Rattle.kdf_theory.specs.Shown.{Shown}
 use Rattle.kdf_watch.specs.declared.cursor.Cursor.{Cursor}
 
 -- the event of this number; after the last one, one of no orders

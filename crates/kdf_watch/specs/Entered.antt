@@ -4,9 +4,9 @@ use Rattle.kdf_journal.specs.Steps.{Moves, Ends, Sets, Swaps}
 use Rattle.kdf_schedule.specs.declared.event.Event.{Event}
 use Rattle.kdf_schedule.specs.declared.event.Event.TheVariants.{Orders, Move, End, Clock, Swap}
 use Rattle.kdf_director.specs.Advance.{Enters}
-use Rattle.kdf_director.specs.Legal.{IsLegal}
-use Rattle.kdf_director.specs.Next.{any_live}
-use Rattle.kdf_director.specs.Shown.{Shown}
+use Rattle.kdf_theory.specs.Legal.{IsLegal}
+use Rattle.kdf_theory.specs.Next.{any_live}
+use Rattle.kdf_theory.specs.Shown.{Shown}
 use Rattle.kdf_watch.specs.declared.cursor.Cursor.{Cursor}
 use Rattle.kdf_watch.specs.Cursors.{event_at}
 use Rattle.kdf_watch.specs.Onward.{passed}

@@ -4,7 +4,7 @@ use Rattle.kdf_journal.specs.declared.entry.Entry.{Entry}
 use Rattle.kdf_journal.specs.Counts.{clock, ran}
 use Rattle.kdf_journal.specs.Steps.{Step, Obeys, journal_of}
 use Rattle.kdf_transfer.specs.Slots.{Slot}
-use Rattle.kdf_director.specs.ByJournal.{own}
+use Rattle.kdf_theory.specs.ByJournal.{own}
 use Rattle.kdf_watch.specs.declared.look.Look.{Look}
 
 -- the look at program p, where J is the journal so far

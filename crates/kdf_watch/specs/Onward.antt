@@ -3,8 +3,8 @@ use Rattle.std.specs.Prelude.{◌+◌, ◌≤◌, List, length, drop, sum_by}
 use Rattle.kdf_journal.specs.Counts.{calls, clock}
 use Rattle.kdf_schedule.specs.declared.event.Event.{Event}
 use Rattle.kdf_schedule.specs.Calls.{calls_made, orders_in, order_count}
-use Rattle.kdf_director.specs.Follows.{Follows, IsRising, entries_in}
-use Rattle.kdf_director.specs.Shown.{Shown}
+use Rattle.kdf_theory.specs.Follows.{Follows, IsRising, entries_in}
+use Rattle.kdf_theory.specs.Shown.{Shown}
 use Rattle.kdf_watch.specs.declared.cursor.Cursor.{Cursor}
 use Rattle.kdf_watch.specs.Cursors.{calls_left, event_at}
 

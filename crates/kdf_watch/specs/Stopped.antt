@@ -3,8 +3,8 @@ use Rattle.std.specs.Prelude.{◌≡◌, List, ◌∷◌, ◌++◌, Bool, true, 
 use Rattle.kdf_journal.specs.Steps.{Note, Step, Obeys, journal_of, steps}
 use Rattle.kdf_schedule.specs.declared.event.Event.{Event}
 use Rattle.kdf_schedule.specs.Calls.{calls_made}
-use Rattle.kdf_director.specs.Follows.{IsWhole}
-use Rattle.kdf_director.specs.Shown.{Shown}
+use Rattle.kdf_theory.specs.Follows.{IsWhole}
+use Rattle.kdf_theory.specs.Shown.{Shown}
 use Rattle.kdf_watch.specs.declared.stop.Stop.{Stop}
 use Rattle.kdf_watch.specs.declared.stop.Stop.TheVariants.{Watched, Finished}
 use Rattle.kdf_watch.specs.declared.look.Look.{Look}

@@ -4,7 +4,7 @@ use Rattle.std.specs.List.{filter, range_with_len}
 use Rattle.kdf_journal.specs.declared.entry.Entry.{Entry}
 use Rattle.kdf_journal.specs.Counts.{ran}
 use Rattle.kdf_transfer.specs.Slots.{Slot}
-use Rattle.kdf_director.specs.ByJournal.{own_after}
+use Rattle.kdf_theory.specs.ByJournal.{own_after}
 
 -- the numbers of own orders of program k, from the first to the last that the journal counts, after which its next order is at this
 -- place: the number of its first syllable is `at`

@@ -2,9 +2,9 @@
 ghost use Rattle.std.specs.Prelude.{◌≡◌, ◌<◌, ◌≤◌, IfOk, OnErr, is_some, true};
 ghost use Rattle.kdf_journal.specs.Counts.{calls, clock};
 ghost use Rattle.kdf_service.specs.Rules.{IsService};
-ghost use Rattle.kdf_director.specs.Legal.{IsLegal};
-ghost use Rattle.kdf_director.specs.Served.{IsTrueFor};
-ghost use Rattle.kdf_director.specs.Slots.{slot_of};
+ghost use Rattle.kdf_theory.specs.Legal.{IsLegal};
+ghost use Rattle.kdf_theory.specs.Served.{IsTrueFor};
+ghost use Rattle.kdf_theory.specs.Slots.{slot_of};
 ghost use Rattle.kdf_watch.specs.Called.{HasCalled};
 ghost use Rattle.kdf_watch.specs.Looks.{look_at};
 

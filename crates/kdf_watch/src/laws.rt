@@ -6,9 +6,9 @@ ghost use Rattle.kdf_schedule.specs.declared.event.Event.{Event};
 ghost use Rattle.kdf_schedule.specs.Calls.{calls_made};
 ghost use Rattle.kdf_service.specs.Rules.{IsService};
 ghost use Rattle.kdf_transfer.specs.Slots.{Slot};
-ghost use Rattle.kdf_director.specs.Follows.{Follows};
-ghost use Rattle.kdf_director.specs.Legal.{IsLegal};
-ghost use Rattle.kdf_director.specs.Served.{IsJournalFor, IsTrueFor};
+ghost use Rattle.kdf_theory.specs.Follows.{Follows};
+ghost use Rattle.kdf_theory.specs.Legal.{IsLegal};
+ghost use Rattle.kdf_theory.specs.Served.{IsJournalFor, IsTrueFor};
 ghost use Rattle.kdf_watch.specs.declared.cursor.Cursor.{Cursor};
 ghost use Rattle.kdf_watch.specs.Cursors.{calls_left};
 

@@ -2,7 +2,7 @@
 ghost use Rattle.std.specs.Prelude.{◌≡◌, ◌<◌, ◌≤◌, IfOk, OnErr, length, None};
 ghost use Rattle.kdf_schedule.specs.Calls.{orders_in};
 ghost use Rattle.kdf_service.specs.Rules.{IsService};
-ghost use Rattle.kdf_director.specs.Served.{IsTrueFor};
+ghost use Rattle.kdf_theory.specs.Served.{IsTrueFor};
 ghost use Rattle.kdf_watch.specs.Cursors.{event_at};
 ghost use Rattle.kdf_watch.specs.Onward.{IsAt};
 ghost use Rattle.kdf_watch.specs.Rules.{IsWatch};

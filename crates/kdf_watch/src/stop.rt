@@ -3,7 +3,7 @@ ghost use Rattle.std.specs.Prelude.{◌≡◌, ◌≤◌, IfOk, OnErr, length};
 ghost use Rattle.std.specs.List.{All};
 ghost use Rattle.kdf_schedule.specs.Events.{IsInRange};
 ghost use Rattle.kdf_service.specs.Rules.{IsService};
-ghost use Rattle.kdf_director.specs.Served.{IsTrueFor};
+ghost use Rattle.kdf_theory.specs.Served.{IsTrueFor};
 ghost use Rattle.kdf_watch.specs.Cursors.{IsUpTo, KeepsLimits};
 ghost use Rattle.kdf_watch.specs.Onward.{IsAt};
 ghost use Rattle.kdf_watch.specs.Rules.{IsWatch};

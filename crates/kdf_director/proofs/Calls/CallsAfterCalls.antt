@@ -14,15 +14,15 @@ use Rattle.kdf_transfer.specs.Slots.{Slot}
 use Rattle.kdf_director.specs.declared.machine.Progress.{Progress}
 use Rattle.kdf_director.specs.declared.machine.Progress.TheVariants as progress
 use Rattle.kdf_director.specs.Advance.{Advance, AdvanceWith}
-use Rattle.kdf_director.specs.Legal.{IsLegal, note_of}
-use Rattle.kdf_director.specs.Next.{any_live, lone_dispatched}
+use Rattle.kdf_theory.specs.Legal.{IsLegal, note_of}
+use Rattle.kdf_theory.specs.Next.{any_live, lone_dispatched}
 use Rattle.kdf_director.specs.Orders.{HasMade}
 use Rattle.kdf_director.specs.Progressed.{found_live}
 use Rattle.kdf_director.specs.Runs.{HasMadeOn}
-use Rattle.kdf_director.specs.Served.{IsAnswered, IsTrueFor}
-use Rattle.kdf_director.specs.Shown.{Shown, state_at, world_of}
-use Rattle.kdf_director.specs.True.{truth}
-use Rattle.kdf_director.specs.World.{hold_of}
+use Rattle.kdf_theory.specs.Served.{IsAnswered, IsTrueFor}
+use Rattle.kdf_theory.specs.Shown.{Shown, state_at, world_of}
+use Rattle.kdf_theory.specs.True.{truth}
+use Rattle.kdf_theory.specs.World.{hold_of}
 use Rattle.kdf_director.proofs.Calls.OneCall.{calls-took, clock-took}
 use Rattle.kdf_director.proofs.Course.OneJournal.{true_for_answered}
 use Rattle.kdf_director.proofs.Calls.FoundLive.{found_is}

@@ -1,16 +1,16 @@
 -- What calls in turn come to.
 use Rattle.std.specs.Prelude.{replicate}
-use Rattle.std.proofs.Common.{◌≡◌, ℕ, ◌+◌, ◌≤◌, Bool, true, false, ◌⊎◌, inl, inr, refl, sym, subst, arith}
+use Rattle.std.proofs.Common.{◌≡◌, ℕ, ◌+◌, ◌-◌, ◌≤◌, Bool, true, false, ◌⊎◌, inl, inr, refl, sym, subst, arith}
 use Rattle.kdf_journal.specs.Steps.{steps}
 use Rattle.kdf_schedule.specs.Calls.{AnOrder}
 use Rattle.kdf_course.specs.Follows.{Reaches}
 use Rattle.kdf_director.specs.declared.machine.Progress.{Progress}
 use Rattle.kdf_director.specs.declared.machine.Progress.TheVariants as progress
-use Rattle.kdf_director.specs.Next.{lone_dispatched}
+use Rattle.kdf_theory.specs.Next.{lone_dispatched}
 use Rattle.kdf_director.specs.Orders.{HasMadeAll, HasMadeFewer}
 use Rattle.kdf_director.specs.Progressed.{found_live}
-use Rattle.kdf_director.specs.Runs.{HasMadeButFewer, HasMadeOn, HasMadeSome}
-use Rattle.kdf_director.specs.Shown.{Shown}
+use Rattle.kdf_director.specs.Runs.{HasMadeAtMost, HasMadeButFewer, HasMadeOn, HasMadeSome}
+use Rattle.kdf_theory.specs.Shown.{Shown}
 use Rattle.kdf_director.proofs.Calls.FoundLive.{rested_at}
 use Rattle.kdf_director.proofs.Calls.CallsAfterCalls.{made_reaches, made_then}
 
@@ -31,6 +31,15 @@ module _ (answers : ℕ → ℕ → Type 0) (old : Shown) where
           count = omega arith;
           all_on = λ found. made_then answers i k old m new h (x.all_on found);
         }
+
+    -- and they were the last
+    pub at_most : (n left k : ℕ) (new : Shown) (r : Progress) → i + left ≡ n → k ≤ left → HasMadeSome answers k m new r → (left - k ≡ 0) ⊎ (found_live r ≡ false) → HasMadeAtMost answers n old new r
+    at_most n left k new r all few x whole =
+        record { made = k + i; some = some_more k new r x; within = omega (arith, all, few); whole = ends whole }
+      where
+        ends : (left - k ≡ 0) ⊎ (found_live r ≡ false) → (k + i ≡ n) ⊎ (found_live r ≡ false)
+        ends (inl none) = inl (omega (arith, all, few, none))
+        ends (inr dead) = inr dead
 
     -- or the next one, or one behind it, had no memory
     pub fewer_more : (n left : ℕ) (new : Shown) → i + left ≡ n → HasMadeButFewer answers left m new → HasMadeButFewer answers n old new
@@ -70,3 +79,14 @@ module _ (answers : ℕ → ℕ → Type 0) (old : Shown) where
           by (inr dead) b is = over dead
           by (inl all) false dead = over dead
           by (inl all) true live = subst (λ i. Reaches (lone_dispatched old.slots) (steps old.journal) (replicate i AnOrder) (steps new.journal)) all (made_reaches answers k old new (x.all_on live))
+
+  -- the same of those that are one fact
+  module _ (n : ℕ) (new : Shown) (r : Progress) (x : HasMadeAtMost answers n old new r) where
+    pub all_of : HasMadeAll answers n old new r
+    all_of = made_all x.made new n r x.some x.within x.whole
+
+    pub reached_of : Reaches (lone_dispatched old.slots) (steps old.journal) (replicate n AnOrder) (steps new.journal)
+    reached_of = reached_all x.made new n r x.some x.within x.whole
+
+    pub lived_of : (j : ℕ) × (j ≤ n) × HasMadeOn answers j old new
+    lived_of = let l = lived x.made new r x.some in (l.0, omega (arith, l.1, x.within), l.2)

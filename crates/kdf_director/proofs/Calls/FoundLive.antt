@@ -15,14 +15,14 @@ use Rattle.kdf_transfer.specs.Slots.{Slot}
 use Rattle.kdf_director.specs.declared.machine.Progress.{Progress}
 use Rattle.kdf_director.specs.declared.machine.Progress.TheVariants as progress
 use Rattle.kdf_director.specs.Advance.{Advance}
-use Rattle.kdf_director.specs.Legal.{IsLegal}
-use Rattle.kdf_director.specs.Next.{any_live, dispatched, lone_dispatched, next, there_in}
+use Rattle.kdf_theory.specs.Legal.{IsLegal}
+use Rattle.kdf_theory.specs.Next.{any_live, dispatched, lone_dispatched, next, there_in}
 use Rattle.kdf_director.specs.Progressed.{found_live}
-use Rattle.kdf_director.specs.Shown.{Shown, world_of}
-use Rattle.kdf_director.specs.Slots.{slot_of}
-use Rattle.kdf_director.specs.World.{World}
+use Rattle.kdf_theory.specs.Shown.{Shown, world_of}
+use Rattle.kdf_theory.specs.Slots.{slot_of}
+use Rattle.kdf_theory.specs.World.{World}
 use Rattle.kdf_director.proofs.Calls.OneCall.{rested}
-use Rattle.kdf_director.proofs.Course.Worlds.{next_on, next_slot}
+use Rattle.kdf_theory.proofs.Course.Worlds.{next_on, next_slot}
 
 -- ---- the priorities are slots of the four
 

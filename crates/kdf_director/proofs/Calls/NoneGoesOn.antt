@@ -1,43 +1,40 @@
 -- Calls that find no program that can go on.
-use Rattle.std.proofs.Common.{◌≡◌, ℕ, zero, suc, ◌+◌, ◌<◌, ◌≤◌, true, List, Option, None, refl, sym, ap, ◌∙◌, arith}
+use Rattle.std.proofs.Common.{◌≡◌, ℕ, zero, suc, ◌+◌, ◌<◌, ◌≤◌, true, List, None, refl, sym, ap, ◌∙◌, arith}
 use Rattle.kdf_journal.specs.declared.entry.Entry.{Entry}
 use Rattle.kdf_journal.specs.declared.journal.TheConstants.{CALL_LIMIT}
 use Rattle.kdf_journal.specs.Counts.{calls, priorities}
-use Rattle.kdf_processor.specs.declared.step.Need.{Need}
-use Rattle.kdf_transfer.specs.Slots.{Slot}
 use Rattle.kdf_director.specs.declared.machine.Progress.TheVariants as progress
 use Rattle.kdf_director.specs.Fields.Agrees.{Agrees}
-use Rattle.kdf_director.specs.Fields.Going.{first_going}
-use Rattle.kdf_director.specs.Next.{any_live, next}
-use Rattle.kdf_director.specs.Fields.Parts.{Reach, Seat}
-use Rattle.kdf_places.specs.Shared.{Shared}
+use Rattle.kdf_director.specs.Fields.Standing.{Standing}
+use Rattle.kdf_director.specs.Fields.Yards.{first_in}
+use Rattle.kdf_theory.specs.Next.{any_live, next}
 use Rattle.kdf_director.specs.Runs.{HasMadeOn, HasMadeSome, waited_on}
-use Rattle.kdf_director.specs.Shown.{Shown, state_at, world_of}
+use Rattle.kdf_theory.specs.Shown.{Shown, state_at, world_of}
 use Rattle.kdf_director.proofs.Calls.CallsAfterCalls.{made_more, made_none}
 use Rattle.kdf_director.proofs.Linking.NextPrograms.{any_same, none_next}
 use Rattle.kdf_director.proofs.Calls.OrdersInARow.{calls-waited_on, priorities-waited_on}
 use Rattle.kdf_director.proofs.Linking.TurnTaken.{HasAdvanced, holds_in, shown, waited}
 
-module _ (service : ℕ → ℕ → Type 0) (slots : List Slot) (reaches : List Reach) (seats : List Seat) (s : Shared) (J : List Entry) (room : ℕ) (a : Agrees slots reaches seats s J) (holds : List (Option Need)) (have : holds ≡ holds_in seats J) (live : any_live slots J ≡ true) (none : first_going reaches seats holds s (priorities J) ≡ None) where
+module _ (service : ℕ → ℕ → Type 0) (y : Standing) (J : List Entry) (room : ℕ) (a : Agrees y.slots y.reaches y.seats y.shared J) (have : y.holds ≡ holds_in y.seats J) (live : any_live y.slots J ≡ true) (none : first_in y (priorities J) ≡ None) where
   abbrev m : ℕ → Shown
-  m n = shown slots reaches seats s (waited_on J n) room
+  m n = shown y.slots y.reaches y.seats y.shared (waited_on J n) room
 
   -- after n such calls
   pub record IsWaiting (n : ℕ) : Type 0 where
-    pub agrees : Agrees slots reaches seats s (waited_on J n)
-    pub holds_are : holds ≡ holds_in seats (waited_on J n)
+    pub agrees : Agrees y.slots y.reaches y.seats y.shared (waited_on J n)
+    pub holds_are : y.holds ≡ holds_in y.seats (waited_on J n)
     pub made : HasMadeOn service n (m 0) (m n)
 
   module _ (n : ℕ) (w : IsWaiting n) (few : calls (waited_on J n) < CALL_LIMIT) where
-    live_still : any_live slots (waited_on J n) ≡ true
-    live_still = sym (any_same slots reaches seats s (waited_on J n) w.agrees) ∙ any_same slots reaches seats s J a ∙ live
+    live_still : any_live y.slots (waited_on J n) ≡ true
+    live_still = sym (any_same y.slots y.reaches y.seats y.shared (waited_on J n) w.agrees) ∙ any_same y.slots y.reaches y.seats y.shared J a ∙ live
 
-    none_still : next (world_of (m n)) slots (waited_on J n) ≡ None
+    none_still : next (world_of (m n)) y.slots (waited_on J n) ≡ None
     none_still =
-        none_next slots reaches seats s (waited_on J n) w.agrees holds w.holds_are (state_at (m n)) (ap (first_going reaches seats holds s) (priorities-waited_on J n) ∙ none)
+        none_next y.slots y.reaches y.seats y.shared (waited_on J n) w.agrees y.holds w.holds_are (state_at (m n)) (ap (first_in y) (priorities-waited_on J n) ∙ none)
 
-    advanced : HasAdvanced service (m n) slots reaches seats s holds (waited_on J (suc n)) room progress.Idle
-    advanced = waited service slots reaches seats s (waited_on J n) room w.agrees holds w.holds_are few live_still none_still
+    advanced : HasAdvanced service (m n) y (waited_on J (suc n)) room progress.Idle
+    advanced = waited service y.slots y.reaches y.seats y.shared (waited_on J n) room w.agrees y.holds w.holds_are few live_still none_still
 
     one_more : IsWaiting (suc n)
     one_more =

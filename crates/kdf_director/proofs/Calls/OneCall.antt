@@ -13,11 +13,11 @@ use Rattle.kdf_transfer.specs.Slots.{Slot}
 use Rattle.kdf_director.specs.declared.machine.Progress.{Progress}
 use Rattle.kdf_director.specs.declared.machine.Progress.TheVariants as progress
 use Rattle.kdf_director.specs.Advance.{Advance, Enters}
-use Rattle.kdf_director.specs.Legal.{note_of, IsLegal}
-use Rattle.kdf_director.specs.Next.{lone_dispatched, any_live}
-use Rattle.kdf_director.specs.Shown.{Shown, state_at, world_of}
-use Rattle.kdf_director.specs.True.{truth}
-use Rattle.kdf_director.specs.World.{hold_of}
+use Rattle.kdf_theory.specs.Legal.{note_of, IsLegal}
+use Rattle.kdf_theory.specs.Next.{lone_dispatched, any_live}
+use Rattle.kdf_theory.specs.Shown.{Shown, state_at, world_of}
+use Rattle.kdf_theory.specs.True.{truth}
+use Rattle.kdf_theory.specs.World.{hold_of}
 
 -- the orders are over before their end, where no program is live
 pub rested : (slots slots0 : List Slot) (J : List Entry) (P : List Step) (i n : ℕ) → IsLegal slots J → slots ≡ slots0 → Reaches (lone_dispatched slots0) P (replicate i AnOrder) (steps J) → any_live slots J ≡ false → i ≤ n

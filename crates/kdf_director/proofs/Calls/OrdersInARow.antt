@@ -3,10 +3,10 @@ use Rattle.std.proofs.Common.{◌≡◌, ◌≢◌, ℕ, zero, suc, ◌+◌, ◌
 use Rattle.std.proofs.lemmas.Bool.{cases_eq, eq-eqb, ne_eqb}
 use Rattle.kdf_journal.specs.declared.entry.Entry.{Entry}
 use Rattle.kdf_journal.specs.declared.entry.Entry.TheVariants.{Ran, Idle}
-use Rattle.kdf_journal.specs.Counts.{calls, clock, moves, priorities}
+use Rattle.kdf_journal.specs.Counts.{calls, clock, holder, moves, priorities}
 use Rattle.kdf_journal.specs.Joined.{joined, pushed}
 use Rattle.kdf_journal.specs.Steps.{Quiet, Obeys, Waits}
-use Rattle.kdf_journal.proofs.Added.{calls-added, clock-added, moves-added, priorities-added}
+use Rattle.kdf_journal.proofs.Added.{calls-added, clock-added, holder-quiet, moves-added, priorities-added}
 use Rattle.kdf_director.specs.Runs.{ran_on, waited_on}
 
 -- ---- what was pushed isn't empty
@@ -104,6 +104,10 @@ moves-ran_on J p (suc n) = moves-added (ran_on J p n) (Obeys p Quiet) ∙ omega 
 pub clock-ran_on : (J : List Entry) (p n : ℕ) → clock (ran_on J p n) ≡ clock J
 clock-ran_on J p zero = refl
 clock-ran_on J p (suc n) = clock-added (ran_on J p n) (Obeys p Quiet) ∙ clock-ran_on J p n
+
+pub holder-ran_on : (J : List Entry) (p n d : ℕ) → holder d (ran_on J p n) ≡ holder d J
+holder-ran_on J p zero d = refl
+holder-ran_on J p (suc n) d = holder-quiet d (ran_on J p n) (Obeys p Quiet) refl (λ q. refl) ∙ holder-ran_on J p n d
 
 pub calls-waited_on : (J : List Entry) (n : ℕ) → calls (waited_on J n) ≡ calls J + n
 calls-waited_on J zero = omega arith

@@ -17,22 +17,24 @@ use Rattle.kdf_director.specs.declared.machine.Progress.TheVariants as progress
 use Rattle.kdf_director.specs.declared.note.Note.{Note as Noted}
 use Rattle.kdf_director.specs.declared.note.Note.TheVariants as noted
 use Rattle.kdf_director.specs.Fields.Agrees.{Agrees}
-use Rattle.kdf_director.specs.Next.{lives, next}
+use Rattle.kdf_director.specs.Fields.Yards.{number_in}
+use Rattle.kdf_theory.specs.Next.{lives, next}
 use Rattle.kdf_director.specs.Fields.Parts.{Reach, Seat}
 use Rattle.kdf_places.specs.Shared.{Shared}
 use Rattle.kdf_director.specs.Progressed.{found_live}
 use Rattle.kdf_director.specs.Fields.Running.{seat_at, IsRunning}
 use Rattle.kdf_director.specs.Runs.{HasMadeOn, HasMadeSome, HasTriedAt, ran_on}
 use Rattle.kdf_director.specs.Fields.Shared.{moment}
-use Rattle.kdf_director.specs.Shown.{Shown, state_at, world_of}
+use Rattle.kdf_theory.specs.Shown.{Shown, state_at, world_of}
+use Rattle.kdf_director.specs.Fields.Standing.{Standing}
 use Rattle.kdf_director.specs.Fields.TurnTaken.{HasTaken, hold_left, progress_of, step_told}
 use Rattle.kdf_director.specs.Fields.Turned.{HasTurned}
 use Rattle.kdf_director.proofs.Calls.CallsAfterCalls.{made_more}
 use Rattle.kdf_director.proofs.Linking.NextPrograms.{few_ran, live_same}
 use Rattle.kdf_director.proofs.Calls.OrdersInARow.{clock-ran_on}
-use Rattle.kdf_director.proofs.Course.StillNext.{still_next}
+use Rattle.kdf_theory.proofs.Course.StillNext.{still_next}
 use Rattle.kdf_director.proofs.Linking.TurnTaken.{HasAdvanced, holds_in, shown, taken}
-use Rattle.kdf_director.proofs.Course.Worlds.{next_on, next_slot}
+use Rattle.kdf_theory.proofs.Course.Worlds.{next_on, next_slot}
 
 -- what holds the programs after so many orders of program i of which nothing is noted
 abbrev pub held_on : List (Option Need) → (i : ℕ) → ℕ → List (Option Need)
@@ -49,15 +51,30 @@ turn_live p (ending.Held need) = refl
 turn_live p ended = refl
 
 -- after n orders of program i, of which nothing is noted, it is next still
-pub record IsGoingOn (service : ℕ → ℕ → Type 0) (slots : List Slot) (reaches : List Reach) (J : List Entry) (room : ℕ) (holds : List (Option Need)) (i p : ℕ) (old : Shown) (n : ℕ) (seats : List Seat) (s : Shared) : Type 0 where
-  pub agrees : Agrees slots reaches seats s (ran_on J p n)
-  pub holds_are : held_on holds i n ≡ holds_in seats (ran_on J p n)
-  pub turn : next (world_of (shown slots reaches seats s (ran_on J p n) room)) slots (ran_on J p n) ≡ Some p
-  pub number : (seat_at seats i).p ≡ p
+pub record IsGoingOn (service : ℕ → ℕ → Type 0) (y : Standing) (J : List Entry) (room i n : ℕ) (seats : List Seat) (s : Shared) : Type 0 where
+  pub agrees : Agrees y.slots y.reaches seats s (ran_on J (number_in y i) n)
+  pub holds_are : held_on y.holds i n ≡ holds_in seats (ran_on J (number_in y i) n)
+  pub turn : next (world_of (shown y.slots y.reaches seats s (ran_on J (number_in y i) n) room)) y.slots (ran_on J (number_in y i) n) ≡ Some (number_in y i)
+  pub number : (seat_at seats i).p ≡ number_in y i
   pub there : i < length seats
-  pub made : HasMadeOn service n old (shown slots reaches seats s (ran_on J p n) room)
+  pub made : HasMadeOn service n (shown y.slots y.reaches y.seats y.shared J room) (shown y.slots y.reaches seats s (ran_on J (number_in y i) n) room)
 
-module _ (service : ℕ → ℕ → Type 0) (slots : List Slot) (reaches : List Reach) (J : List Entry) (room : ℕ) (holds : List (Option Need)) (i p : ℕ) (old : Shown) (n : ℕ) (seats : List Seat) (s : Shared) (g : IsGoingOn service slots reaches J room holds i p old n seats s) where
+module _ (service : ℕ → ℕ → Type 0) (y : Standing) (J : List Entry) (room i n : ℕ) (seats : List Seat) (s : Shared) (g : IsGoingOn service y J room i n seats s) where
+  abbrev slots : List Slot
+  slots = y.slots
+
+  abbrev reaches : List Reach
+  reaches = y.reaches
+
+  abbrev holds : List (Option Need)
+  holds = y.holds
+
+  abbrev p : ℕ
+  p = number_in y i
+
+  abbrev old : Shown
+  old = shown slots reaches y.seats y.shared J room
+
   abbrev K : List Entry
   K = ran_on J p n
 
@@ -94,7 +111,7 @@ module _ (service : ℕ → ℕ → Type 0) (slots : List Slot) (reaches : List 
             answered = answered;
           }
 
-      pub advanced_on : HasAdvanced service m slots reaches seats' s' held L room answer
+      pub advanced_on : HasAdvanced service m (record y { seats = seats'; holds = held; shared = s' }) L room answer
       advanced_on =
           taken service slots reaches seats s K room g.agrees (held_on holds i n) g.holds_are few i g.there (g.turn ∙ ap Some (sym g.number)) seats' s' held L answer did run
 
@@ -123,10 +140,10 @@ module _ (service : ℕ → ℕ → Type 0) (slots : List Slot) (reaches : List 
     same : ran_on J p (suc n) ≡ added K (Obeys (seat_at seats' i).p Quiet)
     same = ap (λ q. added K (Obeys q Quiet)) (sym number_on)
 
-    next_advanced : HasAdvanced service m slots reaches seats' s' (set holds i None) (ran_on J p (suc n)) room (progress.Ran (seat_at seats' i).p)
+    next_advanced : HasAdvanced service m (record y { seats = seats'; holds = (set holds i None); shared = s' }) (ran_on J p (suc n)) room (progress.Ran (seat_at seats' i).p)
     next_advanced = advanced_on seats' s' ending.Done noted.Quiet tried run few (set holds i None) (ran_on J p (suc n)) (progress.Ran (seat_at seats' i).p) refl same refl
 
-    pub going_on : IsGoingOn service slots reaches J room holds i p old (suc n) seats' s'
+    pub going_on : IsGoingOn service y J room i (suc n) seats' s'
     going_on =
         record {
           agrees = next_advanced.agrees;

@@ -11,12 +11,12 @@ use Rattle.kdf_schedule.specs.Calls.{Call, calls_of, calls_made, order_count}
 use Rattle.kdf_schedule.proofs.Schedules.{calls_made-append, calls_made-one, calls_made-nil}
 use Rattle.kdf_course.specs.Follows.{Reaches}
 use Rattle.kdf_course.proofs.Reaching.{reach-append, reach-dead, reach-nil, reach-whole, whole-on}
-use Rattle.kdf_director.specs.Next.{lone_dispatched, any_live}
-use Rattle.kdf_director.specs.Legal.{IsLegal}
-use Rattle.kdf_director.specs.Follows.{IsRising, IsWhole, time_behind}
+use Rattle.kdf_theory.specs.Next.{lone_dispatched, any_live}
+use Rattle.kdf_theory.specs.Legal.{IsLegal}
+use Rattle.kdf_theory.specs.Follows.{IsRising, IsWhole, time_behind}
 use Rattle.kdf_director.proofs.Course.OneJournal.{true_for_nil}
-use Rattle.kdf_director.proofs.Course.WorldsJudged.{legal_nil}
-use Rattle.kdf_director.specs.Served.{IsJournalFor, IsTrueFor}
+use Rattle.kdf_theory.proofs.Course.WorldsJudged.{legal_nil}
+use Rattle.kdf_theory.specs.Served.{IsJournalFor, IsTrueFor}
 
 -- before the first of further events
 pub no_calls : (slots : List Slot) (P : List Step) (es : List Event) → Reaches (lone_dispatched slots) P (calls_made (take 0 es)) P

@@ -12,12 +12,12 @@ use Rattle.kdf_processor.specs.Needs.{needs}
 use Rattle.kdf_transfer.specs.Slots.{Slot}
 use Rattle.kdf_processor.proofs.RowFacts.{size_lone}
 use Rattle.kdf_director.specs.Fields.Going.{IsNearHold}
-use Rattle.kdf_director.specs.Legal.{EachMeets, IsLegal}
-use Rattle.kdf_director.specs.Slots.{start}
-use Rattle.kdf_director.specs.ByJournal.{is_pending_after, lone_world, mine_after, own}
-use Rattle.kdf_director.specs.World.{first_need, need_of}
-use Rattle.kdf_director.proofs.Course.WorldsJudged.{held_need}
-use Rattle.kdf_director.proofs.Seen.NeedsInside.{AreNear, IsNear, needs_near}
+use Rattle.kdf_theory.specs.Legal.{EachMeets, IsLegal}
+use Rattle.kdf_theory.specs.Slots.{start}
+use Rattle.kdf_theory.specs.ByJournal.{is_pending_after, lone_world, mine_after, own}
+use Rattle.kdf_theory.specs.World.{first_need, need_of}
+use Rattle.kdf_theory.proofs.Course.WorldsJudged.{held_need}
+use Rattle.kdf_theory.proofs.Seen.NeedsInside.{AreNear, IsNear, needs_near}
 
 -- the size of a program's store
 abbrev pub size_of : List Slot → ℕ → ℕ

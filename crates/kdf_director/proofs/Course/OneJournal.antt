@@ -15,22 +15,22 @@ use Rattle.kdf_course.specs.Legal as course
 use Rattle.kdf_course.proofs.Cuts.{journal-cut, noted-cut, whole-cut}
 use Rattle.kdf_course.proofs.Fronts.{one_journal_lem as any-one, resumed_lem as any-resumed, stopped_lem as any-stopped}
 use Rattle.kdf_course.proofs.Steps.{each-noted-within, legal-both, legal-noted, legal-within, noted-added, noted-nil, noted-within}
-use Rattle.kdf_director.specs.Follows.{Follows, IsWhole, IsRising}
-use Rattle.kdf_director.specs.Legal.{any_answer, IsLegal, answers_by, is_true, is_truth, lone_note, IsAnswer, IsTrue}
-use Rattle.kdf_director.specs.Next.{lone_dispatched}
-use Rattle.kdf_director.specs.Served.{is_served, is_true_for, IsTrueFor, IsJournalFor, IsAnswered}
-use Rattle.kdf_director.proofs.Course.WorldsJudged.{one_answer, fits_note, true_to, within_any}
+use Rattle.kdf_theory.specs.Follows.{Follows, IsWhole, IsRising}
+use Rattle.kdf_theory.specs.Legal.{any_answer, IsLegal, answers_by, is_true, is_truth, lone_note, IsAnswer, IsTrue}
+use Rattle.kdf_theory.specs.Next.{lone_dispatched}
+use Rattle.kdf_theory.specs.Served.{is_served, is_true_for, IsTrueFor, IsJournalFor, IsAnswered}
+use Rattle.kdf_theory.proofs.Course.WorldsJudged.{one_answer, fits_note, true_to, within_any}
 use Rattle.kdf_processor.specs.Ahead.{word_asked}
 use Rattle.kdf_processor.specs.Needs.{next_effect}
 use Rattle.kdf_processor.proofs.RowFacts.{served_lone}
 use Rattle.kdf_journal.specs.Counts.{answers, ran}
 use Rattle.kdf_director.specs.Advance.{IsHeard, Enters, HasHeard, AdvanceWith}
-use Rattle.kdf_director.specs.Slots.{NoneServed, slot_of, start, start_of}
-use Rattle.kdf_director.specs.ByJournal.{lone_world, own, seen_of}
-use Rattle.kdf_director.specs.True.{truth}
+use Rattle.kdf_theory.specs.Slots.{NoneServed, slot_of, start, start_of}
+use Rattle.kdf_theory.specs.ByJournal.{lone_world, own, seen_of}
+use Rattle.kdf_theory.specs.True.{truth}
 use Rattle.kdf_director.proofs.Turns.HeardWords.{none_heard, none_asked}
 use Rattle.kdf_course.proofs.OneJournal.{a_journal_lem as any-some}
-use Rattle.kdf_director.specs.Shown.{Shown, ShowsSeen, state_at, state_in}
+use Rattle.kdf_theory.specs.Shown.{Shown, ShowsSeen, state_at, state_in}
 use Rattle.kdf_director.specs.declared.machine.Progress.{Progress}
 use Rattle.kdf_director.specs.declared.machine.Progress.TheVariants as progress
 use Rattle.kdf_processor.specs.State.{State}

@@ -8,16 +8,16 @@ use Rattle.kdf_journal.proofs.Added.{answers_by, moved_by, pending_by, ran_by}
 use Rattle.kdf_transfer.specs.Slots.{Slot}
 use Rattle.kdf_processor.specs.State.{State}
 use Rattle.kdf_director.specs.Advance.{OthersStay}
-use Rattle.kdf_director.specs.Flights.{Flight}
-use Rattle.kdf_director.specs.Legal.{IsLegal}
-use Rattle.kdf_director.specs.Seen.{seen}
-use Rattle.kdf_director.specs.Shown.{Shown, ShowsSeen, entered, state_in, state_of}
-use Rattle.kdf_director.specs.Slots.{AreSlots}
-use Rattle.kdf_director.specs.ByJournal.{flights_of, is_of, seen_of}
-use Rattle.kdf_director.proofs.Course.LegalFacts.{legal_asked}
-use Rattle.kdf_director.proofs.Course.FlightsOnCourse.{flights-quiet, legal-course}
-use Rattle.kdf_director.proofs.Course.OwnSteps.{own-same}
-use Rattle.kdf_director.proofs.Course.SeenJournals.{end-none, move-none}
+use Rattle.kdf_theory.specs.Flights.{Flight}
+use Rattle.kdf_theory.specs.Legal.{IsLegal}
+use Rattle.kdf_theory.specs.Seen.{seen}
+use Rattle.kdf_theory.specs.Shown.{Shown, ShowsSeen, entered, state_in, state_of}
+use Rattle.kdf_theory.specs.Slots.{AreSlots}
+use Rattle.kdf_theory.specs.ByJournal.{flights_of, is_of, seen_of}
+use Rattle.kdf_theory.proofs.Course.LegalFacts.{legal_asked}
+use Rattle.kdf_theory.proofs.Course.FlightsOnCourse.{flights-quiet, legal-course}
+use Rattle.kdf_theory.proofs.Course.OwnSteps.{own-same}
+use Rattle.kdf_theory.proofs.Course.SeenJournals.{end-none, move-none}
 
 -- where all that is told of program p is the same, so is its state
 same_in : (g h : ℕ → State) (p : ℕ) → g p ≡ h p → (slots : List Slot) → state_in slots (map (λ (x : Slot). g x.p) slots) p ≡ state_in slots (map (λ (x : Slot). h x.p) slots) p

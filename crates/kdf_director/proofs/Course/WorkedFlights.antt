@@ -21,9 +21,9 @@ use Rattle.kdf_processor.specs.Table.{brought, changed, copied, decision, direct
 use Rattle.kdf_transfer.specs.ByNumber.{device_count}
 use Rattle.kdf_course.specs.Cut.{cut}
 use Rattle.kdf_course.specs.World.{any_live, can_go, lives, next}
-use Rattle.kdf_director.specs.ByJournal.{flights_of, mine_after, own}
+use Rattle.kdf_theory.specs.ByJournal.{flights_of, mine_after, own}
 use Rattle.kdf_director.specs.Worked.{asks, device_seen, journal_under, keeps, looks, loops, overruns, prints, punches, reads, reads_journal, words_seen}
-use Rattle.kdf_director.specs.World.{first_need}
+use Rattle.kdf_theory.specs.World.{first_need}
 
 pub tape_journal : journal_under (reads ∷ []) (Orders 12 ∷ End 3 ∷ Orders 5 ∷ []) ≡ Ran 0 8 ∷ Start 0 3 8 ∷ Lov 0 1 ∷ Idle 3 ∷ entry.End 3 ∷ Ran 0 3 ∷ Ended 0 ∷ []
 unfolding own flights_of mine_after lives can_go next any_live first_need calls_made device_count unclaimed free_for decoded arith arith_row shift_row plain_row out_effect brought from_top changed single_row copied indirect_effect direct_effect decision exit_row transfer_of query_effect guarded given offered finished after_read first_word words_of printed after_card

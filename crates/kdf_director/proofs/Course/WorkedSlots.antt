@@ -8,7 +8,7 @@ use Rattle.std.proofs.lemmas.List.Elements.{All-cons, All-nil}
 use Rattle.kdf_transfer.specs.Devices.{Fixture, new_progress}
 use Rattle.kdf_transfer.specs.Slots.{Slot}
 use Rattle.kdf_transfer.specs.ByNumber.{device_count}
-use Rattle.kdf_director.specs.Slots.{AreSlots, HaveOwnDevices, IsSlot}
+use Rattle.kdf_theory.specs.Slots.{AreSlots, HaveOwnDevices, IsSlot}
 use Rattle.kdf_director.specs.Worked.{loops, no_devices, reads, tape}
 
 -- what holds of two holds of each pair of them

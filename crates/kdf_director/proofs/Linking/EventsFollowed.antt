@@ -10,10 +10,10 @@ use Rattle.kdf_journal.proofs.Added.{answers_by, answers-added, pending_by, pend
 use Rattle.kdf_journal.specs.Counts.{moved_if}
 use Rattle.kdf_transfer.specs.Slots.{Slot}
 use Rattle.kdf_transfer.specs.ByNumber.{device_count}
-use Rattle.kdf_director.specs.Legal.{IsLegal}
-use Rattle.kdf_director.specs.Seen.{seen}
-use Rattle.kdf_director.specs.Slots.{AreSlots}
-use Rattle.kdf_director.specs.ByJournal.{own, seen_of}
+use Rattle.kdf_theory.specs.Legal.{IsLegal}
+use Rattle.kdf_theory.specs.Seen.{seen}
+use Rattle.kdf_theory.specs.Slots.{AreSlots}
+use Rattle.kdf_theory.specs.ByJournal.{own, seen_of}
 use Rattle.kdf_places.specs.Spots.{Held, Spot, no_spot, spot_at}
 use Rattle.kdf_director.specs.Fields.Parts.{Part, Seat, Reach}
 use Rattle.kdf_places.specs.Shared.{Shared}
@@ -21,10 +21,10 @@ use Rattle.kdf_places.specs.Transfers.{after_move, moved_held, moved_spot, after
 use Rattle.kdf_director.specs.Fields.Running.{seat_at, part_at, own_state, IsRunning}
 use Rattle.kdf_director.specs.Fields.Following.{IsFollowing, AreFollowing, asked_at}
 use Rattle.kdf_director.proofs.Turns.FlightsMove.{flown_own, ended_state}
-use Rattle.kdf_director.proofs.Course.LegalFacts.{legal_asked}
+use Rattle.kdf_theory.proofs.Course.LegalFacts.{legal_asked}
 use Rattle.kdf_director.proofs.Linking.TransfersLinked.{follow_move, follow_end, follow_quiet}
-use Rattle.kdf_director.proofs.Course.FlightsOnCourse.{IsOnCourse, flights-quiet, legal-course}
-use Rattle.kdf_director.proofs.Course.OwnSteps.{own-same}
+use Rattle.kdf_theory.proofs.Course.FlightsOnCourse.{IsOnCourse, flights-quiet, legal-course}
+use Rattle.kdf_theory.proofs.Course.OwnSteps.{own-same}
 
 -- a step that answers none leaves the answers
 pub answers_same : (q : ℕ) (J : List Entry) (st : Step) → answers_by q st ≡ [] → answers q (added J st) ≡ answers q J

@@ -20,19 +20,21 @@ use Rattle.kdf_job.specs.Slots.{lent_kind}
 use Rattle.kdf_transfer.specs.ByNumber.{by_number}
 use Rattle.kdf_processor.specs.State.{State, fixture_at, is_pooled, lending_of, lendings, own_fixture_at, word_at}
 use Rattle.kdf_director.specs.Fields.Agrees.{IsReady}
+use Rattle.kdf_director.specs.Fields.Machines.{shown, stands, IsMachine}
+use Rattle.kdf_director.specs.declared.machine.Machine.TheInside.{Inside}
 use Rattle.kdf_director.specs.Fields.Filled.{loaded, pool_in}
 use Rattle.kdf_director.specs.Fields.Following.{asked_at}
 use Rattle.kdf_director.specs.Fields.Going.{any_on}
 use Rattle.kdf_director.specs.Lends.{IsLent, IsStored, window_in}
-use Rattle.kdf_director.specs.Next.{any_live}
+use Rattle.kdf_theory.specs.Next.{any_live}
 use Rattle.kdf_director.specs.Fields.Owners.{HasLent, IsDeviceOwned, IsTold, is_claimed_by, owner_in}
 use Rattle.kdf_director.specs.Fields.Parts.{Reach, Seat, own_stock, seat_of, window_at}
 use Rattle.kdf_places.specs.Shared.{Shared, shared_in}
 use Rattle.kdf_places.specs.Words.{word_at_place}
 use Rattle.kdf_director.specs.Fields.Running.{own_state, part_at, reach_at, reaches_in, seat_at, seats_in}
-use Rattle.kdf_director.specs.Shown.{IsDeviceAt, Shown, state_of}
-use Rattle.kdf_director.specs.Fields.Viewed.{slot_loaded, viewed}
-use Rattle.kdf_director.specs.Slots.{slot_of}
+use Rattle.kdf_theory.specs.Shown.{IsDeviceAt, Shown, state_of}
+use Rattle.kdf_director.specs.Fields.Viewed.{slot_loaded}
+use Rattle.kdf_theory.specs.Slots.{slot_of}
 use Rattle.kdf_places.specs.Spots.{Held, leases_of, spot_at, spot_of}
 use Rattle.kdf_places.specs.declared.place.Place.{Place}
 use Rattle.kdf_director.specs.declared.program.Program.{Program}
@@ -72,7 +74,31 @@ pub none_copied : (o : Option (Bor Device)) → option_copied o ≡ None → o �
 none_copied None is = refl
 none_copied (Some x) is = cc
 
-module _ (slots : List Loaded) (windows : List Window) (store : Cells) (programs : List Program) (places : List Place) (J : List Entry) (spare room : ℕ) (ready : IsReady slots windows store programs places J spare room) where
+module _ (fields : Inside) (is_machine : IsMachine fields) where
+  abbrev slots : List Loaded
+  slots = fields.slots.items
+
+  abbrev windows : List Window
+  windows = fields.windows
+
+  abbrev store : Cells
+  store = fields.store
+
+  abbrev programs : List Program
+  programs = fields.programs.items
+
+  abbrev places : List Place
+  places = fields.devices.items
+
+  abbrev J : List Entry
+  J = fields.journal.entries
+
+  abbrev room : ℕ
+  room = fields.room
+
+  abbrev ready : IsReady (stands fields) fields.journal room
+  ready = is_machine.ready
+
   abbrev xs : List Slot
   xs = map slot_loaded slots
 
@@ -86,13 +112,13 @@ module _ (slots : List Loaded) (windows : List Window) (store : Cells) (programs
   s = shared_in store places
 
   abbrev m : Shown
-  m = viewed slots windows store programs places J room
+  m = shown fields
 
   abbrev has_number : ℕ → Seat → Bool
   has_number p x = eqb x.p p
 
   many : length slots ≡ length ps
-  many = ready.many ∙ sym (length-map programs _)
+  many = is_machine.yard.many ∙ sym (length-map programs _)
 
   -- ---- programs
   found : (p : ℕ) → find (has_number p) ps ≡ option_map seat_of (find (λ (x : Program). eqb x.p p) programs)
@@ -229,12 +255,12 @@ module _ (slots : List Loaded) (windows : List Window) (store : Cells) (programs
     pub word_below : address < window.size
     word_below =
         subst (λ (w : Window). address < w.size) (sym is)
-        (from_some (state_of m p) (λ (x : State). address < x.stock.claims.size) _ (λ x is lt. below windows slots ps s J room many ready.agrees ready.placed p x is address lt) there)
+        (from_some (state_of m p) (λ (x : State). address < x.stock.claims.size) _ (λ x is lt. below windows slots ps s J room many ready.agrees is_machine.yard.placed p x is address lt) there)
 
     pub word_in_store : window.base + window.size ≤ 32 * length store
     word_in_store =
         subst (λ (w : Window). w.base + w.size ≤ 32 * length store) (sym is)
-        (from_some (state_of m p) (λ (x : State). address < x.stock.claims.size) _ (λ x is lt. in_store windows slots ps s J room many ready.agrees ready.placed p x is) there)
+        (from_some (state_of m p) (λ (x : State). address < x.stock.claims.size) _ (λ x is lt. in_store windows slots ps s J room many ready.agrees is_machine.yard.placed p x is) there)
 
     pub word_shown : (w : ℕ) → w ≡ word_at_place store (leases_of (map spot_of places)) (window.base + address) → IsSomeAnd (state_of m p) (λ (x : State). w ≡ word_at x address)
     word_shown w same =
@@ -242,7 +268,7 @@ module _ (slots : List Loaded) (windows : List Window) (store : Cells) (programs
         (λ x there lt.
         same
         ∙ ap (λ (v : Window). word_at_place store (leases_of (map spot_of places)) (v.base + address)) is
-        ∙ word_own windows slots ps s J room many ready.agrees ready.placed p x there address lt)
+        ∙ word_own windows slots ps s J room many ready.agrees is_machine.yard.placed p x there address lt)
         there
 
   -- ---- devices
@@ -279,7 +305,7 @@ module _ (slots : List Loaded) (windows : List Window) (store : Cells) (programs
         of_none (l ∷ ls) e = absurd (omega arith)
 
     abbrev pub claims_it : Bool
-    claims_it = is_claimed_by (owner_in slots d) ps pool (map spot_of places) d
+    claims_it = is_claimed_by (owner_in slots d) ps pool J d
 
     pub claimed_shown : (p : ℕ) (is : Bool) → is ≡ claims_it → IfSome (state_of m p) (λ (x : State). is_some (own_fixture_at x.stock.claims d) ≡ true → is ≡ is_claimed x.stock.claims d)
     claimed_shown p is same = if_some (state_of m p) _ (λ x there some. same ∙ claimed_own windows slots xs ps s J room many ready.agrees d pool p x there some)
@@ -287,15 +313,15 @@ module _ (slots : List Loaded) (windows : List Window) (store : Cells) (programs
     pub pool_shown : (p : ℕ) (is : Bool) → is ≡ claims_it → IfSome (state_of m p) (λ (x : State). is_pooled x.stock.claims d ≡ true → is ≡ is_some (holder d J))
     pool_shown p is same = if_some (state_of m p) _ (λ x there pooled. same ∙ claimed_pooled windows slots xs ps s J room many ready.agrees d pool lends p x there pooled)
 
-    pub claimed_absent : All (λ (x : State). fixture_at x.stock.claims d ≡ None) m.states → is_claimed_by (owner_in slots d) ps pool (map spot_of places) d ≡ false
+    pub claimed_absent : All (λ (x : State). fixture_at x.stock.claims d ≡ None) m.states → is_claimed_by (owner_in slots d) ps pool J d ≡ false
     claimed_absent none = claimed_none windows slots xs ps s J room many ready.agrees d pool lends none_lent none
 
     pub transfer_shown : (t : Option Motion) → t ≡ option_map (λ (h : Held). h.motion) (spot_at (map spot_of places) d).flight → IsLent m d (pending d J) t
-    transfer_shown t is = lent windows slots ps s J room many ready.agrees ready.placed d t is
+    transfer_shown t is = lent windows slots ps s J room many ready.agrees is_machine.yard.placed d t is
 
   -- ---- the store
   pub store_shown : (p a : ℕ) → IfSome (state_of m p) (λ (x : State). a < x.stock.claims.size → IsStored m store p a x)
-  store_shown p a = if_some (state_of m p) _ (λ x there lt. stored windows slots ps s J room many ready.agrees ready.placed p x there a lt)
+  store_shown p a = if_some (state_of m p) _ (λ x there lt. stored windows slots ps s J room many ready.agrees is_machine.yard.placed p x there a lt)
 
   -- the window of a program that is there
   pub window_told : (p : ℕ) → option_map (λ (x : Program). window_at windows p) (find (λ (x : Program). eqb x.p p) programs) ≡ window_in xs p
@@ -306,7 +332,7 @@ module _ (slots : List Loaded) (windows : List Window) (store : Cells) (programs
       ∙ sym (find_map (λ (x : Seat). x.p) (λ k. eqb k p) ps)
       ∙ ap (find (λ k. eqb k p)) ready.agrees.numbers
       ∙ find_map (λ (x : Slot). x.p) (λ k. eqb k p) xs)
-      ∙ ap (λ (ws : List Window). option_map (λ (x : Slot). window_at ws p) (slot_of xs p)) (ready.placed ∙ windows_same slots)
+      ∙ ap (λ (ws : List Window). option_map (λ (x : Slot). window_at ws p) (slot_of xs p)) (is_machine.yard.placed ∙ windows_same slots)
     where
       same_there : (o : Option Program) (k : Option Slot) (w : Window) → option_map (λ (x : Program). x.p) o ≡ option_map (λ (x : Slot). x.p) k → option_map (λ (x : Program). w) o ≡ option_map (λ (x : Slot). w) k
       same_there None None w same = refl

@@ -5,7 +5,7 @@ use Rattle.std.proofs.Common.{◌≡◌, ◌≢◌, ℕ, zero, suc, ◌<◌, Boo
 use Rattle.std.proofs.lemmas.Bool.{cases_eq, eq-eqb, ne_eqb}
 use Rattle.kdf_transfer.specs.Slots.{Slot}
 use Rattle.kdf_processor.specs.State.{State}
-use Rattle.kdf_director.specs.Shown.{state_in}
+use Rattle.kdf_theory.specs.Shown.{state_in}
 
 -- ---- the first of a list that passes a test
 

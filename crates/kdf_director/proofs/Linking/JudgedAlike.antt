@@ -22,29 +22,29 @@ use Rattle.kdf_processor.specs.State.{State}
 use Rattle.kdf_transfer.specs.ByNumber.{device_count}
 use Rattle.kdf_processor.specs.View.{groups_of, is_pending}
 use Rattle.kdf_director.specs.declared.moment.Moment.{Moment}
-use Rattle.kdf_director.specs.Flights.{Flight, touches}
-use Rattle.kdf_director.specs.Seen.{touched_below}
-use Rattle.kdf_director.specs.ByJournal.{flights_of, is_free_after, is_pending_after, mine_after, own, seen_of, seen_world, free_after}
-use Rattle.kdf_director.specs.ByJournal as told
-use Rattle.kdf_director.specs.True.{known}
-use Rattle.kdf_director.specs.World.{first_need}
+use Rattle.kdf_theory.specs.Flights.{Flight, touches}
+use Rattle.kdf_theory.specs.Seen.{touched_below}
+use Rattle.kdf_theory.specs.ByJournal.{flights_of, is_free_after, is_pending_after, mine_after, own, seen_of, seen_world, free_after}
+use Rattle.kdf_theory.specs.ByJournal as told
+use Rattle.kdf_theory.specs.True.{known}
+use Rattle.kdf_theory.specs.World.{first_need}
 use Rattle.kdf_places.specs.Words.{has_group}
 use Rattle.kdf_places.specs.Spots.{Held, Spot, no_spot, spot_at, is_of, lease_held, leases_of, own_from}
-use Rattle.kdf_director.specs.Fields.Parts.{Part, Seat, Reach}
+use Rattle.kdf_director.specs.Fields.Parts.{Part, Seat, Reach, is_lent_by}
 use Rattle.kdf_places.specs.Shared.{Shared}
 use Rattle.kdf_director.specs.Fields.Agrees.{AreLent}
-use Rattle.kdf_director.specs.Fields.Shared.{view, free_in, is_free_in, moment}
+use Rattle.kdf_director.specs.Fields.Shared.{view, free_in, is_free_in, moment, setting}
 use Rattle.kdf_director.specs.Fields.Sound.{IsFlightOf}
 use Rattle.kdf_director.specs.Fields.Running.{seat_at, part_at, own_state, hold_of, answers_at, IsHeld, IsRunning}
 use Rattle.kdf_director.specs.Fields.Following.{IsLink, Linked, IsFollowing, AreFollowing, asked_at}
-use Rattle.kdf_director.proofs.Seen.NeedsInside.{IsInside, IsNear, AreNear, needs_near, near_area, find_near, any_near}
+use Rattle.kdf_theory.proofs.Seen.NeedsInside.{IsInside, IsNear, AreNear, needs_near, near_area, find_near, any_near}
 use Rattle.kdf_director.proofs.Linking.TransfersLinked.{linked_own}
-use Rattle.kdf_director.proofs.Course.FlightsOnCourse.{IsOnCourse}
+use Rattle.kdf_theory.proofs.Course.FlightsOnCourse.{IsOnCourse}
 use Rattle.kdf_director.proofs.Turns.OneOrder.{numbers_apart}
 use Rattle.kdf_journal.specs.declared.kind.Kind.{Kind}
 use Rattle.kdf_processor.proofs.Frees.{none_of_kind}
 use Rattle.kdf_processor.proofs.RowFacts.{pool_lone}
-use Rattle.kdf_director.specs.Slots.{start}
+use Rattle.kdf_theory.specs.Slots.{start}
 
 -- two truths that follow from each other are one
 both_ways : (a b : Bool) → (a ≡ true → b ≡ true) → (b ≡ true → a ≡ true) → a ≡ b
@@ -269,15 +269,15 @@ module _ (slots : List Slot) (J : List Entry) (reaches : List Reach) (seats : Li
       (any_near q.size (λ g. is_out s.cells (q.base / 32 + g)) (touched_below device_count fs) group_same (groups_of first last) near)
 
   -- ---- where the pool lends as the journal tells
-  module _ (lent : AreLent J reaches seats s) where
+  module _ (lent : AreLent J reaches seats) where
     -- a device of the pool is free in the machine where it is by the journal
-    free_at : (kind : Kind) (d : ℕ) (o : Option Kind) → get_or q.pool d None ≡ o → is_free_after slots J q.p kind d ≡ is_free_in q.pool s.spots kind d
+    free_at : (kind : Kind) (d : ℕ) (o : Option Kind) → get_or q.pool d None ≡ o → is_free_after slots J q.p kind d ≡ is_free_in q.pool (is_lent_by seats) kind d
     free_at kind d None is =
         ap (λ ks. is_kind kind (get_or ks d None) && not (is_some (holder d J))) same_pool
         ∙ ap (λ k. is_kind kind k && not (is_some (holder d J))) is
         ∙ none_here (not (is_some (holder d J)))
-        ∙ sym (none_here (not (is_some (spot_at s.spots d).holder)))
-        ∙ sym (ap (λ k. is_kind kind k && not (is_some (spot_at s.spots d).holder)) is)
+        ∙ sym (none_here (not (is_lent_by seats d)))
+        ∙ sym (ap (λ k. is_kind kind k && not (is_lent_by seats d)) is)
       where
         none_here : (b : Bool) → (is_kind kind None && b) ≡ false
         none_here b = ap (λ x. x && b) (none_of_kind kind)
@@ -285,12 +285,12 @@ module _ (slots : List Slot) (J : List Entry) (reaches : List Reach) (seats : Li
         ap (λ ks. is_kind kind (get_or ks d None) && not (is_some (holder d J))) same_pool
         ∙ ap (λ h. is_kind kind (get_or q.pool d None) && not (is_some h)) (sym (lent i d lt (ap is_some is)))
 
-    pub free_is : (kind : Kind) → free_after slots J q.p kind ≡ free_in q.pool s.spots kind
+    pub free_is : (kind : Kind) → free_after slots J q.p kind ≡ free_in q.pool (is_lent_by seats) kind
     unfolding free_after free_in
     free_is kind = ap (λ test. find test (range_with_len 0 device_count)) (fun_ext (λ d. free_at kind d (get_or q.pool d None) refl))
 
     -- so a need is pending in the machine exactly where it is by the journal
-    pub pending_same : (t : Moment) (n : Need) → IsNear q.size n → is_pending (view q t s) n ≡ is_pending_after slots J q.p n
+    pub pending_same : (t : Moment) (n : Need) → IsNear q.size n → is_pending (view q (setting (is_lent_by seats) t) s) n ≡ is_pending_after slots J q.p n
     pending_same t (Group g) near = group_same g near
     pending_same t (Device d) near = old.busy d
     pending_same t (Pool kind) near = ap (λ (o : Option ℕ). not (is_some o)) (sym (free_is kind))
@@ -299,7 +299,7 @@ module _ (slots : List Slot) (J : List Entry) (reaches : List Reach) (seats : Li
     pub hold_same : hold_of reaches seats s i ≡ first_need (seen_world slots J) q.p
     unfolding hold_of first_need
     hold_same =
-        find_near q.size (is_pending (view q (moment 0 0) s)) (is_pending_after slots J q.p) (pending_same (moment 0 0))
+        find_near q.size (is_pending (view q (setting (is_lent_by seats) (moment 0 0)) s)) (is_pending_after slots J q.p) (pending_same (moment 0 0))
         (needs (own_state reaches seats s 0 i) (own_from q.p 0 s.spots))
         (subst (λ n. AreNear n (needs (own_state reaches seats s 0 i) (own_from q.p 0 s.spots))) (size_is 0) (needs_near (own_state reaches seats s 0 i) (own_from q.p 0 s.spots)))
         ∙ ap (find (is_pending_after slots J q.p)) (needs_are 0 (own_from q.p 0 s.spots) ∙ ap (needs (seen_of slots J q.p)) mine_same)

@@ -20,8 +20,8 @@ use Rattle.kdf_transfer.specs.ByNumber.{device_count}
 use Rattle.kdf_processor.specs.Needs.{next_effect}
 use Rattle.kdf_processor.specs.State.{State, word_at}
 use Rattle.kdf_director.specs.Fields.Agrees.{Agrees}
-use Rattle.kdf_director.specs.Flights.{Flight, touches}
-use Rattle.kdf_director.specs.Flying.{IfFlight}
+use Rattle.kdf_theory.specs.Flights.{Flight, touches}
+use Rattle.kdf_theory.specs.Flying.{IfFlight}
 use Rattle.kdf_director.specs.Fields.Following.{IsLink, Linked, asked_at}
 use Rattle.kdf_director.specs.Lends.{IsBegun, IsFlight, IsLent, IsStored, place_of, size_in, windows_in}
 use Rattle.kdf_director.specs.Fields.Filled.{loaded, size_at, sizes_of}
@@ -29,17 +29,17 @@ use Rattle.kdf_director.specs.Fields.Parts.{Part, Reach, Seat, reach_of, window_
 use Rattle.kdf_places.specs.Shared.{Shared}
 use Rattle.kdf_places.specs.Words.{has_group, word_at_place, word_where}
 use Rattle.kdf_director.specs.Fields.Running.{no_seat, own_state, part_at, reach_at, reaches_in, seat_at}
-use Rattle.kdf_director.specs.Shown.{Shown, state_of}
+use Rattle.kdf_theory.specs.Shown.{Shown, state_of}
 use Rattle.kdf_director.specs.Fields.Viewed.{slot_loaded, states_in}
-use Rattle.kdf_director.specs.Seen.{touched_below}
+use Rattle.kdf_theory.specs.Seen.{touched_below}
 use Rattle.kdf_director.specs.Fields.Sound.{IsFlightOf}
 use Rattle.kdf_places.specs.Spots.{Held, Spot, lease_held, leases_of, no_spot, spot_at}
-use Rattle.kdf_director.specs.ByJournal.{flight_by, flight_of, flights_of, own, own_after}
+use Rattle.kdf_theory.specs.ByJournal.{flight_by, flight_of, flights_of, own, own_after}
 use Rattle.kdf_director.specs.declared.slot.Loaded.{Loaded}
 use Rattle.kdf_director.proofs.Linking.EventsEntered.{map_twice}
 use Rattle.kdf_director.proofs.Linking.JudgedAlike.{group_same, some_lease}
 use Rattle.kdf_director.proofs.Linking.TransfersLinked.{count_is, linked_own}
-use Rattle.kdf_director.proofs.Course.FlightsOnCourse.{legal-course}
+use Rattle.kdf_theory.proofs.Course.FlightsOnCourse.{legal-course}
 use Rattle.kdf_director.proofs.Linking.OwnStates.{program_is, state_is}
 use Rattle.kdf_places.proofs.WordsHereAndOut.{word_out_one, here_word}
 use Rattle.kdf_director.proofs.Physical.PartsShow.{none_kind}

@@ -19,21 +19,21 @@ use Rattle.kdf_director.specs.Fields.Following.{asked_at}
 use Rattle.kdf_director.specs.Fields.Going.{first_going, goes_at, hold_at, if_goes, is_stopped, or_else, place_of, AreNearHolds, IsNearHold}
 use Rattle.kdf_course.specs.World as course
 use Rattle.kdf_course.specs.World.{can_go, stands}
-use Rattle.kdf_director.specs.Next.{any_live, dispatched, lives, next}
-use Rattle.kdf_director.specs.Fields.Parts.{Reach, Seat}
+use Rattle.kdf_theory.specs.Next.{any_live, dispatched, lives, next}
+use Rattle.kdf_director.specs.Fields.Parts.{Reach, Seat, is_lent_by}
 use Rattle.kdf_places.specs.Shared.{Shared}
 use Rattle.kdf_director.specs.Fields.Running.{no_seat, own_state, reach_at, seat_at}
-use Rattle.kdf_director.specs.Slots.{no_slot, slot_of}
-use Rattle.kdf_director.specs.ByJournal.{own, world_after}
-use Rattle.kdf_director.specs.World.{World, need_of}
+use Rattle.kdf_theory.specs.Slots.{no_slot, slot_of}
+use Rattle.kdf_theory.specs.ByJournal.{own, world_after}
+use Rattle.kdf_theory.specs.World.{World, need_of}
 use Rattle.kdf_director.proofs.Physical.FirstFound.{any_fails, any_is, any_none, any_there, found_first, none_found}
 use Rattle.kdf_processor.specs.declared.step.Need.TheVariants.{Pool}
 use Rattle.kdf_director.proofs.Linking.JudgedAlike.{group_same, pending_same}
-use Rattle.kdf_director.proofs.Course.LegalFacts.{legal_alive}
+use Rattle.kdf_theory.proofs.Course.LegalFacts.{legal_alive}
 use Rattle.kdf_director.proofs.Course.HoldsInside.{legal-near, own_size, size_of}
-use Rattle.kdf_director.proofs.Course.FlightsOnCourse.{legal-course}
-use Rattle.kdf_director.proofs.Course.OwnSteps.{own-ran}
-use Rattle.kdf_director.proofs.Course.Worlds.{find_true}
+use Rattle.kdf_theory.proofs.Course.FlightsOnCourse.{legal-course}
+use Rattle.kdf_theory.proofs.Course.OwnSteps.{own-ran}
+use Rattle.kdf_theory.proofs.Course.Worlds.{find_true}
 use Rattle.kdf_director.specs.Fields.Shared.{moment}
 
 -- ---- slots by number
@@ -173,7 +173,7 @@ module _ (slots : List Slot) (reaches : List Reach) (seats : List Seat) (s : Sha
       w = world_after slots J states
 
       -- what held it is pending by its fields where it is by the journal
-      stopped_by : (i : ℕ) → i < length seats → (o : Option Hold) → IsNearHold (reach_at reaches i).size (option_map need_of o) → is_stopped (reach_at reaches i) s (option_map need_of o) ≡ stands (dispatched slots w) (p i) o
+      stopped_by : (i : ℕ) → i < length seats → (o : Option Hold) → IsNearHold (reach_at reaches i).size (option_map need_of o) → is_stopped (reach_at reaches i) (is_lent_by seats) s (option_map need_of o) ≡ stands (dispatched slots w) (p i) o
       stopped_by i lt None near = refl
       stopped_by i lt (Some (ByGroup g)) near = group_same slots J reaches seats s a.running a.following i lt (legal-course slots J a.are a.legal (p i)) g near
       stopped_by i lt (Some (ByDevice d)) near = a.following.busy d
@@ -183,7 +183,7 @@ module _ (slots : List Slot) (reaches : List Reach) (seats : List Seat) (s : Sha
       unfolding can_go
       goes_same i lt =
           ap₂ (λ b c. b && not c) (live_same i lt)
-          (ap (is_stopped (reach_at reaches i) s) (hold_is i lt) ∙ stopped_by i lt (last_hold (p i) J) (near_at i lt))
+          (ap (is_stopped (reach_at reaches i) (is_lent_by seats) s) (hold_is i lt) ∙ stopped_by i lt (last_hold (p i) J) (near_at i lt))
 
       -- a slot whose program goes on by the journal is some program's
       only_programs : (k : ℕ) → can_go (dispatched slots w) J k ≡ true → is_some (slot_of slots k) ≡ true
@@ -260,7 +260,7 @@ module _ (slots : List Slot) (reaches : List Reach) (seats : List Seat) (s : Sha
       is_next i is =
           let x = is_found (priorities J) i (find (can_go (dispatched slots w) J) (priorities J)) refl (sym (first_placed (priorities J)) ∙ is) in (
             x.0,
-            (and_parts (is_live (seat_at seats i).registers.state) (not (is_stopped (reach_at reaches i) s (hold_at holds i))) (goes_same i x.0 ∙ x.2)).0,
+            (and_parts (is_live (seat_at seats i).registers.state) (not (is_stopped (reach_at reaches i) (is_lent_by seats) s (hold_at holds i))) (goes_same i x.0 ∙ x.2)).0,
             x.1,
           )
 

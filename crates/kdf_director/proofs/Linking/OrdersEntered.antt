@@ -21,36 +21,37 @@ use Rattle.kdf_processor.specs.State.{State}
 use Rattle.kdf_director.specs.Advance.{Obeyed, note_told, states_after, IsHeard}
 use Rattle.kdf_director.specs.Fields.Agrees.{Agrees, AreLent}
 use Rattle.kdf_director.specs.Fields.Following.{asked_at}
-use Rattle.kdf_director.specs.Legal.{Meets, note_for, note_of, note_of_outcome}
-use Rattle.kdf_director.specs.Next.{next}
+use Rattle.kdf_theory.specs.Legal.{Meets, note_for, note_of, note_of_outcome}
+use Rattle.kdf_theory.specs.Next.{next}
 use Rattle.kdf_director.specs.Fields.Notes as notes
 use Rattle.kdf_director.specs.Fields.Parts.{Reach, Seat, in_pool}
 use Rattle.kdf_places.specs.Shared.{Shared}
 use Rattle.kdf_director.specs.Fields.Running.{outcome_at, hold_of, own_state, part_at, seat_at, IsRunning, reach_at}
 use Rattle.kdf_director.specs.Fields.Settled.{holder_left}
-use Rattle.kdf_director.specs.Seen.{begun_row, seen}
-use Rattle.kdf_director.specs.Shown.{Shown, state_at, state_in, world_of}
+use Rattle.kdf_theory.specs.Seen.{begun_row, seen}
+use Rattle.kdf_theory.specs.Shown.{Shown, state_at, state_in, world_of}
 use Rattle.kdf_director.specs.Fields.Viewed.{states_in}
-use Rattle.kdf_director.specs.Slots.{slot_of, start_of}
-use Rattle.kdf_director.specs.ByJournal.{flights_of, is_pending_after, lone_world, mine_after, own, seen_of, seen_world}
-use Rattle.kdf_director.specs.True.{truth}
+use Rattle.kdf_theory.specs.Slots.{slot_of, start_of}
+use Rattle.kdf_theory.specs.ByJournal.{flights_of, is_pending_after, lone_world, mine_after, own, seen_of, seen_world}
+use Rattle.kdf_theory.specs.True.{truth}
 use Rattle.kdf_director.specs.Fields.Turned.{word_over, HasTurned}
 use Rattle.std.specs.Option.{option_map}
-use Rattle.kdf_director.specs.World as world
-use Rattle.kdf_director.specs.World.{first_need}
+use Rattle.kdf_theory.specs.World as world
+use Rattle.kdf_theory.specs.World.{first_need}
 use Rattle.kdf_director.specs.declared.note.Note.{Note as Noted}
 use Rattle.kdf_director.proofs.Linking.EventsEntered.{shows}
 use Rattle.kdf_director.proofs.Linking.OrdersFollowed.{outcome_is, turn_follows}
 use Rattle.kdf_director.proofs.Linking.JudgedAlike.{hold_same}
 use Rattle.kdf_director.proofs.Linking.HoldersChange.{IsGoing, holder_then}
-use Rattle.kdf_director.proofs.Course.WorldsJudged.{legal_added, true_added}
-use Rattle.kdf_director.proofs.Course.OrdersObeyed.{obeys-others, obeys-seen}
-use Rattle.kdf_director.proofs.Course.FlightsOnCourse.{apart-mine, free as calm, legal-course}
-use Rattle.kdf_director.proofs.Course.SeenJournals.{same-need, same-note}
-use Rattle.kdf_director.proofs.Course.Worlds.{next-world, next_on, next_slot}
+use Rattle.kdf_theory.proofs.Course.WorldsJudged.{legal_added, true_added}
+use Rattle.kdf_theory.proofs.Course.OrdersObeyed.{obeys-others, obeys-seen}
+use Rattle.kdf_theory.proofs.Course.FlightsOnCourse.{apart-mine, free as calm, legal-course}
+use Rattle.kdf_theory.proofs.Course.SeenJournals.{same-need, same-note}
+use Rattle.kdf_theory.proofs.Course.Worlds.{next-world, next_on, next_slot}
 use Rattle.kdf_director.specs.Fields.Shared.{moment}
 use Rattle.kdf_director.specs.Fields.TurnTaken.{HasAsked}
-use Rattle.kdf_director.proofs.Seen.OrdersSeen.{same_next}
+use Rattle.kdf_theory.proofs.Seen.OrdersSeen.{same_next}
+use Rattle.kdf_processor.specs.Lone.{is_live}
 use Rattle.kdf_director.proofs.Turns.HeardWords.{heard_so, word_is}
 
 -- ---- states by slots
@@ -163,10 +164,10 @@ module _ (slots : List Slot) (reaches : List Reach) (seats : List Seat) (s : Sha
       ∙ free
 
   -- what is heard where its next order, which nothing holds up, asks the service, by its own state and by the lone one
-  module _ (answers : ℕ → ℕ → Type 0) (heard : Option ℕ) (asked : HasAsked answers (word_over (seat_at seats i) (reach_at reaches i) s) heard) (free : hold_of reaches seats s i ≡ None) where
+  module _ (answers : ℕ → ℕ → Type 0) (heard : Option ℕ) (asked : HasAsked answers (word_over (seat_at seats i) (reach_at reaches i) s) heard) (live : is_live (seat_at seats i).registers.state ≡ true) (free : hold_of reaches seats s i ≡ None) where
     own_heard : (n : ℕ) → IsHeard answers (own_state reaches seats s n i) (unwrap_or heard 0)
     own_heard n =
-        subst (λ o. IfSome o (λ word. (word < 2 ^ 48) × answers word (unwrap_or heard 0))) (word_is reaches seats s i a.running lt free n)
+        subst (λ o. IfSome o (λ word. (word < 2 ^ 48) × answers word (unwrap_or heard 0))) (word_is reaches seats s i a.running lt live free n)
         (heard_so answers (word_over (seat_at seats i) (reach_at reaches i) s) heard asked)
 
     pub lone_heard : IsHeard answers (own slots J p) (unwrap_or heard 0)
@@ -232,13 +233,12 @@ module _ (slots : List Slot) (reaches : List Reach) (seats : List Seat) (s : Sha
       going = subst IsGoing (sym (turned.step (asked_at seats J i) ∙ ap (λ (x : Outcome). x.step) (outcome_is slots J reaches seats s a.are a.legal a.running a.following a.lent i lt heard noted meets))) (done_going answer (next_effect (own_state reaches seats s (asked_at seats J i) i)) (own_state reaches seats s (asked_at seats J i) i))
 
       -- each device of the pool is whose the journal tells then
-      lent_then : AreLent (added J (Obeys p noted)) reaches seats' s'
+      lent_then : AreLent (added J (Obeys p noted)) reaches seats'
       lent_then j d within pooled =
           let count' = turned.count in
           let inside : j < length seats = omega arith in
-          let its : in_pool (part_at reaches seats i) d ≡ true = ap (λ (ks : List (Option Kind)). is_some (get_or ks d None)) (a.running.common i j lt inside) ∙ pooled in
-          turned.holders d its
-          ∙ ap (holder_left p ended beside d) (a.lent i d lt its)
+          turned.holders d
+          ∙ ap (holder_left p ended beside d) (a.lent j d inside pooled)
           ∙ sym (holder_then p (seat_at seats' i).registers.ran d J ended beside going (next_on (lone_world slots J) slots J p turn_lone))
           ∙ ap (λ x. holder d (added J (Obeys p x))) told
 

@@ -24,20 +24,20 @@ use Rattle.kdf_processor.specs.Row.{done_by, next_of}
 use Rattle.kdf_transfer.specs.Slots.{Slot}
 use Rattle.kdf_processor.specs.State.{Claims, State, device_at, fixture_at, word_at}
 use Rattle.kdf_processor.specs.View.{first_pending}
-use Rattle.kdf_director.specs.Flights.{Flight, beginning, flights_after, with_flight}
-use Rattle.kdf_director.specs.Legal.{IsLegal, Meets, note_of, note_of_outcome}
-use Rattle.kdf_director.specs.Seen.{begun_row, seen, seen_device, touched_below, tried}
-use Rattle.kdf_director.specs.Slots.{AreSlots}
-use Rattle.kdf_director.specs.ByJournal.{flights_of, lone_world, mine_after, own, seen_of, seen_world}
-use Rattle.kdf_director.specs.True.{truth}
-use Rattle.kdf_director.specs.World.{first_need}
+use Rattle.kdf_theory.specs.Flights.{Flight, beginning, flights_after, with_flight}
+use Rattle.kdf_theory.specs.Legal.{IsLegal, Meets, note_of, note_of_outcome}
+use Rattle.kdf_theory.specs.Seen.{begun_row, seen, seen_device, touched_below, tried}
+use Rattle.kdf_theory.specs.Slots.{AreSlots}
+use Rattle.kdf_theory.specs.ByJournal.{flights_of, lone_world, mine_after, own, seen_of, seen_world}
+use Rattle.kdf_theory.specs.True.{truth}
+use Rattle.kdf_theory.specs.World.{first_need}
 use Rattle.kdf_transfer.specs.ByNumber.{device_count}
 use Rattle.kdf_places.specs.Words as physical
 use Rattle.kdf_director.specs.Fields.Agrees.{AreLent}
-use Rattle.kdf_places.specs.Spots.{Held, Spot, blank_spot, lent_spot, no_spot, spot_at, fixture_or, leases_of, own_from}
+use Rattle.kdf_places.specs.Spots.{Held, Spot, blank_spot, no_spot, spot_at, fixture_or, leases_of, own_from}
 use Rattle.kdf_director.specs.Fields.Parts.{Part, Seat, Reach, asked_after, has_device, lent_to, own_claims, own_progress, own_stock}
 use Rattle.kdf_places.specs.Shared.{Shared}
-use Rattle.kdf_director.specs.Fields.Shared.{view, after_act, moment}
+use Rattle.kdf_director.specs.Fields.Shared.{Setting, view, after_act, moment}
 use Rattle.kdf_places.specs.Transfers.{start_lease, start_spot}
 use Rattle.kdf_director.specs.Fields.Running.{seat_at, part_at, own_state, hold_of, outcome_at, answers_at, IsRunning}
 use Rattle.kdf_director.specs.Fields.Turned.{HasTurned}
@@ -45,26 +45,26 @@ use Rattle.kdf_director.specs.declared.note.Note.{Note as Noted}
 use Rattle.kdf_processor.specs.declared.step.Step.{Step as Ended}
 use Rattle.kdf_director.specs.Fields.Following.{IsLink, Linked, IsFollowing, AreFollowing, asked_at}
 use Rattle.kdf_places.proofs.GroupsKept.{free_here}
-use Rattle.kdf_director.proofs.Seen.OrdersSeen.{same_next, with_flight_is, with_flight_other}
-use Rattle.kdf_director.proofs.Course.FlightsAdded.{begun_at, pending_behind, pending-obeys}
-use Rattle.kdf_director.proofs.Seen.NeedsInside.{IsInside, next_inside}
+use Rattle.kdf_theory.proofs.Seen.OrdersSeen.{same_next, with_flight_is, with_flight_other}
+use Rattle.kdf_theory.proofs.Course.FlightsAdded.{begun_at, pending_behind, pending-obeys}
+use Rattle.kdf_theory.proofs.Seen.NeedsInside.{IsInside, next_inside}
 use Rattle.kdf_director.proofs.Linking.JudgedAlike.{busy_same, free_same, done_alike, group_same, hold_same, out_same}
 use Rattle.kdf_director.proofs.Linking.EventsFollowed.{answers_same}
-use Rattle.kdf_director.proofs.Seen.EffectsChecked.{IsLawful}
-use Rattle.kdf_director.proofs.Course.LegalFacts.{legal_alive}
+use Rattle.kdf_theory.proofs.Seen.EffectsChecked.{IsLawful}
+use Rattle.kdf_theory.proofs.Course.LegalFacts.{legal_alive}
 use Rattle.kdf_director.proofs.Linking.TransfersLinked.{follow_part, linked_none, linked_set}
-use Rattle.kdf_director.proofs.Course.OrdersObeyed.{obeys-flights, obeys-others, obeys-seen}
-use Rattle.kdf_director.proofs.Course.WorldsJudged.{free_need}
-use Rattle.kdf_director.proofs.Course.FlightsOnCourse.{IsOnCourse, apart-mine, free, legal-course}
-use Rattle.kdf_director.proofs.Course.SeenJournals.{same-need, same-note}
-use Rattle.kdf_director.proofs.Seen.SeenStates.{seen_apart, seen_device_at, seen_number, seen_word_at}
+use Rattle.kdf_theory.proofs.Course.OrdersObeyed.{obeys-flights, obeys-others, obeys-seen}
+use Rattle.kdf_theory.proofs.Course.WorldsJudged.{free_need}
+use Rattle.kdf_theory.proofs.Course.FlightsOnCourse.{IsOnCourse, apart-mine, free, legal-course}
+use Rattle.kdf_theory.proofs.Course.SeenJournals.{same-need, same-note}
+use Rattle.kdf_theory.proofs.Seen.SeenStates.{seen_apart, seen_device_at, seen_number, seen_word_at}
 use Rattle.kdf_director.proofs.Physical.PlacesAlike.{same_at}
 use Rattle.kdf_director.proofs.Physical.PartsShow.{claim_fixture, own_device, own_word}
 use Rattle.kdf_places.proofs.WordsHereAndOut.{here_word}
 use Rattle.kdf_transfer.proofs.Numbers.{length-numbers}
 use Rattle.kdf_director.proofs.Turns.OrdersTried.{IsPart, start_free, start_has, start_idle, start_small}
 use Rattle.kdf_director.proofs.Turns.OneOrder as turn
-use Rattle.kdf_director.proofs.Course.Worlds.{next_on}
+use Rattle.kdf_theory.proofs.Course.Worlds.{next_on}
 
 -- a word of the groups that a lease takes
 lent_here : (cells : Cells) (from n x : ℕ) → from + n ≤ length cells → from ≤ x / 32 → x / 32 < from + n → lent_word (lent_groups cells from n) x ≡ word_here cells x
@@ -97,7 +97,7 @@ asked_told n answer (Returning true d after) s = omega arith
 asked_told n answer (Returning false d after) s = omega arith
 asked_told n answer (Spooling stream first last after) s = omega arith
 
-module _ (slots : List Slot) (J : List Entry) (reaches : List Reach) (seats : List Seat) (s : Shared) (are : AreSlots slots) (legal : IsLegal slots J) (run : IsRunning reaches seats s) (old : AreFollowing slots J reaches seats s) (lent : AreLent J reaches seats s) (i : ℕ) (lt : i < length seats) (heard : ℕ) (note : Note) (meets : Meets (lone_world slots J) slots J heard (Obeys (seat_at seats i).p note)) where
+module _ (slots : List Slot) (J : List Entry) (reaches : List Reach) (seats : List Seat) (s : Shared) (are : AreSlots slots) (legal : IsLegal slots J) (run : IsRunning reaches seats s) (old : AreFollowing slots J reaches seats s) (lent : AreLent J reaches seats) (i : ℕ) (lt : i < length seats) (heard : ℕ) (note : Note) (meets : Meets (lone_world slots J) slots J heard (Obeys (seat_at seats i).p note)) where
   abbrev q : Part
   q = part_at reaches seats i
 
@@ -139,8 +139,11 @@ module _ (slots : List Slot) (J : List Entry) (reaches : List Reach) (seats : Li
       ∙ legal_alive slots J legal p
       ∙ next_on (lone_world slots J) slots J p meets.0
 
-  part : IsPart q s
-  part = turn.is_part reaches seats s i run lt is_on
+  abbrev told : Setting
+  told = turn.told_by seats (moment 0 0)
+
+  part : IsPart q told s
+  part = turn.is_part reaches seats (moment 0 0) s i run lt is_on
 
   none_holds : first_need (lone_world slots J) p ≡ None
   none_holds = free_need (first_need (lone_world slots J) p) meets.1
@@ -217,12 +220,12 @@ module _ (slots : List Slot) (J : List Entry) (reaches : List Reach) (seats : Li
   unfolding own_state
   lawful_mine = turn.lawful reaches seats (moment 0 0) s i run lt
 
-  free_mine : first_pending (view q (moment 0 0) s) (effect_needs (own_from p 0 s.spots) (next_effect mine)) ≡ None
+  free_mine : first_pending (view q told s) (effect_needs (own_from p 0 s.spots) (next_effect mine)) ≡ None
   unfolding own_state
   free_mine = turn.free reaches seats (moment 0 0) s i run lt none
 
   -- a device and a word of its own
-  device_own : (d : ℕ) → d < device_count → has_device q (spot_at s.spots d) ≡ true → device_at mine d ≡ (spot_at s.spots d).progress
+  device_own : (d : ℕ) → d < device_count → has_device q d ≡ true → device_at mine d ≡ (spot_at s.spots d).progress
   unfolding own_state
   device_own d small has = own_device q n s d small has
 
@@ -231,15 +234,15 @@ module _ (slots : List Slot) (J : List Entry) (reaches : List Reach) (seats : Li
   word_own a lt = own_word q n s a lt
 
   -- the transfer that begins
-  module _ (d : ℕ) (o : TransferOrder) (first last : ℕ) (after : Registers) (lawful : IsLawful (own_stock q 0 s).claims (Starting d o first last after)) (clear : first_pending (view q (moment 0 0) s) (effect_needs (own_from p 0 s.spots) (Starting d o first last after)) ≡ None) where
-    has : has_device q (spot_at s.spots d) ≡ true
-    has = start_has q (moment 0 0) s d o first last after (own_from p 0 s.spots) part lawful clear
+  module _ (d : ℕ) (o : TransferOrder) (first last : ℕ) (after : Registers) (lawful : IsLawful (own_stock q 0 s).claims (Starting d o first last after)) (clear : first_pending (view q told s) (effect_needs (own_from p 0 s.spots) (Starting d o first last after)) ≡ None) where
+    has : has_device q d ≡ true
+    has = start_has q told s d o first last after (own_from p 0 s.spots) part lawful clear
 
     small : d < device_count
-    small = start_small q (moment 0 0) s d o first last after (own_from p 0 s.spots) part lawful clear
+    small = start_small q told s d o first last after (own_from p 0 s.spots) part lawful clear
 
     pub idle : (spot_at s.spots d).flight ≡ None
-    idle = start_idle q (moment 0 0) s d o first last after (own_from p 0 s.spots) part lawful clear
+    idle = start_idle q told s d o first last after (own_from p 0 s.spots) part lawful clear
 
     pub inside : d < length s.spots
     inside = let e = run.sound.spots in let k = small in omega arith
@@ -267,7 +270,7 @@ module _ (slots : List Slot) (J : List Entry) (reaches : List Reach) (seats : Li
     -- a word of its area
     area_word : (a : ℕ) → has_area o ≡ true → first ≤ a → a ≤ last → lent_at (start_lease o (q.base + first) (q.base + last) s.cells) (q.base + a) ≡ word_at l a
     area_word a is low high =
-        let area = start_free q (moment 0 0) s d o first last after (own_from p 0 s.spots) part lawful clear is in
+        let area = start_free q told s d o first last after (own_from p 0 s.spots) part lawful clear is in
         let rising = area.rising in
         let inside = area.inside in
         let at = part.at_group in
@@ -345,11 +348,8 @@ module _ (slots : List Slot) (J : List Entry) (reaches : List Reach) (seats : Li
   abbrev left : Effect → Shared
   left e = after_act q s (done_by answer e mine).act
 
-  -- what is taken from the pool or given back has no transfer then, as before
-  flight_lent : (kind : Kind) (after : ℕ → Registers) (d : ℕ) → (spot_at (left (Asking (FreeOf kind) after)).spots d).flight ≡ (spot_at s.spots d).flight
-  flight_lent kind after d = let t = lent_to q s kind (answer (FreeOf kind)) in same_at (λ (y : Spot). y.flight) s.spots t d (lent_spot q.p (spot_at s.spots t)) refl
-
-  flight_back : (x : ℕ) (after : Registers) → first_pending (view q (moment 0 0) s) (effect_needs (own_from p 0 s.spots) (Returning true x after)) ≡ None → (d : ℕ) → (spot_at (left (Returning true x after)).spots d).flight ≡ (spot_at s.spots d).flight
+  -- what is given back has no transfer then, as before
+  flight_back : (x : ℕ) (after : Registers) → first_pending (view q told s) (effect_needs (own_from p 0 s.spots) (Returning true x after)) ≡ None → (d : ℕ) → (spot_at (left (Returning true x after)).spots d).flight ≡ (spot_at s.spots d).flight
   flight_back x after clear d = same_at (λ (y : Spot). y.flight) s.spots x d (blank_spot (spot_at s.spots x)) (sym (idle_back (is_some (spot_at s.spots x).flight) refl))
     where
       none_of : (o : Option Held) → is_some o ≡ false → o ≡ None
@@ -360,25 +360,23 @@ module _ (slots : List Slot) (J : List Entry) (reaches : List Reach) (seats : Li
       idle_back true is = cc (sym (ap (λ b. cond b (Some (Device x)) None) is) ∙ clear)
       idle_back false is = none_of (spot_at s.spots x).flight is
 
-  linked_by : (e : Effect) → IsLawful (own_stock q 0 s).claims e → first_pending (view q (moment 0 0) s) (effect_needs (own_from p 0 s.spots) e) ≡ None → (d : ℕ) → Linked q d (spot_at (left e).spots d).flight (flights_after fs l e d)
+  linked_by : (e : Effect) → IsLawful (own_stock q 0 s).claims e → first_pending (view q told s) (effect_needs (own_from p 0 s.spots) e) ≡ None → (d : ℕ) → Linked q d (spot_at (left e).spots d).flight (flights_after fs l e d)
   linked_by (Starting x o first last after) lawful clear d = linked_new x o first last after lawful clear d
-  linked_by (Asking (FreeOf kind) after) lawful clear d = subst (λ f. Linked q d f (fs d)) (sym (flight_lent kind after d)) (fol.linked d)
   linked_by (Returning true x after) lawful clear d = subst (λ f. Linked q d f (fs d)) (sym (flight_back x after clear d)) (fol.linked d)
   linked_by (Returning false x after) lawful clear d = fol.linked d
   linked_by e lawful clear d = fol.linked d
 
   -- of another program
-  other_by : (x : Part) (own : State) → IsFollowing slots J x own s → q.p ≢ x.p → (e : Effect) → IsLawful (own_stock q 0 s).claims e → first_pending (view q (moment 0 0) s) (effect_needs (own_from p 0 s.spots) e) ≡ None → (d : ℕ) → Linked x d (spot_at (left e).spots d).flight (flights_of slots J x.p d)
+  other_by : (x : Part) (own : State) → IsFollowing slots J x own s → q.p ≢ x.p → (e : Effect) → IsLawful (own_stock q 0 s).claims e → first_pending (view q told s) (effect_needs (own_from p 0 s.spots) e) ≡ None → (d : ℕ) → Linked x d (spot_at (left e).spots d).flight (flights_of slots J x.p d)
   other_by x own follows ne (Starting d o first last after) lawful clear e =
       linked_set x s.spots d (start_spot q.p o (q.base + first) (q.base + last) s.cells (spot_at s.spots d)) (flights_of slots J x.p) (flights_of slots J x.p) (inside d o first last after lawful clear) follows.linked (λ e ne'. refl)
       (subst (Linked x d (start_spot q.p o (q.base + first) (q.base + last) s.cells (spot_at s.spots d)).flight)
       (sym (linked_none x d (flights_of slots J x.p d) (subst (λ y. Linked x d y (flights_of slots J x.p d)) (idle d o first last after lawful clear) (follows.linked d)))) ne) e
-  other_by x own follows ne (Asking (FreeOf kind) after) lawful clear d = subst (λ f. Linked x d f (flights_of slots J x.p d)) (sym (flight_lent kind after d)) (follows.linked d)
   other_by x own follows ne (Returning true y after) lawful clear d = subst (λ f. Linked x d f (flights_of slots J x.p d)) (sym (flight_back y after clear d)) (follows.linked d)
   other_by x own follows ne (Returning false y after) lawful clear d = follows.linked d
   other_by x own follows ne e lawful clear d = follows.linked d
 
-  busy_by : (e : Effect) → IsLawful (own_stock q 0 s).claims e → first_pending (view q (moment 0 0) s) (effect_needs (own_from p 0 s.spots) e) ≡ None → (k d : ℕ) → is_some (spot_at (left e).spots d).flight ≡ is_some (pending_behind p k d (pending d J) e)
+  busy_by : (e : Effect) → IsLawful (own_stock q 0 s).claims e → first_pending (view q told s) (effect_needs (own_from p 0 s.spots) e) ≡ None → (k d : ℕ) → is_some (spot_at (left e).spots d).flight ≡ is_some (pending_behind p k d (pending d J) e)
   busy_by (Starting x o first last after) lawful clear k d =
       ⊎_elim
       (λ (same : d ≡ x).
@@ -393,7 +391,6 @@ module _ (slots : List Slot) (J : List Entry) (reaches : List Reach) (seats : Li
     where
       new : Spot
       new = start_spot q.p o (q.base + first) (q.base + last) s.cells (spot_at s.spots x)
-  busy_by (Asking (FreeOf kind) after) lawful clear k d = ap is_some (flight_lent kind after d) ∙ old.busy d
   busy_by (Returning true x after) lawful clear k d = ap is_some (flight_back x after clear d) ∙ old.busy d
   busy_by (Returning false x after) lawful clear k d = old.busy d
   busy_by e lawful clear k d = old.busy d

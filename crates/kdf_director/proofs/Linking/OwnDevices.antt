@@ -1,8 +1,8 @@
 -- Devices and claims by number are those of the program that has them.
 use Rattle.std.specs.Prelude.{not}
 use Rattle.std.specs.List.{All, position_or_len}
-use Rattle.std.proofs.Common.{◌≡◌, ℕ, ◌+◌, ◌<◌, ◌≤◌, Bool, true, false, ◌&&◌, ltb, List, [], ◌∷◌, length, get_or, map, Option, Some, None, is_some, cond, refl, sym, ap, ◌∙◌, subst, ⊎_elim, arith}
-use Rattle.std.proofs.lemmas.Bool.{cases_lt, lt-ltb, ltb-true}
+use Rattle.std.proofs.Common.{◌≡◌, ◌≢◌, ℕ, ◌+◌, ◌<◌, ◌≤◌, Bool, true, false, ◌&&◌, ltb, List, [], ◌∷◌, length, get_or, map, Option, Some, None, is_some, cond, refl, sym, ap, ap₂, ◌∙◌, subst, ⊎_elim, arith}
+use Rattle.std.proofs.lemmas.Bool.{cases_eq, cases_lt, le-ltb, lt-ltb, ltb-true, or_left}
 use Rattle.std.proofs.lemmas.List.{get_or_past, length-map}
 use Rattle.std.proofs.lemmas.List.FromFn.{length-map-range_with_len, get_or-map-range_with_len}
 use Rattle.std.proofs.lemmas.List.Sums.{fails_before_first, passes_at_first}
@@ -24,13 +24,14 @@ use Rattle.kdf_transfer.specs.ByNumber.{by_number, device_count}
 use Rattle.kdf_director.specs.Fields.Parts.{Reach, Seat, has_device, in_pool, numbers, own_claims, own_fixture, owns, pool_kind, reach_of}
 use Rattle.kdf_places.specs.Shared.{Shared}
 use Rattle.kdf_director.specs.Fields.Running.{own_state, part_at, reach_at, reaches_in, seat_at}
-use Rattle.kdf_director.specs.Shown.{IsDeviceAt, Shown, state_of}
+use Rattle.kdf_theory.specs.Shown.{IsDeviceAt, Shown, state_of}
 use Rattle.kdf_director.specs.Fields.Viewed.{states_in}
-use Rattle.kdf_director.specs.Slots.{start_of}
+use Rattle.kdf_theory.specs.Slots.{start_of}
 use Rattle.kdf_director.specs.declared.slot.Loaded.{Loaded}
 use Rattle.kdf_director.proofs.Linking.OwnStates.{program_is, same_number, state_is}
-use Rattle.kdf_director.proofs.Physical.PartsShow.{is_its, own_device, own_is}
-use Rattle.kdf_transfer.proofs.Numbers.{number_at, number_past}
+use Rattle.kdf_director.proofs.Physical.PartsShow.{own_device, own_is}
+use Rattle.kdf_director.specs.Fields.Stints.{lends}
+use Rattle.kdf_transfer.proofs.Numbers.{limit_is, number_at, number_past}
 
 -- ---- which slot has a device
 
@@ -107,7 +108,7 @@ module _ (windows : List Window) (loads : List Loaded) (slots : List Slot) (seat
   unfolding own_state
   any_is i = refl
 
-  progress_is : (i : ℕ) → d < device_count → has_device (part_at reaches seats i) (spot_at s.spots d) ≡ true → device_at (own_at i) d ≡ (spot_at s.spots d).progress
+  progress_is : (i : ℕ) → d < device_count → has_device (part_at reaches seats i) d ≡ true → device_at (own_at i) d ≡ (spot_at s.spots d).progress
   unfolding own_state
   progress_is i small its = own_device (part_at reaches seats i) (asked_at seats J i) s d small its
 
@@ -131,9 +132,9 @@ module _ (windows : List Window) (loads : List Loaded) (slots : List Slot) (seat
   spot_is : (i : ℕ) → is_some (own_fixture_at (own_at i).stock.claims d) ≡ true → own_fixture_at (own_at i).stock.claims d ≡ (spot_at s.spots d).fixture
   spot_is i some = by_place i some ∙ ap (λ b. cond b (spot_at s.spots d).fixture None) (owned i some)
 
-  -- a device of a program's own is in its place
-  its_own : (i : ℕ) → i < length seats → owns (reach_at reaches i).devices d ≡ true → (spot_at s.spots d).holder ≡ Some (seat_at seats i).p
-  its_own i lt has = (a.running.kept i lt).owned d has
+  -- a device of a program's slot is the program's
+  its_own : (i : ℕ) → owns (reach_at reaches i).devices d ≡ true → has_device (part_at reaches seats i) d ≡ true
+  its_own i has = or_left (owns (reach_at reaches i).devices d) (lends (seat_at seats i).stints d) has
 
   -- a program that has the device has it in its state
   has_it : (i : ℕ) → i < length seats → owns (reach_at reaches i).devices d ≡ true → is_some (own_fixture_at (own_at i).stock.claims d) ≡ true
@@ -160,8 +161,10 @@ module _ (windows : List Window) (loads : List Loaded) (slots : List Slot) (seat
       by_owner (Some j) is =
           let at = owner_has windows loads d j is in
           let within : j < length seats = (let low = at.0 in omega arith) in
-          let one : Some (seat_at seats j).p ≡ Some (seat_at seats i).p = sym (its_own j within at.1) ∙ its_own i lt (owned i some) in
-          is ∙ ap Some (same_number slots reaches seats s J room a j i within lt (let e : (seat_at seats j).p ≡ (seat_at seats i).p = cc in e))
+          is ∙ ap Some (⊎_elim
+          (λ (same : j ≡ i). same)
+          (λ (ne : j ≢ i). cc (sym (a.running.single j i d within lt ne (its_own j at.1)) ∙ its_own i (owned i some)))
+          (cases_eq j i))
 
   -- what is found by its number is a program's device
   pub device_own : (p : ℕ) (state : State) (o : Option Device) → state_of m p ≡ Some state → is_some (own_fixture_at state.stock.claims d) ≡ true → IsDeviceOwned (owner_in loads d) (spot_at s.spots d) o → IsDeviceAt state d o
@@ -177,14 +180,14 @@ module _ (windows : List Window) (loads : List Loaded) (slots : List Slot) (seat
 
       shown : (i : ℕ) → i < length seats → is_some (own_fixture_at (own_at i).stock.claims d) ≡ true → (o : Option Device) → IsDeviceOf (spot_at s.spots d) o → IsDeviceAt (own_at i) d o
       shown i lt some None is = spot_is i some ∙ is
-      shown i lt some (Some device) is = (spot_is i some ∙ is.0, progress_is i (small i some) (is_its (seat_at seats i).p (spot_at s.spots d).holder (its_own i lt (owned i some))) ∙ is.1)
+      shown i lt some (Some device) is = (spot_is i some ∙ is.0, progress_is i (small i some) (its_own i (owned i some)) ∙ is.1)
 
-  pub claimed_own : (pool : List (ℕ × Kind)) (p : ℕ) (state : State) → state_of m p ≡ Some state → is_some (own_fixture_at state.stock.claims d) ≡ true → is_claimed_by (owner_in loads d) seats pool s.spots d ≡ is_claimed state.stock.claims d
+  pub claimed_own : (pool : List (ℕ × Kind)) (p : ℕ) (state : State) → state_of m p ≡ Some state → is_some (own_fixture_at state.stock.claims d) ≡ true → is_claimed_by (owner_in loads d) seats pool J d ≡ is_claimed state.stock.claims d
   claimed_own pool p state there some =
       let at = program_is slots reaches seats s J room a p (ap is_some there) in
       let same : own_at at.0 ≡ state = some_same (sym (state_is slots reaches seats s J room a p at.0 at.1 at.2) ∙ there) in
       let some' : is_some (own_fixture_at (own_at at.0).stock.claims d) ≡ true = ap (λ (x : State). is_some (own_fixture_at x.stock.claims d)) same ∙ some in
-      ap (λ owner. is_claimed_by owner seats pool s.spots d) (owner_is at.0 at.1 some')
+      ap (λ owner. is_claimed_by owner seats pool J d) (owner_is at.0 at.1 some')
       ∙ sym (claim_is at.0 some')
       ∙ ap (λ (x : State). is_claimed x.stock.claims d) same
     where
@@ -223,30 +226,26 @@ module _ (windows : List Window) (loads : List Loaded) (slots : List Slot) (seat
             let within : j < length seats = (let low = at.0 in omega arith) in
             cc (sym ((a.running.kept j within).apart d at.1) ∙ in_it j within ∙ sym (in_it i lt) ∙ pooled)
 
-    pub claimed_pooled : (p : ℕ) (state : State) → state_of m p ≡ Some state → is_pooled state.stock.claims d ≡ true → is_claimed_by (owner_in loads d) seats pool s.spots d ≡ is_some (holder d J)
+    pub claimed_pooled : (p : ℕ) (state : State) → state_of m p ≡ Some state → is_pooled state.stock.claims d ≡ true → is_claimed_by (owner_in loads d) seats pool J d ≡ is_some (holder d J)
     claimed_pooled p state there pooled =
         let at = program_is slots reaches seats s J room a p (ap is_some there) in
         let same : own_at at.0 ≡ state = some_same (sym (state_is slots reaches seats s J room a p at.0 at.1 at.2) ∙ there) in
         let its : in_pool (part_at reaches seats at.0) d ≡ true = sym (pool_is at.0) ∙ ap (λ (x : State). is_pooled x.stock.claims d) same ∙ pooled in
         let lt : d < device_count = (a.running.kept at.0 at.1).few d its in
         let kind : is_some (lent_kind pool d) ≡ true = ap is_some (sym (number_at (lent_kind pool) d None lt)) ∙ sym (in_it at.0 at.1) ∙ its in
-        ap (λ owner. is_claimed_by owner seats pool s.spots d) (none_owns_it at.0 at.1 its)
-        ∙ ap (λ b. b && is_some (spot_at s.spots d).holder) kind
-        ∙ ap is_some (a.lent at.0 d at.1 its)
+        ap (λ owner. is_claimed_by owner seats pool J d) (none_owns_it at.0 at.1 its)
+        ∙ ap₂ (λ b c. b && (c && is_some (holder d J))) (lt-ltb d 16 (omega (arith, limit_is))) kind
       where
         some_same : {x y : State} → Some x ≡ Some y → x ≡ y
         some_same e = cc
 
     -- where neither a slot nor the pool has the number, nothing is claimed
-    pub claimed_none : (length seats ≡ 0 → pool ≡ []) → All (λ (x : State). fixture_at x.stock.claims d ≡ None) m.states → is_claimed_by (owner_in loads d) seats pool s.spots d ≡ false
+    pub claimed_none : (length seats ≡ 0 → pool ≡ []) → All (λ (x : State). fixture_at x.stock.claims d ≡ None) m.states → is_claimed_by (owner_in loads d) seats pool J d ≡ false
     claimed_none empty none =
-        ap (λ owner. is_claimed_by owner seats pool s.spots d) (none_owns (λ j x lt. (neither (pool_kind_at (get_or m.states j x).stock.claims d) (own_fixture_at (get_or m.states j x).stock.claims d) (none j x lt)).1))
+        ap (λ owner. is_claimed_by owner seats pool J d) (none_owns (λ j x lt. (neither (pool_kind_at (get_or m.states j x).stock.claims d) (own_fixture_at (get_or m.states j x).stock.claims d) (none j x lt)).1))
         ∙ ⊎_elim
-        (λ (small : d < device_count). ap (λ k. is_some k && is_some (spot_at s.spots d).holder) (no_kind small))
-        (λ (past : device_count ≤ d).
-        let count = a.running.sound.spots in
-        ap (λ (x : Spot). is_some (lent_kind pool d) && is_some x.holder) (get_or_past s.spots d no_spot (omega arith))
-        ∙ and_none (is_some (lent_kind pool d)))
+        (λ (small : d < device_count). ap (λ k. ltb d 16 && (is_some k && is_some (holder d J))) (no_kind small) ∙ and_none (ltb d 16))
+        (λ (past : device_count ≤ d). ap (λ b. b && (is_some (lent_kind pool d) && is_some (holder d J))) (le-ltb d 16 (omega (arith, limit_is))))
         (cases_lt d device_count)
       where
         neither : (k : Option Kind) (f : Option Fixture) → pooled_or k f ≡ None → (k ≡ None) × (f ≡ None)

@@ -15,22 +15,22 @@ use Rattle.kdf_word.specs.Characters.{codes_of_all}
 use Rattle.kdf_processor.specs.Row.{transferred}
 use Rattle.kdf_transfer.specs.Slots.{Slot}
 use Rattle.kdf_processor.specs.State.{State, device_at, device_in}
-use Rattle.kdf_director.specs.Flights.{Flight, moves_on, all_moves, arrivals, move_count, unmoved, completed, moved_to, with_flight}
-use Rattle.kdf_director.specs.Seen.{seen, with_both, with_store}
-use Rattle.kdf_director.specs.ByJournal.{flights_of, further, own, seen_of}
+use Rattle.kdf_theory.specs.Flights.{Flight, moves_on, all_moves, arrivals, move_count, unmoved, completed, moved_to, with_flight}
+use Rattle.kdf_theory.specs.Seen.{seen, with_both, with_store}
+use Rattle.kdf_theory.specs.ByJournal.{flights_of, further, own, seen_of}
 use Rattle.kdf_places.specs.Spots.{Held, Spot, no_spot, spot_at}
 use Rattle.kdf_director.specs.Fields.Parts.{Part}
 use Rattle.kdf_places.specs.Shared.{Shared}
 use Rattle.kdf_places.specs.Transfers.{flight_moves, moved_held, moved_spot, after_move, ended_by, ended_spot, after_end}
 use Rattle.kdf_director.specs.Fields.Running.{moved_own, ended_own}
 use Rattle.kdf_director.specs.Fields.Following.{IsLink, Linked, IsFollowing}
-use Rattle.kdf_director.proofs.Seen.OrdersSeen.{with_flight_is, with_flight_other}
-use Rattle.kdf_director.proofs.Seen.WholeTransfers.{arrivals_input, arrivals_none}
-use Rattle.kdf_director.proofs.Course.FlightsAdded.{flights-end, flights-move}
+use Rattle.kdf_theory.proofs.Seen.OrdersSeen.{with_flight_is, with_flight_other}
+use Rattle.kdf_theory.proofs.Seen.WholeTransfers.{arrivals_input, arrivals_none}
+use Rattle.kdf_theory.proofs.Course.FlightsAdded.{flights-end, flights-move}
 use Rattle.kdf_director.proofs.Turns.FlightsMove.{chosen, passed}
-use Rattle.kdf_director.proofs.Course.FlightsOnCourse.{IsOnCourse}
-use Rattle.kdf_director.proofs.Course.OwnSteps.{own-same}
-use Rattle.kdf_director.proofs.Course.SeenJournals.{end-none, end-seen, move-none, move-seen}
+use Rattle.kdf_theory.proofs.Course.FlightsOnCourse.{IsOnCourse}
+use Rattle.kdf_theory.proofs.Course.OwnSteps.{own-same}
+use Rattle.kdf_theory.proofs.Course.SeenJournals.{end-none, end-seen, move-none, move-seen}
 
 -- ---- links
 

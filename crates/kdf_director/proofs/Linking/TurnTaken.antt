@@ -1,7 +1,7 @@
 -- What the turn of a program that is next makes of the machine.
 use Rattle.std.specs.Option.{option_map}
 use Rattle.std.specs.Prelude.{unwrap_or}
-use Rattle.std.proofs.Common.{◌≡◌, ◌≢◌, ℕ, ◌<◌, inl, inr, true, false, List, length, get_or, map, set, Option, Some, None, is_some, cond, refl, sym, ap, ap₂, ◌∙◌, subst, ⊎_elim, arith}
+use Rattle.std.proofs.Common.{◌≡◌, ◌≢◌, ℕ, ◌<◌, inl, inr, ◌&&◌, Bool, true, false, List, length, get_or, map, set, Option, Some, None, is_some, cond, refl, sym, ap, ap₂, ◌∙◌, subst, ⊎_elim, arith}
 use Rattle.std.proofs.Math.Path.{fun_ext}
 use Rattle.std.proofs.lemmas.Bool.{cases_eq, eq-eqb, ne_eqb}
 use Rattle.std.proofs.lemmas.List.{ext_get_or, get_or-map, get_or-set_same, get_or-set_other, length-map, length-set}
@@ -20,40 +20,44 @@ use Rattle.kdf_processor.specs.Outcome.{Outcome, held_or}
 use Rattle.kdf_processor.specs.Row.{done_by, next_of}
 use Rattle.kdf_transfer.specs.Slots.{Slot}
 use Rattle.kdf_processor.specs.State.{State}
-use Rattle.kdf_director.specs.Seen.{tried}
+use Rattle.kdf_theory.specs.Seen.{tried}
 use Rattle.kdf_director.specs.declared.machine.Progress.{Progress}
 use Rattle.kdf_director.specs.declared.machine.Progress.TheVariants as progress
 use Rattle.kdf_director.specs.declared.note.Note.{Note as Noted}
 use Rattle.kdf_director.specs.Advance.{note_told, AdvanceWith}
 use Rattle.kdf_director.specs.Fields.Agrees.{Agrees}
 use Rattle.kdf_director.specs.Fields.Following.{AreFollowing, IsFollowing, Linked, asked_at}
-use Rattle.kdf_director.specs.Legal.{Meets, note_of}
-use Rattle.kdf_director.specs.Next.{any_live, next}
-use Rattle.kdf_director.specs.Fields.Parts.{Part, Reach, Seat, asked_after, in_pool}
+use Rattle.kdf_theory.specs.Legal.{Meets, note_of}
+use Rattle.kdf_theory.specs.Next.{any_live, next}
+use Rattle.kdf_director.specs.Fields.Parts.{Part, Reach, Seat, asked_after, borrower}
 use Rattle.kdf_places.specs.Shared.{Shared}
 use Rattle.kdf_director.specs.Fields.Settled.{holder_left}
 use Rattle.kdf_director.specs.Fields.Running.{no_seat, answers_at, hold_of, outcome_at, own_state, part_at, seat_at, IsRunning}
 use Rattle.kdf_director.specs.Fields.Shared.{after_act, moment}
-use Rattle.kdf_director.specs.Shown.{Shown, state_at, world_of}
+use Rattle.kdf_theory.specs.Shown.{Shown, state_at, world_of}
 use Rattle.kdf_director.specs.Fields.Viewed.{states_in}
-use Rattle.kdf_director.specs.Slots.{slot_of}
+use Rattle.kdf_theory.specs.Slots.{slot_of}
 use Rattle.kdf_places.specs.Spots.{spot_at}
+use Rattle.kdf_director.specs.Fields.Standing.{Standing}
 use Rattle.kdf_director.specs.Fields.TurnTaken.{HasTaken, hold_left, progress_of, step_told}
-use Rattle.kdf_director.specs.ByJournal.{flights_of, lone_world, own, seen_of}
-use Rattle.kdf_director.specs.True.{truth}
-use Rattle.kdf_director.specs.World.{first_need, need_of}
-use Rattle.kdf_director.specs.World as world
+use Rattle.kdf_theory.specs.ByJournal.{flights_of, lone_world, own, seen_of}
+use Rattle.kdf_theory.specs.True.{truth}
+use Rattle.kdf_theory.specs.World.{first_need, need_of}
+use Rattle.kdf_theory.specs.World as world
 use Rattle.kdf_director.proofs.Linking.OrdersEntered.{agrees_obeyed, need_is, shows_obeyed, told, lone_heard, state_heard}
 use Rattle.kdf_director.proofs.Linking.EventsEntered.{shows}
 use Rattle.kdf_director.proofs.Linking.JudgedAlike.{hold_same}
 use Rattle.kdf_director.proofs.Linking.EventsFollowed.{held_follows, held_seen, waited_follows, waited_seen}
-use Rattle.kdf_director.proofs.Course.WorldsJudged.{legal_added, need_again, true_added}
+use Rattle.kdf_theory.proofs.Course.WorldsJudged.{legal_added, need_again, true_added}
 use Rattle.kdf_director.proofs.Linking.TransfersLinked.{follow_part}
-use Rattle.kdf_director.proofs.Course.FlightsOnCourse.{legal-course}
-use Rattle.kdf_director.proofs.Course.SeenJournals.{same-need}
+use Rattle.kdf_theory.proofs.Course.FlightsOnCourse.{legal-course}
+use Rattle.kdf_theory.proofs.Course.SeenJournals.{same-need}
 use Rattle.kdf_director.proofs.Turns.OneOrder.{numbers_apart}
-use Rattle.kdf_director.proofs.Course.Worlds.{next-world, next_slot}
-use Rattle.kdf_director.specs.Served.{IsAnswered}
+use Rattle.kdf_theory.proofs.Course.Worlds.{next-world, next_on, next_slot}
+use Rattle.kdf_processor.specs.Lone.{is_live}
+use Rattle.kdf_director.proofs.Linking.NextPrograms.{live_same}
+use Rattle.kdf_course.specs.World as course
+use Rattle.kdf_theory.specs.Served.{IsAnswered}
 use Rattle.kdf_director.proofs.Course.OneJournal.{heard_note}
 
 -- ---- an order that was obeyed isn't held
@@ -89,15 +93,18 @@ shown slots reaches seats s J room =
     record { slots = slots; states = states_in reaches seats s J; journal = J; room = room }
 
 -- it is one still, and the call did what it answers
-pub record HasAdvanced (answers : ℕ → ℕ → Type 0) (old : Shown) (slots : List Slot) (reaches : List Reach) (seats : List Seat) (s : Shared) (holds : List (Option Need)) (J : List Entry) (room : ℕ) (answer : Progress) : Type 0 where
-  pub agrees : Agrees slots reaches seats s J
-  pub holds_are : holds ≡ holds_in seats J
-  pub advance : AdvanceWith answers old (shown slots reaches seats s J room) answer
+pub record HasAdvanced (answers : ℕ → ℕ → Type 0) (old : Shown) (y : Standing) (J : List Entry) (room : ℕ) (answer : Progress) : Type 0 where
+  pub agrees : Agrees y.slots y.reaches y.seats y.shared J
+  pub holds_are : y.holds ≡ holds_in y.seats J
+  pub advance : AdvanceWith answers old (shown y.slots y.reaches y.seats y.shared J room) answer
   pub answered : IsAnswered answers old.slots old.journal J
 
 module _ (service : ℕ → ℕ → Type 0) (slots : List Slot) (reaches : List Reach) (seats : List Seat) (s : Shared) (J : List Entry) (room : ℕ) (a : Agrees slots reaches seats s J) (holds : List (Option Need)) (have : holds ≡ holds_in seats J) (few : calls J < CALL_LIMIT) where
   abbrev m : Shown
   m = shown slots reaches seats s J room
+
+  abbrev at : List Seat → Shared → List (Option Need) → Standing
+  at seats' s' holds' = record { slots = slots; reaches = reaches; seats = seats'; holds = holds'; shared = s' }
 
   -- the states of a step that changes none
   states_stay : (st : Step) (seats' : List Seat) (s' : Shared) → Agrees slots reaches seats' s' (added J st) → ((p : ℕ) → seen_of slots (added J st) p ≡ seen_of slots J p) → states_in reaches seats' s' (added J st) ≡ states_in reaches seats s J
@@ -131,7 +138,7 @@ module _ (service : ℕ → ℕ → Type 0) (slots : List Slot) (reaches : List 
           few_moves = (let k = a.few_moves in omega (arith, moves-added J Waits));
         }
 
-    pub waited : HasAdvanced service m slots reaches seats s holds (added J Waits) room progress.Idle
+    pub waited : HasAdvanced service m (at seats s holds) (added J Waits) room progress.Idle
     waited =
         record {
           agrees = agrees_wait;
@@ -150,7 +157,7 @@ module _ (service : ℕ → ℕ → Type 0) (slots : List Slot) (reaches : List 
         }
 
   -- none is live
-  pub all_ended : any_live slots J ≡ false → HasAdvanced service m slots reaches seats s holds J room progress.AllEnded
+  pub all_ended : any_live slots J ≡ false → HasAdvanced service m (at seats s holds) J room progress.AllEnded
   all_ended dead = record { agrees = a; holds_are = have; advance = record { heard = 0; is_heard = tt; advance = (dead, refl) }; answered = inl refl }
 
   -- ---- the turn of a program
@@ -204,11 +211,11 @@ module _ (service : ℕ → ℕ → Type 0) (slots : List Slot) (reaches : List 
           told_by L x = option_map need_of (last_hold x.p L)
 
       -- in this world its journal is J with a step more
-      by_step : (st : Step) (h : Option Need) (x : Progress) → step_told (seat_at seats' i).p (seat_at seats' i).registers.ran t.ended t.noted ≡ st → hold_left t.ended ≡ h → progress_of (seat_at seats' i).p t.ended ≡ x → HasAdvanced service m slots reaches seats' s' (set holds i h) (added J st) room x → HasAdvanced service m slots reaches seats' s' holds' K room answer
+      by_step : (st : Step) (h : Option Need) (x : Progress) → step_told (seat_at seats' i).p (seat_at seats' i).registers.ran t.ended t.noted ≡ st → hold_left t.ended ≡ h → progress_of (seat_at seats' i).p t.ended ≡ x → HasAdvanced service m (at seats' s' (set holds i h)) (added J st) room x → HasAdvanced service m (at seats' s' holds') K room answer
       by_step st h x e f g advanced =
-          subst (λ L. HasAdvanced service m slots reaches seats' s' holds' L room answer) (sym (t.entered ∙ ap (added J) e))
-          (subst (λ hs. HasAdvanced service m slots reaches seats' s' hs (added J st) room answer) (sym (t.left_held ∙ ap (set holds i) f))
-          (subst (HasAdvanced service m slots reaches seats' s' (set holds i h) (added J st) room) (sym (t.answered ∙ g)) advanced))
+          subst (λ L. HasAdvanced service m (at seats' s' holds') L room answer) (sym (t.entered ∙ ap (added J) e))
+          (subst (λ hs. HasAdvanced service m (at seats' s' hs) (added J st) room answer) (sym (t.left_held ∙ ap (set holds i) f))
+          (subst (HasAdvanced service m (at seats' s' (set holds i h)) (added J st) room) (sym (t.answered ∙ g)) advanced))
 
       there : is_some (slot_of slots p) ≡ true
       there = next_slot (world_of m) slots J p turn
@@ -226,7 +233,12 @@ module _ (service : ℕ → ℕ → Type 0) (slots : List Slot) (reaches : List 
           subst IsNotHeld (sym (t.turned.step 0 ∙ ap (λ (o : Outcome). o.step) (outcome_free free)))
           (done_free (answers_at reaches seats (moment (clock J) heard) s i) (next_effect (own_state reaches seats s 0 i)) (own_state reaches seats s 0 i))
 
-      free_turn : hold_of reaches seats s i ≡ None → HasAdvanced service m slots reaches seats' s' holds' K room answer
+      -- it is live
+      is_on : is_live (seat_at seats i).registers.state ≡ true
+      unfolding course.lives
+      is_on = live_same slots reaches seats s J a i lt ∙ ap₂ (λ (b c : Bool). b && c) there (next_on (world_of m) slots J p turn)
+
+      free_turn : hold_of reaches seats s i ≡ None → HasAdvanced service m (at seats' s' holds') K room answer
       free_turn free =
           by_step (Obeys p noted) None (progress.Ran p)
           (step_free (seat_at seats' i).p (seat_at seats' i).registers.ran t.ended t.noted (not_held free)
@@ -238,10 +250,10 @@ module _ (service : ℕ → ℕ → Type 0) (slots : List Slot) (reaches : List 
             holds_are = holds_more (Obeys p noted) None (ap (λ b. option_map need_of (cond b None (last_hold p J))) (eq-eqb p p refl)) (λ k ne. ap (λ b. cond b None (last_hold k J)) (ne_eqb p k ne));
             advance = record {
               heard = heard;
-              is_heard = state_heard slots reaches seats s J room a i lt service t.heard t.asked free there;
+              is_heard = state_heard slots reaches seats s J room a i lt service t.heard t.asked is_on free there;
               advance = shows_obeyed slots reaches seats s J room a i lt heard turn free seats' s' t.ended t.noted t.turned run few same_numbers;
             };
-            answered = inr (Obeys p noted, refl, heard_note service slots J p heard (lone_heard slots reaches seats s J room a i lt service t.heard t.asked free));
+            answered = inr (Obeys p noted, refl, heard_note service slots J p heard (lone_heard slots reaches seats s J room a i lt service t.heard t.asked is_on free));
           })
 
       -- it was held
@@ -316,10 +328,9 @@ module _ (service : ℕ → ℕ → Type 0) (slots : List Slot) (reaches : List 
               lent = λ j d within pooled.
                   let count = t.turned.count in
                   let inside : j < length seats = omega arith in
-                  let its : in_pool (part_at reaches seats i) d ≡ true = ap (λ (ks : List (Option Kind)). is_some (get_or ks d None)) (a.running.common i j lt inside) ∙ pooled in
-                  t.turned.holders d its
-                  ∙ ap (λ e. holder_left p e t.noted d (spot_at s.spots d).holder) ended_is
-                  ∙ a.lent i d lt its
+                  t.turned.holders d
+                  ∙ ap (λ e. holder_left p e t.noted d (borrower seats d)) ended_is
+                  ∙ a.lent j d inside pooled
                   ∙ sym (holder-quiet d J st refl (λ q. refl));
               legal = legal_added slots J 0 st a.legal meets_hold;
               truly = true_added slots J 0 st a.legal a.truly meets_hold;
@@ -327,7 +338,7 @@ module _ (service : ℕ → ℕ → Type 0) (slots : List Slot) (reaches : List 
               few_moves = (let k = a.few_moves in omega (arith, moves-added J st));
             }
 
-        held_turn : HasAdvanced service m slots reaches seats' s' holds' K room answer
+        held_turn : HasAdvanced service m (at seats' s' holds') K room answer
         held_turn =
             by_step st (Some need) (progress.Held p need)
             (ap (λ e. step_told (seat_at seats' i).p (seat_at seats' i).registers.ran e t.noted) ended_is ∙ ap (λ k. Holds k (world.hold_of need)) (t.turned.numbers i))
@@ -351,9 +362,9 @@ module _ (service : ℕ → ℕ → Type 0) (slots : List Slot) (reaches : List 
               answered = inr (st, refl, tt);
             })
 
-      pub taken : HasAdvanced service m slots reaches seats' s' holds' K room answer
+      pub taken : HasAdvanced service m (at seats' s' holds') K room answer
       taken = by_hold (hold_of reaches seats s i) refl
         where
-          by_hold : (o : Option Need) → hold_of reaches seats s i ≡ o → HasAdvanced service m slots reaches seats' s' holds' K room answer
+          by_hold : (o : Option Need) → hold_of reaches seats s i ≡ o → HasAdvanced service m (at seats' s' holds') K room answer
           by_hold None free = free_turn free
           by_hold (Some need) held = held_turn need held

@@ -1,34 +1,38 @@
--- A machine that was loaded, before its first order, is as a machine is.
-use Rattle.std.proofs.Common.{◌≡◌, ◌≢◌, ℕ, zero, suc, ◌<◌, ◌≤◌, List, [], ◌∷◌, length, get_or, map, cond, Option, Some, None, is_some, refl, sym, ap, ap₂, ◌∙◌, subst, arith}
+-- A yard that was loaded agrees with a journal that tells nothing.
+use Rattle.std.proofs.Common.{◌≡◌, ◌≢◌, ℕ, zero, suc, ◌<◌, ◌≤◌, List, [], ◌∷◌, length, get_or, map, cond, Option, Some, None, is_some, refl, sym, ap, ◌∙◌, subst, arith}
 use Rattle.std.specs.List.{AllPairs}
+use Rattle.std.specs.Option.{option_map}
 use Rattle.std.proofs.lemmas.Bool.{eq-eqb, ne_eqb}
 use Rattle.std.proofs.lemmas.List.Elements.{All-map}
 use Rattle.std.proofs.lemmas.List.{ext_get_or, get_or-map, length-map}
 use Rattle.std.proofs.lemmas.List.FromFn.{length-map-range_with_len, get_or-map-range_with_len}
+use Rattle.kdf_journal.specs.declared.entry.Entry.{Entry}
+use Rattle.kdf_journal.specs.Counts.{last_hold}
+use Rattle.kdf_journal.specs.Recorded.{Recorded}
 use Rattle.kdf_transfer.specs.Slots.{Slot}
 use Rattle.kdf_processor.specs.State.{State, begin}
-use Rattle.kdf_processor.specs.declared.step.Need.{Need}
-use Rattle.kdf_director.specs.declared.load.Parts.{Parts}
 use Rattle.kdf_director.specs.declared.machine.TheConstants.{EVENT_LIMIT}
-use Rattle.kdf_director.specs.declared.program.Program.{Program}
-use Rattle.kdf_director.specs.Fields.Agrees.{Agrees, HaveHolds, IsReady}
-use Rattle.kdf_director.specs.Flights.{Flight}
+use Rattle.kdf_director.specs.Fields.Agrees.{Agrees, IsReady}
+use Rattle.kdf_director.specs.Fields.Standing.{Standing}
+use Rattle.kdf_theory.specs.Flights.{Flight}
 use Rattle.kdf_director.specs.Fields.Following.{AreFollowing, Linked}
 use Rattle.kdf_director.specs.Loading.{SlotLoad, slot_of}
-use Rattle.kdf_director.specs.Fields.Filled.{IsLoaded, first_seat, loaded, reaches, seats, shared}
-use Rattle.kdf_director.specs.Fields.Parts.{Part, Seat, seat_of}
+use Rattle.kdf_director.specs.Fields.Begun.{IsLoaded}
+use Rattle.kdf_director.specs.Fields.Filled.{first_seat}
+use Rattle.kdf_director.specs.Fields.Parts.{Part, Seat}
 use Rattle.kdf_director.specs.Fields.Running.{no_seat, own_state, part_at, seat_at}
-use Rattle.kdf_director.specs.Fields.Viewed.{slot_loaded, states_in}
-use Rattle.kdf_director.specs.Slots.{no_slot, start, start_of}
-use Rattle.kdf_director.specs.Slots as slots
+use Rattle.kdf_director.specs.Fields.Viewed.{states_in}
+use Rattle.kdf_theory.specs.Slots.{no_slot, start, start_of}
+use Rattle.kdf_theory.specs.Slots as slots
 use Rattle.kdf_places.specs.Spots.{Held}
-use Rattle.kdf_director.specs.ByJournal.{seen_of}
+use Rattle.kdf_theory.specs.ByJournal.{seen_of}
+use Rattle.kdf_theory.specs.World.{need_of}
 use Rattle.kdf_director.proofs.Linking.EventsEntered.{map_twice}
-use Rattle.kdf_director.proofs.Course.WorldsJudged.{legal_nil, true_nil}
+use Rattle.kdf_theory.proofs.Course.WorldsJudged.{legal_nil, true_nil}
 use Rattle.kdf_director.proofs.Loading.JobsLoaded.{no_load}
-use Rattle.kdf_director.proofs.Course.FlightsOnCourse.{none-first}
-use Rattle.kdf_director.proofs.Course.OwnSteps.{own-nil}
-use Rattle.kdf_director.proofs.Seen.SeenStates.{seen_nothing}
+use Rattle.kdf_theory.proofs.Course.FlightsOnCourse.{none-first}
+use Rattle.kdf_theory.proofs.Course.OwnSteps.{own-nil}
+use Rattle.kdf_theory.proofs.Seen.SeenStates.{seen_nothing}
 
 -- a slot is found by its number
 found_at : (xs : List Slot) (i : ℕ) (d : Slot) → AllPairs (λ (a b : Slot). a.p ≢ b.p) xs → i < length xs → slots.slot_of xs (get_or xs i d).p ≡ Some (get_or xs i d)
@@ -47,31 +51,17 @@ linked_none q d None None no_held no_flight = tt
 linked_none q d None (Some f) no_held no_flight = cc
 linked_none q d (Some h) f no_held no_flight = cc
 
--- no program is held
-none_held : (programs : List Program) (xs : List SlotLoad) → map (λ (x : Program). x.hold) programs ≡ map (λ (l : SlotLoad). None) xs → HaveHolds programs []
-none_held [] xs is = refl
-none_held (x ∷ programs) [] is = cc
-none_held (x ∷ programs) (l ∷ xs) is =
-    ap₂ (λ (h : Option Need) hs. h ∷ hs) (let e : x.hold ≡ None = cc in e)
-    (none_held programs xs (let e : map (λ (y : Program). y.hold) programs ≡ map (λ (k : SlotLoad). None) xs = cc in e))
-
-module _ (m : Parts) (is : IsLoaded (map loaded m.slots.items) m) where
-  abbrev xs : List SlotLoad
-  xs = map loaded m.slots.items
-
+module _ (xs : List SlotLoad) (y : Standing) (is : IsLoaded xs y) where
   abbrev ys : List Slot
   ys = map slot_of xs
 
-  slots_same : map slot_loaded m.slots.items ≡ ys
-  slots_same = sym (map_twice slot_of loaded m.slots.items)
-
-  many : length (seats m) ≡ length xs
+  many : length y.seats ≡ length xs
   many = ap length is.programs_are ∙ length-map xs first_seat
 
   abbrev at : ℕ → SlotLoad
   at i = get_or xs i no_load
 
-  seat_is : (i : ℕ) → i < length xs → (seat_at (seats m) i).p ≡ (at i).p
+  seat_is : (i : ℕ) → i < length xs → (seat_at y.seats i).p ≡ (at i).p
   seat_is i lt = ap (λ ps. (seat_at ps i).p) is.programs_are ∙ ap (λ (x : Seat). x.p) (get_or-map first_seat xs i no_load no_seat lt)
 
   slot_is : (i : ℕ) → i < length xs → get_or ys i no_slot ≡ slot_of (at i)
@@ -83,28 +73,28 @@ module _ (m : Parts) (is : IsLoaded (map loaded m.slots.items) m) where
       ∙ ap start_of (found_at ys i no_slot is.can_be_loaded.numbers (let e = length-map xs slot_of in omega arith))
       ∙ ap begin (slot_is i lt)
 
-  own_is : (i : ℕ) → i < length xs → own_state (reaches m) (seats m) (shared m) 0 i ≡ begin (slot_of (at i))
+  own_is : (i : ℕ) → i < length xs → own_state y.reaches y.seats y.shared 0 i ≡ begin (slot_of (at i))
   own_is i lt = is.starts i no_load lt
 
-  following : AreFollowing ys [] (reaches m) (seats m) (shared m)
+  following : AreFollowing ys [] y.reaches y.seats y.shared
   following =
       record {
         each = λ i lt.
             let li : i < length xs = let e = many in omega arith in
             record {
-              is_seen = own_is i li ∙ sym (start_is i li) ∙ ap (start ys) (sym (seat_is i li)) ∙ sym (seen_start ys (seat_at (seats m) i).p);
-              linked = λ d. linked_none (part_at (reaches m) (seats m) i) d _ _ (is.idle d) (none-first ys (seat_at (seats m) i).p d);
+              is_seen = own_is i li ∙ sym (start_is i li) ∙ ap (start ys) (sym (seat_is i li)) ∙ sym (seen_start ys (seat_at y.seats i).p);
+              linked = λ d. linked_none (part_at y.reaches y.seats i) d _ _ (is.idle d) (none-first ys (seat_at y.seats i).p d);
             };
         busy = λ d. ap is_some (is.idle d);
       }
 
-  numbers : map (λ (x : Seat). x.p) (seats m) ≡ map (λ (y : Slot). y.p) ys
+  numbers : map (λ (x : Seat). x.p) y.seats ≡ map (λ (y : Slot). y.p) ys
   numbers =
       ap (map (λ (x : Seat). x.p)) is.programs_are
       ∙ map_twice (λ (x : Seat). x.p) first_seat xs
       ∙ sym (map_twice (λ (y : Slot). y.p) slot_of xs)
 
-  agrees : Agrees ys (reaches m) (seats m) (shared m) []
+  agrees : Agrees ys y.reaches y.seats y.shared []
   agrees =
       record {
         are = is.can_be_loaded;
@@ -112,40 +102,43 @@ module _ (m : Parts) (is : IsLoaded (map loaded m.slots.items) m) where
         numbers = numbers;
         running = is.running;
         following = following;
-        lent = is.unlent;
+        lent = λ i d lt pooled. is.unlent d;
         legal = legal_nil ys;
         truly = true_nil ys;
         few_calls = omega arith;
         few_moves = omega arith;
       }
 
-  pub is_ready : (spare room : ℕ) → room ≤ spare → room ≤ EVENT_LIMIT → IsReady m.slots.items m.windows m.store m.programs.items m.devices.items [] spare room
-  is_ready spare room fits few =
-      record {
-        placed = is.windows_are;
-        agrees = subst (λ ss. Agrees ss (reaches m) (seats m) (shared m) []) (sym slots_same) agrees;
-        many = sym (length-map m.slots.items loaded) ∙ sym many ∙ length-map m.programs.items seat_of;
-        holds = none_held m.programs.items xs is.no_hold;
-        dry = is.dry;
+  none_held : y.holds ≡ map (λ (x : Seat). option_map need_of (last_hold x.p [])) y.seats
+  none_held =
+      is.no_hold
+      ∙ sym (map_twice (λ (x : Seat). option_map need_of (last_hold x.p [])) first_seat xs)
+      ∙ ap (map (λ (x : Seat). option_map need_of (last_hold x.p []))) (sym is.programs_are)
+
+  pub is_ready : (J : Recorded) (room : ℕ) → J.entries ≡ [] → room ≤ J.spare → room ≤ EVENT_LIMIT → IsReady y J room
+  is_ready J room empty fits few =
+      subst (λ (E : List Entry). IsReady y (record { entries = E; spare = J.spare }) room) (sym empty)
+      (record {
+        agrees = subst (λ ss. Agrees ss y.reaches y.seats y.shared []) (sym is.slots_are) agrees;
+        holds = none_held;
         fits = fits;
         few_events = few;
         few_words = omega arith;
-      }
+      })
 
   -- each program's own state is its start
-  pub states_start : states_in (reaches m) (seats m) (shared m) [] ≡ map begin (map slot_loaded m.slots.items)
+  pub states_start : states_in y.reaches y.seats y.shared [] ≡ map begin ys
   states_start =
       ext_get_or (begin no_slot) _ _
-      (length-map-range_with_len own 0 (length (seats m)) ∙ many ∙ sym (length-map xs slot_of) ∙ sym (length-map ys begin))
+      (length-map-range_with_len own 0 (length y.seats) ∙ many ∙ sym (length-map xs slot_of) ∙ sym (length-map ys begin))
       (λ i lt.
-      let li : i < length (seats m) = let e = length-map-range_with_len own 0 (length (seats m)) in omega arith in
+      let li : i < length y.seats = let e = length-map-range_with_len own 0 (length y.seats) in omega arith in
       let lx : i < length xs = let e = many in omega arith in
       let ly : i < length ys = let e = length-map xs slot_of in omega arith in
-      get_or-map-range_with_len own 0 (length (seats m)) i i (begin no_slot) li (omega arith)
+      get_or-map-range_with_len own 0 (length y.seats) i i (begin no_slot) li (omega arith)
       ∙ own_is i lx
       ∙ sym (ap begin (slot_is i lx))
       ∙ sym (get_or-map begin ys i no_slot (begin no_slot) ly))
-      ∙ ap (map begin) (sym slots_same)
     where
       own : ℕ → State
-      own i = own_state (reaches m) (seats m) (shared m) 0 i
+      own i = own_state y.reaches y.seats y.shared 0 i

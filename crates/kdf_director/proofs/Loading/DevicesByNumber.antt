@@ -14,10 +14,9 @@ use Rattle.kdf_director.specs.Fields.Parts.{owns}
 use Rattle.kdf_places.specs.Spots.{Spot}
 
 -- the place of a slot's device
-pub record IsOwnSpot (p : ℕ) (o : Option JobDevice) (x : Spot) : Type 0 where
+pub record IsOwnSpot (o : Option JobDevice) (x : Spot) : Type 0 where
   pub fixture : x.fixture ≡ fixture_on o
   pub progress : x.progress ≡ progress_on o
-  pub holder : x.holder ≡ Some p
 
 some_or : (b : Bool) (x : JobDevice) (o : Option JobDevice) → is_some (cond b (Some x) o) ≡ (b || is_some o)
 some_or true x o = refl
@@ -36,19 +35,19 @@ missing devices d not = none (numbered devices d) (found devices d ∙ not)
     none (Some x) is = cc
 
 -- the place of a number of a slot's, with one of them or with something else
-pub own_one : (p : ℕ) (o : Option JobDevice) (other : Spot) → is_some o ≡ true → IsOwnSpot p o (spot_or p o other)
-own_one p None other is = cc
-own_one p (Some x) other is = record { fixture = refl; progress = refl; holder = refl }
+pub own_one : (o : Option JobDevice) (other : Spot) → is_some o ≡ true → IsOwnSpot o (spot_or o other)
+own_one None other is = cc
+own_one (Some x) other is = record { fixture = refl; progress = refl }
 
-none_one : (p : ℕ) (o : Option JobDevice) (other : Spot) → o ≡ None → spot_or p o other ≡ other
-none_one p o other is = ap (λ z. spot_or p z other) is
+none_one : (o : Option JobDevice) (other : Spot) → o ≡ None → spot_or o other ≡ other
+none_one o other is = ap (λ z. spot_or z other) is
 
 -- a number is of the one slot that has it
-pub picked : (xs : List SlotLoad) (i d : ℕ) (e : SlotLoad) (other : Spot) → AllPairs AreApart xs → i < length xs → has (get_or xs i e) d ≡ true → IsOwnSpot (get_or xs i e).p (numbered (get_or xs i e).devices d) (first_own xs d other)
+pub picked : (xs : List SlotLoad) (i d : ℕ) (e : SlotLoad) (other : Spot) → AllPairs AreApart xs → i < length xs → has (get_or xs i e) d ≡ true → IsOwnSpot (numbered (get_or xs i e).devices d) (first_own xs d other)
 picked [] i d e other apart lt is = absurd (omega arith)
-picked (x ∷ xs) zero d e other apart lt is = own_one x.p (numbered x.devices d) (first_own xs d other) (found x.devices d ∙ is)
+picked (x ∷ xs) zero d e other apart lt is = own_one (numbered x.devices d) (first_own xs d other) (found x.devices d ∙ is)
 picked (x ∷ xs) (suc i) d e other apart lt is =
-    subst (IsOwnSpot (get_or xs i e).p (numbered (get_or xs i e).devices d)) (sym (none_one x.p (numbered x.devices d) (first_own xs d other) (missing x.devices d (not (has x d) refl))))
+    subst (IsOwnSpot (numbered (get_or xs i e).devices d)) (sym (none_one (numbered x.devices d) (first_own xs d other) (missing x.devices d (not (has x d) refl))))
     (picked xs i d e other (λ j k f less inside. apart (suc j) (suc k) f (omega arith) (omega arith)) (omega arith) is)
   where
     not : (b : Bool) → has x d ≡ b → has x d ≡ false
@@ -59,30 +58,8 @@ picked (x ∷ xs) (suc i) d e other apart lt is =
 pub unpicked : (xs : List SlotLoad) (d : ℕ) (e : SlotLoad) (other : Spot) → ((i : ℕ) → i < length xs → has (get_or xs i e) d ≡ false) → first_own xs d other ≡ other
 unpicked [] d e other none = refl
 unpicked (x ∷ xs) d e other none =
-    none_one x.p (numbered x.devices d) (first_own xs d other) (missing x.devices d (none 0 (omega arith)))
+    none_one (numbered x.devices d) (first_own xs d other) (missing x.devices d (none 0 (omega arith)))
     ∙ unpicked xs d e other (λ i lt. none (suc i) (omega arith))
-
--- whose device stands there
-pub record Stands (xs : List SlotLoad) (d : ℕ) (e : SlotLoad) : Type 0 where
-  pub by : ℕ
-  pub there : by < length xs
-  pub has_it : has (get_or xs by e) d ≡ true
-
-pub owner : (xs : List SlotLoad) (d : ℕ) (e : SlotLoad) → Stands xs d e ⊎ ((i : ℕ) → i < length xs → has (get_or xs i e) d ≡ false)
-owner [] d e = inr (λ i lt. absurd (omega arith))
-owner (x ∷ xs) d e = by_first (has x d) refl (owner xs d e)
-  where
-    at : has x d ≡ false → ((i : ℕ) → i < length xs → has (get_or xs i e) d ≡ false) → (i : ℕ) → i < suc (length xs) → has (get_or (x ∷ xs) i e) d ≡ false
-    at not none zero lt = not
-    at not none (suc i) lt = none i (omega arith)
-
-    by_first : (b : Bool) → has x d ≡ b → (Stands xs d e ⊎ ((i : ℕ) → i < length xs → has (get_or xs i e) d ≡ false)) → Stands (x ∷ xs) d e ⊎ ((i : ℕ) → i < length (x ∷ xs) → has (get_or (x ∷ xs) i e) d ≡ false)
-    by_first true is later = inl (record { by = 0; there = omega arith; has_it = is })
-    by_first false not later =
-        ⊎_elim
-        (λ (s : Stands xs d e). inl (record { by = suc s.by; there = let h = s.there in omega arith; has_it = s.has_it }))
-        (λ (none : (i : ℕ) → i < length xs → has (get_or xs i e) d ≡ false). inr (at not none))
-        later
 
 -- each two slots, in either order
 pub apart_both : (xs : List SlotLoad) (i j d : ℕ) (e : SlotLoad) → AllPairs AreApart xs → i < length xs → j < length xs → i ≢ j → has (get_or xs i e) d ≡ true → has (get_or xs j e) d ≡ false
@@ -121,7 +98,7 @@ pub idle_flight : (xs : List SlotLoad) (d : ℕ) (other : Spot) → other.flight
 idle_flight [] d other none = none
 idle_flight (x ∷ xs) d other none = of_one (numbered x.devices d) (idle_flight xs d other none)
   where
-    of_one : (o : Option JobDevice) → (first_own xs d other).flight ≡ None → (spot_or x.p o (first_own xs d other)).flight ≡ None
+    of_one : (o : Option JobDevice) → (first_own xs d other).flight ≡ None → (spot_or o (first_own xs d other)).flight ≡ None
     of_one None later = later
     of_one (Some y) later = refl
 

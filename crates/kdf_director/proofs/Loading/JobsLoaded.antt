@@ -20,8 +20,8 @@ use Rattle.kdf_director.specs.Fields.Filled.{AreApart, AreLoads, IsBelow, IsLoad
 use Rattle.kdf_transfer.specs.ByNumber.{by_number}
 use Rattle.kdf_transfer.specs.Slots.{Slot}
 use Rattle.kdf_director.specs.Fields.Parts.{owns}
-use Rattle.kdf_director.specs.Slots as director
-use Rattle.kdf_director.specs.Slots.{HaveOwnDevices}
+use Rattle.kdf_theory.specs.Slots as director
+use Rattle.kdf_theory.specs.Slots.{HaveOwnDevices}
 use Rattle.kdf_transfer.proofs.Numbers.{length-numbers, limit_is, number_at, number_past}
 use Rattle.kdf_director.proofs.Loading.DevicesByNumber.{missing}
 

@@ -1,7 +1,7 @@
--- What a machine is that was loaded.
-use Rattle.std.proofs.Common.{◌≡◌, ◌≢◌, inl, inr, ℕ, ◌+◌, ◌-◌, ◌/◌, ◌%◌, ◌<◌, ◌≤◌, Bool, true, false, cond, List, [], ◌∷◌, length, get_or, map, replicate, Option, Some, None, is_some, refl, sym, ap, ap₂, ◌∙◌, subst, ⊎_elim, arith}
+-- How a yard stands that was loaded.
+use Rattle.std.proofs.Common.{◌≡◌, ◌≢◌, ◌||◌, inl, inr, ℕ, ◌+◌, ◌-◌, ◌/◌, ◌%◌, ◌<◌, ◌≤◌, Bool, true, false, cond, List, [], ◌∷◌, length, get_or, map, replicate, Option, Some, None, is_some, refl, sym, ap, ap₂, ◌∙◌, subst, ⊎_elim, arith}
 use Rattle.std.specs.List.{All, AllPairs, range_with_len}
-use Rattle.std.proofs.lemmas.Bool.{cases_eq, cases_lt, eq-eqb, ne_eqb}
+use Rattle.std.proofs.lemmas.Bool.{cases_eq, cases_lt}
 use Rattle.std.proofs.lemmas.List.{get_or_default, get_or_past, get_or-map, get_or-replicate, length-map, length-append, length-replicate, ext_get_or}
 use Rattle.std.proofs.lemmas.List.FromFn.{length-map-range_with_len, get_or-map-range_with_len}
 use Rattle.kdf_lockout.specs.Groups.{Cells, group_at, AreWhole}
@@ -11,27 +11,29 @@ use Rattle.kdf_job.specs.Job.{JobDevice}
 use Rattle.kdf_job.specs.Shows.{shown_device}
 use Rattle.kdf_transfer.specs.Devices.{new_progress}
 use Rattle.kdf_processor.specs.State.{State, Stock, begin, filled, new_registers, unclaimed}
-use Rattle.kdf_director.specs.declared.load.Parts.{Parts}
 use Rattle.kdf_director.specs.declared.program.Program.{Program}
 use Rattle.kdf_director.specs.declared.slot.Loaded.{Loaded}
 use Rattle.kdf_job.specs.Slots.{fixture_on, lent_kind, numbered, progress_on}
 use Rattle.kdf_journal.specs.declared.kind.Kind.{Kind}
 use Rattle.kdf_director.specs.Loading.{SlotLoad, slot_of}
-use Rattle.kdf_director.specs.Fields.Filled.{AreLoads, IsLoad, IsLoaded, first_seat, has, idle_spot, lends, loaded, numbers_in, pool_in, pool_spot, sizes_of, with_images, zero_cells}
-use Rattle.kdf_director.specs.Fields.Parts.{Part, Reach, Seat, has_device, in_pool, pool_kind, own_fixture, own_progress, own_stock, owns, part_in, reach_of, window_at}
+use Rattle.kdf_director.specs.Fields.Begun.{IsLoaded}
+use Rattle.kdf_director.specs.Fields.Filled.{AreLoads, IsLoad, first_seat, has, idle_spot, lends, loaded, numbers_in, pool_in, pool_spot, sizes_of, with_images, zero_cells}
+use Rattle.kdf_director.specs.Fields.Parts.{Part, Reach, Seat, borrower, has_device, in_pool, pool_kind, own_fixture, own_progress, own_stock, owns, part_in, reach_of, seat_of, window_at}
 use Rattle.kdf_places.specs.Shared.{Shared, shared_in, IsSound}
 use Rattle.kdf_transfer.specs.ByNumber.{by_number, device_count}
+use Rattle.kdf_places.specs.declared.place.Place.{Place}
 use Rattle.kdf_places.specs.Words.{has_group, word_at_place, word_where}
 use Rattle.kdf_director.specs.Fields.Running.{IsRunning, no_seat, own_state, part_at, reach_at, reaches_in, seat_at, seats_in}
 use Rattle.kdf_director.specs.Fields.Keeping.{IsActive, IsKept}
+use Rattle.kdf_director.specs.Fields.Standing.{standing, IsYard}
 use Rattle.kdf_director.specs.Fields.Stints.{IsOfKind, Keeping, is_left}
 use Rattle.std.proofs.lemmas.List.Elements.{All-nil}
-use Rattle.kdf_places.specs.Spots.{AreDry, Spot, is_holder, lease_held, leases_of, no_spot, spot_at, spot_of}
+use Rattle.kdf_places.specs.Spots.{AreDry, Spot, lease_held, leases_of, no_spot, spot_at, spot_of}
 use Rattle.kdf_director.proofs.Linking.EventsEntered.{map_twice}
 use Rattle.kdf_director.proofs.Loading.StoreFilled.{IsStore, none_lent, word_there, zero_store, zero_there}
 use Rattle.kdf_director.proofs.Loading.ImagesLoaded.{IsOutside, IsWithin, filled_at, images_store, images_there}
 use Rattle.kdf_director.proofs.Loading.JobsLoaded.{are_slots, no_load}
-use Rattle.kdf_director.proofs.Loading.DevicesByNumber.{IsOwnSpot, Stands, found, idle_flight, missing, numbers_same, owner, picked, pool_flight, small_of, unpicked}
+use Rattle.kdf_director.proofs.Loading.DevicesByNumber.{IsOwnSpot, apart_both, found, idle_flight, missing, numbers_same, picked, pool_flight, small_of, unpicked}
 use Rattle.kdf_transfer.proofs.Numbers.{length-numbers, limit_is, number_at, number_past}
 use Rattle.kdf_director.proofs.Loading.SizesLoaded.{IsWindow, size_is, window_of}
 
@@ -208,9 +210,9 @@ module _ (xs : List SlotLoad) (are : AreLoads xs) (windows : List Window) (windo
   small i d lt is = small_of (numbers_in (at i).devices) d (λ k less. (each i lt).below k 0 less) is
 
   -- that of a slot's device
-  own_there : (i d : ℕ) → i < length xs → has (at i) d ≡ true → IsOwnSpot (at i).p (numbered (at i).devices d) (spot_at spots d)
+  own_there : (i d : ℕ) → i < length xs → has (at i) d ≡ true → IsOwnSpot (numbered (at i).devices d) (spot_at spots d)
   own_there i d lt is =
-      subst (IsOwnSpot (at i).p (numbered (at i).devices d)) (sym (spot_is d (small i d lt is)))
+      subst (IsOwnSpot (numbered (at i).devices d)) (sym (spot_is d (small i d lt is)))
       (picked xs i d no_load (pool_spot (lent_kind (pool_in xs) d)) are.apart lt is)
 
   -- the pool, which all have
@@ -237,33 +239,6 @@ module _ (xs : List SlotLoad) (are : AreLoads xs) (windows : List Window) (windo
       not_own : (b : Bool) (j : ℕ) → j < length xs → has (at j) d ≡ b → has (at j) d ≡ false
       not_own false j lj h = h
       not_own true j lj h = cc (sym ((each j lj).owned d h) ∙ ap (λ ps. is_some (lent_kind ps d)) (same_pool j i lj lt) ∙ is)
-
-  -- a device that a slot hasn't is not its program's
-  not_its : (i d : ℕ) → i < length xs → has (at i) d ≡ false → is_holder (at i).p (spot_at spots d).holder ≡ false
-  not_its i d lt not =
-      ⊎_elim
-      (λ (low : d < 16). ⊎_elim
-      (λ (o : Stands xs d no_load). ap (is_holder (at i).p) (own_there o.by d o.there o.has_it).holder ∙ ne_eqb (at o.by).p (at i).p (other_p o.by o.there o.has_it))
-      (λ (none : (j : ℕ) → j < length xs → has (at j) d ≡ false).
-      ap (λ (x : Spot). is_holder (at i).p x.holder) (spot_is d low ∙ unpicked xs d no_load (pool_spot (lent_kind (pool_in xs) d)) none)
-      ∙ nobodys (lent_kind (pool_in xs) d))
-      (owner xs d no_load))
-      (λ (past : 16 ≤ d). ap (λ (x : Spot). is_holder (at i).p x.holder) (spot_past d past))
-      (cases_lt d 16)
-    where
-      nobodys : (o : Option Kind) → is_holder (at i).p (pool_spot o).holder ≡ false
-      nobodys None = refl
-      nobodys (Some k) = refl
-
-      other_p : (j : ℕ) → j < length xs → has (at j) d ≡ true → (at j).p ≢ (at i).p
-      other_p j lj h e =
-          ⊎_elim
-          (λ (less : j < i). let n : (at j).p < (at i).p = are.rising j i no_load less lt in absurd (omega arith))
-          (λ (more : i ≤ j). ⊎_elim
-          (λ (same : i ≡ j). cc (sym not ∙ ap (λ k. has (at k) d) same ∙ h))
-          (λ (ne : i ≢ j). let n : (at i).p < (at j).p = are.rising i j no_load (omega arith) lj in absurd (omega arith))
-          (cases_eq i j))
-          (cases_lt j i)
 
   -- one program's part
   module _ (i : ℕ) (lt : i < length xs) where
@@ -300,12 +275,9 @@ module _ (xs : List SlotLoad) (are : AreLoads xs) (windows : List Window) (windo
         record {
           few = lent_small;
           apart = λ d h. not_lent d h (in_pool part d) refl;
-          owned = λ d h. (own_there i d lt h).holder;
           there = λ d k is. ap (λ (x : Spot). x.fixture) (lent_there d k is);
-          fresh = λ d is free. ap (λ (x : Spot). x.progress) (some_there d is).1;
           pooled = none_yet (λ x. in_pool part x.device ≡ true);
           kinds = none_yet (λ x. IsOfKind (pool_kind part x.device) x.loan);
-          has = λ d is. ap (λ (x : Spot). is_holder (at i).p x.holder) (some_there d is).1;
           one = λ j k e less inside. absurd (omega arith);
         }
       where
@@ -313,17 +285,21 @@ module _ (xs : List SlotLoad) (are : AreLoads xs) (windows : List Window) (windo
         not_lent d h false e = e
         not_lent d h true e = cc (sym ((each i lt).owned d h) ∙ sym (ap is_some (lent_is d e)) ∙ e)
 
-    active_first : IsActive part s
+    active_first : IsActive part
     active_first =
         record {
           sized = many_marks;
-          marks = λ d is. unmarked d ∙ sym (ap (λ (x : Spot). is_holder (at i).p x.holder) (some_there d is).1);
+          marks = λ d is. unmarked d;
           none_left = none_yet (λ x. is_left x.loan ≡ false);
         }
 
-  pub unlent_is : (i d : ℕ) → i < length xs → in_pool (part_at reaches seats i) d ≡ true → (spot_at spots d).holder ≡ None
-  unlent_is i d lt is =
-      ap (λ (x : Spot). x.holder) (some_there i lt d (sym (ap (λ q. in_pool q d) (part_is i lt)) ∙ is)).1
+  -- it has its slot's devices, and none of the pool
+  has_is : (i d : ℕ) → i < length xs → has_device (part_at reaches seats i) d ≡ has (at i) d
+  has_is i d lt = ap (λ q. has_device q d) (part_is i lt) ∙ or_none (has (at i) d)
+    where
+      or_none : (b : Bool) → (b || false) ≡ b
+      or_none true = refl
+      or_none false = refl
 
   pub running : IsRunning reaches seats s
   running =
@@ -363,7 +339,14 @@ module _ (xs : List SlotLoad) (are : AreLoads xs) (windows : List Window) (windo
             subst (λ q. IsKept q s) (sym (part_is i li)) (kept_first i li);
         active = λ i lt live.
             let li : i < length xs = let m = many in omega arith in
-            subst (λ q. IsActive q s) (sym (part_is i li)) (active_first i li);
+            subst IsActive (sym (part_is i li)) (active_first i li);
+        single = λ i j d lt lt' ne h.
+            let li : i < length xs = let m = many in omega arith in
+            let lj : j < length xs = let m = many in omega arith in
+            has_is j d lj ∙ apart_both xs i j d no_load are.apart li lj ne (sym (has_is i d li) ∙ h);
+        fresh = λ i d lt is unlent.
+            let li : i < length xs = let m = many in omega arith in
+            ap (λ (x : Spot). x.progress) (some_there i li d (sym (ap (λ q. in_pool q d) (part_is i li)) ∙ is)).1;
         fixtures = λ i d lt h.
             let li : i < length xs = let m = many in omega arith in
             let there : has (at i) d ≡ true = sym (ap (λ (r : Reach). owns r.devices d) (reach_is i li)) ∙ h in
@@ -393,12 +376,12 @@ module _ (xs : List SlotLoad) (are : AreLoads xs) (windows : List Window) (windo
     progress_is : (d : ℕ) → own_progress q spots d ≡ progress_on (numbered l.devices d)
     progress_is d = by_has (has l d) refl
       where
-        by_has : (b : Bool) → has l d ≡ b → cond (has_device q (spot_at spots d)) (spot_at spots d).progress new_progress ≡ progress_on (numbered l.devices d)
+        by_has : (b : Bool) → has l d ≡ b → cond (has_device q d) (spot_at spots d).progress new_progress ≡ progress_on (numbered l.devices d)
         by_has true is =
-            ap (λ b. cond b (spot_at spots d).progress new_progress) (ap (is_holder l.p) (own_there i d lt is).holder ∙ eq-eqb l.p l.p refl)
+            ap (λ b. cond b (spot_at spots d).progress new_progress) (ap (λ b. b || false) is)
             ∙ (own_there i d lt is).progress
         by_has false is =
-            ap (λ b. cond b (spot_at spots d).progress new_progress) (not_its i d lt is)
+            ap (λ b. cond b (spot_at spots d).progress new_progress) (ap (λ b. b || false) is)
             ∙ sym (ap progress_on (missing l.devices d is))
 
     fixtures_are : by_number (own_fixture q spots) ≡ by_number (λ d. fixture_on (numbered l.devices d))
@@ -450,6 +433,11 @@ module _ (xs : List SlotLoad) (are : AreLoads xs) (windows : List Window) (windo
         ap₂ (λ (a : Seat) (r : Part). (let x : State = record { registers = a.registers; stock = own_stock r 0 s } in x)) (seat_is i lt) (part_is i lt)
         ∙ ap (λ (k : Stock). (let x : State = record { registers = new_registers; stock = k } in x)) stock_is
 
+-- nobody has a device of the pool before its first order
+first_nobodys : (xs : List SlotLoad) (d : ℕ) → borrower (map first_seat xs) d ≡ None
+first_nobodys [] d = refl
+first_nobodys (x ∷ xs) d = first_nobodys xs d
+
 -- what is loaded is what the slots reach
 reach_same : (windows : List Window) (l : Loaded) → reach_of windows l ≡ reach_in windows (loaded l)
 reach_same windows l =
@@ -460,34 +448,41 @@ reaches_same : (windows : List Window) (ls : List Loaded) → reaches_in windows
 reaches_same windows [] = refl
 reaches_same windows (l ∷ ls) = ap₂ (λ r rs. r ∷ rs) (reach_same windows l) (reaches_same windows ls)
 
-module _ (m : Parts) (are : AreLoads (map loaded m.slots.items)) (windows_are : m.windows ≡ windows_from 1024 (sizes_of (map loaded m.slots.items))) (inside : All IsInStore m.windows) (before : AllPairs IsBefore m.windows) (store_is : m.store ≡ with_images m.windows zero_cells (map loaded m.slots.items)) (programs_made : seats_in m.programs.items ≡ map (λ (l : Loaded). first_seat (loaded l)) m.slots.items) (none_held : map (λ (x : Program). x.hold) m.programs.items ≡ map (λ (l : Loaded). None) m.slots.items) (spots_are : map spot_of m.devices.items ≡ by_number (idle_spot (map loaded m.slots.items))) (dry : AreDry m.devices.items) where
+module _ (windows : List Window) (slots : List Loaded) (store : Cells) (programs : List Program) (places : List Place) (are : AreLoads (map loaded slots)) (windows_are : windows ≡ windows_from 1024 (sizes_of (map loaded slots))) (inside : All IsInStore windows) (before : AllPairs IsBefore windows) (store_is : store ≡ with_images windows zero_cells (map loaded slots)) (programs_made : seats_in programs ≡ map (λ (l : Loaded). first_seat (loaded l)) slots) (none_held : map (λ (x : Program). x.hold) programs ≡ map (λ (l : Loaded). None) slots) (spots_are : map spot_of places ≡ by_number (idle_spot (map loaded slots))) (dry : AreDry places) where
   abbrev loads : List SlotLoad
-  loads = map loaded m.slots.items
+  loads = map loaded slots
 
-  programs_are : seats_in m.programs.items ≡ map first_seat (map loaded m.slots.items)
-  programs_are = programs_made ∙ sym (map_twice first_seat loaded m.slots.items)
+  programs_are : seats_in programs ≡ map first_seat loads
+  programs_are = programs_made ∙ sym (map_twice first_seat loaded slots)
 
-  pub is_loaded : IsLoaded (map loaded m.slots.items) m
+  runs : IsRunning (reaches_in windows slots) (seats_in programs) (shared_in store places)
+  runs =
+      subst (λ r. IsRunning r (seats_in programs) (shared_in store places)) (sym (reaches_same windows slots))
+      (subst (λ t. IsRunning (map (reach_in windows) loads) t (shared_in store places)) (sym programs_are)
+      (running loads are windows windows_are inside before store store_is (map spot_of places) spots_are))
+
+  pub is_yard : IsYard slots windows store programs places
+  is_yard =
+      record {
+        placed = windows_are;
+        many = sym (length-map slots (λ (l : Loaded). first_seat (loaded l))) ∙ sym (ap length programs_made) ∙ length-map programs seat_of;
+        dry = dry;
+        running = runs;
+      }
+
+  pub is_loaded : IsLoaded loads (standing slots windows store programs places)
   is_loaded =
       record {
-        slots_are = refl;
         loads_are = are;
+        slots_are = sym (map_twice slot_of loaded slots);
         can_be_loaded = are_slots loads are;
-        windows_are = windows_are;
         programs_are = programs_are;
-        no_hold = none_held ∙ sym (map_twice (λ (l : SlotLoad). None) loaded m.slots.items);
-        running =
-            subst (λ r. IsRunning r (seats_in m.programs.items) (shared_in m.store m.devices.items)) (sym (reaches_same m.windows m.slots.items))
-            (subst (λ t. IsRunning (map (reach_in m.windows) loads) t (shared_in m.store m.devices.items)) (sym programs_are)
-            (running loads are m.windows windows_are inside before m.store store_is (map spot_of m.devices.items) spots_are));
+        no_hold = none_held ∙ sym (map_twice (λ (l : SlotLoad). None) loaded slots);
+        running = runs;
         starts = λ i l lt.
-            ap₂ (λ r t. own_state r t (shared_in m.store m.devices.items) 0 i) (reaches_same m.windows m.slots.items) programs_are
-            ∙ own_is loads are m.windows windows_are inside before m.store store_is (map spot_of m.devices.items) spots_are i lt
+            ap₂ (λ r t. own_state r t (shared_in store places) 0 i) (reaches_same windows slots) programs_are
+            ∙ own_is loads are windows windows_are inside before store store_is (map spot_of places) spots_are i lt
             ∙ ap (λ x. begin (slot_of x)) (get_or_default loads i no_load l lt);
-        idle = idle_is loads are m.windows windows_are inside before m.store store_is (map spot_of m.devices.items) spots_are;
-        unlent = λ i d lt is.
-            unlent_is loads are m.windows windows_are inside before m.store store_is (map spot_of m.devices.items) spots_are i d
-            (omega (arith, ap length programs_are, length-map loads first_seat))
-            (sym (ap₂ (λ r t. in_pool (part_at r t i) d) (reaches_same m.windows m.slots.items) programs_are) ∙ is);
-        dry = dry;
+        idle = idle_is loads are windows windows_are inside before store store_is (map spot_of places) spots_are;
+        unlent = λ d. ap (λ t. borrower t d) programs_are ∙ first_nobodys loads d;
       }

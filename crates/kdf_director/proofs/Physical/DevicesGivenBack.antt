@@ -1,9 +1,9 @@
 -- The stint of a device that is given back.
-use Rattle.std.proofs.Common.{◌≡◌, ℕ, ◌-◌, ◌<◌, ◌≤◌, true, false, cond, List, length, get_or, map, set, sym, ap, ◌∙◌, ⊎_elim, arith}
+use Rattle.std.proofs.Common.{◌≡◌, ℕ, ◌-◌, ◌<◌, ◌≤◌, Bool, true, false, cond, List, length, get_or, map, set, Option, sym, ap, ◌∙◌, ⊎_elim, arith}
 use Rattle.std.specs.List.{AllPairs}
 use Rattle.std.proofs.lemmas.Bool.{and_parts, cases_lt, eqb-true}
 use Rattle.std.proofs.lemmas.List.{ext_get_or, get_or-map, length-map, map-set}
-use Rattle.kdf_director.specs.declared.stint.Loan.{Loan as KeptLoan}
+use Rattle.kdf_transfer.specs.declared.device.Device.{Device}
 use Rattle.kdf_director.specs.declared.stint.Stint.{Stint}
 use Rattle.kdf_director.specs.Fields.Stints.{Keeping, Loan, is_open_of, keeping_of, loan_of, no_keeping, with_loan}
 use Rattle.kdf_director.proofs.Physical.StintsChange.{AreApart, set_one}
@@ -30,14 +30,16 @@ shut_more stints d i x more within here not later j low lt =
     (cases_lt j i)
 
 -- the device of the stint i is given back
-pub handed_in : (stints : List Stint) (d i : ℕ) (loan : KeptLoan) (x y : Stint) → AllPairs AreApart (map keeping_of stints) → i < length stints → is_open_of d (get_or (map keeping_of stints) i no_keeping) ≡ true → x ≡ get_or stints i y → map keeping_of (set stints i (record x { loan = loan })) ≡ map (with_loan d (loan_of loan)) (map keeping_of stints)
-handed_in stints d i loan x y apart lt is here =
+pub handed_in : (stints : List Stint) (d i : ℕ) (given : Bool) (device : Option Device) → AllPairs AreApart (map keeping_of stints) → i < length stints → is_open_of d (get_or (map keeping_of stints) i no_keeping) ≡ true → map keeping_of (set stints i (record { d = d; given = given; device = device })) ≡ map (with_loan d (loan_of given device)) (map keeping_of stints)
+handed_in stints d i given device apart lt is =
     let ks = map keeping_of stints in
     let parts = and_parts _ _ is in
-    map-set keeping_of stints i (record x { loan = loan })
-    ∙ ap (set ks i) (ap (λ (k : Keeping). let z : Keeping = record { device = k.device; loan = loan_of loan } in z) (ap keeping_of here ∙ sym (get_or-map keeping_of stints i y no_keeping lt)))
-    ∙ set_one ks i no_keeping (loan_of loan) apart (omega (arith, length-map stints keeping_of)) parts.1
-    ∙ ap (λ e. map (with_loan e (loan_of loan)) ks) (eqb-true (get_or ks i no_keeping).device d parts.0)
+    let loan = loan_of given device in
+    let its : (get_or ks i no_keeping).device ≡ d = eqb-true (get_or ks i no_keeping).device d parts.0 in
+    map-set keeping_of stints i (record { d = d; given = given; device = device })
+    ∙ ap (λ e. set ks i (let z : Keeping = record { device = e; loan = loan } in z)) (sym its)
+    ∙ set_one ks i no_keeping loan apart (omega (arith, length-map stints keeping_of)) parts.1
+    ∙ ap (λ e. map (with_loan e loan) ks) its
 
 pub none_handed : (stints : List Stint) (d : ℕ) (loan : Loan) → ((i : ℕ) → i < length stints → is_open_of d (get_or (map keeping_of stints) i no_keeping) ≡ false) → map keeping_of stints ≡ map (with_loan d loan) (map keeping_of stints)
 none_handed stints d loan none =

@@ -1,8 +1,8 @@
--- The devices of the pool that are nobody's.
+-- The devices of the pool that aren't taken.
 use Rattle.std.specs.Prelude.{find, not, unwrap_or}
 use Rattle.std.specs.List.{range_with_len}
-use Rattle.std.proofs.Common.{◌≡◌, ℕ, ◌<◌, ◌&&◌, ltb, Bool, true, false, List, get_or, map, Option, Some, None, is_some, is_none, cond, refl, sym, ap, ap₂, ◌∙◌, arith}
-use Rattle.std.proofs.lemmas.Bool.{and_from, and_parts, lt-ltb}
+use Rattle.std.proofs.Common.{◌≡◌, ℕ, ◌<◌, ◌&&◌, ◌||◌, ltb, Bool, true, false, List, get_or, map, Option, Some, None, is_some, is_none, cond, refl, sym, ap, ap₂, ◌∙◌, arith}
+use Rattle.std.proofs.lemmas.Bool.{and_from, and_parts, lt-ltb, or_parts}
 use Rattle.kdf_journal.specs.declared.kind.Kind.{Kind}
 use Rattle.kdf_journal.specs.declared.kind.Kind.TheVariants as kind
 use Rattle.kdf_transfer.specs.ByNumber.{by_number}
@@ -13,15 +13,12 @@ use Rattle.kdf_job.specs.Slots.{lent_kind}
 use Rattle.kdf_processor.specs.Claims.{can_take, is_claimed, least_pooled}
 use Rattle.kdf_processor.specs.State.{own_fixture_at, pooled_or}
 use Rattle.kdf_processor.proofs.Fit.{found}
-use Rattle.kdf_places.specs.declared.place.Place.{Place}
-use Rattle.kdf_places.specs.declared.place.Place.TheVariants.{Absent, Idle, Busy}
-use Rattle.kdf_director.specs.Fields.Keeping.{IsActive, IsKept}
+use Rattle.kdf_director.specs.Fields.Keeping.{IsKept}
 use Rattle.kdf_director.specs.Fields.Parts.{Part, back_from, in_pool, lent_to, own_claims, pool_kind}
 use Rattle.kdf_places.specs.Shared.{Shared}
-use Rattle.kdf_director.specs.Fields.Shared.{free_in, is_free_in}
-use Rattle.kdf_places.specs.Spots.{Spot, blank_spot, can_leave, fixture_or, is_holder, left_spot, spot_at, spot_of}
+use Rattle.kdf_director.specs.Fields.Shared.{free_in, is_free_in, is_taken_by}
+use Rattle.kdf_places.specs.Spots.{Spot, blank_spot, can_leave, fixture_or, left_spot, spot_at}
 use Rattle.kdf_director.specs.Fields.Stints.{Back}
-use Rattle.kdf_places.proofs.OnePlaceChanges.{spot_there}
 
 pub not_taken : (b : Bool) → b ≡ not (not b)
 not_taken true = refl
@@ -31,35 +28,30 @@ pub none_is : (b : Bool) (o o' : Option ℕ) → is_some o ≡ not b → o ≡ o
 none_is b o o' is same = not_taken b ∙ ap not (sym is) ∙ ap (λ x. not (is_some x)) same
 
 -- one is free, by the pool of a slot
-pub free_by : (pool : List (ℕ × Kind)) (spots : List Spot) (kind : Kind) (d : ℕ) → d < 16 → (is_kind kind (lent_kind pool d) && not (is_some (spot_at spots d).holder)) ≡ is_free_in (by_number (lent_kind pool)) spots kind d
-free_by pool spots kind d lt =
-    ap (λ o. is_kind kind o && not (is_some (spot_at spots d).holder)) (sym (number_at (lent_kind pool) d None (omega (arith, limit_is))))
+pub free_by : (pool : List (ℕ × Kind)) (taken : ℕ → Bool) (kind : Kind) (d : ℕ) → d < 16 → (is_kind kind (lent_kind pool d) && not (taken d)) ≡ is_free_in (by_number (lent_kind pool)) taken kind d
+free_by pool taken kind d lt =
+    ap (λ o. is_kind kind o && not (taken d)) (sym (number_at (lent_kind pool) d None (omega (arith, limit_is))))
 
 -- the least one
-pub least_free : (pool : List (Option Kind)) (spots : List Spot) (kind : Kind) → find (is_free_in pool spots kind) (range_with_len 0 16) ≡ free_in pool spots kind
+pub least_free : (pool : List (Option Kind)) (taken : ℕ → Bool) (kind : Kind) → find (is_free_in pool taken kind) (range_with_len 0 16) ≡ free_in pool taken kind
 unfolding free_in
-least_free pool spots kind = ap (λ n. find (is_free_in pool spots kind) (range_with_len 0 n)) (sym limit_is)
+least_free pool taken kind = ap (λ n. find (is_free_in pool taken kind) (range_with_len 0 n)) (sym limit_is)
 
--- the one that is free is of the kind, and nobody's
-none_some : {X : Type 0} (o : Option X) → not (is_some o) ≡ true → o ≡ None
-none_some None is = refl
-none_some (Some x) is = cc
+-- the one that is free is of the kind, and isn't taken
+not_so : (b : Bool) → not b ≡ true → b ≡ false
+not_so true is = cc
+not_so false is = refl
 
-pub free_one : (pool : List (Option Kind)) (spots : List Spot) (kind : Kind) (d : ℕ) → free_in pool spots kind ≡ Some d → (get_or pool d None ≡ Some kind) × ((spot_at spots d).holder ≡ None)
-free_one pool spots kind d is =
-    let parts = and_parts _ _ (found (is_free_in pool spots kind) (range_with_len 0 16) d (least_free pool spots kind ∙ is)) in
-    (exact kind (get_or pool d None) parts.0, none_some (spot_at spots d).holder parts.1)
+pub free_one : (pool : List (Option Kind)) (taken : ℕ → Bool) (kind : Kind) (d : ℕ) → free_in pool taken kind ≡ Some d → (get_or pool d None ≡ Some kind) × (taken d ≡ false)
+free_one pool taken kind d is =
+    let parts = and_parts _ _ (found (is_free_in pool taken kind) (range_with_len 0 16) d (least_free pool taken kind ∙ is)) in
+    (exact kind (get_or pool d None) parts.0, not_so (taken d) parts.1)
 
--- a place that is nobody's has no transfer
-idle_place : (x : Place) → (spot_of x).holder ≡ None → (spot_of x).flight ≡ None
-idle_place Absent is = refl
-idle_place (Idle device ring holder) is = refl
-idle_place (Busy p t) is = cc
-
-pub free_idle : (places : List Place) (d : ℕ) → (spot_at (map spot_of places) d).holder ≡ None → (spot_at (map spot_of places) d).flight ≡ None
-free_idle places d is =
-    ap (λ (x : Spot). x.flight) (spot_there places d)
-    ∙ idle_place (get_or places d Absent) (sym (ap (λ (x : Spot). x.holder) (spot_there places d)) ∙ is)
+-- one that the program has claimed isn't
+pub unclaimed_and : (m k h : Bool) → (not m && (k && not h)) ≡ (k && not (m || h))
+unclaimed_and true true h = refl
+unclaimed_and true false h = refl
+unclaimed_and false k h = refl
 
 -- a device without a transfer can leave its place
 pub leave_is : (x : Spot) (f : Fixture) → x.fixture ≡ Some f → x.flight ≡ None → can_leave x ≡ true
@@ -92,19 +84,19 @@ is_it kind.Cr = refl
 is_it kind.Lp = refl
 is_it kind.Mt = refl
 
--- a live program can take one that is nobody's
-pub can_take_free : (q : Part) (s : Shared) (kind : Kind) (d : ℕ) → IsActive q s → d < 16 → free_in q.pool s.spots kind ≡ Some d → can_take (own_claims q s) kind d ≡ true
-can_take_free q s kind d active lt is =
-    let one = free_one q.pool s.spots kind d is in
+-- a program can take one that it finds free
+pub can_take_free : (q : Part) (s : Shared) (held : ℕ → Option ℕ) (kind : Kind) (d : ℕ) → d < 16 → free_in q.pool (is_taken_by q.claimed held) kind ≡ Some d → can_take (own_claims q s) kind d ≡ true
+can_take_free q s held kind d lt is =
+    let one = free_one q.pool (is_taken_by q.claimed held) kind d is in
     sym (take_is q s kind d lt)
     ∙ and_from (is_kind kind (pool_kind q d)) (not (get_or q.claimed d false)) (ap (is_kind kind) one.0 ∙ is_it kind)
-    (ap not (active.marks d (ap is_some one.0) ∙ ap (is_holder q.p) one.1))
+    (ap not (or_parts (get_or q.claimed d false) (is_some (held d)) one.1).0)
 
 -- so that is the one that it takes
-pub lent_is : (q : Part) (s : Shared) (kind : Kind) (d : ℕ) → IsActive q s → d < 16 → free_in q.pool s.spots kind ≡ Some d → lent_to q s kind (unwrap_or (free_in q.pool s.spots kind) 0) ≡ d
-lent_is q s kind d active lt is =
+pub lent_is : (q : Part) (s : Shared) (held : ℕ → Option ℕ) (kind : Kind) (d : ℕ) → d < 16 → free_in q.pool (is_taken_by q.claimed held) kind ≡ Some d → lent_to q s kind (unwrap_or (free_in q.pool (is_taken_by q.claimed held) kind) 0) ≡ d
+lent_is q s held kind d lt is =
     ap (λ o. lent_to q s kind (unwrap_or o 0)) is
-    ∙ ap (λ b. cond b d (unwrap_or (least_pooled (own_claims q s) kind) 0)) (can_take_free q s kind d active lt is)
+    ∙ ap (λ b. cond b d (unwrap_or (least_pooled (own_claims q s) kind) 0)) (can_take_free q s held kind d lt is)
 
 -- ---- a device that goes back
 

@@ -11,14 +11,13 @@ use Rattle.kdf_transfer.specs.ByNumber.{device_count, by_number}
 use Rattle.kdf_places.proofs.WordsHereAndOut.{with_lease_is, with_lease_other}
 use Rattle.kdf_transfer.specs.Devices.{new_progress}
 use Rattle.kdf_transfer.specs.AtOnce.{written}
-use Rattle.kdf_places.specs.Spots.{Held, Spot, no_spot, spot_at, is_holder, lease_held, leases_of}
+use Rattle.kdf_places.specs.Spots.{Held, Spot, no_spot, spot_at, lease_held, leases_of}
 use Rattle.kdf_places.specs.Shared.{Shared, IsSound}
 use Rattle.kdf_director.specs.Fields.Parts.{Part, has_device, own_progress, own_claims, own_stock}
 use Rattle.kdf_places.specs.Transfers.{moved_spot, after_move, back_cells, last_lease, ended_by, ended_spot, after_end, flight_moves, IsBack}
 use Rattle.kdf_director.specs.Fields.Sound.{IsFlightOf}
 use Rattle.kdf_director.proofs.Physical.OrdersAct.{stock, claims, fixtures-set, progress_in, progress-set}
 use Rattle.kdf_director.specs.Fields.Stints.{left_in}
-use Rattle.kdf_director.proofs.Physical.PartsShow.{is_its}
 use Rattle.kdf_director.proofs.Physical.WordsLand.{has-put, full-put, same-put, leases_later, move_words_own, move_words_other}
 use Rattle.kdf_transfer.proofs.Numbers.{number_at, length-numbers}
 use Rattle.kdf_places.proofs.GroupsComeBack.{landed, back-lease, length-back, land_words, sound-land}
@@ -92,8 +91,8 @@ module _ (s : Shared) (q : Part) (d : ℕ) (h : Held) (n : ℕ) (sound : IsSound
       }
 
 -- the devices by number, with another progress for one
-progress-at : (q : Part) (spots : List Spot) (d : ℕ) (y : Spot) → d < length spots → d < device_count → y.holder ≡ (spot_at spots d).holder → has_device q (spot_at spots d) ≡ true → by_number (own_progress q (set spots d y)) ≡ set (by_number (own_progress q spots)) d y.progress
-progress-at q spots d y lt small holder has =
+progress-at : (q : Part) (spots : List Spot) (d : ℕ) (y : Spot) → d < length spots → d < device_count → has_device q d ≡ true → by_number (own_progress q (set spots d y)) ≡ set (by_number (own_progress q spots)) d y.progress
+progress-at q spots d y lt small has =
     ext_get_or new_progress _ _
     (length-numbers (own_progress q (set spots d y)) ∙ sym (length-set (by_number (own_progress q spots)) d y.progress ∙ length-numbers (own_progress q spots)))
     (λ i within.
@@ -104,7 +103,7 @@ progress-at q spots d y lt small holder has =
     let d_lt : d < length (by_number (own_progress q spots)) = omega (arith, length-numbers (own_progress q spots)) in
     ap (own_progress q (set spots d y)) same
     ∙ ap (progress_in q d) (get_or-set_same spots d y no_spot lt)
-    ∙ ap (λ b. cond b y.progress (left_in q.stints d)) (ap (is_holder q.p) holder ∙ has)
+    ∙ ap (λ b. cond b y.progress (left_in q.stints d)) has
     ∙ sym (ap (λ j. get_or (set (by_number (own_progress q spots)) d y.progress) j new_progress) same
     ∙ get_or-set_same (by_number (own_progress q spots)) d y.progress new_progress d_lt))
     (λ (ne : i ≢ d).
@@ -152,9 +151,6 @@ module _ (s : Shared) (q : Part) (d : ℕ) (h : Held) (sound : IsSound s) (small
   y_fixture : y.fixture ≡ (spot_at s.spots d).fixture
   y_fixture = ap (λ (z : Spot). z.fixture) y_is
 
-  y_holder : y.holder ≡ (spot_at s.spots d).holder
-  y_holder = ap (λ (z : Spot). z.holder) y_is
-
   -- what is shown of the program
   pub end_own : (m : ℕ) → own_stock q m (after_end d s) ≡ stock q (own_claims q s) m (written (flight_moves q.base n h.motion) (own_words q.base q.size s.cells (leases_of s.spots))) (set (by_number (own_progress q s.spots)) d (ended_progress h.motion))
   end_own m =
@@ -162,16 +158,16 @@ module _ (s : Shared) (q : Part) (d : ℕ) (h : Held) (sound : IsSound s) (small
       (fixtures-set q s.spots d y in_spots (λ has. y_fixture))
       (words_end q ∙ move_words_own s q d h n sound small flies is_of)
       ∙ ap (stock q (own_claims q s) m (written (flight_moves q.base n h.motion) (own_words q.base q.size s.cells (leases_of s.spots))))
-      (progress-at q s.spots d y in_spots small y_holder (is_its q.p (spot_at s.spots d).holder is_of.holder) ∙ ap (λ (z : Spot). set (by_number (own_progress q s.spots)) d z.progress) y_is)
+      (progress-at q s.spots d y in_spots small is_of.its ∙ ap (λ (z : Spot). set (by_number (own_progress q s.spots)) d z.progress) y_is)
 
   -- and of another
-  pub end_other : (m : ℕ) (r : Part) → (q.base + q.size ≤ r.base) ⊎ (r.base + r.size ≤ q.base) → has_device r (spot_at s.spots d) ≡ false → own_stock r m (after_end d s) ≡ own_stock r m s
+  pub end_other : (m : ℕ) (r : Part) → (q.base + q.size ≤ r.base) ⊎ (r.base + r.size ≤ q.base) → has_device r d ≡ false → own_stock r m (after_end d s) ≡ own_stock r m s
   end_other m r apart not =
       ap₂ (λ fs ws. stock r (claims r (by_number fs)) m ws (by_number (own_progress r (after_end d s).spots)))
       (fixtures-set r s.spots d y in_spots (λ has. y_fixture))
       (words_end r ∙ move_words_other s q d h n sound small flies is_of r apart)
       ∙ ap (λ ps. stock r (own_claims r s) m (own_words r.base r.size s.cells (leases_of s.spots)) (by_number ps))
-      (progress-set r s.spots d y in_spots y_holder (λ has. cc (sym not ∙ has)))
+      (progress-set r s.spots d y in_spots (λ has. cc (sym not ∙ has)))
 
   pub length-end : length (after_end d s).cells ≡ length s.cells
   length-end = ap (λ (z : Shared). length z.cells) end_is ∙ length-back mid d y mid_sound small gone (leases_of mid.spots d) refl

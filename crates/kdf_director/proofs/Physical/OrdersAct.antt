@@ -7,14 +7,14 @@ use Rattle.kdf_lockout.specs.Groups.{Cells, group_at, is_out, with_word, without
 use Rattle.kdf_transfer.specs.declared.order.TransferOrder.{TransferOrder}
 use Rattle.kdf_transfer.specs.Devices.{Fixture, Progress}
 use Rattle.kdf_transfer.specs.AtOnce.{has_area}
-use Rattle.kdf_director.specs.Seen.{begun}
+use Rattle.kdf_theory.specs.Seen.{begun}
 use Rattle.kdf_places.specs.Words.{own_words, with_lease}
 use Rattle.kdf_transfer.specs.ByNumber.{device_count, by_number}
 use Rattle.kdf_places.specs.Words as physical
 use Rattle.kdf_places.proofs.WordsHereAndOut as words
 use Rattle.kdf_processor.specs.State.{Stock, Claims}
 use Rattle.kdf_processor.specs.Effect.{Writes, Starts}
-use Rattle.kdf_places.specs.Spots.{Spot, no_spot, spot_at, is_holder, lease_held, leases_of, fixture_or}
+use Rattle.kdf_places.specs.Spots.{Spot, no_spot, spot_at, lease_held, leases_of, fixture_or}
 use Rattle.kdf_director.specs.Fields.Stints.{left_in, stint_of}
 use Rattle.kdf_places.specs.Shared.{Shared, IsSound}
 use Rattle.kdf_director.specs.Fields.Parts.{Part, has_device, owns, own_fixture, own_progress, own_stock, own_claims}
@@ -74,21 +74,19 @@ fixtures-set r spots d x lt same =
 
 -- how far the device of a place has come
 abbrev pub progress_in : Part → ℕ → Spot → Progress
-progress_in r d x = cond (has_device r x) x.progress (left_in r.stints d)
+progress_in r d x = cond (has_device r d) x.progress (left_in r.stints d)
 
-pub progress-same : (r : Part) (d : ℕ) (x y : Spot) → x.holder ≡ y.holder → (has_device r y ≡ true → x.progress ≡ y.progress) → progress_in r d x ≡ progress_in r d y
-progress-same r d x y holder same =
-    ap (λ h. cond (is_holder r.p h) x.progress (left_in r.stints d)) holder
-    ∙ where_true (has_device r y) x.progress y.progress (left_in r.stints d) same
+pub progress-same : (r : Part) (d : ℕ) (x y : Spot) → (has_device r d ≡ true → x.progress ≡ y.progress) → progress_in r d x ≡ progress_in r d y
+progress-same r d x y same = where_true (has_device r d) x.progress y.progress (left_in r.stints d) same
 
-pub progress-set : (r : Part) (spots : List Spot) (d : ℕ) (x : Spot) → d < length spots → x.holder ≡ (spot_at spots d).holder → (has_device r (spot_at spots d) ≡ true → x.progress ≡ (spot_at spots d).progress) → own_progress r (set spots d x) ≡ own_progress r spots
-progress-set r spots d x lt holder same =
+pub progress-set : (r : Part) (spots : List Spot) (d : ℕ) (x : Spot) → d < length spots → (has_device r d ≡ true → x.progress ≡ (spot_at spots d).progress) → own_progress r (set spots d x) ≡ own_progress r spots
+progress-set r spots d x lt same =
     fun_ext
     (λ e. ⊎_elim
     (λ (is : e ≡ d).
     ap (own_progress r (set spots d x)) is
     ∙ ap (progress_in r d) (get_or-set_same spots d x no_spot lt)
-    ∙ progress-same r d x (spot_at spots d) holder same
+    ∙ progress-same r d x (spot_at spots d) same
     ∙ sym (ap (own_progress r spots) is))
     (λ (ne : e ≢ d). ap (progress_in r e) (get_or-set_other spots d e x no_spot ne))
     (cases_eq e d))
@@ -152,11 +150,11 @@ module _ (s : Shared) (q : Part) (d : ℕ) (o : TransferOrder) (first last : ℕ
               (cases_eq e d))
 
   -- what is shown of any program stays where a transfer begins
-  pub starts_own : (spot_at s.spots d).holder ≡ Some q.p → (r : Part) (n : ℕ) → (owns r.devices d ≡ true → is_some (spot_at s.spots d).fixture ≡ true) → own_stock r n later ≡ own_stock r n s
-  starts_own holder r n there =
+  pub starts_own : (r : Part) (n : ℕ) → (owns r.devices d ≡ true → is_some (spot_at s.spots d).fixture ≡ true) → own_stock r n later ≡ own_stock r n s
+  starts_own r n there =
       let words_same : own_words r.base r.size later.cells (leases_of later.spots) ≡ own_words r.base r.size s.cells (leases_of s.spots) = words.own_words_same r.base r.size s.cells later.cells (leases_of s.spots) (leases_of later.spots) start_word in
       let fixtures : own_fixture r later.spots ≡ own_fixture r s.spots = fixtures-set r s.spots d (start_spot q.p o f l s.cells (spot_at s.spots d)) lt (λ has. or_some (spot_at s.spots d).fixture (there has)) in
-      let progress : own_progress r later.spots ≡ own_progress r s.spots = progress-set r s.spots d (start_spot q.p o f l s.cells (spot_at s.spots d)) lt (sym holder) (λ has. refl) in
+      let progress : own_progress r later.spots ≡ own_progress r s.spots = progress-set r s.spots d (start_spot q.p o f l s.cells (spot_at s.spots d)) lt (λ has. refl) in
       ap₂ (λ fs ws. stock r (claims r (by_number fs)) n ws (by_number (own_progress r later.spots))) fixtures words_same
       ∙ ap (λ ps. stock r (own_claims r s) n (own_words r.base r.size s.cells (leases_of s.spots)) (by_number ps)) progress
     where

@@ -1,7 +1,7 @@
 -- Parts with the same slot, window, devices and pool.
-use Rattle.std.proofs.Common.{◌≡◌, ℕ, Some, refl, sym, ap, ◌∙◌, arith}
+use Rattle.std.proofs.Common.{◌≡◌, ℕ, true, refl, sym, ◌∙◌, arith}
 use Rattle.kdf_places.specs.Spots.{Held, Spot}
-use Rattle.kdf_director.specs.Fields.Parts.{Part}
+use Rattle.kdf_director.specs.Fields.Parts.{Part, has_device}
 use Rattle.kdf_director.specs.Fields.Sound.{IsFlightOf}
 
 pub record SamePart (q q' : Part) : Type 0 where
@@ -11,18 +11,18 @@ pub record SamePart (q q' : Part) : Type 0 where
   pub devices : q'.devices ≡ q.devices
   pub pool : q'.pool ≡ q.pool
 
--- a flight of one is a flight of the other
-pub flight_same : (q q' : Part) (d : ℕ) (x : Spot) (h : Held) → SamePart q q' → IsFlightOf q d x h → IsFlightOf q' d x h
-flight_same q q' d x h same is =
+-- a flight of one is a flight of the other, if that has the device
+pub flight_same : (q q' : Part) (d : ℕ) (x : Spot) (h : Held) → SamePart q q' → has_device q' d ≡ true → IsFlightOf q d x h → IsFlightOf q' d x h
+flight_same q q' d x h same has is =
     record {
       owner = is.owner ∙ sym same.p;
-      holder = is.holder ∙ ap Some (sym same.p);
+      its = has;
       fixture = is.fixture;
       progress = is.progress;
       lease = is.lease;
       covers = is.covers;
-      low = λ has. (let a = is.low has in let b = same.base in omega arith);
-      high = λ has. (let a = is.high has in let b = same.base in let c = same.size in omega arith);
+      low = λ area. (let a = is.low area in let b = same.base in omega arith);
+      high = λ area. (let a = is.high area in let b = same.base in let c = same.size in omega arith);
       moved = is.moved;
     }
 

@@ -1,11 +1,11 @@
 -- What a part of the machine shows.
 use Rattle.std.specs.Prelude.{Ok, Err, not}
 use Rattle.std.proofs.Common.{◌≡◌, ℕ, ◌+◌, ◌<◌, Bool, true, false, List, get_or, ◌&&◌, ltb, Option, Some, None, is_some, cond, refl, sym, ap, ap₂, ◌∙◌, arith}
-use Rattle.std.proofs.lemmas.Bool.{and_parts, eq-eqb, eqb-true, lt-ltb, ltb-true}
+use Rattle.std.proofs.lemmas.Bool.{and_parts, lt-ltb, ltb-true, or_left, or_right}
 use Rattle.std.proofs.lemmas.List.FromFn.{get_or-map-range_with_len}
 use Rattle.kdf_journal.specs.declared.kind.Kind.{Kind}
 use Rattle.kdf_transfer.specs.Devices.{Fixture, new_progress, is_kind, kind_in, is_wanted}
-use Rattle.kdf_director.specs.True.{one_if}
+use Rattle.kdf_theory.specs.True.{one_if}
 use Rattle.kdf_transfer.specs.ByNumber.{by_number, device_count}
 use Rattle.kdf_job.specs.Slots.{lent_kind}
 use Rattle.kdf_journal.specs.declared.kind.Kind.TheVariants.{Tr, Tp, Cr, Lp, Mt}
@@ -14,13 +14,13 @@ use Rattle.kdf_processor.specs.State.{word_in, device_in, fixture_at, own_fixtur
 use Rattle.kdf_processor.specs.Claims.{kind_at, claim, free_for, is_claimed, is_free}
 use Rattle.kdf_processor.proofs.Fit.{found}
 use Rattle.std.specs.List.{range_with_len}
-use Rattle.kdf_places.specs.Spots.{spot_at, is_holder, leases_of, spot_kind}
+use Rattle.kdf_places.specs.Spots.{spot_at, leases_of, spot_kind}
 use Rattle.kdf_transfer.specs.declared.wanted.Wanted.{Wanted}
 use Rattle.kdf_transfer.specs.declared.wanted.Wanted.TheVariants.{Kinded, Labelled}
 use Rattle.kdf_director.specs.Fields.Keeping.{IsActive, IsKept}
 use Rattle.kdf_places.specs.Shared.{Shared}
 use Rattle.kdf_director.specs.Fields.Parts.{Part, owns, fixture_owned, own_stock, own_fixture, own_progress, own_claims, has_device, pool_kind}
-use Rattle.kdf_director.specs.Fields.Stints.{left_in}
+use Rattle.kdf_director.specs.Fields.Stints.{left_in, lends}
 use Rattle.kdf_transfer.proofs.Numbers.{limit_is, number_at}
 
 -- a word of the program
@@ -54,13 +54,6 @@ some_kind : (o : Option Fixture) (k : Kind) → is_kind k (kind_in o) ≡ true �
 some_kind None k is = absurd (none_kind k is)
 some_kind (Some f) k is = refl
 
-pub holder_is : (p : ℕ) (o : Option ℕ) → is_holder p o ≡ true → o ≡ Some p
-holder_is p None is = cc
-holder_is p (Some r) is = ap Some (eqb-true r p is)
-
-pub is_its : (p : ℕ) (o : Option ℕ) → o ≡ Some p → is_holder p o ≡ true
-is_its p o is = ap (is_holder p) is ∙ eq-eqb p p refl
-
 pub owned_some : (b : Bool) (f : Option Fixture) → is_some (cond b f None) ≡ true → b ≡ true
 owned_some true f is = refl
 owned_some false f is = cc
@@ -76,14 +69,14 @@ fixture_there q s d kept lt some = by_pool (pool_kind q d) refl
         at ∙ ap (λ b. cond b (spot_at s.spots d).fixture None) (owned_some (owns q.devices d) (spot_at s.spots d).fixture (ap is_some (sym at) ∙ some))
 
 -- and it is the program's where it is claimed
-marked_holder : (q : Part) (s : Shared) (d : ℕ) → IsKept q s → IsActive q s → d < device_count → is_some (fixture_at (own_claims q s) d) ≡ true → get_or q.claimed d false ≡ true → (spot_at s.spots d).holder ≡ Some q.p
-marked_holder q s d kept active lt some marked = by_pool (pool_kind q d) refl
+marked_has : (q : Part) (s : Shared) (d : ℕ) → IsActive q → d < device_count → is_some (fixture_at (own_claims q s) d) ≡ true → get_or q.claimed d false ≡ true → has_device q d ≡ true
+marked_has q s d active lt some marked = by_pool (pool_kind q d) refl
   where
-    by_pool : (o : Option Kind) → pool_kind q d ≡ o → (spot_at s.spots d).holder ≡ Some q.p
-    by_pool (Some k) is = holder_is q.p (spot_at s.spots d).holder (sym (active.marks d (ap is_some is)) ∙ marked)
+    by_pool : (o : Option Kind) → pool_kind q d ≡ o → has_device q d ≡ true
+    by_pool (Some k) is = or_right (owns q.devices d) (lends q.stints d) (sym (active.marks d (ap is_some is)) ∙ marked)
     by_pool None is =
         let at : fixture_at (own_claims q s) d ≡ own_fixture q s.spots d = ap (λ o. pooled_or o (own_fixture_at (own_claims q s) d)) is ∙ own_is q s d lt in
-        kept.owned d (owned_some (owns q.devices d) (spot_at s.spots d).fixture (ap is_some (sym at) ∙ some))
+        or_left (owns q.devices d) (lends q.stints d) (owned_some (owns q.devices d) (spot_at s.spots d).fixture (ap is_some (sym at) ∙ some))
 
 -- a device that is claimed, of some kind, is one of the program's
 pub claim_small : (q : Part) (s : Shared) (d : ℕ) (k : Kind) → is_kind k (claim (own_claims q s) d) ≡ true → d < device_count
@@ -103,12 +96,9 @@ claim_fixture q s d k kept is =
     let some = some_kind (fixture_at (own_claims q s) d) k (claim_kind q s d k is) in
     (some, fixture_there q s d kept (claim_small q s d k is) some)
 
-pub claim_holder : (q : Part) (s : Shared) (d : ℕ) (k : Kind) → IsKept q s → IsActive q s → is_kind k (claim (own_claims q s) d) ≡ true → (spot_at s.spots d).holder ≡ Some q.p
-claim_holder q s d k kept active is =
-    marked_holder q s d kept active (claim_small q s d k is) (claim_fixture q s d k kept is).0 (claim_marked q s d k is)
-
-pub claim_has : (q : Part) (s : Shared) (d : ℕ) (k : Kind) → IsKept q s → IsActive q s → is_kind k (claim (own_claims q s) d) ≡ true → has_device q (spot_at s.spots d) ≡ true
-claim_has q s d k kept active is = is_its q.p (spot_at s.spots d).holder (claim_holder q s d k kept active is)
+pub claim_has : (q : Part) (s : Shared) (d : ℕ) (k : Kind) → IsKept q s → IsActive q → is_kind k (claim (own_claims q s) d) ≡ true → has_device q d ≡ true
+claim_has q s d k kept active is =
+    marked_has q s d active (claim_small q s d k is) (claim_fixture q s d k kept is).0 (claim_marked q s d k is)
 
 -- and of that kind
 pub claim_spot : (q : Part) (s : Shared) (d : ℕ) (k : Kind) → IsKept q s → is_kind k (claim (own_claims q s) d) ≡ true → is_kind k (spot_kind (spot_at s.spots d)) ≡ true
@@ -129,13 +119,10 @@ claimed_small q s d is =
     let lt : d < 16 = ltb-true d 16 (and_parts _ _ (some_claim (ltb d 16 && get_or q.claimed d false) (kind_at (own_claims q s) d) is).0).0 in
     omega (arith, limit_is)
 
-pub claimed_holder : (q : Part) (s : Shared) (d : ℕ) → IsKept q s → IsActive q s → is_claimed (own_claims q s) d ≡ true → (spot_at s.spots d).holder ≡ Some q.p
-claimed_holder q s d kept active is =
+pub claimed_has : (q : Part) (s : Shared) (d : ℕ) → IsActive q → is_claimed (own_claims q s) d ≡ true → has_device q d ≡ true
+claimed_has q s d active is =
     let parts = some_claim (ltb d 16 && get_or q.claimed d false) (kind_at (own_claims q s) d) is in
-    marked_holder q s d kept active (claimed_small q s d is) (some_fixture (fixture_at (own_claims q s) d) parts.1) (and_parts _ _ parts.0).1
-
-pub claimed_has : (q : Part) (s : Shared) (d : ℕ) → IsKept q s → IsActive q s → is_claimed (own_claims q s) d ≡ true → has_device q (spot_at s.spots d) ≡ true
-claimed_has q s d kept active is = is_its q.p (spot_at s.spots d).holder (claimed_holder q s d kept active is)
+    marked_has q s d active (claimed_small q s d is) (some_fixture (fixture_at (own_claims q s) d) parts.1) (and_parts _ _ parts.0).1
 
 by_claim : (b : Bool) (x y : Option Kind) → (b ≡ true → x ≡ y) → cond b x None ≡ cond b y None
 by_claim true x y same = same refl
@@ -224,7 +211,7 @@ free_owned q s w d kept lt is =
     (and_parts _ _ (free_shown q s d w kept lt ∙ found (is_free w (own_claims q s)) (range_with_len 0 16) d is)).0
 
 -- the progress of one of its devices
-pub own_device : (q : Part) (n : ℕ) (s : Shared) (d : ℕ) → d < device_count → has_device q (spot_at s.spots d) ≡ true → device_in (own_stock q n s) d ≡ (spot_at s.spots d).progress
+pub own_device : (q : Part) (n : ℕ) (s : Shared) (d : ℕ) → d < device_count → has_device q d ≡ true → device_in (own_stock q n s) d ≡ (spot_at s.spots d).progress
 own_device q n s d lt has = number_at (own_progress q s.spots) d new_progress lt ∙ ap (λ b. cond b (spot_at s.spots d).progress (left_in q.stints d)) has
 
 -- an answer of 1 or 0

@@ -1,11 +1,11 @@
 -- Places of which one is another that shows the same.
-use Rattle.std.proofs.Common.{◌≡◌, ◌≢◌, ℕ, ◌<◌, ◌≤◌, List, length, set, None, sym, ap, ◌∙◌, ⊎_elim, arith}
+use Rattle.std.proofs.Common.{◌≡◌, ◌≢◌, ℕ, ◌<◌, ◌≤◌, List, length, set, sym, ap, ◌∙◌, ⊎_elim, arith}
 use Rattle.std.proofs.lemmas.Bool.{cases_eq, cases_lt}
 use Rattle.std.proofs.lemmas.List.{get_or-set_same, get_or-set_other, get_or_past, length-set}
-use Rattle.kdf_director.specs.Fields.Keeping.{IsActive, IsKept}
+use Rattle.kdf_director.specs.Fields.Keeping.{IsKept}
 use Rattle.kdf_director.specs.Fields.Parts.{Part}
 use Rattle.kdf_places.specs.Shared.{Shared}
-use Rattle.kdf_places.specs.Spots.{Spot, is_holder, no_spot, spot_at}
+use Rattle.kdf_places.specs.Spots.{Spot, no_spot, spot_at}
 
 -- what is the same of the new place and the old is the same of each place
 pub same_at : {X : Type 0} (f : Spot → X) (spots : List Spot) (d e : ℕ) (y : Spot) → f y ≡ f (spot_at spots d) → f (spot_at (set spots d y) e) ≡ f (spot_at spots e)
@@ -25,28 +25,14 @@ same_at f spots d e y same =
     (λ (ne : e ≢ d). ap f (get_or-set_other spots d e y no_spot ne))
     (cases_eq e d)
 
--- a program keeps what it has where each place has the device and the holder that it had, and moved nothing while it is
--- nobody's
-pub kept_by : (q : Part) (s s' : Shared) → IsKept q s → ((d : ℕ) → (spot_at s'.spots d).holder ≡ (spot_at s.spots d).holder) → ((d : ℕ) → (spot_at s'.spots d).fixture ≡ (spot_at s.spots d).fixture) → ((d : ℕ) → (spot_at s.spots d).holder ≡ None → (spot_at s'.spots d).progress ≡ (spot_at s.spots d).progress) → IsKept q s'
-kept_by q s s' kept holders fixtures fresh =
+-- a program keeps what it has where each place has the device that it had
+pub kept_by : (q : Part) (s s' : Shared) → IsKept q s → ((d : ℕ) → (spot_at s'.spots d).fixture ≡ (spot_at s.spots d).fixture) → IsKept q s'
+kept_by q s s' kept fixtures =
     record {
       few = kept.few;
       apart = kept.apart;
-      owned = λ d has. holders d ∙ kept.owned d has;
       there = λ d k is. fixtures d ∙ kept.there d k is;
-      fresh = λ d pooled none.
-          let was : (spot_at s.spots d).holder ≡ None = sym (holders d) ∙ none in
-          fresh d was ∙ kept.fresh d pooled was;
       pooled = kept.pooled;
       kinds = kept.kinds;
-      has = λ d pooled. ap (is_holder q.p) (holders d) ∙ kept.has d pooled;
       one = kept.one;
-    }
-
-pub active_by : (q : Part) (s s' : Shared) → IsActive q s → ((d : ℕ) → (spot_at s'.spots d).holder ≡ (spot_at s.spots d).holder) → IsActive q s'
-active_by q s s' active holders =
-    record {
-      marks = λ d pooled. active.marks d pooled ∙ ap (is_holder q.p) (sym (holders d));
-      none_left = active.none_left;
-      sized = active.sized;
     }

@@ -3,7 +3,7 @@ use Rattle.std.specs.List.{All, list_any}
 use Rattle.std.proofs.Common.{◌≡◌, ◌≢◌, ℕ, ◌+◌, ◌<◌, ◌||◌, Bool, true, false, List, [], ◌∷◌, ◌++◌, length, get_or, map, set, Option, Some, None, is_some, cond, refl, sym, ap, ap₂, ◌∙◌, subst, ⊎_elim, arith}
 use Rattle.std.specs.Option.{option_map}
 use Rattle.std.proofs.Math.Path.{fun_ext}
-use Rattle.std.proofs.lemmas.Bool.{and_parts, cases_eq, eq-eqb, eqb-true, ne_eqb}
+use Rattle.std.proofs.lemmas.Bool.{and_parts, cases_Bool, cases_eq, eq-eqb, eqb-true, ne_eqb, or_parts, or_right}
 use Rattle.std.proofs.lemmas.List.{ext_get_or, get_or-set_other, get_or-set_same, length-set, map_push}
 use Rattle.std.proofs.lemmas.List.Elements.{All-map, All-push}
 use Rattle.kdf_journal.specs.declared.kind.Kind.{Kind}
@@ -19,12 +19,12 @@ use Rattle.kdf_director.specs.Fields.Keeping.{IsActive, IsKept}
 use Rattle.kdf_director.specs.Fields.Parts.{Part, back_from, has_device, in_pool, own_claims, own_fixture, own_progress, own_stock, owns, pool_kind}
 use Rattle.kdf_places.specs.Shared.{Shared, IsSound}
 use Rattle.kdf_places.specs.Words.{has_group, own_words}
-use Rattle.kdf_director.specs.Seen.{begun}
-use Rattle.kdf_places.specs.Spots.{Spot, blank_spot, fixture_or, is_holder, lease_held, leases_of, lent_spot, no_spot, spot_at}
+use Rattle.kdf_theory.specs.Seen.{begun}
+use Rattle.kdf_places.specs.Spots.{Spot, blank_spot, fixture_or, lease_held, leases_of, no_spot, spot_at}
 use Rattle.kdf_director.specs.Fields.Stints.{IsOfKind, Keeping, Loan, Lent, Left, is_left, is_lent, is_open_of, left_in, lends, stint_of, with_loan}
-use Rattle.kdf_director.proofs.Physical.OrdersAct.{claims, fixtures-set, progress_in, stock}
+use Rattle.kdf_director.proofs.Physical.OrdersAct.{claims, fixtures-set, progress_in, progress-same, stock}
 use Rattle.kdf_director.proofs.Physical.StintsChange.{IsNotLeft, apart_push, apart_with, by_open, device_with, left_here, left_there, lends_here, lends_open, lends_push, lends_there, none_kept, open_others, stints_back, stints_left}
-use Rattle.kdf_director.proofs.Physical.PartsShow.{is_its, own_device}
+use Rattle.kdf_director.proofs.Physical.PartsShow.{own_device}
 
 -- what is shared, one place being another
 abbrev pub with_spot : ℕ → Spot → Shared → Shared
@@ -68,180 +68,134 @@ stock-idle r n s d x lt idle none fixture progress =
 
 -- ---- what a program keeps
 
--- where a place shows the same of the slot's device, or of the pool's
-pub kept-spot : (r : Part) (s : Shared) (d : ℕ) (x : Spot) (cells : Cells) → d < length s.spots → IsKept r s → (owns r.devices d ≡ true → x.holder ≡ Some r.p) → ((k : Kind) → pool_kind r d ≡ Some k → x.fixture ≡ Some (blank_fixture k)) → (in_pool r d ≡ true → x.holder ≡ None → x.progress ≡ new_progress) → is_holder r.p x.holder ≡ is_holder r.p (spot_at s.spots d).holder → IsKept r (record { cells = cells; spots = set s.spots d x })
-kept-spot r s d x cells lt kept owned there fresh has =
+-- where a place shows the same of the pool's device
+pub kept-spot : (r : Part) (s : Shared) (d : ℕ) (x : Spot) (cells : Cells) → d < length s.spots → IsKept r s → ((k : Kind) → pool_kind r d ≡ Some k → x.fixture ≡ Some (blank_fixture k)) → IsKept r (record { cells = cells; spots = set s.spots d x })
+kept-spot r s d x cells lt kept there =
     record {
       few = kept.few;
       apart = kept.apart;
-      owned = at_spot s.spots d x lt (λ e y. owns r.devices e ≡ true → y.holder ≡ Some r.p) owned (λ e ne. kept.owned e);
       there = at_spot s.spots d x lt (λ e y. (k : Kind) → pool_kind r e ≡ Some k → y.fixture ≡ Some (blank_fixture k)) there (λ e ne. kept.there e);
-      fresh = at_spot s.spots d x lt (λ e y. in_pool r e ≡ true → y.holder ≡ None → y.progress ≡ new_progress) fresh (λ e ne. kept.fresh e);
       pooled = kept.pooled;
       kinds = kept.kinds;
-      has = at_spot s.spots d x lt (λ e y. in_pool r e ≡ true → is_holder r.p y.holder ≡ lends r.stints e) (λ pooled. has ∙ kept.has d pooled) (λ e ne. kept.has e);
       one = kept.one;
     }
 
-pub active-spot : (r : Part) (s : Shared) (d : ℕ) (x : Spot) (cells : Cells) → d < length s.spots → IsActive r s → is_holder r.p x.holder ≡ is_holder r.p (spot_at s.spots d).holder → IsActive r (record { cells = cells; spots = set s.spots d x })
-active-spot r s d x cells lt active has =
-    record {
-      sized = active.sized;
-      marks = at_spot s.spots d x lt (λ e y. in_pool r e ≡ true → get_or r.claimed e false ≡ is_holder r.p y.holder) (λ pooled. active.marks d pooled ∙ sym has) (λ e ne. active.marks e);
-      none_left = active.none_left;
-    }
-
--- where the device and its holder stay
-pub kept-same : (r : Part) (s : Shared) (d : ℕ) (x : Spot) (cells : Cells) → d < length s.spots → IsKept r s → x.holder ≡ (spot_at s.spots d).holder → x.fixture ≡ (spot_at s.spots d).fixture → (x.holder ≡ None → x.progress ≡ (spot_at s.spots d).progress) → IsKept r (record { cells = cells; spots = set s.spots d x })
-kept-same r s d x cells lt kept holder fixture progress =
-    kept-spot r s d x cells lt kept
-    (λ has. holder ∙ kept.owned d has)
-    (λ k is. fixture ∙ kept.there d k is)
-    (λ pooled none. progress none ∙ kept.fresh d pooled (sym holder ∙ none))
-    (ap (is_holder r.p) holder)
-
-pub active-same : (r : Part) (s : Shared) (d : ℕ) (x : Spot) (cells : Cells) → d < length s.spots → IsActive r s → x.holder ≡ (spot_at s.spots d).holder → IsActive r (record { cells = cells; spots = set s.spots d x })
-active-same r s d x cells lt active holder = active-spot r s d x cells lt active (ap (is_holder r.p) holder)
+-- where the device stays
+pub kept-same : (r : Part) (s : Shared) (d : ℕ) (x : Spot) (cells : Cells) → d < length s.spots → IsKept r s → x.fixture ≡ (spot_at s.spots d).fixture → IsKept r (record { cells = cells; spots = set s.spots d x })
+kept-same r s d x cells lt kept fixture = kept-spot r s d x cells lt kept (λ k is. fixture ∙ kept.there d k is)
 
 -- neither speaks of the words, or of what a program spooled; the first speaks of no marks
 pub kept-cells : (q : Part) (s : Shared) (cells : Cells) → IsKept q s → IsKept q (record s { cells = cells })
 kept-cells q s cells kept =
-    record { few = kept.few; apart = kept.apart; owned = kept.owned; there = kept.there; fresh = kept.fresh; pooled = kept.pooled; kinds = kept.kinds; has = kept.has; one = kept.one }
+    record { few = kept.few; apart = kept.apart; there = kept.there; pooled = kept.pooled; kinds = kept.kinds; one = kept.one }
 
 pub kept-marked : (q : Part) (s : Shared) (claimed : List Bool) → IsKept q s → IsKept (record q { claimed = claimed }) s
 kept-marked q s claimed kept =
-    record { few = kept.few; apart = kept.apart; owned = kept.owned; there = kept.there; fresh = kept.fresh; pooled = kept.pooled; kinds = kept.kinds; has = kept.has; one = kept.one }
+    record { few = kept.few; apart = kept.apart; there = kept.there; pooled = kept.pooled; kinds = kept.kinds; one = kept.one }
 
 pub kept-spooled : (q : Part) (s : Shared) (spooled : List Spooled) → IsKept q s → IsKept (record q { spooled = spooled }) s
 kept-spooled q s spooled kept =
-    record { few = kept.few; apart = kept.apart; owned = kept.owned; there = kept.there; fresh = kept.fresh; pooled = kept.pooled; kinds = kept.kinds; has = kept.has; one = kept.one }
+    record { few = kept.few; apart = kept.apart; there = kept.there; pooled = kept.pooled; kinds = kept.kinds; one = kept.one }
 
-pub active-cells : (q : Part) (s : Shared) (cells : Cells) → IsActive q s → IsActive q (record s { cells = cells })
-active-cells q s cells active = record { sized = active.sized; marks = active.marks; none_left = active.none_left }
-
-pub active-spooled : (q : Part) (s : Shared) (spooled : List Spooled) → IsActive q s → IsActive (record q { spooled = spooled }) s
-active-spooled q s spooled active = record { sized = active.sized; marks = active.marks; none_left = active.none_left }
+pub active-spooled : (q : Part) (spooled : List Spooled) → IsActive q → IsActive (record q { spooled = spooled })
+active-spooled q spooled active = record { sized = active.sized; marks = active.marks; none_left = active.none_left }
 
 -- the mark of a device that isn't the pool's
-pub active-marked : (q : Part) (s : Shared) (d : ℕ) (is : Bool) → in_pool q d ≡ false → IsActive q s → IsActive (record q { claimed = set q.claimed d is }) s
-active-marked q s d is own active =
+pub active-marked : (q : Part) (d : ℕ) (is : Bool) → in_pool q d ≡ false → IsActive q → IsActive (record q { claimed = set q.claimed d is })
+active-marked q d is own active =
     record {
       sized = length-set q.claimed d is ∙ active.sized;
       marks = λ e pooled. get_or-set_other q.claimed d e is false (λ same. cc (sym own ∙ (ap (in_pool q) (sym same) ∙ pooled))) ∙ active.marks e pooled;
       none_left = active.none_left;
     }
 
--- ---- a device of the pool that is nobody's is taken
+-- ---- a device of the pool that the program doesn't have is taken
 
-pub record IsFree (q : Part) (s : Shared) (t : ℕ) : Type 0 where
+pub record IsFree (q : Part) (t : ℕ) : Type 0 where
   pub pooled : in_pool q t ≡ true
-  pub holder : (spot_at s.spots t).holder ≡ None
-  pub idle : (spot_at s.spots t).flight ≡ None
+  pub unlent : lends q.stints t ≡ false
 
 -- the program that took it
 abbrev pub taker : ℕ → Part → Part
 taker t q = record q { claimed = set q.claimed t true; stints = q.stints ++ record { device = t; loan = Lent } ∷ [] }
 
-abbrev pub lent : Part → ℕ → Shared → Shared
-lent q t s = with_spot t (lent_spot q.p (spot_at s.spots t)) s
+or_none : (b : Bool) → (b || false) ≡ b
+or_none true = refl
+or_none false = refl
 
-module _ (q : Part) (s : Shared) (t : ℕ) (inside : t < length s.spots) (kept : IsKept q s) (free : IsFree q s t) where
-  -- it was in no stint's place
-  not_lent : lends q.stints t ≡ false
-  not_lent = sym (kept.has t free.pooled) ∙ ap (is_holder q.p) free.holder
+-- a device of the pool is none of the slot's
+pub not_owned : (q : Part) (s : Shared) (d : ℕ) → IsKept q s → in_pool q d ≡ true → owns q.devices d ≡ false
+not_owned q s d kept pooled =
+    ⊎_elim (λ (own : owns q.devices d ≡ true). cc (sym (kept.apart d own) ∙ pooled)) (λ (not : owns q.devices d ≡ false). not) (cases_Bool (owns q.devices d))
 
-  pub lent_kept : IsActive q s → IsKept (taker t q) (lent q t s)
-  lent_kept active =
+-- so the program has it where a stint has it in its place
+pub has_pooled : (q : Part) (s : Shared) (d : ℕ) → IsKept q s → in_pool q d ≡ true → has_device q d ≡ lends q.stints d
+has_pooled q s d kept pooled = ap (λ b. b || lends q.stints d) (not_owned q s d kept pooled)
+
+module _ (q : Part) (s : Shared) (t : ℕ) (kept : IsKept q s) (free : IsFree q t) where
+  pub taken_kept : IsActive q → IsKept (taker t q) s
+  taken_kept active =
       record {
         few = kept.few;
         apart = kept.apart;
-        owned = at_spot s.spots t (lent_spot q.p (spot_at s.spots t)) inside (λ e y. owns q.devices e ≡ true → y.holder ≡ Some q.p) (λ _. refl) (λ e ne. kept.owned e);
-        there = at_spot s.spots t (lent_spot q.p (spot_at s.spots t)) inside (λ e y. (k : Kind) → pool_kind q e ≡ Some k → y.fixture ≡ Some (blank_fixture k)) (kept.there t) (λ e ne. kept.there e);
-        fresh = at_spot s.spots t (lent_spot q.p (spot_at s.spots t)) inside (λ e y. in_pool q e ≡ true → y.holder ≡ None → y.progress ≡ new_progress) (λ _ none. cc none) (λ e ne. kept.fresh e);
+        there = kept.there;
         pooled = All-push (λ (x : Keeping). in_pool q x.device ≡ true) q.stints (record { device = t; loan = Lent }) kept.pooled free.pooled;
         kinds = All-push (λ (x : Keeping). IsOfKind (pool_kind q x.device) x.loan) q.stints (record { device = t; loan = Lent }) kept.kinds refl;
-        has = at_spot s.spots t (lent_spot q.p (spot_at s.spots t)) inside (λ e y. in_pool q e ≡ true → is_holder q.p y.holder ≡ lends (q.stints ++ record { device = t; loan = Lent } ∷ []) e)
-            (λ _. eq-eqb q.p q.p refl ∙ sym (lends_push q.stints t t ∙ ap₂ (λ a b. a || b) not_lent (eq-eqb t t refl)))
-            (λ e ne pooled. kept.has e pooled ∙ sym (lends_push q.stints t e ∙ ap (λ b. lends q.stints e || b) (ne_eqb t e (λ same. ne (sym same))) ∙ or_none (lends q.stints e)));
-        one = apart_push q.stints t kept.one (open_others q.stints t active.none_left not_lent);
+        one = apart_push q.stints t kept.one (open_others q.stints t active.none_left free.unlent);
       }
-    where
-      or_none : (b : Bool) → (b || false) ≡ b
-      or_none true = refl
-      or_none false = refl
 
-  pub lent_active : IsActive q s → IsActive (taker t q) (lent q t s)
-  lent_active active =
+  pub taken_there : lends (taker t q).stints t ≡ true
+  taken_there = lends_push q.stints t t ∙ ap₂ (λ a b. a || b) free.unlent (eq-eqb t t refl)
+
+  pub taken_elsewhere : (e : ℕ) → e ≢ t → lends (taker t q).stints e ≡ lends q.stints e
+  taken_elsewhere e ne = lends_push q.stints t e ∙ ap (λ b. lends q.stints e || b) (ne_eqb t e (λ same. ne (sym same))) ∙ or_none (lends q.stints e)
+
+  pub taken_active : IsActive q → IsActive (taker t q)
+  taken_active active =
       record {
         sized = length-set q.claimed t true ∙ active.sized;
-        marks = at_spot s.spots t (lent_spot q.p (spot_at s.spots t)) inside (λ e y. in_pool q e ≡ true → get_or (set q.claimed t true) e false ≡ is_holder q.p y.holder)
-            (λ _. get_or-set_same q.claimed t true false (let e = active.sized in let small = kept.few t free.pooled in omega (arith, limit_is)) ∙ sym (eq-eqb q.p q.p refl))
-            (λ e ne pooled. get_or-set_other q.claimed t e true false ne ∙ active.marks e pooled);
+        marks = λ e pooled. ⊎_elim
+            (λ (same : e ≡ t).
+            ap (λ k. get_or (set q.claimed t true) k false) same
+            ∙ get_or-set_same q.claimed t true false (let a = active.sized in let small = kept.few t free.pooled in omega (arith, limit_is))
+            ∙ sym (ap (lends (taker t q).stints) same ∙ taken_there))
+            (λ (ne : e ≢ t). get_or-set_other q.claimed t e true false ne ∙ active.marks e pooled ∙ sym (taken_elsewhere e ne))
+            (cases_eq e t);
         none_left = All-push IsNotLeft q.stints (record { device = t; loan = Lent }) active.none_left refl;
       }
 
-module _ (q : Part) (s : Shared) (t : ℕ) (sound : IsSound s) (kept : IsKept q s) (free : IsFree q s t) where
-  taken_small : t < device_count
-  taken_small = kept.few t free.pooled
+  -- it has moved nothing
+  module _ (fresh : (spot_at s.spots t).progress ≡ new_progress) where
+    -- so its progress is as that of a device that isn't the program's
+    taken_progress : IsActive q → own_progress (taker t q) s.spots ≡ own_progress q s.spots
+    taken_progress active =
+        fun_ext
+        (λ e. ⊎_elim
+        (λ (same : e ≡ t).
+        ap (own_progress (taker t q) s.spots) same
+        ∙ ap (λ b. cond b (spot_at s.spots t).progress (left_in (taker t q).stints t)) (or_right (owns q.devices t) (lends (taker t q).stints t) taken_there)
+        ∙ fresh
+        ∙ sym (ap (own_progress q s.spots) same
+        ∙ ap (λ b. cond b (spot_at s.spots t).progress (left_in q.stints t)) (has_pooled q s t kept free.pooled ∙ free.unlent)
+        ∙ none_kept q.stints t active.none_left))
+        (λ (ne : e ≢ t).
+        ap₂ (λ b p. cond (owns q.devices e || b) (spot_at s.spots e).progress p) (taken_elsewhere e ne)
+        (none_kept (taker t q).stints e (All-push IsNotLeft q.stints (record { device = t; loan = Lent }) active.none_left refl) ∙ sym (none_kept q.stints e active.none_left)))
+        (cases_eq e t))
 
-  taken_inside : t < length s.spots
-  taken_inside = let e = sound.spots in let small = taken_small in omega arith
-
-  pub taken_sound : IsSound (lent q t s)
-  taken_sound = sound-idle s t (lent_spot q.p (spot_at s.spots t)) sound taken_small free.idle free.idle
-
-  pub taken_kept : IsActive q s → IsKept (taker t q) (lent q t s)
-  taken_kept active = lent_kept q s t taken_inside kept free active
-
-  pub taken_active : IsActive q s → IsActive (taker t q) (lent q t s)
-  taken_active active = lent_active q s t taken_inside kept free active
-
-  -- its progress is as that of a device that isn't the program's
-  taken_progress : IsActive q s → own_progress (taker t q) (lent q t s).spots ≡ own_progress q s.spots
-  taken_progress active =
-      fun_ext
-      (at_spot s.spots t (lent_spot q.p (spot_at s.spots t)) taken_inside (λ e y. progress_in (taker t q) e y ≡ own_progress q s.spots e)
-      (ap (λ b. cond b (spot_at s.spots t).progress (left_in (taker t q).stints t)) (eq-eqb q.p q.p refl)
-      ∙ kept.fresh t free.pooled free.holder
-      ∙ sym (ap (λ h. cond (is_holder q.p h) (spot_at s.spots t).progress (left_in q.stints t)) free.holder ∙ none_kept q.stints t active.none_left))
-      (λ e ne. ap (λ p. cond (has_device q (spot_at s.spots e)) (spot_at s.spots e).progress p)
-      (none_kept (taker t q).stints e (All-push IsNotLeft q.stints (record { device = t; loan = Lent }) active.none_left refl) ∙ sym (none_kept q.stints e active.none_left))))
-
-  pub taken_own : IsActive q s → (n : ℕ) → own_stock (taker t q) (n + 1) (lent q t s) ≡ taking t (record (own_stock q n s) { asked = n + 1 })
-  taken_own active n =
-      ap₂ (λ fs ls. parted (by_number fs) (map stint_of (taker t q).stints) (own_words q.base q.size s.cells ls) (by_number (own_progress (taker t q) (lent q t s).spots)))
-      (fixtures-set q s.spots t (lent_spot q.p (spot_at s.spots t)) taken_inside (λ _. refl))
-      (leases-idle s.spots t (lent_spot q.p (spot_at s.spots t)) taken_inside free.idle free.idle)
-      ∙ ap₂ (λ xs ps. parted (by_number (own_fixture q s.spots)) xs (own_words q.base q.size s.cells (leases_of s.spots)) (by_number ps))
-      (map_push stint_of q.stints (record { device = t; loan = Lent })) (taken_progress active)
-    where
-      parted : List (Option Fixture) → List Stint → List ℕ → List Progress → Stock
-      parted fs xs ws ps = record { claims = record { size = q.size; claimed = set q.claimed t true; fixtures = fs; pool = q.pool; served = q.served }; spooled = q.spooled; asked = n + 1; stints = xs; store = ws; devices = ps }
-
-  -- and to another program
-  module _ (r : Part) (ne : r.p ≢ q.p) where
-    not_its : is_holder r.p (Some q.p) ≡ is_holder r.p (spot_at s.spots t).holder
-    not_its = ne_eqb q.p r.p (λ same. ne (sym same)) ∙ sym (ap (is_holder r.p) free.holder)
-
-    pub taken_other : (n : ℕ) → own_stock r n (lent q t s) ≡ own_stock r n s
-    taken_other n =
-        stock-idle r n s t (lent_spot q.p (spot_at s.spots t)) taken_inside free.idle free.idle (λ _. refl)
-        (ap (λ b. cond b (spot_at s.spots t).progress (left_in r.stints t)) not_its)
-
-    pub taken_other_kept : IsKept r s → IsKept r (lent q t s)
-    taken_other_kept its =
-        kept-spot r s t (lent_spot q.p (spot_at s.spots t)) s.cells taken_inside its
-        (λ has. cc (sym free.holder ∙ its.owned t has)) (its.there t) (λ _ none. cc none) not_its
-
-    pub taken_other_active : IsActive r s → IsActive r (lent q t s)
-    taken_other_active its = active-spot r s t (lent_spot q.p (spot_at s.spots t)) s.cells taken_inside its not_its
+    pub taken_own : IsActive q → (n : ℕ) → own_stock (taker t q) (n + 1) s ≡ taking t (record (own_stock q n s) { asked = n + 1 })
+    taken_own active n =
+        ap₂ (λ xs ps. parted xs (by_number ps)) (map_push stint_of q.stints (record { device = t; loan = Lent })) (taken_progress active)
+      where
+        parted : List Stint → List Progress → Stock
+        parted xs ps = record { claims = record { size = q.size; claimed = set q.claimed t true; fixtures = by_number (own_fixture q s.spots); pool = q.pool; served = q.served }; spooled = q.spooled; asked = n + 1; stints = xs; store = own_words q.base q.size s.cells (leases_of s.spots); devices = ps }
 
 -- ---- the device of a program leaves it
 
 -- a device of the pool is the program's, and has no transfer
 pub record IsIts (q : Part) (s : Shared) (d : ℕ) : Type 0 where
   pub pooled : in_pool q d ≡ true
-  pub holder : (spot_at s.spots d).holder ≡ Some q.p
+  pub lent : lends q.stints d ≡ true
   pub idle : (spot_at s.spots d).flight ≡ None
 
 -- the program, with these marks, whose stint has this device so
@@ -285,33 +239,33 @@ module _ (q : Part) (s : Shared) (d : ℕ) (inside : d < length s.spots) (kept :
         record {
           few = kept.few;
           apart = kept.apart;
-          owned = at_spot s.spots d (blank_spot was) inside (λ e y. owns q.devices e ≡ true → y.holder ≡ Some q.p) (λ has. cc (sym (kept.apart d has) ∙ its.pooled)) (λ e ne. kept.owned e);
           there = at_spot s.spots d (blank_spot was) inside (λ e y. (k : Kind) → pool_kind q e ≡ Some k → y.fixture ≡ Some (blank_fixture k))
               (λ k is. ap (option_map (λ (f : Fixture). blank_fixture f.kind)) (kept.there d k is)) (λ e ne. kept.there e);
-          fresh = at_spot s.spots d (blank_spot was) inside (λ e y. in_pool q e ≡ true → y.holder ≡ None → y.progress ≡ new_progress) (λ _ _. refl) (λ e ne. kept.fresh e);
           pooled = All-map (λ (y : Keeping). in_pool q y.device ≡ true) (with_loan d loan) q.stints (λ k z lt. ap (in_pool q) (device_with d loan (get_or q.stints k z)) ∙ kept.pooled k z lt);
           kinds = All-map (λ (y : Keeping). IsOfKind (pool_kind q y.device) y.loan) (with_loan d loan) q.stints
               (λ k z lt. by_open (λ y. IsOfKind (pool_kind q y.device) y.loan) d loan (get_or q.stints k z)
               (λ is. subst (λ e. IsOfKind (pool_kind q e) loan) (sym (eqb-true (get_or q.stints k z).device d (and_parts _ _ is).0)) of_kind)
               (λ _. kept.kinds k z lt));
-          has = at_spot s.spots d (blank_spot was) inside (λ e y. in_pool q e ≡ true → is_holder q.p y.holder ≡ lends (map (with_loan d loan) q.stints) e)
-              (λ _. sym (lends_here q.stints d loan not_lent)) (λ e ne pooled. kept.has e pooled ∙ sym (lends_there q.stints d e loan ne));
           one = apart_with q.stints d loan kept.one;
         }
 
-    pub given_none : is_left loan ≡ false → IsActive q s → All IsNotLeft (map (with_loan d loan) q.stints)
+    pub given_none : is_left loan ≡ false → IsActive q → All IsNotLeft (map (with_loan d loan) q.stints)
     given_none not_left active =
         All-map IsNotLeft (with_loan d loan) q.stints
         (λ k z lt. by_open IsNotLeft d loan (get_or q.stints k z) (λ _. not_left) (λ _. active.none_left k z lt))
 
     -- without its mark, where the program goes on
-    pub given_active : is_left loan ≡ false → IsActive q s → IsActive (giver (set q.claimed d false) d loan q) (emptied d s)
+    pub given_active : is_left loan ≡ false → IsActive q → IsActive (giver (set q.claimed d false) d loan q)
     given_active not_left active =
         record {
           sized = length-set q.claimed d false ∙ active.sized;
-          marks = at_spot s.spots d (blank_spot was) inside (λ e y. in_pool q e ≡ true → get_or (set q.claimed d false) e false ≡ is_holder q.p y.holder)
-              (λ _. get_or-set_same q.claimed d false false (let e = active.sized in let small = kept.few d its.pooled in omega (arith, limit_is)))
-              (λ e ne pooled. get_or-set_other q.claimed d e false false ne ∙ active.marks e pooled);
+          marks = λ e pooled. ⊎_elim
+              (λ (same : e ≡ d).
+              ap (λ k. get_or (set q.claimed d false) k false) same
+              ∙ get_or-set_same q.claimed d false false (let a = active.sized in let small = kept.few d its.pooled in omega (arith, limit_is))
+              ∙ sym (ap (lends (map (with_loan d loan) q.stints)) same ∙ lends_here q.stints d loan not_lent))
+              (λ (ne : e ≢ d). get_or-set_other q.claimed d e false false ne ∙ active.marks e pooled ∙ sym (lends_there q.stints d e loan ne))
+              (cases_eq e d);
           none_left = given_none not_left active;
         }
 
@@ -319,7 +273,7 @@ module _ (q : Part) (s : Shared) (d : ℕ) (sound : IsSound s) (kept : IsKept q 
   gone_small : d < device_count
   gone_small = kept.few d its.pooled
 
-  gone_inside : d < length s.spots
+  pub gone_inside : d < length s.spots
   gone_inside = let e = sound.spots in let small = gone_small in omega arith
 
   abbrev x : Spot
@@ -330,7 +284,10 @@ module _ (q : Part) (s : Shared) (d : ℕ) (sound : IsSound s) (kept : IsKept q 
 
   -- the device is in a stint's place
   gone_open : list_any (is_open_of d) q.stints ≡ true
-  gone_open = lends_open q.stints d (sym (kept.has d its.pooled) ∙ is_its q.p x.holder its.holder)
+  gone_open = lends_open q.stints d its.lent
+
+  pub has_it : has_device q d ≡ true
+  has_it = or_right (owns q.devices d) (lends q.stints d) its.lent
 
   -- it is a blank one of its kind, but for what it moved
   pub gone_kind : option_map blank_fixture (pool_kind q d) ≡ Some (fixture_or x.fixture)
@@ -340,30 +297,35 @@ module _ (q : Part) (s : Shared) (d : ℕ) (sound : IsSound s) (kept : IsKept q 
     pub gone_kept : IsKept (giver claimed d loan q) (emptied d s)
     gone_kept = given_kept q s d gone_inside kept its claimed loan of_kind not_lent
 
-    none_left : is_left loan ≡ false → IsActive q s → All IsNotLeft (map (with_loan d loan) q.stints)
+    none_left : is_left loan ≡ false → IsActive q → All IsNotLeft (map (with_loan d loan) q.stints)
     none_left = given_none q s d gone_inside kept its claimed loan of_kind not_lent
 
-    pub gone_active : is_left loan ≡ false → IsActive q s → IsActive (giver (set q.claimed d false) d loan q) (emptied d s)
+    -- the program has it no longer
+    pub gone_from : has_device (giver claimed d loan q) d ≡ false
+    gone_from = ap₂ (λ a b. a || b) (not_owned q s d kept its.pooled) (lends_here q.stints d loan not_lent)
+
+    pub gone_active : is_left loan ≡ false → IsActive q → IsActive (giver (set q.claimed d false) d loan q)
     gone_active = given_active q s d gone_inside kept its claimed loan of_kind not_lent
 
   -- what is shown where it is given back
-  gone_progress : IsActive q s → by_number (own_progress (giver (set q.claimed d false) d (back_from x) q) (emptied d s).spots) ≡ set (by_number (own_progress q s.spots)) d new_progress
+  gone_progress : IsActive q → by_number (own_progress (giver (set q.claimed d false) d (back_from x) q) (emptied d s).spots) ≡ set (by_number (own_progress q s.spots)) d new_progress
   gone_progress active =
       number-set (own_progress q s.spots) (own_progress (giver (set q.claimed d false) d (back_from x) q) (emptied d s).spots) d new_progress gone_small
       (ap (progress_in (giver (set q.claimed d false) d (back_from x) q) d) (get_or-set_same s.spots d (blank_spot x) no_spot gone_inside)
+      ∙ ap (λ b. cond b new_progress (left_in (map (with_loan d (back_from x)) q.stints) d)) (gone_from (set q.claimed d false) (back_from x) gone_kind refl)
       ∙ none_kept (map (with_loan d (back_from x)) q.stints) d (none_left (set q.claimed d false) (back_from x) gone_kind refl refl active))
       (λ e ne.
       ap (progress_in (giver (set q.claimed d false) d (back_from x) q) e) (get_or-set_other s.spots d e (blank_spot x) no_spot ne)
-      ∙ ap (λ p. cond (has_device q (spot_at s.spots e)) (spot_at s.spots e).progress p) (left_there q.stints d e (back_from x) ne))
+      ∙ ap₂ (λ b p. cond (owns q.devices e || b) (spot_at s.spots e).progress p) (lends_there q.stints d e (back_from x) ne) (left_there q.stints d e (back_from x) ne))
 
-  pub gone_own : IsActive q s → (n : ℕ) → own_stock (giver (set q.claimed d false) d (back_from x) q) n (emptied d s) ≡ begun (Releases true d) (own_stock q n s)
+  pub gone_own : IsActive q → (n : ℕ) → own_stock (giver (set q.claimed d false) d (back_from x) q) n (emptied d s) ≡ begun (Releases true d) (own_stock q n s)
   gone_own active n =
       ap₂ (λ fs ls. parted (by_number fs) (map stint_of (map (with_loan d (back_from x)) q.stints)) (own_words q.base q.size s.cells ls) (by_number (own_progress (giver (set q.claimed d false) d (back_from x) q) (emptied d s).spots)))
       (fixtures-set q s.spots d (blank_spot x) gone_inside (λ has. cc (sym (kept.apart d has) ∙ its.pooled)))
       (leases-idle s.spots d (blank_spot x) gone_inside its.idle refl)
       ∙ ap₂ (λ xs ps. parted (by_number (own_fixture q s.spots)) xs (own_words q.base q.size s.cells (leases_of s.spots)) ps)
       (stints_back q.stints d (fixture_or x.fixture) x.progress
-      ∙ ap (λ p. map (handed d p) (map stint_of q.stints)) (sym (own_device q n s d gone_small (is_its q.p x.holder its.holder))))
+      ∙ ap (λ p. map (handed d p) (map stint_of q.stints)) (sym (own_device q n s d gone_small has_it)))
       (gone_progress active)
     where
       parted : List (Option Fixture) → List Stint → List ℕ → List Progress → Stock
@@ -374,9 +336,10 @@ module _ (q : Part) (s : Shared) (d : ℕ) (sound : IsSound s) (kept : IsKept q 
   left_progress =
       fun_ext
       (at_spot s.spots d (blank_spot x) gone_inside (λ e y. progress_in (giver q.claimed d (Left (fixture_or x.fixture) x.progress) q) e y ≡ own_progress q s.spots e)
-      (left_here q.stints d (fixture_or x.fixture) x.progress gone_open
-      ∙ sym (ap (λ b. cond b x.progress (left_in q.stints d)) (is_its q.p x.holder its.holder)))
-      (λ e ne. ap (λ p. cond (has_device q (spot_at s.spots e)) (spot_at s.spots e).progress p) (left_there q.stints d e (Left (fixture_or x.fixture) x.progress) ne)))
+      (ap (λ b. cond b new_progress (left_in (map (with_loan d (Left (fixture_or x.fixture) x.progress)) q.stints) d)) (gone_from q.claimed (Left (fixture_or x.fixture) x.progress) gone_kind refl)
+      ∙ left_here q.stints d (fixture_or x.fixture) x.progress gone_open
+      ∙ sym (ap (λ b. cond b x.progress (left_in q.stints d)) has_it))
+      (λ e ne. ap₂ (λ b p. cond (owns q.devices e || b) (spot_at s.spots e).progress p) (lends_there q.stints d e (Left (fixture_or x.fixture) x.progress) ne) (left_there q.stints d e (Left (fixture_or x.fixture) x.progress) ne)))
 
   pub left_own : (n : ℕ) → own_stock (giver q.claimed d (Left (fixture_or x.fixture) x.progress) q) n (emptied d s) ≡ own_stock q n s
   left_own n =
@@ -390,26 +353,14 @@ module _ (q : Part) (s : Shared) (d : ℕ) (sound : IsSound s) (kept : IsKept q 
       parted : List (Option Fixture) → List Stint → List ℕ → List Progress → Stock
       parted fs xs ws ps = record { claims = claims q fs; spooled = q.spooled; asked = n; stints = xs; store = ws; devices = ps }
 
-  -- and to another program
-  module _ (r : Part) (ne : r.p ≢ q.p) (other : IsKept r s) where
-    gone_not : is_holder r.p (let o : Option ℕ = None in o) ≡ is_holder r.p x.holder
-    gone_not = sym (ap (is_holder r.p) its.holder ∙ ne_eqb q.p r.p (λ same. ne (sym same)))
-
-    not_owned : owns r.devices d ≡ true → ⊥
-    not_owned has = ne (some_same (sym (other.owned d has) ∙ its.holder))
-      where
-        some_same : {a b : ℕ} → Some a ≡ Some b → a ≡ b
-        some_same e = cc
-
+  -- and to another program, whose it isn't
+  module _ (r : Part) (not_its : has_device r d ≡ false) where
     pub gone_other : (n : ℕ) → own_stock r n (emptied d s) ≡ own_stock r n s
     gone_other n =
-        stock-idle r n s d (blank_spot x) gone_inside its.idle refl (λ has. absurd (not_owned has))
-        (sym (ap (λ b. cond b x.progress (left_in r.stints d)) (sym gone_not)))
+        stock-idle r n s d (blank_spot x) gone_inside its.idle refl (λ has. cc (sym (or_parts (owns r.devices d) (lends r.stints d) not_its).0 ∙ has))
+        (progress-same r d (blank_spot x) x (λ has. cc (sym not_its ∙ has)))
 
-    pub gone_other_kept : IsKept r (emptied d s)
-    gone_other_kept =
-        kept-spot r s d (blank_spot x) s.cells gone_inside other (λ has. absurd (not_owned has))
-        (λ k is. ap (option_map (λ (f : Fixture). blank_fixture f.kind)) (other.there d k is)) (λ _ _. refl) gone_not
-
-    pub gone_other_active : IsActive r s → IsActive r (emptied d s)
-    gone_other_active active = active-spot r s d (blank_spot x) s.cells gone_inside active gone_not
+    pub gone_other_kept : IsKept r s → IsKept r (emptied d s)
+    gone_other_kept other =
+        kept-spot r s d (blank_spot x) s.cells gone_inside other
+        (λ k is. ap (option_map (λ (f : Fixture). blank_fixture f.kind)) (other.there d k is))

@@ -1,8 +1,8 @@
 -- The stints of a program are those of its state.
-use Rattle.std.proofs.Common.{◌≡◌, ◌≢◌, ℕ, zero, suc, ◌<◌, ◌≤◌, Bool, true, false, ◌&&◌, eqb, not, List, [], ◌∷◌, length, get_or, map, Option, Some, None, is_some, cond, refl, sym, ap, ◌∙◌, subst, ⊎_elim, arith}
+use Rattle.std.proofs.Common.{◌≡◌, ◌≢◌, ℕ, zero, suc, ◌<◌, ◌≤◌, Bool, true, false, ◌&&◌, ◌||◌, eqb, not, List, [], ◌∷◌, length, get_or, map, Option, Some, None, is_some, cond, refl, sym, ap, ◌∙◌, subst, ⊎_elim, arith}
 use Rattle.std.specs.List.{AllPairs}
 use Rattle.std.specs.Option.{option_map}
-use Rattle.std.proofs.lemmas.Bool.{and_parts, cases_Bool, cases_eq, cases_lt, eq-eqb, eqb-true}
+use Rattle.std.proofs.lemmas.Bool.{and_parts, cases_Bool, cases_eq, cases_lt, eq-eqb, eqb-true, or_right}
 use Rattle.kdf_journal.specs.declared.kind.Kind.{Kind}
 use Rattle.kdf_journal.specs.declared.kind.Kind.TheVariants.{Tp}
 use Rattle.std.specs.Prelude.{find, slice_get, unwrap_or, IfSome}
@@ -14,7 +14,7 @@ use Rattle.kdf_processor.specs.State.{device_in, lending_of, lendings}
 use Rattle.kdf_processor.specs.Stints.{IsStint}
 use Rattle.kdf_director.specs.Fields.Keeping.{IsKept}
 use Rattle.kdf_director.specs.Fields.Owners.{IsTold, fixture_told, progress_told}
-use Rattle.kdf_director.specs.Fields.Parts.{Part, in_pool, own_progress, own_stock, pool_kind}
+use Rattle.kdf_director.specs.Fields.Parts.{Part, in_pool, own_progress, own_stock, owns, pool_kind}
 use Rattle.kdf_places.specs.Shared.{Shared}
 use Rattle.kdf_places.specs.Spots.{fixture_or, spot_at}
 use Rattle.kdf_director.specs.Fields.Stints.{Keeping, IsOfKind, Loan, Lent, Left, Back, is_left, is_lent, is_open, kept_by, left_in, lends, no_keeping, progress_back, progress_left, stint_of}
@@ -122,16 +122,20 @@ module _ (q : Part) (n : ℕ) (s : Shared) (kept : IsKept q s) (i : ℕ) (lt : i
   device_is : device_in (own_stock q n s) x.device ≡ own_progress q s.spots x.device
   device_is = number_at (own_progress q s.spots) x.device new_progress (kept.few x.device pooled)
 
+  -- it is none of the slot's
+  not_own : owns q.devices x.device ≡ false
+  not_own = ⊎_elim (λ (own : owns q.devices x.device ≡ true). cc (sym (kept.apart x.device own) ∙ pooled)) (λ (not_so : owns q.devices x.device ≡ false). not_so) (cases_Bool (owns q.devices x.device))
+
   -- the place of a device that is lent
   pub there_lent : is_lent x.loan ≡ true → is_some (spot_at s.spots x.device).fixture ≡ true
   there_lent lent = ap is_some (kept.there x.device kind.0 kind.1)
 
   in_place : is_lent x.loan ≡ true → own_progress q s.spots x.device ≡ (spot_at s.spots x.device).progress
-  in_place lent = ap (λ b. cond b (spot_at s.spots x.device).progress (left_in q.stints x.device)) (kept.has x.device pooled ∙ lent_at q.stints i lt lent)
+  in_place lent = ap (λ b. cond b (spot_at s.spots x.device).progress (left_in q.stints x.device)) (or_right (owns q.devices x.device) (lends q.stints x.device) (lent_at q.stints i lt lent))
 
   kept_back : (f : Fixture) (p : Progress) → x.loan ≡ Left f p → own_progress q s.spots x.device ≡ p
   kept_back f p is =
-      ap (λ b. cond b (spot_at s.spots x.device).progress (left_in q.stints x.device)) (kept.has x.device pooled ∙ not_lent q.stints kept.one i lt (ap is_left is))
+      ap (λ b. cond b (spot_at s.spots x.device).progress (left_in q.stints x.device)) (ap (λ b. b || lends q.stints x.device) not_own ∙ not_lent q.stints kept.one i lt (ap is_left is))
       ∙ left_at q.stints kept.one i f p lt is
 
   of_kind : (l : Loan) → x.loan ≡ l → (f : Fixture) → IsOfKind (pool_kind q x.device) l → fixture_told l (spot_at s.spots x.device) ≡ f → f ≡ blank_fixture kind.0

@@ -180,7 +180,7 @@ module _ (s : Shared) (q : Part) (d : ℕ) (h : Held) (n : ℕ) (sound : IsSound
   same_fixtures r = fixtures-set r s.spots d (moved_spot n x) inside (λ has. refl)
 
   same_progress : (r : Part) → own_progress r (after_move d n s).spots ≡ own_progress r s.spots
-  same_progress r = progress-set r s.spots d (moved_spot n x) inside refl (λ has. refl)
+  same_progress r = progress-set r s.spots d (moved_spot n x) inside (λ has. refl)
 
   -- what is shown of the program after n words
   pub moves_own : (m : ℕ) → own_stock q m (after_move d n s) ≡ stock q (own_claims q s) m (written (flight_moves q.base n t) (own_words q.base q.size s.cells (leases_of s.spots))) (by_number (own_progress q s.spots))

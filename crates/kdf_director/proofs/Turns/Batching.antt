@@ -1,7 +1,7 @@
 -- Orders of one program that are tried one after the other, of which nothing is noted.
 use Rattle.std.specs.Prelude.{unwrap_or}
-use Rattle.std.proofs.Common.{◌≡◌, ℕ, zero, suc, ◌+◌, ◌<◌, Bool, true, false, List, length, get_or, set, Option, Some, None, refl, sym, ap, ◌∙◌, subst, arith}
-use Rattle.std.proofs.lemmas.List.{get_or-set_same, length-set, map-set, set-get_or, set-set}
+use Rattle.std.proofs.Common.{◌≡◌, ℕ, zero, suc, ◌+◌, ◌<◌, Bool, true, false, List, length, set, Option, Some, None, refl, sym, ap, ◌∙◌, subst, arith}
+use Rattle.std.proofs.lemmas.List.{get_or-set_same, length-set, set-get_or, set-set}
 use Rattle.kdf_processor.specs.declared.registers.Registers.{Registers}
 use Rattle.kdf_processor.specs.declared.step.Need.{Need}
 use Rattle.kdf_processor.specs.declared.step.Step.{Step}
@@ -14,21 +14,19 @@ use Rattle.kdf_processor.specs.View.{View, first_pending}
 use Rattle.kdf_director.specs.declared.moment.Moment.{Moment}
 use Rattle.kdf_director.specs.declared.note.Note.{Note}
 use Rattle.kdf_director.specs.declared.note.Note.TheVariants as note
-use Rattle.kdf_relocate.specs.declared.window.Window.{Window}
-use Rattle.kdf_director.specs.declared.program.Program.{Program}
-use Rattle.kdf_director.specs.declared.slot.Loaded.{Loaded}
 use Rattle.kdf_director.specs.Fields.Batches.{AreQuiet, HasBatch, HasTriedOn, HasTurnedOn}
-use Rattle.kdf_director.specs.Fields.Parts.{Part, Reach, Seat, part_in, reach_of, seat_of}
+use Rattle.kdf_theory.specs.Holders.{held_by}
+use Rattle.kdf_director.specs.Fields.Agrees.{AreHeld}
+use Rattle.kdf_director.specs.Fields.Parts.{Part, Reach, Seat, part_in}
 use Rattle.kdf_places.specs.Shared.{Shared}
-use Rattle.kdf_director.specs.Fields.Running.{no_seat, reach_at, reaches_in, seat_at, seats_in, IsRunning}
+use Rattle.kdf_director.specs.Fields.Running.{no_seat, reach_at, seat_at, IsRunning}
 use Rattle.kdf_director.specs.Fields.Settled.{Both, both_of, settled}
 use Rattle.kdf_director.specs.Fields.Shared.{moment, view}
 use Rattle.kdf_director.specs.Fields.TurnTaken.{HasAsked}
 use Rattle.kdf_director.specs.declared.turn.Turn.{Turn}
-use Rattle.kdf_director.specs.Fields.Turn.{reach_in, SameProgram}
-use Rattle.kdf_director.specs.Fields.Turned.{both_after, outcome_over, word_over, HasRun, HasTried, HasTurned}
+use Rattle.kdf_director.specs.Fields.Turn.{held_in, reach_in, SameProgram}
+use Rattle.kdf_director.specs.Fields.Turned.{both_after, outcome_over, told, word_over, HasRun, HasTried, HasTurned}
 use Rattle.kdf_director.proofs.Turns.HeardWords.{has_none, none_served}
-use Rattle.kdf_director.proofs.Turns.OneProgram.{reach_is, seat_is, within}
 use Rattle.kdf_director.proofs.Turns.DevicesLeave.{run_by, settled_on}
 use Rattle.kdf_director.proofs.Turns.AfterTheTry.{turned, turned_running}
 
@@ -57,19 +55,19 @@ held_on v r None e is = done_on v r e is
 pub goes_on : (v : View) (r : Registers) → (outcome v r).step ≡ step.Done → GoesOn r (outcome v r).registers
 goes_on v r is = held_on v r (first_pending v (needs_at v.claims v.word r v.mine)) (effect_at v.claims v.word r) is
 
-module _ (reach : Reach) (m : Moment) where
+module _ (reach : Reach) (held : ℕ → Option ℕ) (m : Moment) where
   abbrev Tries : Seat → Shared → Seat → Shared → Step → Note → Type 0
-  Tries = HasTried reach m
+  Tries = HasTried reach held m
 
   abbrev Runs : Seat → Shared → Seat → Shared → Step → Note → Type 0
-  Runs = HasRun reach m
+  Runs = HasRun reach held m
 
   -- a program that tried an order, which was obeyed
   pub went_on : (before : Seat) (s : Shared) (after : Seat) (left : Shared) (noted : Note) → Tries before s after left step.Done noted → GoesOn before.registers after.registers
   went_on before s after left noted tried =
-      let o : Outcome = outcome_over before reach m s in
+      let o : Outcome = outcome_over before reach (told before held m) s in
       subst (GoesOn before.registers) (sym (ap (λ (x : Seat). x.registers) tried.program))
-      (goes_on (view (part_in before reach) m s) before.registers (sym tried.step))
+      (goes_on (view (part_in before reach) (told before held m) s) before.registers (sym tried.step))
 
   -- after so many, it was the last of them
   pub last_by : (n k : ℕ) (before : Seat) (s : Shared) (mid : Seat) (between : Shared) (after : Seat) (left : Shared) (ended ended' : Step) (noted noted' : Note) → AreQuiet Tries n before s mid between → n ≡ k → Tries mid between after left ended noted → ended ≡ ended' → noted' ≡ noted → HasBatch Tries k before s after left ended' noted'
@@ -85,7 +83,7 @@ module _ (reach : Reach) (m : Moment) where
   pub run_on : (before : Seat) (s : Shared) (after : Seat) (left : Shared) (noted : Note) → is_live before.registers.state ≡ true → Tries before s after left step.Done noted → Runs before s after left step.Done noted × is_live after.registers.state ≡ true
   run_on before s after left noted live tried =
       let on : is_live after.registers.state ≡ true = ap is_live (went_on before s after left noted tried).state ∙ live in
-      (run_by reach m before s after left after left step.Done noted tried (settled_on (both_of after left) on), on)
+      (run_by reach held m before s after left after left step.Done noted tried (settled_on (both_of after left) on), on)
 
   -- nor do so many
   pub runs_on : (n : ℕ) (before : Seat) (s : Shared) (after : Seat) (left : Shared) → is_live before.registers.state ≡ true → AreQuiet Tries n before s after left → AreQuiet Runs n before s after left × is_live after.registers.state ≡ true
@@ -102,7 +100,7 @@ module _ (reach : Reach) (m : Moment) where
         mid = batch.mid;
         between = batch.between;
         earlier = (runs_on n before s batch.mid batch.between live batch.earlier).0;
-        last = run_by reach m batch.mid batch.between mid between after left ended noted batch.last is;
+        last = run_by reach held m batch.mid batch.between mid between after left ended noted batch.last is;
       }
 
   -- and where there was no memory for it, the program goes on
@@ -116,57 +114,64 @@ module _ (reach : Reach) (m : Moment) where
   pub live_on : (before : Seat) (s : Shared) (after : Seat) (left : Shared) (noted : Note) → is_live before.registers.state ≡ true → Runs before s after left step.Done noted → is_live after.registers.state ≡ true
   live_on before s after left noted live ran =
       let q : Part = part_in before reach in
-      let o : Outcome = outcome_over before reach m s in
-      let on : is_live o.registers.state ≡ true = ap is_live (goes_on (view q m s) before.registers (sym ran.step)).state ∙ live in
+      let o : Outcome = outcome_over before reach (told before held m) s in
+      let on : is_live o.registers.state ≡ true = ap is_live (goes_on (view q (told before held m) s) before.registers (sym ran.step)).state ∙ live in
       ap (λ (b : Both). is_live b.seat.registers.state) (ran.both ∙ sym (settled_on (both_after q s o) on)) ∙ on
 
 -- what is tried over a turn is tried over one of the same program
-pub tried_over : (t u : Turn) → SameProgram t u → (before : Seat) (s : Shared) (after : Seat) (left : Shared) (ended : Step) (noted : Note) → HasTried (reach_in u) u.moment before s after left ended noted → HasTried (reach_in t) t.moment before s after left ended noted
+pub tried_over : (t u : Turn) → SameProgram t u → (before : Seat) (s : Shared) (after : Seat) (left : Shared) (ended : Step) (noted : Note) → HasTried (reach_in u) (held_in u) u.moment before s after left ended noted → HasTried (reach_in t) (held_in t) t.moment before s after left ended noted
 tried_over t u same before s after left ended noted tried =
-    subst (λ m. HasTried (reach_in t) m before s after left ended noted) same.same.moment
-    (subst (λ r. HasTried r u.moment before s after left ended noted) same.reach tried)
+    subst (λ J. HasTried (reach_in t) (held_by J) t.moment before s after left ended noted) same.same.journal
+    (subst (λ m. HasTried (reach_in t) (held_in u) m before s after left ended noted) same.same.moment
+    (subst (λ r. HasTried r (held_in u) u.moment before s after left ended noted) same.reach tried))
+
+-- an order of which nothing is noted leaves who has the devices of the pool
+pub still_held : (reaches : List Reach) (held : ℕ → Option ℕ) (m : Moment) (i : ℕ) (before : List Seat) (s : Shared) (after : List Seat) (left : Shared) → HasTurned reaches m i before s after left step.Done note.Quiet → AreHeld held reaches before → AreHeld held reaches after
+still_held reaches held m i before s after left turn lent j d lt pooled =
+    turn.holders d ∙ lent j d (let count = turn.count in omega arith) pooled
 
 -- program i of all
-module _ (reaches : List Reach) (m : Moment) (i : ℕ) where
+module _ (reaches : List Reach) (held : ℕ → Option ℕ) (m : Moment) (i : ℕ) where
   abbrev Turns : List Seat → Shared → List Seat → Shared → Step → Note → Type 0
   Turns = HasTurnedOn reaches m i
 
   abbrev Goes : Seat → Shared → Seat → Shared → Step → Note → Type 0
-  Goes = HasRun (reach_at reaches i) m
+  Goes = HasRun (reach_at reaches i) held m
 
-  pub turn_on : (seats : List Seat) (s : Shared) (new : Seat) (left : Shared) (ended : Step) (noted : Note) → IsRunning reaches seats s → i < length seats → is_live (seat_at seats i).registers.state ≡ true → Goes (seat_at seats i) s new left ended noted → Turns seats s (set seats i new) left ended noted
-  turn_on seats s new left ended noted run lt live ran = (turned reaches seats m s i run lt live new left ended noted ran, turned_running reaches seats m s i run lt live new left ended noted ran)
+  pub turn_on : (seats : List Seat) (s : Shared) (new : Seat) (left : Shared) (ended : Step) (noted : Note) → IsRunning reaches seats s → AreHeld held reaches seats → i < length seats → is_live (seat_at seats i).registers.state ≡ true → Goes (seat_at seats i) s new left ended noted → Turns seats s (set seats i new) left ended noted
+  turn_on seats s new left ended noted run lent lt live ran = (turned reaches seats m s i run lt live held lent new left ended noted ran, turned_running reaches seats m s i run lt live held lent new left ended noted ran)
 
   -- after one that goes on, from where it is
-  turn_then : (seats : List Seat) (s : Shared) (mid : Seat) (between : Shared) (new : Seat) (left : Shared) (ended : Step) (noted : Note) → i < length seats → IsRunning reaches (set seats i mid) between → is_live mid.registers.state ≡ true → Goes mid between new left ended noted → Turns (set seats i mid) between (set seats i new) left ended noted
-  turn_then seats s mid between new left ended noted lt run live ran =
+  turn_then : (seats : List Seat) (s : Shared) (mid : Seat) (between : Shared) (new : Seat) (left : Shared) (ended : Step) (noted : Note) → i < length seats → IsRunning reaches (set seats i mid) between → AreHeld held reaches (set seats i mid) → is_live mid.registers.state ≡ true → Goes mid between new left ended noted → Turns (set seats i mid) between (set seats i new) left ended noted
+  turn_then seats s mid between new left ended noted lt run lent live ran =
       let at : seat_at (set seats i mid) i ≡ mid = get_or-set_same seats i mid no_seat lt in
       subst (λ xs. Turns (set seats i mid) between xs left ended noted) (set-set seats i mid new)
-      (turn_on (set seats i mid) between new left ended noted run (omega (arith, length-set seats i mid))
+      (turn_on (set seats i mid) between new left ended noted run lent (omega (arith, length-set seats i mid))
       (ap (λ (x : Seat). is_live x.registers.state) at ∙ live)
       (subst (λ x. Goes x between new left ended noted) (sym at) ran))
 
-  pub turns_on : (n : ℕ) (seats : List Seat) (s : Shared) (new : Seat) (left : Shared) → IsRunning reaches seats s → i < length seats → is_live (seat_at seats i).registers.state ≡ true → AreQuiet Goes n (seat_at seats i) s new left
-      → AreQuiet Turns n seats s (set seats i new) left × IsRunning reaches (set seats i new) left × (is_live new.registers.state ≡ true)
-  turns_on zero seats s new left run lt live same =
+  pub turns_on : (n : ℕ) (seats : List Seat) (s : Shared) (new : Seat) (left : Shared) → IsRunning reaches seats s → AreHeld held reaches seats → i < length seats → is_live (seat_at seats i).registers.state ≡ true → AreQuiet Goes n (seat_at seats i) s new left
+      → AreQuiet Turns n seats s (set seats i new) left × IsRunning reaches (set seats i new) left × AreHeld held reaches (set seats i new) × (is_live new.registers.state ≡ true)
+  turns_on zero seats s new left run lent lt live same =
       let still : set seats i new ≡ seats = ap (set seats i) same.0 ∙ set-get_or seats i no_seat in (
         (still, same.1),
         subst (IsRunning reaches (set seats i new)) (sym same.1) (subst (λ xs. IsRunning reaches xs s) (sym still) run),
+        subst (AreHeld held reaches) (sym still) lent,
         ap (λ (x : Seat). is_live x.registers.state) same.0 ∙ live,
       )
-  turns_on (suc n) seats s new left run lt live (mid, between, earlier, last) =
-      let until = turns_on n seats s mid between run lt live earlier in
-      let then = turn_then seats s mid between new left step.Done note.Quiet lt until.1 until.2 last in
-      ((set seats i mid, between, until.0, then), then.1, live_on (reach_at reaches i) m mid between new left note.Quiet until.2 last)
+  turns_on (suc n) seats s new left run lent lt live (mid, between, earlier, last) =
+      let until = turns_on n seats s mid between run lent lt live earlier in
+      let then = turn_then seats s mid between new left step.Done note.Quiet lt until.1 until.2 until.3 last in
+      ((set seats i mid, between, until.0, then), then.1, still_held reaches held m i (set seats i mid) between (set seats i new) left then.0 until.2, live_on (reach_at reaches i) held m mid between new left note.Quiet until.3 last)
 
-  pub turns_by : (n : ℕ) (seats : List Seat) (s : Shared) (new : Seat) (left : Shared) (ended : Step) (noted : Note) → IsRunning reaches seats s → i < length seats → is_live (seat_at seats i).registers.state ≡ true → HasBatch Goes n (seat_at seats i) s new left ended noted → HasBatch Turns n seats s (set seats i new) left ended noted
-  turns_by n seats s new left ended noted run lt live batch =
-      let until = turns_on n seats s batch.mid batch.between run lt live batch.earlier in
+  pub turns_by : (n : ℕ) (seats : List Seat) (s : Shared) (new : Seat) (left : Shared) (ended : Step) (noted : Note) → IsRunning reaches seats s → AreHeld held reaches seats → i < length seats → is_live (seat_at seats i).registers.state ≡ true → HasBatch Goes n (seat_at seats i) s new left ended noted → HasBatch Turns n seats s (set seats i new) left ended noted
+  turns_by n seats s new left ended noted run lent lt live batch =
+      let until = turns_on n seats s batch.mid batch.between run lent lt live batch.earlier in
       record {
         mid = set seats i batch.mid;
         between = batch.between;
         earlier = until.0;
-        last = turn_then seats s batch.mid batch.between new left ended noted lt until.1 until.2 batch.last;
+        last = turn_then seats s batch.mid batch.between new left ended noted lt until.1 until.2 until.3 batch.last;
       }
 
 -- ---- what holds of each that is tried
@@ -182,33 +187,6 @@ pub still_running : (reaches : List Reach) (m : Moment) (i n : ℕ) (seats : Lis
 still_running reaches m i zero seats s seats' s' run same =
     subst (IsRunning reaches seats') (sym same.1) (subst (λ xs. IsRunning reaches xs s) (sym same.0) run)
 still_running reaches m i (suc n) seats s seats' s' run (mid, between, earlier, last) = last.1
-
--- ---- one program of all, and its slot
-module _ (windows : List Window) (slots : List Loaded) (programs : List Program) (i : ℕ) (lt : i < length programs) (many : length slots ≡ length programs) (slot : Loaded) (program : Program) (slot_is : slot ≡ get_or slots i slot) (program_is : program ≡ get_or programs i program)
-    (t : Moment) (s s' : Shared) (new : Program) (n : ℕ) (run : IsRunning (reaches_in windows slots) (seats_in programs) s) (live : is_live (seat_at (seats_in programs) i).registers.state ≡ true) where
-  abbrev rs : List Reach
-  rs = reaches_in windows slots
-
-  there : i < length (seats_in programs)
-  there = within windows slots programs i lt many slot program slot_is program_is
-
-  -- over what its slot reaches, and from its seat in the list
-  at_seat : (P : Reach → Seat → Type 0) → P (reach_of windows slot) (seat_of program) → P (reach_at rs i) (seat_at (seats_in programs) i)
-  at_seat P p =
-      subst (λ r. P r (seat_at (seats_in programs) i)) (reach_is windows slots programs i lt many slot program slot_is program_is)
-      (subst (P (reach_of windows slot)) (seat_is windows slots programs i lt many slot program slot_is program_is) p)
-
-  pub turns_all : (ended : Step) (noted : Note) → HasBatch (HasRun (reach_of windows slot) t) n (seat_of program) s (seat_of new) s' ended noted → HasBatch (HasTurnedOn rs t i) n (seats_in programs) s (seats_in (set programs i new)) s' ended noted
-  turns_all ended noted batch =
-      subst (λ xs. HasBatch (HasTurnedOn rs t i) n (seats_in programs) s xs s' ended noted) (sym (map-set seat_of programs i new))
-      (turns_by rs t i n (seats_in programs) s (seat_of new) s' ended noted run there live
-      (at_seat (λ r x. HasBatch (HasRun r t) n x s (seat_of new) s' ended noted) batch))
-
-  pub still_all : AreQuiet (HasRun (reach_of windows slot) t) n (seat_of program) s (seat_of new) s' → AreQuiet (HasTurnedOn rs t i) n (seats_in programs) s (seats_in (set programs i new)) s'
-  still_all quiet =
-      subst (λ xs. AreQuiet (HasTurnedOn rs t i) n (seats_in programs) s xs s') (sym (map-set seat_of programs i new))
-      (turns_on rs t i n (seats_in programs) s (seat_of new) s' run there live
-      (at_seat (λ r x. AreQuiet (HasRun r t) n x s (seat_of new) s') quiet)).0
 
 -- ---- what was heard of the service
 module _ (answers : ℕ → ℕ → Type 0) (reaches : List Reach) (time i : ℕ) where

@@ -1,5 +1,5 @@
 -- The devices of a program that is over leave their places, one after the other.
-use Rattle.std.proofs.Common.{◌≡◌, ℕ, suc, ◌+◌, ◌<◌, Bool, true, false, cond, List, length, get_or, map, set, sym, ap, ap₂, ◌∙◌, arith}
+use Rattle.std.proofs.Common.{◌≡◌, ℕ, suc, ◌+◌, ◌<◌, Bool, true, false, cond, List, length, get_or, map, set, Option, sym, ap, ap₂, ◌∙◌, arith}
 use Rattle.std.proofs.lemmas.List.{get_or-map, map-set}
 use Rattle.kdf_processor.specs.declared.registers.Registers.{Registers}
 use Rattle.kdf_processor.specs.declared.spooled.Spooled.{Spooled}
@@ -40,6 +40,6 @@ pub settled_on : (b : Both) → is_live b.seat.registers.state ≡ true → b �
 settled_on b live = sym (ap (λ l. cond l b (retired (length b.seat.stints) b)) live)
 
 -- after its order
-pub run_by : (reach : Reach) (m : Moment) (before : Seat) (s : Shared) (mid : Seat) (between : Shared) (after : Seat) (left : Shared) (ended : Step) (noted : Note) → HasTried reach m before s mid between ended noted → both_of after left ≡ settled (both_of mid between) → HasRun reach m before s after left ended noted
-run_by reach m before s mid between after left ended noted tried is =
+pub run_by : (reach : Reach) (held : ℕ → Option ℕ) (m : Moment) (before : Seat) (s : Shared) (mid : Seat) (between : Shared) (after : Seat) (left : Shared) (ended : Step) (noted : Note) → HasTried reach held m before s mid between ended noted → both_of after left ≡ settled (both_of mid between) → HasRun reach held m before s after left ended noted
+run_by reach held m before s mid between after left ended noted tried is =
     record { step = tried.step; note = tried.note; both = is ∙ ap₂ (λ a b. settled (both_of a b)) tried.program tried.shared }

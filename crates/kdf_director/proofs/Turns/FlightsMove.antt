@@ -1,5 +1,5 @@
 -- Words move and transfers end in the machine.
-use Rattle.std.proofs.Common.{◌≡◌, ◌≢◌, ℕ, ◌+◌, ◌<◌, ◌≤◌, ◌⊎◌, min, List, length, set, take, drop, Option, Some, None, is_some, cond, eqb, refl, sym, ap, ap₂, ◌∙◌, subst, ⊎_elim, arith}
+use Rattle.std.proofs.Common.{◌≡◌, ◌≢◌, ℕ, ◌+◌, ◌<◌, ◌≤◌, ◌⊎◌, min, true, List, length, get_or, set, take, drop, Option, Some, None, is_some, cond, eqb, refl, sym, ap, ap₂, ◌∙◌, subst, ⊎_elim, arith}
 use Rattle.std.proofs.lemmas.Bool.{cases_eq, eq-eqb, ne_eqb}
 use Rattle.std.proofs.lemmas.List.{get_or-set_same, get_or-set_other, set-get_or}
 use Rattle.kdf_transfer.specs.AtOnce.{is_input}
@@ -9,16 +9,19 @@ use Rattle.kdf_transfer.proofs.Words.{some-moved, covers-moved}
 use Rattle.kdf_transfer.specs.ByNumber.{device_count}
 use Rattle.kdf_processor.specs.declared.registers.Registers.{Registers}
 use Rattle.kdf_processor.specs.State.{State}
-use Rattle.kdf_places.specs.Spots.{Held, Spot, is_holder, no_spot, spot_at}
-use Rattle.kdf_director.specs.Fields.Parts.{Part, Seat, Reach, own_stock}
+use Rattle.kdf_places.specs.Spots.{Held, Spot, no_spot, spot_at}
+use Rattle.kdf_director.specs.Fields.Parts.{Part, Seat, Reach, has_device, in_pool, own_stock}
+use Rattle.kdf_director.specs.Fields.Stints.{lends}
+use Rattle.kdf_journal.specs.declared.kind.Kind.{Kind}
+use Rattle.kdf_director.proofs.Physical.PoolDevices.{has_pooled}
 use Rattle.kdf_places.specs.Shared.{Shared}
 use Rattle.kdf_places.specs.Transfers.{moved_spot, moved_held, after_move, ended_spot, ended_by, after_end, last_lease, back_cells, IsBack}
 use Rattle.kdf_director.specs.Fields.Running.{seat_at, part_at, own_state, moved_own, ended_own, IsHeld, IsRunning}
 use Rattle.kdf_director.specs.Fields.Sound.{IsFlightOf}
 use Rattle.kdf_director.proofs.Physical.WordsLand.{moves_own, moves_other}
 use Rattle.kdf_director.proofs.Physical.GroupsComeBack.{sound-move, sound-end, end_own, end_other, length-end, back-end}
-use Rattle.kdf_director.proofs.Physical.PlacesAlike.{active_by, kept_by, same_at}
-use Rattle.kdf_director.proofs.Turns.MomentsKept.{running_by}
+use Rattle.kdf_director.proofs.Physical.PlacesAlike.{kept_by, same_at}
+use Rattle.kdf_director.proofs.Turns.MomentsKept.{gained_none, running_by}
 use Rattle.kdf_director.proofs.Physical.PartsAlike.{same_part}
 use Rattle.kdf_director.proofs.Turns.OneOrder.{state, parts_apart, numbers_apart}
 
@@ -29,7 +32,7 @@ flight-moved q d n x h is =
     let t = h.motion in
     record {
       owner = is.owner;
-      holder = is.holder;
+      its = is.its;
       fixture = is.fixture;
       progress = is.progress;
       lease = some-moved (is_input t.order) (take n (drop t.moved (moves_of t))) t.lease ∙ is.lease;
@@ -42,17 +45,13 @@ flight-moved q d n x h is =
 -- where a device has no transfer, nothing moves
 pub none_moved : (s : Shared) (d n : ℕ) → (spot_at s.spots d).flight ≡ None → after_move d n s ≡ s
 none_moved s d n idle =
-    let same : moved_spot n (spot_at s.spots d) ≡ spot_at s.spots d = ap (λ f. let x : Spot = record { fixture = (spot_at s.spots d).fixture; progress = (spot_at s.spots d).progress; flight = f; holder = (spot_at s.spots d).holder } in x) (ap (moved_held n) idle ∙ sym idle) in
+    let same : moved_spot n (spot_at s.spots d) ≡ spot_at s.spots d = ap (λ f. let x : Spot = record { fixture = (spot_at s.spots d).fixture; progress = (spot_at s.spots d).progress; flight = f } in x) (ap (moved_held n) idle ∙ sym idle) in
     ap (λ ss. let x : Shared = record { cells = s.cells; spots = ss } in x) (ap (set s.spots d) same ∙ set-get_or s.spots d no_spot)
 
 pub none_ended : (s : Shared) (d : ℕ) → (spot_at s.spots d).flight ≡ None → after_end d s ≡ s
 none_ended s d idle =
     ap₂ (λ f y. let x : Shared = record { cells = back_cells (last_lease f) s.cells; spots = set s.spots d y } in x) idle (ap (ended_by (spot_at s.spots d)) idle)
     ∙ ap (λ ss. let x : Shared = record { cells = s.cells; spots = ss } in x) (set-get_or s.spots d no_spot)
-
-pub ended_holder : (x : Spot) (o : Option Held) → (ended_by x o).holder ≡ x.holder
-ended_holder x None = refl
-ended_holder x (Some h) = refl
 
 pub chosen : (p q : ℕ) (x y : State) → p ≡ q → cond (eqb p q) x y ≡ x
 chosen p q x y e = ap (λ b. cond b x y) (eq-eqb p q e)
@@ -64,12 +63,10 @@ module _ (reaches : List Reach) (seats : List Seat) (s : Shared) (d : ℕ) (run 
   inside : d < length s.spots
   inside = let e = run.sound.spots in omega arith
 
-  -- whose each device is stays
-  pub moved_holder : (n e : ℕ) → (spot_at (after_move d n s).spots e).holder ≡ (spot_at s.spots e).holder
-  moved_holder n e = same_at (λ (x : Spot). x.holder) s.spots d e (moved_spot n (spot_at s.spots d)) refl
-
-  pub last_holder : (e : ℕ) → (spot_at (after_end d s).spots e).holder ≡ (spot_at s.spots e).holder
-  last_holder e = same_at (λ (x : Spot). x.holder) s.spots d e (ended_spot (spot_at s.spots d)) (ended_holder (spot_at s.spots d) (spot_at s.spots d).flight)
+  -- a device of the pool that a program has is lent to it
+  lent_of : (j i e : ℕ) → i < length seats → j < length seats → in_pool (part_at reaches seats i) e ≡ true → has_device (part_at reaches seats j) e ≡ true → lends (seat_at seats j).stints e ≡ true
+  lent_of j i e lt lt' pooled has =
+      sym (has_pooled (part_at reaches seats j) s e (run.kept j lt') (ap (λ ks. is_some (get_or ks e (let k : Option Kind = None in k))) (run.common j i lt' lt) ∙ pooled)) ∙ has
 
   -- a transfer is of program i, or its owner is another
   module _ (i : ℕ) (lt : i < length seats) (h : Held) (flies : (spot_at s.spots d).flight ≡ Some h) where
@@ -121,6 +118,9 @@ module _ (reaches : List Reach) (seats : List Seat) (s : Shared) (d : ℕ) (run 
           let of = run.flights d h flies in
           running_by reaches seats seats s (after_move d n s) run refl (λ i. same_part (part_at reaches seats i)) refl
           (sound-move s (part_at reaches seats of.by) d h n run.sound small flies of.flight)
+          (gained_none reaches seats)
+          (λ i e lt pooled unlent. same_at (λ (x : Spot). x.progress) s.spots d e (moved_spot n (spot_at s.spots d)) refl ∙ run.fresh i e lt pooled unlent)
+          (λ i e lt flies' has. has)
           (λ e some. ⊎_elim
           (λ (same : e ≡ d). ap (λ k. is_some (spot_at (after_move d n s).spots k).fixture) same ∙ ap (λ (x : Spot). is_some x.fixture) (get_or-set_same s.spots d _ no_spot inside) ∙ (ap (λ k. is_some (spot_at s.spots k).fixture) (sym same) ∙ some))
           (λ (ne : e ≢ d). ap (λ (x : Spot). is_some x.fixture) (get_or-set_other s.spots d e _ no_spot ne) ∙ some)
@@ -142,8 +142,8 @@ module _ (reaches : List Reach) (seats : List Seat) (s : Shared) (d : ℕ) (run 
           let there = get_or-set_other s.spots d e (moved_spot n (spot_at s.spots d)) no_spot ne in
           subst (λ y. IsHeld reaches seats e y k) (sym there) (run.flights e k (ap (λ (x : Spot). x.flight) (sym there) ∙ flies')))
           (cases_eq e d))
-          (λ i lt. kept_by (part_at reaches seats i) s (after_move d n s) (run.kept i lt) (moved_holder n) (λ e. same_at (λ (x : Spot). x.fixture) s.spots d e (moved_spot n (spot_at s.spots d)) refl) (λ e none. same_at (λ (x : Spot). x.progress) s.spots d e (moved_spot n (spot_at s.spots d)) refl))
-          (λ i lt live. active_by (part_at reaches seats i) s (after_move d n s) (run.active i lt live) (moved_holder n))
+          (λ i lt. kept_by (part_at reaches seats i) s (after_move d n s) (run.kept i lt) (λ e. same_at (λ (x : Spot). x.fixture) s.spots d e (moved_spot n (spot_at s.spots d)) refl))
+          run.active
 
   -- what each program shows after the end
   pub ended_state : (m i : ℕ) → i < length seats → own_state reaches seats (after_end d s) m i ≡ ended_own (part_at reaches seats i) d (spot_at s.spots d).flight (own_state reaches seats s m i)
@@ -163,7 +163,7 @@ module _ (reaches : List Reach) (seats : List Seat) (s : Shared) (d : ℕ) (run 
           ∙ sym (chosen h.p (part_at reaches seats i).p _ _ is.0))
           (λ (ne : (held i lt h flies).by ≢ i).
           let of = held i lt h flies in
-          ap (state r) (end_other s (owner i lt h flies) d h run.sound small flies of.flight m (part_at reaches seats i) (apart i lt h flies ne) (ap (is_holder (part_at reaches seats i).p) of.flight.holder ∙ ne_eqb (owner i lt h flies).p (part_at reaches seats i).p (numbers_apart reaches seats s of.by i run of.there lt ne)))
+          ap (state r) (end_other s (owner i lt h flies) d h run.sound small flies of.flight m (part_at reaches seats i) (apart i lt h flies ne) (run.single of.by i d of.there lt ne of.flight.its))
           ∙ sym (passed h.p (part_at reaches seats i).p _ _ (others i lt h flies ne)))
           (cases_eq (held i lt h flies).by i)
 
@@ -186,6 +186,13 @@ module _ (reaches : List Reach) (seats : List Seat) (s : Shared) (d : ℕ) (run 
           running_by reaches seats seats s (after_end d s) run refl (λ i. same_part (part_at reaches seats i))
           (length-end s (part_at reaches seats of.by) d h run.sound small flies of.flight)
           (sound-end s (part_at reaches seats of.by) d h run.sound small flies of.flight)
+          (gained_none reaches seats)
+          (λ i e lt pooled unlent. ⊎_elim
+          (λ (same : e ≡ d).
+          cc (sym (lent_of of.by i e lt of.there pooled (ap (has_device (part_at reaches seats of.by)) same ∙ of.flight.its)) ∙ unlent of.by of.there))
+          (λ (ne : e ≢ d). ap (λ (x : Spot). x.progress) (get_or-set_other s.spots d e _ no_spot ne) ∙ run.fresh i e lt pooled unlent)
+          (cases_eq e d))
+          (λ i e lt flies' has. has)
           (λ e some. ⊎_elim
           (λ (same : e ≡ d).
           ap (λ k. is_some (spot_at (after_end d s).spots k).fixture) same ∙ ap (λ (x : Spot). is_some x.fixture) (get_or-set_same s.spots d _ no_spot inside ∙ y_is) ∙ (ap (λ k. is_some (spot_at s.spots k).fixture) (sym same) ∙ some))
@@ -199,9 +206,5 @@ module _ (reaches : List Reach) (seats : List Seat) (s : Shared) (d : ℕ) (run 
           let there = get_or-set_other s.spots d e (ended_spot (spot_at s.spots d)) no_spot ne in
           subst (λ y. IsHeld reaches seats e y k) (sym there) (run.flights e k (ap (λ (x : Spot). x.flight) (sym there) ∙ flies')))
           (cases_eq e d))
-          (λ i lt. kept_by (part_at reaches seats i) s (after_end d s) (run.kept i lt) last_holder (λ e. same_at (λ (x : Spot). x.fixture) s.spots d e (ended_spot (spot_at s.spots d)) (ap (λ (x : Spot). x.fixture) y_is))
-          (λ e none. ⊎_elim
-          (λ (same : e ≡ d). cc (sym (ap (λ k. (spot_at s.spots k).holder) same ∙ of.flight.holder) ∙ none))
-          (λ (ne : e ≢ d). ap (λ (x : Spot). x.progress) (get_or-set_other s.spots d e _ no_spot ne))
-          (cases_eq e d)))
-          (λ i lt live. active_by (part_at reaches seats i) s (after_end d s) (run.active i lt live) last_holder)
+          (λ i lt. kept_by (part_at reaches seats i) s (after_end d s) (run.kept i lt) (λ e. same_at (λ (x : Spot). x.fixture) s.spots d e (ended_spot (spot_at s.spots d)) (ap (λ (x : Spot). x.fixture) y_is)))
+          run.active

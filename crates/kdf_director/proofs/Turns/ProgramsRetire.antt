@@ -1,33 +1,32 @@
 -- The devices that a program has from the pool leave their places once it is over.
 use Rattle.std.specs.Option.{option_map}
-use Rattle.std.proofs.Common.{◌≡◌, ◌≢◌, ℕ, ◌+◌, ◌<◌, ◌≤◌, ◌⊎◌, inl, inr, ◌&&◌, Bool, true, false, List, [], ◌∷◌, length, get_or, map, set, zero, suc, Option, Some, None, is_none, is_some, cond, eqb, refl, sym, ap, ap₂, ◌∙◌, subst, ⊎_elim, arith}
-use Rattle.std.proofs.lemmas.Bool.{and_from, and_parts, cases_Bool, cases_eq, cases_lt, eq-eqb}
+use Rattle.std.proofs.Common.{◌≡◌, ◌≢◌, ℕ, ◌+◌, ◌<◌, ◌≤◌, inl, ◌&&◌, ◌||◌, Bool, true, false, List, [], ◌∷◌, length, get_or, map, set, zero, suc, Option, Some, None, is_none, is_some, cond, eqb, refl, sym, ap, ap₂, ◌∙◌, subst, ⊎_elim, arith}
+use Rattle.std.proofs.lemmas.Bool.{and_from, and_parts, cases_Bool, cases_eq, cases_lt, eq-eqb, or_right}
 use Rattle.std.proofs.lemmas.List.{get_or_default, get_or-set_other, get_or-set_same, get_or_past, length-map, length-set, set-get_or, set-set}
 use Rattle.std.proofs.lemmas.List.Folds.{list_any_at, list_any_none}
 use Rattle.kdf_processor.specs.declared.step.Need.TheVariants.{Device}
 use Rattle.kdf_processor.specs.Lone.{is_live}
 use Rattle.kdf_processor.specs.View.{View, first_pending}
-use Rattle.kdf_transfer.specs.Devices.{Fixture, blank_fixture}
-use Rattle.kdf_director.specs.declared.moment.Moment.{Moment}
+use Rattle.kdf_transfer.specs.Devices.{Fixture, blank_fixture, new_progress}
 use Rattle.kdf_director.specs.Fields.Keeping.{IsActive, IsKept}
 use Rattle.kdf_journal.specs.declared.kind.Kind.{Kind}
 use Rattle.kdf_processor.specs.declared.registers.Registers.{Registers}
 use Rattle.kdf_places.specs.Shared.{is_busy_in, Shared}
-use Rattle.kdf_director.specs.Fields.Shared.{view}
-use Rattle.kdf_director.specs.Fields.Parts.{Part, Reach, Seat, in_pool, own_stock, part_in, pool_kind}
-use Rattle.kdf_director.specs.Fields.Running.{no_seat, own_state, part_at, reach_at, seat_at, IsHeld, IsRunning}
+use Rattle.kdf_director.specs.Fields.Shared.{Setting, view}
+use Rattle.kdf_director.specs.Fields.Parts.{Part, Reach, Seat, borrower, has_device, in_pool, own_stock, owns, part_in, pool_kind}
+use Rattle.kdf_director.specs.Fields.Running.{no_seat, own_state, part_at, reach_at, seat_at, IsHeld, IsRunning, IsUnlent}
 use Rattle.kdf_director.specs.Fields.Settled.{Both, both_of, holder_over, kept_from, keeping_at, retired, retired_at, settled}
-use Rattle.kdf_places.specs.Spots.{Held, Spot, blank_spot, can_leave, fixture_or, is_holder, is_of, no_spot, own_from, spot_at}
+use Rattle.kdf_places.specs.Spots.{Held, Spot, blank_spot, can_leave, fixture_or, is_of, no_spot, own_from, spot_at}
 use Rattle.kdf_director.specs.Fields.Stints.{Keeping, Loan, Lent, Left, Back, is_lent, is_open, lends, with_loan}
-use Rattle.kdf_director.proofs.Physical.StintsChange.{and_none, set_one}
-use Rattle.kdf_director.proofs.Physical.PoolDevices.{IsIts, at_spot, emptied, gone_kept, gone_kind, gone_other, gone_other_active, gone_other_kept, gone_sound, left_own}
+use Rattle.kdf_director.proofs.Physical.StintsChange.{and_none, lends_there, set_one}
+use Rattle.kdf_director.proofs.Physical.PoolDevices.{IsIts, at_spot, emptied, gone_from, gone_kept, gone_kind, gone_other, gone_other_kept, gone_sound, has_it, left_own}
 use Rattle.kdf_director.proofs.Turns.MomentsKept.{running_by}
 use Rattle.kdf_director.proofs.Physical.PartsAlike.{SamePart}
-use Rattle.kdf_director.proofs.Physical.PartsShow.{holder_is}
-use Rattle.kdf_director.proofs.Turns.OneOrder.{numbers_apart, state}
+use Rattle.kdf_director.proofs.Turns.Borrowers.{borrower_none, borrower_same, others_none, taker_is}
+use Rattle.kdf_director.proofs.Turns.OneOrder.{state}
 
--- Program i gave up devices that it had from the pool: no program's own state is another for that, no transfer either,
--- and a device is where it was, or it was the program's and is nobody's.
+-- Program i gave up devices that it had from the pool: no program's own state is another for that, and no transfer
+-- either.
 pub record HasRetired (reaches : List Reach) (seats : List Seat) (i : ℕ) (s : Shared) (b : Both) : Type 0 where
   pub running : IsRunning reaches (set seats i b.seat) b.shared
   pub own : (asked j : ℕ) → j < length seats → own_state reaches (set seats i b.seat) b.shared asked j ≡ own_state reaches seats s asked j
@@ -35,7 +34,6 @@ pub record HasRetired (reaches : List Reach) (seats : List Seat) (i : ℕ) (s : 
   pub registers : b.seat.registers ≡ (seat_at seats i).registers
   pub number : b.seat.p ≡ (seat_at seats i).p
   pub count : length b.seat.stints ≡ length (seat_at seats i).stints
-  pub holders : (d : ℕ) → ((spot_at b.shared.spots d).holder ≡ (spot_at s.spots d).holder) ⊎ (((spot_at s.spots d).holder ≡ Some (seat_at seats i).p) × ((spot_at b.shared.spots d).holder ≡ None))
 
 -- none of them
 pub retired_none : (reaches : List Reach) (seats : List Seat) (i : ℕ) (s : Shared) → IsRunning reaches seats s → HasRetired reaches seats i s (both_of (seat_at seats i) s)
@@ -48,7 +46,6 @@ retired_none reaches seats i s run =
       registers = refl;
       number = refl;
       count = refl;
-      holders = λ d. inl refl;
     }
 
 -- some, and then more
@@ -61,18 +58,10 @@ retired_then reaches seats i s b c lt one two =
       registers = two.registers ∙ ap (λ (x : Seat). x.registers) there ∙ one.registers;
       number = two.number ∙ ap (λ (x : Seat). x.p) there ∙ one.number;
       count = two.count ∙ ap (λ (x : Seat). length x.stints) there ∙ one.count;
-      holders = λ d. both d (one.holders d) (two.holders d);
     }
   where
     there : seat_at (set seats i b.seat) i ≡ b.seat
     there = get_or-set_same seats i b.seat no_seat lt
-
-    both : (d : ℕ) → ((spot_at b.shared.spots d).holder ≡ (spot_at s.spots d).holder) ⊎ (((spot_at s.spots d).holder ≡ Some (seat_at seats i).p) × ((spot_at b.shared.spots d).holder ≡ None)) → ((spot_at c.shared.spots d).holder ≡ (spot_at b.shared.spots d).holder) ⊎ (((spot_at b.shared.spots d).holder ≡ Some (seat_at (set seats i b.seat) i).p) × ((spot_at c.shared.spots d).holder ≡ None))
-        → ((spot_at c.shared.spots d).holder ≡ (spot_at s.spots d).holder) ⊎ (((spot_at s.spots d).holder ≡ Some (seat_at seats i).p) × ((spot_at c.shared.spots d).holder ≡ None))
-    both d (inl same) (inl more) = inl (more ∙ same)
-    both d (inl same) (inr gone) = inr (sym same ∙ gone.0 ∙ ap Some (ap (λ (x : Seat). x.p) there ∙ one.number), gone.1)
-    both d (inr gone) (inl more) = inr (gone.0, more ∙ gone.1)
-    both d (inr gone) (inr more) = inr (gone.0, more.1)
 
 lent_open : (l : Loan) → is_lent l ≡ true → is_open l ≡ true
 lent_open Lent is = refl
@@ -113,11 +102,8 @@ module _ (reaches : List Reach) (seats : List Seat) (s : Shared) (i : ℕ) (run 
       list_any_at (λ (y : Keeping). eqb y.device x.device && is_lent y.loan) q.stints n (record { device = 0; loan = Lent }) within
       (and_from (eqb x.device x.device) (is_lent x.loan) (eq-eqb x.device x.device refl) lent)
 
-  pub holds_it : is_lent x.loan ≡ true → spot.holder ≡ Some q.p
-  holds_it lent = holder_is q.p spot.holder ((run.kept i lt).has x.device pooled ∙ lends_it lent)
-
   its_is : is_lent x.loan ≡ true → can_leave spot ≡ true → IsIts q s x.device
-  its_is lent can = record { pooled = pooled; holder = holds_it lent; idle = none_there spot.flight (and_parts (is_some spot.fixture) (is_none spot.flight) can).1 }
+  its_is lent can = record { pooled = pooled; lent = lends_it lent; idle = none_there spot.flight (and_parts (is_some spot.fixture) (is_none spot.flight) can).1 }
 
   -- without a transfer of the program's it leaves its place
   leaves_it : ((d : ℕ) (h : Held) → (spot_at s.spots d).flight ≡ Some h → h.p ≢ (seat_at seats i).p) → is_lent x.loan ≡ true → can_leave spot ≡ true
@@ -127,14 +113,15 @@ module _ (reaches : List Reach) (seats : List Seat) (s : Shared) (i : ℕ) (run 
       stands None is some = cc
       stands (Some k) is some = ap is_some ((run.kept i lt).there x.device k is)
 
-      some_same : {a b : ℕ} → Some a ≡ Some b → a ≡ b
-      some_same e = cc
-
       rests : (o : Option Held) → spot.flight ≡ o → is_none spot.flight ≡ true
       rests None is = ap is_none is
       rests (Some h) is =
-          let flight = (run.flights x.device h is).flight in
-          absurd (alone x.device h is (flight.owner ∙ some_same (sym flight.holder ∙ holds_it lent)))
+          let of = run.flights x.device h is in
+          ⊎_elim
+          (λ (same : of.by ≡ i). absurd (alone x.device h is (of.flight.owner ∙ ap (λ k. (seat_at seats k).p) same)))
+          (λ (ne : of.by ≢ i).
+          cc (sym (run.single of.by i x.device of.there lt ne of.flight.its) ∙ or_right (owns q.devices x.device) (lends q.stints x.device) (lends_it lent)))
+          (cases_eq of.by i)
 
   -- so its stint has it no longer there
   pub one_unlent : ((d : ℕ) (h : Held) → (spot_at s.spots d).flight ≡ Some h → h.p ≢ (seat_at seats i).p) → is_lent (kept_from x spot).loan ≡ false
@@ -165,8 +152,39 @@ module _ (reaches : List Reach) (seats : List Seat) (s : Shared) (i : ℕ) (run 
     its : IsIts q s x.device
     its = its_is lent can
 
-    apart : (j : ℕ) → j < length seats → j ≢ i → (part_at reaches seats j).p ≢ q.p
-    apart j lt' ne = numbers_apart reaches seats s j i run lt' lt ne
+    -- no other program has it
+    not_its : (j : ℕ) → j < length seats → j ≢ i → has_device (part_at reaches seats j) x.device ≡ false
+    not_its j lt' ne = run.single i j x.device lt lt' (λ same. ne (sym same)) (has_it q s x.device run.sound (run.kept i lt) its)
+
+    -- what the program has then
+    has_there : has_device (part_at reaches (set seats i seat) i) x.device ≡ false
+    has_there =
+        ap (λ (y : Seat). has_device (part_in y (reach_at reaches i)) x.device) there
+        ∙ gone_from q s x.device run.sound (run.kept i lt) its q.claimed loan (gone_kind q s x.device run.sound (run.kept i lt) its) refl
+
+    lends_else : (j e : ℕ) → e ≢ x.device → lends (seat_at (set seats i seat) j).stints e ≡ lends (seat_at seats j).stints e
+    lends_else j e other =
+        ⊎_elim
+        (λ (same : j ≡ i).
+        ap (λ k. lends (seat_at (set seats i seat) k).stints e) same ∙ ap (λ (y : Seat). lends y.stints e) there
+        ∙ lends_there q.stints x.device e loan other ∙ sym (ap (λ k. lends (seat_at seats k).stints e) same))
+        (λ (ne : j ≢ i). ap (λ (y : Seat). lends y.stints e) (elsewhere j ne))
+        (cases_eq j i)
+
+    has_else : (j e : ℕ) → e ≢ x.device → has_device (part_at reaches (set seats i seat) j) e ≡ has_device (part_at reaches seats j) e
+    has_else j e other = ap (λ b. owns (reach_at reaches j).devices e || b) (lends_else j e other)
+
+    has_before : (j e : ℕ) → has_device (part_at reaches (set seats i seat) j) e ≡ true → has_device (part_at reaches seats j) e ≡ true
+    has_before j e has =
+        ⊎_elim
+        (λ (is : e ≡ x.device).
+        ⊎_elim
+        (λ (same : j ≡ i).
+        cc (sym has_there ∙ (ap (has_device (part_at reaches (set seats i seat) i)) (sym is) ∙ (ap (λ k. has_device (part_at reaches (set seats i seat) k) e) (sym same) ∙ has))))
+        (λ (ne : j ≢ i). sym (ap (λ (y : Seat). has_device (part_in y (reach_at reaches j)) e) (elsewhere j ne)) ∙ has)
+        (cases_eq j i))
+        (λ (other : e ≢ x.device). sym (has_else j e other) ∙ has)
+        (cases_eq e x.device)
 
     each_kept : (j : ℕ) → j < length (set seats i seat) → IsKept (part_at reaches (set seats i seat) j) (emptied x.device s)
     each_kept j lt' =
@@ -178,24 +196,44 @@ module _ (reaches : List Reach) (seats : List Seat) (s : Shared) (i : ℕ) (run 
         (λ (ne : j ≢ i).
         let small : j < length seats = omega (arith, length-set seats i seat) in
         subst (λ (y : Seat). IsKept (part_in y (reach_at reaches j)) (emptied x.device s)) (sym (elsewhere j ne))
-        (gone_other_kept q s x.device run.sound (run.kept i lt) its (part_at reaches seats j) (apart j small ne) (run.kept j small)))
+        (gone_other_kept q s x.device run.sound (run.kept i lt) its (part_at reaches seats j) (not_its j small ne) (run.kept j small)))
         (cases_eq j i)
 
-    each_active : (j : ℕ) → j < length (set seats i seat) → is_live (seat_at (set seats i seat) j).registers.state ≡ true → IsActive (part_at reaches (set seats i seat) j) (emptied x.device s)
+    each_active : (j : ℕ) → j < length (set seats i seat) → is_live (seat_at (set seats i seat) j).registers.state ≡ true → IsActive (part_at reaches (set seats i seat) j)
     each_active j lt' live =
         ⊎_elim
         (λ (same : j ≡ i). cc (sym dead ∙ (sym (ap (λ (y : Seat). is_live y.registers.state) there) ∙ (ap (λ k. is_live (seat_at (set seats i seat) k).registers.state) (sym same) ∙ live))))
         (λ (ne : j ≢ i).
         let small : j < length seats = omega (arith, length-set seats i seat) in
-        subst (λ (y : Seat). IsActive (part_in y (reach_at reaches j)) (emptied x.device s)) (sym (elsewhere j ne))
-        (gone_other_active q s x.device run.sound (run.kept i lt) its (part_at reaches seats j) (apart j small ne) (run.kept j small)
-        (run.active j small (ap (λ (y : Seat). is_live y.registers.state) (sym (elsewhere j ne)) ∙ live))))
+        subst (λ (y : Seat). IsActive (part_in y (reach_at reaches j))) (sym (elsewhere j ne))
+        (run.active j small (ap (λ (y : Seat). is_live y.registers.state) (sym (elsewhere j ne)) ∙ live)))
         (cases_eq j i)
+
+    fresh_then : (j e : ℕ) → j < length seats → in_pool (part_at reaches seats j) e ≡ true → IsUnlent (set seats i seat) e → (spot_at (emptied x.device s).spots e).progress ≡ new_progress
+    fresh_then j e lt' is_pooled unlent =
+        ⊎_elim
+        (λ (is : e ≡ x.device).
+        ap (λ k. (spot_at (emptied x.device s).spots k).progress) is ∙ ap (λ (y : Spot). y.progress) (get_or-set_same s.spots x.device (blank_spot spot) no_spot inside))
+        (λ (other : e ≢ x.device).
+        ap (λ (y : Spot). y.progress) (get_or-set_other s.spots x.device e (blank_spot spot) no_spot other)
+        ∙ run.fresh j e lt' is_pooled (λ k within. sym (lends_else k e other) ∙ unlent k (omega (arith, length-set seats i seat))))
+        (cases_eq e x.device)
+
+    not_lost : (j e : ℕ) → j < length seats → is_some (spot_at (emptied x.device s).spots e).flight ≡ true → has_device (part_at reaches seats j) e ≡ true → has_device (part_at reaches (set seats i seat) j) e ≡ true
+    not_lost j e lt' flies has =
+        ⊎_elim
+        (λ (is : e ≡ x.device).
+        cc (sym (ap (λ k. is_some (spot_at (emptied x.device s).spots k).flight) is ∙ ap (λ (y : Spot). is_some y.flight) (get_or-set_same s.spots x.device (blank_spot spot) no_spot inside)) ∙ flies))
+        (λ (other : e ≢ x.device). has_else j e other ∙ has)
+        (cases_eq e x.device)
 
     one_running : IsRunning reaches (set seats i seat) (emptied x.device s)
     one_running =
         running_by reaches seats (set seats i seat) s (emptied x.device s) run (length-set seats i seat) same_parts refl
         (gone_sound q s x.device run.sound (run.kept i lt) its)
+        (λ j e lt' has. inl (has_before j e has))
+        fresh_then
+        not_lost
         (at_spot s.spots x.device (blank_spot spot) inside (λ e z. is_some (spot_at s.spots e).fixture ≡ true → is_some z.fixture ≡ true) (some_blank spot.fixture) (λ e ne some. some))
         (λ e h. at_spot s.spots x.device (blank_spot spot) inside (λ k z. z.flight ≡ Some h → IsHeld reaches seats k z h) (λ flies. cc flies) (λ k ne. run.flights k h) e)
         each_kept each_active
@@ -211,7 +249,7 @@ module _ (reaches : List Reach) (seats : List Seat) (s : Shared) (i : ℕ) (run 
         ∙ sym (ap (λ k. own_state reaches seats s m k) same))
         (λ (ne : j ≢ i).
         ap (λ (y : Seat). state y.registers (own_stock (part_in y (reach_at reaches j)) m (emptied x.device s))) (elsewhere j ne)
-        ∙ ap (state (seat_at seats j).registers) (gone_other q s x.device run.sound (run.kept i lt) its (part_at reaches seats j) (apart j lt' ne) (run.kept j lt') m))
+        ∙ ap (state (seat_at seats j).registers) (gone_other q s x.device run.sound (run.kept i lt) its (part_at reaches seats j) (not_its j lt' ne) m))
         (cases_eq j i)
 
     one_left : HasRetired reaches seats i s (both_of seat (emptied x.device s))
@@ -223,7 +261,6 @@ module _ (reaches : List Reach) (seats : List Seat) (s : Shared) (i : ℕ) (run 
           registers = refl;
           number = refl;
           count = length-map (seat_at seats i).stints (with_loan x.device loan);
-          holders = at_spot s.spots x.device (blank_spot spot) inside (λ e z. (z.holder ≡ (spot_at s.spots e).holder) ⊎ (((spot_at s.spots e).holder ≡ Some (seat_at seats i).p) × (z.holder ≡ None))) (inr (its.holder, refl)) (λ e ne. inl refl);
         }
 
     one_is : retired_at n (both_of (seat_at seats i) s) ≡ both_of seat (emptied x.device s)
@@ -318,31 +355,52 @@ module _ (reaches : List Reach) (seats : List Seat) (s : Shared) (i : ℕ) (run 
   all_retired = many_retired (length (seat_at seats i).stints) (omega arith)
 
   -- it has none of the pool's then
-  none_held : ((d : ℕ) (h : Held) → (spot_at s.spots d).flight ≡ Some h → h.p ≢ (seat_at seats i).p) → (d : ℕ) → in_pool (part_at reaches seats i) d ≡ true → is_holder (seat_at seats i).p (spot_at last.shared.spots d).holder ≡ false
-  none_held alone d pooled =
-      let all = all_retired in
-      let there : seat_at (set seats i last.seat) i ≡ last.seat = get_or-set_same seats i last.seat no_seat lt in
-      let kept : IsKept (part_in last.seat (reach_at reaches i)) last.shared =
-      subst (λ (y : Seat). IsKept (part_in y (reach_at reaches i)) last.shared) there (all.running.kept i (omega (arith, length-set seats i last.seat))) in
-      ap (λ p. is_holder p (spot_at last.shared.spots d).holder) (sym all.number)
-      ∙ kept.has d pooled
-      ∙ list_any_none (λ (y : Keeping). eqb y.device d && is_lent y.loan) last.seat.stints
+  none_held : ((d : ℕ) (h : Held) → (spot_at s.spots d).flight ≡ Some h → h.p ≢ (seat_at seats i).p) → (d : ℕ) → lends last.seat.stints d ≡ false
+  none_held alone d =
+      list_any_none (λ (y : Keeping). eqb y.device d && is_lent y.loan) last.seat.stints
       (λ k z within. and_none (eqb (get_or last.seat.stints k z).device d) (is_lent (get_or last.seat.stints k z).loan)
       (ap (λ (y : Keeping). is_lent y.loan) (get_or_default last.seat.stints k z (record { device = 0; loan = Lent }) within)
-      ∙ unlent alone (length (seat_at seats i).stints) (omega arith) k (let c = all.count in omega arith)))
+      ∙ unlent alone (length (seat_at seats i).stints) (omega arith) k (let c = all_retired.count in omega arith)))
 
-  over_is : (o o' : Option ℕ) → is_holder (seat_at seats i).p o' ≡ false → ((o' ≡ o) ⊎ ((o ≡ Some (seat_at seats i).p) × (o' ≡ None))) → o' ≡ holder_over (seat_at seats i).p o
-  over_is o o' not_its (inl same) = same ∙ sym (ap (λ b. cond b None o) (ap (is_holder (seat_at seats i).p) (sym same) ∙ not_its))
-  over_is o o' not_its (inr gone) = gone.1 ∙ sym (ap (λ b. cond b None o) (ap (is_holder (seat_at seats i).p) gone.0 ∙ eq-eqb (seat_at seats i).p (seat_at seats i).p refl))
+  abbrev left : List Seat
+  left = set seats i last.seat
+
+  at_left : seat_at left i ≡ last.seat
+  at_left = get_or-set_same seats i last.seat no_seat lt
+
+  not_at : (j : ℕ) → j ≢ i → seat_at left j ≡ seat_at seats j
+  not_at j ne = get_or-set_other seats i j last.seat no_seat ne
+
+  -- nobody has what it had, and who has another device has it still
+  left_holder : (d : ℕ) → lends last.seat.stints d ≡ false → borrower left d ≡ holder_over (seat_at seats i).p (borrower seats d)
+  left_holder d none = of (lends (seat_at seats i).stints d) refl
+    where
+      of : (b : Bool) → lends (seat_at seats i).stints d ≡ b → borrower left d ≡ holder_over (seat_at seats i).p (borrower seats d)
+      of true had =
+          borrower_none left d
+          (λ j within. ⊎_elim
+          (λ (same : j ≡ i). ap (λ k. lends (seat_at left k).stints d) same ∙ ap (λ (y : Seat). lends y.stints d) at_left ∙ none)
+          (λ (ne : j ≢ i). ap (λ (y : Seat). lends y.stints d) (not_at j ne) ∙ others_none reaches seats s run i lt d had j (omega (arith, length-set seats i last.seat)) ne)
+          (cases_eq j i))
+          ∙ sym (ap (λ b. cond b None (borrower seats d)) (taker_is reaches seats s run i lt d ∙ had))
+      of false had =
+          borrower_same seats left d (length-set seats i last.seat)
+          (λ j within. ⊎_elim
+          (λ (same : j ≡ i). ap (λ k. lends (seat_at left k).stints d) same ∙ ap (λ (y : Seat). lends y.stints d) at_left ∙ none ∙ sym (ap (λ k. lends (seat_at seats k).stints d) same ∙ had))
+          (λ (ne : j ≢ i). ap (λ (y : Seat). lends y.stints d) (not_at j ne))
+          (cases_eq j i))
+          (λ j. ⊎_elim
+          (λ (same : j ≡ i). ap (λ k. (seat_at left k).p) same ∙ ap (λ (y : Seat). y.p) at_left ∙ all_retired.number ∙ sym (ap (λ k. (seat_at seats k).p) same))
+          (λ (ne : j ≢ i). ap (λ (y : Seat). y.p) (not_at j ne))
+          (cases_eq j i))
+          ∙ sym (ap (λ b. cond b None (borrower seats d)) (taker_is reaches seats s run i lt d ∙ had))
 
   settled_is : settled first ≡ last
   settled_is = ap (λ b. cond b first last) dead
 
   -- a program without a transfer gives up all that it has from the pool
-  pub settled_holder : ((d : ℕ) (h : Held) → (spot_at s.spots d).flight ≡ Some h → h.p ≢ (seat_at seats i).p) → (d : ℕ) → in_pool (part_at reaches seats i) d ≡ true → (spot_at (settled first).shared.spots d).holder ≡ holder_over (seat_at seats i).p (spot_at s.spots d).holder
-  settled_holder alone d pooled =
-      ap (λ (b : Both). (spot_at b.shared.spots d).holder) settled_is
-      ∙ over_is (spot_at s.spots d).holder (spot_at last.shared.spots d).holder (none_held alone d pooled) (all_retired.holders d)
+  pub settled_holder : ((d : ℕ) (h : Held) → (spot_at s.spots d).flight ≡ Some h → h.p ≢ (seat_at seats i).p) → (d : ℕ) → borrower (set seats i (settled first).seat) d ≡ holder_over (seat_at seats i).p (borrower seats d)
+  settled_holder alone d = ap (λ (b : Both). borrower (set seats i b.seat) d) settled_is ∙ left_holder d (none_held alone d)
 
   pub settled_over : HasRetired reaches seats i s (settled first)
   settled_over = subst (HasRetired reaches seats i s) (sym settled_is) all_retired
@@ -379,7 +437,7 @@ none_pending v p n (x ∷ xs) busy free k lt =
     of false other later (suc j) within = later (sym (ap (λ b. first_pending v (map Device (cond b (n ∷ own_from p (n + 1) xs) (own_from p (n + 1) xs)))) other) ∙ free) j (omega arith)
 
 -- a program whose transfers aren't pending has none
-pub alone_of : (q : Part) (t : Moment) (s : Shared) → first_pending (view q t s) (map Device (own_from q.p 0 s.spots)) ≡ None → (d : ℕ) (h : Held) → (spot_at s.spots d).flight ≡ Some h → h.p ≢ q.p
+pub alone_of : (q : Part) (t : Setting) (s : Shared) → first_pending (view q t s) (map Device (own_from q.p 0 s.spots)) ≡ None → (d : ℕ) (h : Held) → (spot_at s.spots d).flight ≡ Some h → h.p ≢ q.p
 alone_of q t s free d h flies same =
     ⊎_elim
     (λ (lt : d < length s.spots).

@@ -15,24 +15,17 @@ use Rattle.kdf_director.specs.Fields.Turned.{HasTried}
 use Rattle.kdf_director.specs.Fields.Notes.{note_after}
 use Rattle.kdf_director.specs.Fields.Parts.{Part, Reach, Seat, part_after, seat}
 use Rattle.kdf_places.specs.Shared.{Shared}
-use Rattle.kdf_director.specs.Fields.Shared.{view, after_act}
+use Rattle.kdf_director.specs.Fields.Shared.{after_act}
 use Rattle.kdf_director.specs.Fields.Stints.{keeping_of}
 use Rattle.kdf_director.specs.declared.stint.Stint.{Stint}
-use Rattle.kdf_director.specs.Fields.Turn.{part_of, reach_in, seat_in, shared, shown, Acts, SameProgram, SameTurn, Stays}
+use Rattle.kdf_director.specs.Fields.Turn.{held_in, part_of, reach_in, seat_in, shared, shown, Acts, SameProgram, SameTurn, Stays}
 
--- what is shown, by what it is shown of
-pub shown_of : (t : Turn) (q : Part) (m : Moment) (s : Shared) → part_of t ≡ q → t.moment ≡ m → shared t ≡ s → shown t ≡ view q m s
-shown_of t q m s e f g =
-    ap (λ x. view x t.moment (shared t)) e ∙ ap (λ x. view q x (shared t)) f ∙ ap (view q m) g
-
--- what is shown stays
-pub shown_stays : (old new : Turn) → Stays old new → shown new ≡ shown old
-shown_stays old new stays = shown_of new (part_of old) old.moment (shared old) stays.part stays.same.moment stays.shared
-
+-- a turn that became another is over the same machine as that
 pub same_same : (t u w : Turn) → SameTurn t u → SameTurn u w → SameTurn t w
 same_same t u w first second =
     record {
       moment = second.moment ∙ first.moment;
+      journal = second.journal ∙ first.journal;
       claimed = second.claimed ∙ first.claimed;
       spooled = second.spooled ∙ first.spooled;
       stints = second.stints ∙ first.stints;
@@ -101,13 +94,13 @@ program_then t u w first second =
 pub program_itself : (t : Turn) → SameProgram t t
 program_itself t =
     record {
-      same = record { moment = refl; claimed = refl; spooled = refl; stints = refl; store = refl; places = refl; block = refl };
+      same = record { moment = refl; journal = refl; claimed = refl; spooled = refl; stints = refl; store = refl; places = refl; block = refl };
       p = refl;
       reach = refl;
     }
 
 -- an order that was obeyed once memory was taken, where nothing was noted before
-pub tried_by : (old mid new : Turn) (r left : Registers) (ended : Step) → old.note ≡ Quiet → Stays old mid → ended ≡ (outcome (shown old) r).step → left ≡ (outcome (shown old) r).registers → Acts mid (outcome (shown old) r).act new → HasTried (reach_in old) old.moment (seat_in old r) (shared old) (seat_in new left) (shared new) ended new.note
+pub tried_by : (old mid new : Turn) (r left : Registers) (ended : Step) → old.note ≡ Quiet → Stays old mid → ended ≡ (outcome (shown old) r).step → left ≡ (outcome (shown old) r).registers → Acts mid (outcome (shown old) r).act new → HasTried (reach_in old) (held_in old) old.moment (seat_in old r) (shared old) (seat_in new left) (shared new) ended new.note
 tried_by old mid new r left ended quiet stays step registers acted =
     let o : Outcome = outcome (shown old) r in
     let done : Acts old o.act new = acts_from old mid new o.act stays acted in

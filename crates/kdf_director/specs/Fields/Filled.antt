@@ -1,27 +1,21 @@
--- How what is loaded fills the fields of a machine: the store, the programs and the places of the devices.
-use Rattle.std.specs.Prelude.{◌≡◌, ℕ, Bool, true, false, sum_by, ◌+◌, ◌%◌, ◌/◌, ◌<◌, ◌≤◌, ◌==◌, List, [], ◌∷◌, length, map, replicate, Option, Some, None, is_some, if◌then◌else◌, slice_index_or}
+-- How what is loaded fills the fields of a yard: the store, the programs and the places of the devices.
+use Rattle.std.specs.Prelude.{◌≡◌, ℕ, Bool, true, false, sum_by, ◌+◌, ◌%◌, ◌/◌, ◌<◌, ◌≤◌, ◌==◌, List, [], ◌∷◌, length, map, replicate, Option, Some, None, is_some, if◌then◌else◌}
 use Rattle.std.specs.List.{All, AllPairs}
 use Rattle.kdf_lockout.specs.Groups.{Cells, is_out, with_word}
-use Rattle.kdf_relocate.specs.Windows.{windows_from}
 use Rattle.kdf_relocate.specs.declared.window.Window.{Window}
 use Rattle.kdf_journal.specs.declared.kind.Kind.{Kind}
 use Rattle.kdf_transfer.specs.Devices.{blank_fixture, new_progress}
 use Rattle.kdf_transfer.specs.declared.device.Device.{Device}
 use Rattle.kdf_job.specs.Job.{JobDevice}
 use Rattle.kdf_job.specs.Shows.{shown_device}
-use Rattle.kdf_processor.specs.State.{begin, new_registers, unclaimed}
-use Rattle.kdf_director.specs.declared.load.Parts.{Parts}
+use Rattle.kdf_processor.specs.State.{new_registers, unclaimed}
 use Rattle.kdf_places.specs.declared.place.Place.{Place}
 use Rattle.kdf_places.specs.declared.place.Place.TheVariants.{Absent, Idle}
-use Rattle.kdf_director.specs.declared.program.Program.{Program}
 use Rattle.kdf_director.specs.declared.slot.Loaded.{Loaded}
-use Rattle.kdf_director.specs.Fields.Parts.{Seat, Reach, in_pool, owns, window_at}
-use Rattle.kdf_places.specs.Shared.{Shared, shared_in}
-use Rattle.kdf_director.specs.Fields.Running.{IsRunning, own_state, part_at, reaches_in, seats_in}
-use Rattle.kdf_director.specs.Slots.{AreSlots}
-use Rattle.kdf_places.specs.Spots.{AreDry, Spot, no_spot, spot_at}
+use Rattle.kdf_director.specs.Fields.Parts.{Seat, owns, window_at}
+use Rattle.kdf_places.specs.Spots.{Spot, no_spot}
 use Rattle.kdf_job.specs.Slots.{lent_kind, numbered}
-use Rattle.kdf_director.specs.Loading.{SlotLoad, slot_of}
+use Rattle.kdf_director.specs.Loading.{SlotLoad}
 
 -- the numbers of a slot's devices, and whether one of them has this number
 abbrev pub numbers_in : List JobDevice → List ℕ
@@ -103,22 +97,22 @@ abbrev pub first_seat : SlotLoad → Seat
 first_seat l = record { p = l.p; registers = new_registers; claimed = unclaimed; spooled = []; stints = [] }
 
 -- a place without a transfer, with a device of a slot's, with a blank one of the pool, or with none
-abbrev pub own_spot : ℕ → JobDevice → Spot
-own_spot p x = record { fixture = Some x.fixture; progress = x.progress; flight = None; holder = Some p }
+abbrev pub own_spot : JobDevice → Spot
+own_spot x = record { fixture = Some x.fixture; progress = x.progress; flight = None }
 
 abbrev pub pool_spot : Option Kind → Spot
 pool_spot None = no_spot
 pool_spot (Some kind) =
-    record { fixture = Some (blank_fixture kind); progress = new_progress; flight = None; holder = None }
+    record { fixture = Some (blank_fixture kind); progress = new_progress; flight = None }
 
-abbrev pub spot_or : ℕ → Option JobDevice → Spot → Spot
-spot_or p None other = other
-spot_or p (Some x) other = own_spot p x
+abbrev pub spot_or : Option JobDevice → Spot → Spot
+spot_or None other = other
+spot_or (Some x) other = own_spot x
 
 -- the place of a number: the device of the first slot that has one, or else that of the pool, which is the first slot's
 abbrev pub first_own : List SlotLoad → ℕ → Spot → Spot
 first_own [] d other = other
-first_own (l ∷ slots) d other = spot_or l.p (numbered l.devices d) (first_own slots d other)
+first_own (l ∷ slots) d other = spot_or (numbered l.devices d) (first_own slots d other)
 
 abbrev pub pool_in : List SlotLoad → List (ℕ × Kind)
 pool_in [] = []
@@ -127,39 +121,12 @@ pool_in (l ∷ slots) = l.pool
 abbrev pub idle_spot : List SlotLoad → ℕ → Spot
 idle_spot slots d = first_own slots d (pool_spot (lent_kind (pool_in slots) d))
 
--- what is put into a place: a device, its ring, and the program whose device it is
-abbrev pub idle_place : Option (Device × List ℕ × Option ℕ) → Place
+-- what is put into a place: a device and its ring
+abbrev pub idle_place : Option (Device × List ℕ) → Place
 idle_place None = Absent
-idle_place (Some x) = Idle x.0 x.1 x.2
+idle_place (Some x) = Idle x.0 x.1
 
 -- the words in the ring of a device
-abbrev pub idle_ring : Option (Device × List ℕ × Option ℕ) → List ℕ
+abbrev pub idle_ring : Option (Device × List ℕ) → List ℕ
 idle_ring None = []
 idle_ring (Some x) = x.1
-
--- what the programs of a machine have and share
-abbrev pub reaches : Parts → List Reach
-reaches m = reaches_in m.windows m.slots.items
-
-abbrev pub seats : Parts → List Seat
-seats m = seats_in m.programs.items
-
-abbrev pub shared : Parts → Shared
-shared m = shared_in m.store m.devices.items
-
--- a machine with these slots, before the first order: each program is at its start, no device has a transfer, and none
--- of the pool is lent
-pub record IsLoaded (slots : List SlotLoad) (m : Parts) : Type 0 where
-  pub slots_are : map loaded m.slots.items ≡ slots
-  pub loads_are : AreLoads slots
-  pub can_be_loaded : AreSlots (map slot_of slots)
-  pub windows_are : m.windows ≡ windows_from 1024 (sizes_of slots)
-  pub programs_are : seats m ≡ map first_seat slots
-  pub no_hold : map (λ (x : Program). x.hold) m.programs.items ≡ map (λ _. None) slots
-  pub running : IsRunning (reaches m) (seats m) (shared m)
-  pub starts : (i : ℕ) (l : SlotLoad) → i < length slots
-      → own_state (reaches m) (seats m) (shared m) 0 i ≡ begin (slot_of (slice_index_or slots i l))
-  pub idle : (d : ℕ) → (spot_at (shared m).spots d).flight ≡ None
-  pub unlent : (i d : ℕ) → i < length (seats m) → in_pool (part_at (reaches m) (seats m) i) d ≡ true
-      → (spot_at (shared m).spots d).holder ≡ None
-  pub dry : AreDry m.devices.items

@@ -7,8 +7,8 @@ use Rattle.kdf_transfer.specs.AtOnce.{is_input, order_words}
 use Rattle.kdf_transfer.specs.InFlight.{area_words}
 use Rattle.kdf_transfer.specs.Slots.{Slot}
 use Rattle.kdf_processor.specs.State.{State, device_at, fixture_at}
-use Rattle.kdf_director.specs.Flights.{Flight}
-use Rattle.kdf_director.specs.ByJournal.{flights_of, seen_of}
+use Rattle.kdf_theory.specs.Flights.{Flight}
+use Rattle.kdf_theory.specs.ByJournal.{flights_of, seen_of}
 use Rattle.kdf_places.specs.Spots.{Held, spot_at}
 use Rattle.kdf_director.specs.Fields.Parts.{Part, Seat, Reach}
 use Rattle.kdf_places.specs.Shared.{Shared}

@@ -6,21 +6,21 @@ use Rattle.kdf_processor.specs.Lone.{is_live}
 use Rattle.kdf_processor.specs.declared.step.Need.{Need}
 use Rattle.kdf_processor.specs.declared.step.Need.TheVariants.{Group, Device, Pool}
 use Rattle.kdf_director.specs.declared.program.Program.{Program}
-use Rattle.kdf_director.specs.Fields.Parts.{Reach, Seat}
+use Rattle.kdf_director.specs.Fields.Parts.{Reach, Seat, is_lent_by}
 use Rattle.kdf_places.specs.Shared.{Shared, is_busy_in}
 use Rattle.kdf_director.specs.Fields.Running.{reach_at, seat_at}
 use Rattle.kdf_director.specs.Fields.Shared.{is_pool_taken}
 
--- what held a program, which reaches so much, is pending still
-abbrev pub is_stopped : Reach → Shared → Option Need → Bool
-is_stopped reach s None = false
-is_stopped reach s (Some (Group g)) = is_out s.cells (reach.base / 32 + g)
-is_stopped reach s (Some (Device d)) = is_busy_in s d
-is_stopped reach s (Some (Pool kind)) = is_pool_taken reach.pool s kind
+-- what held a program, which reaches so much, is pending still, where these devices of the pool are taken
+abbrev pub is_stopped : Reach → (taken : ℕ → Bool) → Shared → Option Need → Bool
+is_stopped reach taken s None = false
+is_stopped reach taken s (Some (Group g)) = is_out s.cells (reach.base / 32 + g)
+is_stopped reach taken s (Some (Device d)) = is_busy_in s d
+is_stopped reach taken s (Some (Pool kind)) = is_pool_taken reach.pool taken kind
 
 -- a live program that nothing holds up still
-abbrev pub goes : Seat → Reach → Shared → Option Need → Bool
-goes seat reach s hold = is_live seat.registers.state && not (is_stopped reach s hold)
+abbrev pub goes : Seat → Reach → (taken : ℕ → Bool) → Shared → Option Need → Bool
+goes seat reach taken s hold = is_live seat.registers.state && not (is_stopped reach taken s hold)
 
 -- what held program i
 abbrev pub hold_at : List (Option Need) → ℕ → Option Need
@@ -29,7 +29,7 @@ hold_at holds i = slice_index_or holds i None
 -- program i of all goes on
 abbrev pub goes_at : List Reach → List Seat → List (Option Need) → Shared → ℕ → Bool
 goes_at reaches seats holds s i =
-    goes (seat_at seats i) (reach_at reaches i) s (hold_at holds i)
+    goes (seat_at seats i) (reach_at reaches i) (is_lent_by seats) s (hold_at holds i)
 
 -- which of the programs is in this slot
 unfoldable pub place_of : List Seat → ℕ → Option ℕ

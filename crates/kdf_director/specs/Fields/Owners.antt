@@ -3,7 +3,9 @@ use Rattle.std.specs.List.{All}
 use Rattle.std.specs.Prelude.{◌≡◌, ℕ, ◌&&◌, nat_lt, List, Bool, true, false, Option, Some, None, is_some, not, position, slice_index_or}
 use Rattle.kdf_transfer.specs.Devices.{Fixture, Progress, fixture_of, progress_of}
 use Rattle.kdf_transfer.specs.declared.device.Device.{Device}
+use Rattle.kdf_journal.specs.declared.entry.Entry.{Entry}
 use Rattle.kdf_journal.specs.declared.kind.Kind.{Kind}
+use Rattle.kdf_journal.specs.Counts.{holder}
 use Rattle.kdf_job.specs.Slots.{lent_kind}
 use Rattle.kdf_processor.specs.State.{device_limit}
 use Rattle.kdf_director.specs.declared.slot.Loaded.{Loaded}
@@ -21,14 +23,14 @@ abbrev pub IsDeviceOwned : Option ℕ → Spot → Option Device → Type 0
 IsDeviceOwned None x device = device ≡ None
 IsDeviceOwned (Some owner) x device = IsDeviceOf x device
 
--- a device of the pool is some program's
-abbrev pub is_lent_in : List (ℕ × Kind) → List Spot → ℕ → Bool
-is_lent_in pool spots d = is_some (lent_kind pool d) && is_some (spot_at spots d).holder
+-- a device of the pool has a holder
+abbrev pub is_lent_in : List (ℕ × Kind) → List Entry → ℕ → Bool
+is_lent_in pool J d = nat_lt d device_limit && (is_some (lent_kind pool d) && is_some (holder d J))
 
 -- whether the program of the slot that has a device has claimed it, or, where no slot has it, the pool has lent it
-abbrev pub is_claimed_by : Option ℕ → List Seat → List (ℕ × Kind) → List Spot → ℕ → Bool
-is_claimed_by None seats pool spots d = is_lent_in pool spots d
-is_claimed_by (Some owner) seats pool spots d =
+abbrev pub is_claimed_by : Option ℕ → List Seat → List (ℕ × Kind) → List Entry → ℕ → Bool
+is_claimed_by None seats pool J d = is_lent_in pool J d
+is_claimed_by (Some owner) seats pool J d =
     nat_lt d device_limit && slice_index_or (seat_at seats owner).claimed d false
 
 -- what the device of a stint is, and how far it has come, where this is the place of its number

@@ -1,5 +1,5 @@
 -- A program's part of the machine, and what it has of its own beside its registers.
-use Rattle.std.specs.Prelude.{ℕ, ◌+◌, ◌==◌, Bool, true, false, if◌then◌else◌, List, ◌∷◌, [], ◌++◌, map, Option, None, is_some, slice_index_or, slice_set}
+use Rattle.std.specs.Prelude.{ℕ, ◌+◌, ◌==◌, ◌||◌, Bool, true, false, if◌then◌else◌, List, ◌∷◌, [], ◌++◌, map, Option, Some, None, is_some, slice_index_or, slice_set}
 use Rattle.std.specs.List.{list_any}
 use Rattle.kdf_word.specs.Characters.{codes_of_all}
 use Rattle.kdf_media.specs.Media.{through_end}
@@ -19,8 +19,8 @@ use Rattle.kdf_director.specs.declared.slot.Loaded.{Loaded}
 use Rattle.kdf_director.specs.declared.stint.Stint.{Stint as KeptStint}
 use Rattle.kdf_places.specs.Words.{own_words}
 use Rattle.kdf_transfer.specs.ByNumber.{by_number}
-use Rattle.kdf_places.specs.Spots.{Spot, fixture_or, is_holder, spot_at, leases_of}
-use Rattle.kdf_director.specs.Fields.Stints.{Keeping, Loan, Lent, Back, keeping_of, left_in, stint_of, with_loan}
+use Rattle.kdf_places.specs.Spots.{Spot, fixture_or, spot_at, leases_of}
+use Rattle.kdf_director.specs.Fields.Stints.{Keeping, Loan, Lent, Back, keeping_of, left_in, lends, stint_of, with_loan}
 use Rattle.kdf_places.specs.Shared.{Shared}
 
 -- what contracts see of a program: its slot, its registers, which devices it claimed, what it spooled, and its stints
@@ -34,6 +34,15 @@ pub record Seat : Type 0 where
 abbrev pub seat : ℕ → Registers → List Bool → List Spooled → List Keeping → Seat
 seat p registers claimed spooled stints =
     record { p = p; registers = registers; claimed = claimed; spooled = spooled; stints = stints }
+
+-- the program that has a device of the pool now
+abbrev pub borrower : List Seat → ℕ → Option ℕ
+borrower [] d = None
+borrower (x ∷ seats) d = if lends x.stints d then Some x.p else borrower seats d
+
+-- a device of the pool is some program's
+abbrev pub is_lent_by : List Seat → ℕ → Bool
+is_lent_by seats d = is_some (borrower seats d)
 
 abbrev pub seat_of : Program → Seat
 seat_of program =
@@ -124,9 +133,9 @@ pool_kind q d = slice_index_or q.pool d None
 abbrev pub in_pool : Part → ℕ → Bool
 in_pool q d = is_some (pool_kind q d)
 
--- the device of a place is the program's, whether it is claimed or not
-abbrev pub has_device : Part → Spot → Bool
-has_device q x = is_holder q.p x.holder
+-- a device is the program's: one of its slot, whether it is claimed or not, or one of the pool that it has now
+abbrev pub has_device : Part → ℕ → Bool
+has_device q d = owns q.devices d || lends q.stints d
 
 abbrev pub own_fixture : Part → List Spot → ℕ → Option Fixture
 own_fixture q spots d = fixture_owned q.devices spots d
@@ -135,7 +144,7 @@ own_fixture q spots d = fixture_owned q.devices spots d
 -- kept it
 abbrev pub own_progress : Part → List Spot → ℕ → Progress
 own_progress q spots d =
-    if has_device q (spot_at spots d) then (spot_at spots d).progress else left_in q.stints d
+    if has_device q d then (spot_at spots d).progress else left_in q.stints d
 
 -- what a program's orders are checked against
 abbrev pub own_claims : Part → Shared → Claims

@@ -1,5 +1,5 @@
 -- The programs of a machine over what they share: each program's own state, and what holds at each moment.
-use Rattle.std.specs.Prelude.{◌≡◌, ℕ, ◌+◌, ◌*◌, ◌%◌, ◌<◌, ◌≤◌, List, [], length, map, true, false, Option, Some, None, is_some, slice_index_or, slice_set, ◌==◌, if◌then◌else◌}
+use Rattle.std.specs.Prelude.{◌≡◌, ◌≢◌, ℕ, ◌+◌, ◌*◌, ◌%◌, ◌<◌, ◌≤◌, List, [], length, map, true, false, Option, Some, None, is_some, slice_index_or, slice_set, ◌==◌, if◌then◌else◌}
 use Rattle.kdf_relocate.specs.declared.window.Window.{Window}
 use Rattle.kdf_transfer.specs.AtOnce.{written}
 use Rattle.kdf_transfer.specs.InFlight.{total_of, ended_progress}
@@ -15,9 +15,11 @@ use Rattle.kdf_director.specs.declared.moment.Moment.{Moment}
 use Rattle.kdf_director.specs.declared.program.Program.{Program}
 use Rattle.kdf_director.specs.declared.slot.Loaded.{Loaded}
 use Rattle.kdf_director.specs.Fields.Keeping.{IsActive, IsKept}
-use Rattle.kdf_director.specs.Fields.Parts.{Part, Seat, Reach, seat_of, reach_of, part_in, own_stock, owns}
+use Rattle.kdf_director.specs.Fields.Parts.{Part, Seat, Reach, has_device, in_pool, is_lent_by, seat_of, reach_of, part_in, own_stock, owns}
 use Rattle.kdf_places.specs.Shared.{Shared, IsSound}
-use Rattle.kdf_director.specs.Fields.Shared.{answer_in, moment, view}
+use Rattle.kdf_director.specs.Fields.Shared.{answer_in, moment, setting, view}
+use Rattle.kdf_director.specs.Fields.Stints.{lends}
+use Rattle.kdf_transfer.specs.Devices.{new_progress}
 use Rattle.kdf_places.specs.Transfers.{flight_moves}
 use Rattle.kdf_director.specs.Fields.Sound.{IsFlightOf}
 use Rattle.kdf_places.specs.Spots.{Held, Spot, spot_at, own_from}
@@ -52,12 +54,12 @@ own_state reaches seats s asked i =
 -- the first need of its next order that is pending
 unfoldable pub hold_of : List Reach → List Seat → Shared → ℕ → Option Need
 hold_of reaches seats s i =
-    first_pending (view (part_at reaches seats i) (moment 0 0) s)
+    first_pending (view (part_at reaches seats i) (setting (is_lent_by seats) (moment 0 0)) s)
     (needs (own_state reaches seats s 0 i) (own_from (seat_at seats i).p 0 s.spots))
 
 -- what it is answered at a moment
 abbrev pub answers_at : List Reach → List Seat → Moment → Shared → ℕ → Question → ℕ
-answers_at reaches seats m s i = answer_in (part_at reaches seats i) m s
+answers_at reaches seats m s i = answer_in (part_at reaches seats i) (setting (is_lent_by seats) m) s
 
 -- what the try of its next order comes to at a moment, by its own state
 unfoldable pub outcome_at : List Reach → List Seat → Shared → Moment → ℕ → ℕ → Outcome
@@ -75,8 +77,13 @@ pub record IsHeld (reaches : List Reach) (seats : List Seat) (d : ℕ) (x : Spot
 abbrev pub AreNumbered : List Seat → Type 0
 AreNumbered seats = (i j : ℕ) → i < j → j < length seats → (seat_at seats i).p < (seat_at seats j).p
 
+-- no program has a device now that the pool lends
+abbrev pub IsUnlent : List Seat → ℕ → Type 0
+IsUnlent seats d = (j : ℕ) → j < length seats → lends (seat_at seats j).stints d ≡ false
+
 -- the programs stand by their slots, the windows lie one after the other, the pool is common, each program keeps what
--- it has, and each transfer is of a program
+-- it has, no device is two programs', one of the pool has moved nothing while it is nobody's, and each transfer is of a
+-- program
 pub record IsRunning (reaches : List Reach) (seats : List Seat) (s : Shared) : Type 0 where
   pub sound : IsSound s
   pub numbered : AreNumbered seats
@@ -88,7 +95,11 @@ pub record IsRunning (reaches : List Reach) (seats : List Seat) (s : Shared) : T
   pub common : (i j : ℕ) → i < length seats → j < length seats → (reach_at reaches i).pool ≡ (reach_at reaches j).pool
   pub kept : (i : ℕ) → i < length seats → IsKept (part_at reaches seats i) s
   pub active : (i : ℕ) → i < length seats → is_live (seat_at seats i).registers.state ≡ true
-      → IsActive (part_at reaches seats i) s
+      → IsActive (part_at reaches seats i)
+  pub single : (i j d : ℕ) → i < length seats → j < length seats → i ≢ j
+      → has_device (part_at reaches seats i) d ≡ true → has_device (part_at reaches seats j) d ≡ false
+  pub fresh : (i d : ℕ) → i < length seats → in_pool (part_at reaches seats i) d ≡ true → IsUnlent seats d
+      → (spot_at s.spots d).progress ≡ new_progress
   pub fixtures : (i d : ℕ) → i < length seats → owns (reach_at reaches i).devices d ≡ true
       → is_some (spot_at s.spots d).fixture ≡ true
   pub flights : (d : ℕ) (h : Held) → (spot_at s.spots d).flight ≡ Some h

@@ -8,7 +8,8 @@ use Rattle.kdf_director.specs.declared.note.Note.{Note}
 use Rattle.kdf_director.specs.declared.note.Note.TheVariants as note
 use Rattle.kdf_director.specs.Fields.Parts.{Seat}
 use Rattle.kdf_places.specs.Shared.{Shared}
-use Rattle.kdf_places.specs.Spots.{Spot, can_leave, fixture_or, is_holder, left_spot, spot_at}
+use Rattle.kdf_theory.specs.Holders.{is_taker}
+use Rattle.kdf_places.specs.Spots.{Spot, can_leave, fixture_or, left_spot, spot_at}
 use Rattle.kdf_director.specs.Fields.Stints.{Keeping, Left, is_lent, no_keeping}
 
 -- the stint n of a program
@@ -62,7 +63,7 @@ holder_noted p (note.Gave e) d o = if e == d then None else o
 holder_noted p _ d o = o
 
 abbrev pub holder_over : ℕ → Option ℕ → Option ℕ
-holder_over p o = if is_holder p o then None else o
+holder_over p o = if is_taker p o then None else o
 
 abbrev pub holder_left : ℕ → Step → Note → ℕ → Option ℕ → Option ℕ
 holder_left p (step.Fails kind) noted d o = holder_over p o

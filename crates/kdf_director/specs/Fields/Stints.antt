@@ -5,8 +5,7 @@ use Rattle.std.specs.Option.{option_map}
 use Rattle.kdf_journal.specs.declared.kind.Kind.{Kind}
 use Rattle.kdf_transfer.specs.Devices.{Fixture, Progress, blank_fixture, fixture_of, new_progress, progress_of}
 use Rattle.kdf_processor.specs.State.{Stint}
-use Rattle.kdf_director.specs.declared.stint.Loan.{Loan as Kept}
-use Rattle.kdf_director.specs.declared.stint.Loan.TheVariants as kept
+use Rattle.kdf_transfer.specs.declared.device.Device.{Device}
 use Rattle.kdf_director.specs.declared.stint.Stint.{Stint as KeptStint}
 
 -- a device that was lent is in the place of its number; or the program, which is over, has it; or it was given back
@@ -24,13 +23,14 @@ pub record Keeping : Type 0 where
 abbrev pub no_keeping : Keeping
 no_keeping = record { device = 0; loan = Lent }
 
-abbrev pub loan_of : Kept → Loan
-loan_of kept.Lent = Lent
-loan_of (kept.Left device) = Left (fixture_of device) (progress_of device)
-loan_of (kept.Back device) = Back (fixture_of device) (progress_of device)
+-- by whether it was given back, and the device where that isn't in its place: one that was given back never is
+abbrev pub loan_of : Bool → Option Device → Loan
+loan_of given None = Lent
+loan_of false (Some device) = Left (fixture_of device) (progress_of device)
+loan_of true (Some device) = Back (fixture_of device) (progress_of device)
 
 abbrev pub keeping_of : KeptStint → Keeping
-keeping_of x = record { device = x.d; loan = loan_of x.loan }
+keeping_of x = record { device = x.d; loan = loan_of x.given x.device }
 
 -- the device is in its place; the program has kept it; it wasn't given back
 abbrev pub is_lent : Loan → Bool

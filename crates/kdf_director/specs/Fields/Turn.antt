@@ -1,5 +1,5 @@
 -- What a turn shows, and what an acting call does to it.
-use Rattle.std.specs.Prelude.{◌≡◌, ◌+◌, ◌-◌, ◌*◌, ◌<◌, ◌≤◌, [], true, ℕ, map, slice_index_or, vec_len}
+use Rattle.std.specs.Prelude.{◌≡◌, ◌+◌, ◌-◌, ◌*◌, ◌<◌, ◌≤◌, [], true, ℕ, Option, map, slice_index_or, vec_len}
 use Rattle.std.specs.Vec.{vec_capacity}
 use Rattle.kdf_transfer.specs.AtOnce.{is_output}
 use Rattle.kdf_transfer.specs.declared.order.TransferOrder.{TransferOrder}
@@ -9,10 +9,11 @@ use Rattle.kdf_processor.specs.Room.{RoomFor}
 use Rattle.kdf_processor.specs.View.{View}
 use Rattle.kdf_places.specs.declared.place.Place.TheVariants.{Absent}
 use Rattle.kdf_director.specs.declared.turn.Turn.{Turn}
+use Rattle.kdf_theory.specs.Holders.{held_by}
 use Rattle.kdf_director.specs.Fields.Notes.{note_after}
 use Rattle.kdf_director.specs.Fields.Parts.{Part, Reach, Seat, part_after, part_with, reach, seat}
 use Rattle.kdf_places.specs.Shared.{Shared, shared_in}
-use Rattle.kdf_director.specs.Fields.Shared.{view, after_act}
+use Rattle.kdf_director.specs.Fields.Shared.{is_taken_by, setting, view, after_act}
 use Rattle.kdf_director.specs.Fields.Stints.{keeping_of}
 use Rattle.kdf_places.specs.Spots.{IsReady}
 
@@ -24,8 +25,12 @@ part_of t =
 abbrev pub shared : Turn → Shared
 shared t = shared_in t.store.now t.places.now.items
 
+-- who has the devices of the pool, as the journal tells
+abbrev pub held_in : Turn → ℕ → Option ℕ
+held_in t = held_by t.journal.now.entries
+
 abbrev pub shown : Turn → View
-shown t = view (part_of t) t.moment (shared t)
+shown t = view (part_of t) (setting (is_taken_by t.claimed.now (held_in t)) t.moment) (shared t)
 
 -- the program, when these are its registers
 abbrev pub seat_in : Turn → Registers → Seat
@@ -38,6 +43,7 @@ reach_in t = reach t.window t.slot.now
 -- it is a turn over the same machine, at the same moment
 pub record SameTurn (old new : Turn) : Type 0 where
   pub moment : new.moment ≡ old.moment
+  pub journal : new.journal.now.entries ≡ old.journal.now.entries
   pub claimed : new.claimed.ghost_name ≡ old.claimed.ghost_name
   pub spooled : new.spooled.ghost_name ≡ old.spooled.ghost_name
   pub stints : new.stints.ghost_name ≡ old.stints.ghost_name

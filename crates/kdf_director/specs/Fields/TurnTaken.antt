@@ -15,7 +15,7 @@ use Rattle.kdf_places.specs.Shared.{Shared}
 use Rattle.kdf_director.specs.Fields.Running.{reach_at, seat_at}
 use Rattle.kdf_director.specs.Fields.Shared.{moment}
 use Rattle.kdf_director.specs.Fields.Turned.{word_over, HasTurned}
-use Rattle.kdf_director.specs.World.{hold_of}
+use Rattle.kdf_theory.specs.World.{hold_of}
 
 -- what holds a program whose turn ended so
 abbrev pub hold_left : Ending → Option Need

@@ -1,21 +1,16 @@
 -- What is shown of the fields of a machine.
-use Rattle.std.specs.Prelude.{ℕ, List, length, map}
+use Rattle.std.specs.Prelude.{List, length, map}
 use Rattle.std.specs.List.{range_with_len}
 use Rattle.kdf_journal.specs.declared.entry.Entry.{Entry}
-use Rattle.kdf_lockout.specs.Groups.{Cells}
 use Rattle.kdf_transfer.specs.Slots.{Slot}
 use Rattle.kdf_processor.specs.State.{State}
-use Rattle.kdf_relocate.specs.declared.window.Window.{Window}
-use Rattle.kdf_places.specs.declared.place.Place.{Place}
-use Rattle.kdf_director.specs.declared.program.Program.{Program}
 use Rattle.kdf_director.specs.declared.slot.Loaded.{Loaded}
 use Rattle.kdf_director.specs.Fields.Following.{asked_at}
 use Rattle.kdf_director.specs.Loading.{slot_of}
 use Rattle.kdf_director.specs.Fields.Filled.{loaded}
 use Rattle.kdf_director.specs.Fields.Parts.{Reach, Seat}
-use Rattle.kdf_places.specs.Shared.{Shared, shared_in}
-use Rattle.kdf_director.specs.Fields.Running.{own_state, reaches_in, seats_in}
-use Rattle.kdf_director.specs.Shown.{Shown}
+use Rattle.kdf_places.specs.Shared.{Shared}
+use Rattle.kdf_director.specs.Fields.Running.{own_state}
 
 -- a slot as it was loaded
 abbrev pub slot_loaded : Loaded → Slot
@@ -25,13 +20,3 @@ slot_loaded l = slot_of (loaded l)
 abbrev pub states_in : List Reach → List Seat → Shared → List Entry → List State
 states_in reaches seats s J =
     map (λ i. own_state reaches seats s (asked_at seats J i) i) (range_with_len 0 (length seats))
-
--- what is shown of the fields of a machine
-abbrev pub viewed : List Loaded → List Window → Cells → List Program → List Place → List Entry → ℕ → Shown
-viewed slots windows store programs places J room =
-    record {
-      slots = map slot_loaded slots;
-      states = states_in (reaches_in windows slots) (seats_in programs) (shared_in store places) J;
-      journal = J;
-      room = room;
-    }

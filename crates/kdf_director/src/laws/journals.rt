@@ -4,7 +4,7 @@
 ghost use Rattle.std.specs.Prelude.{◌≡◌, ◌≢◌, ℕ, ◌-◌, ◌≤◌, List, [], ◌∷◌, ◌++◌, Some, None, false, true, is_some, length, min, not, slice_set, take};
 ghost use Rattle.kdf_journal.specs.declared.entry.Entry.{Entry};
 ghost use Rattle.kdf_journal.specs.declared.kind.Kind.{Kind};
-ghost use Rattle.kdf_journal.specs.Counts.{Hold, answers, moved, over, pending, ran, taker};
+ghost use Rattle.kdf_journal.specs.Counts.{Hold, answers, holder, moved, over, pending, ran, taker};
 ghost use Rattle.kdf_journal.specs.Steps.{Note, Step, Obeys, Holds, Waits, Moves, Ends, Sets, Swaps};
 ghost use Rattle.kdf_journal.specs.Steps.{added, journal_of, steps};
 ghost use Rattle.kdf_schedule.specs.declared.event.Event.{Event};
@@ -18,21 +18,21 @@ ghost use Rattle.kdf_processor.specs.Needs.{next_effect};
 ghost use Rattle.kdf_processor.specs.Row.{row};
 ghost use Rattle.kdf_transfer.specs.Slots.{Slot};
 ghost use Rattle.kdf_processor.specs.State.{device_in, is_pooled};
-ghost use Rattle.kdf_director.specs.Course.{lone_step_at, step_at};
-ghost use Rattle.kdf_director.specs.Flights.{Flight, completed, flights_after, mine_of, move_count};
-ghost use Rattle.kdf_director.specs.Flights.{unmoved, with_flight};
-ghost use Rattle.kdf_director.specs.Flying.{AreFlying};
-ghost use Rattle.kdf_director.specs.Follows.{IsRising};
-ghost use Rattle.kdf_director.specs.Holders.{has_mark, is_taker};
-ghost use Rattle.kdf_director.specs.Legal.{note_of, IsLegal, IsTrue, Meets};
-ghost use Rattle.kdf_director.specs.Next.{next};
-ghost use Rattle.kdf_director.specs.Seen.{begun_row, with_both, with_store};
-ghost use Rattle.kdf_director.specs.Served.{unasked, IsJournalFor};
-ghost use Rattle.kdf_director.specs.Slots.{AreSlots, NoneServed, start};
-ghost use Rattle.kdf_director.specs.ByJournal.{flights_of, further, is_of, is_pending_after, lone_world, mine_after, own};
-ghost use Rattle.kdf_director.specs.ByJournal.{own_after, seen_of, seen_world};
-ghost use Rattle.kdf_director.specs.True.{truth};
-ghost use Rattle.kdf_director.specs.World.{first_need};
+ghost use Rattle.kdf_theory.specs.Course.{lone_step_at, step_at};
+ghost use Rattle.kdf_theory.specs.Flights.{Flight, completed, flights_after, mine_of, move_count};
+ghost use Rattle.kdf_theory.specs.Flights.{unmoved, with_flight};
+ghost use Rattle.kdf_theory.specs.Flying.{AreFlying};
+ghost use Rattle.kdf_theory.specs.Follows.{IsRising};
+ghost use Rattle.kdf_theory.specs.Holders.{has_mark, is_taker};
+ghost use Rattle.kdf_theory.specs.Legal.{note_of, IsLegal, IsTrue, Meets};
+ghost use Rattle.kdf_theory.specs.Next.{next};
+ghost use Rattle.kdf_theory.specs.Seen.{begun_row, with_both, with_store};
+ghost use Rattle.kdf_theory.specs.Served.{unasked, IsJournalFor};
+ghost use Rattle.kdf_theory.specs.Slots.{AreSlots, NoneServed, start};
+ghost use Rattle.kdf_theory.specs.ByJournal.{flights_of, further, is_of, is_pending_after, lone_world, mine_after, own};
+ghost use Rattle.kdf_theory.specs.ByJournal.{own_after, seen_of, seen_world};
+ghost use Rattle.kdf_theory.specs.True.{truth};
+ghost use Rattle.kdf_theory.specs.World.{first_need};
 
 /// Slots of which none is served have a journal under each schedule that doesn't set the clock back and exchanges slots
 /// alone.
@@ -182,7 +182,8 @@ pub fn two_ends()
 {}
 
 /// By a legal and true journal a live program has claimed a device of the pool exactly where it took it and hasn't
-/// given it back; and where it takes one, it takes the one that it is truly answered.
+/// given it back; and where it takes one, it takes the one that it is truly answered. A device of the pool that has a
+/// transfer has a holder, the program whose transfer it is.
 pub fn holders()
     ensures held { (slots : List Slot) (J : List Entry) (p d : ℕ) → AreSlots slots → IsLegal slots J →
         IsTrue slots J → is_pooled (own slots J p).stock.claims d ≡ true → not (over p J) ≡ true
@@ -192,4 +193,7 @@ pub fn holders()
         is_pending_after slots J p (Pool kind) ≡ false
         → taken (own slots J p).stock.claims kind (truth (lone_world slots J) J p heard (FreeOf kind))
         ≡ truth (lone_world slots J) J p heard (FreeOf kind) }
+    ensures busy { (slots : List Slot) (J : List Entry) (p d k : ℕ) → AreSlots slots → IsLegal slots J →
+        IsTrue slots J → is_pooled (own slots J p).stock.claims d ≡ true → pending d J ≡ Some (p, k)
+        → holder d J ≡ Some p }
 {}

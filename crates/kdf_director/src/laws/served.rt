@@ -9,9 +9,11 @@ ghost use Rattle.kdf_course.specs.Cut.{cut};
 ghost use Rattle.kdf_course.specs.Legal.{Noted};
 ghost use Rattle.kdf_service.specs.Rules.{IsService};
 ghost use Rattle.kdf_transfer.specs.Slots.{Slot};
-ghost use Rattle.kdf_director.specs.Follows.{Follows, IsWhole};
-ghost use Rattle.kdf_director.specs.Legal.{IsLegal, IsTrue};
-ghost use Rattle.kdf_director.specs.Served.{is_true_for, unasked, IsAnswered, IsJournalFor, IsTrueFor};
+ghost use Rattle.kdf_theory.specs.Follows.{Follows, IsWhole};
+ghost use Rattle.kdf_theory.specs.Legal.{IsLegal, IsTrue};
+ghost use Rattle.kdf_theory.specs.Served.{is_true_for, unasked, IsAnswered, IsJournalFor, IsTrueFor};
+ghost use Rattle.kdf_theory.specs.Slots.{NoneServed};
+ghost use Rattle.kdf_director.specs.Unasked.{AsksNone};
 
 /// With a service, slots have at most one journal under a schedule.
 pub fn one_journal<F: Fn(u64) -> u64>()
@@ -69,4 +71,12 @@ pub fn true_step<F: Fn(u64) -> u64>()
         IsTrueFor unasked slots J → IsTrueFor (F.post rule) slots J }
     ensures unanswered { (rule : F) (slots : List Slot) (J K : List Entry) →
         IsAnswered unasked slots J K → IsAnswered (F.post rule) slots J K }
+{}
+
+/// A journal of which no order asked the service is true for every service as soon as it is true for one; and no order
+/// asks of slots of which none is served.
+pub fn none_asked<F: Fn(u64) -> u64, G: Fn(u64) -> u64>()
+    ensures every { (rule : F) (other : G) (slots : List Slot) (J : List Entry) → AsksNone slots J →
+        IsTrueFor (F.post rule) slots J → IsTrueFor (G.post other) slots J }
+    ensures unserved { (slots : List Slot) (J : List Entry) → NoneServed slots → AsksNone slots J }
 {}

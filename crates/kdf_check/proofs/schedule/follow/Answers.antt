@@ -8,8 +8,8 @@ use Rattle.kdf_schedule.specs.Calls.{calls_made, order_count}
 use Rattle.kdf_schedule.specs.Events.{IsInRange}
 use Rattle.kdf_course.specs.Follows.{Reaches}
 use Rattle.kdf_course.proofs.Reaching.{reach-whole}
-use Rattle.kdf_director.specs.Follows.{IsRising}
-use Rattle.kdf_director.specs.Next.{lone_dispatched}
+use Rattle.kdf_theory.specs.Follows.{IsRising}
+use Rattle.kdf_theory.specs.Next.{lone_dispatched}
 use Rattle.kdf_check.proofs.Pairs.{pair}
 use Rattle.kdf_check.proofs.schedule.follow.Goals as goal
 

@@ -6,7 +6,7 @@ use Rattle.kdf_journal.proofs.Added.{calls-added, clock-added, moves-added}
 use Rattle.kdf_schedule.specs.declared.event.Event.{Event}
 use Rattle.kdf_schedule.specs.Calls.{AMove, AnEnd, AClock, ASwap, orders_in}
 use Rattle.kdf_schedule.specs.Events.{IsInRange}
-use Rattle.kdf_director.specs.Follows.{IsRising}
+use Rattle.kdf_theory.specs.Follows.{IsRising}
 use Rattle.kdf_check.specs.declared.table.Pending.{Pending}
 use Rattle.kdf_check.specs.Keeps.{Keeps}
 use Rattle.kdf_check.proofs.Calls.{clock-keeps, end-keeps, event-on, move-keeps, swap-keeps}

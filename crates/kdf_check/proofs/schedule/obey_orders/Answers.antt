@@ -6,7 +6,7 @@ use Rattle.kdf_journal.specs.Steps.{steps}
 use Rattle.kdf_schedule.specs.Calls.{AnOrder}
 use Rattle.kdf_course.specs.Follows.{Reaches}
 use Rattle.kdf_course.proofs.Reaching.{reach-nil}
-use Rattle.kdf_director.specs.Next.{lone_dispatched}
+use Rattle.kdf_theory.specs.Next.{lone_dispatched}
 use Rattle.kdf_director.proofs.Calls.OneCall.{rested}
 use Rattle.kdf_check.proofs.Calls.{order-calls, order-moves, order-on, order-time}
 use Rattle.kdf_check.proofs.Pairs.{pair}

@@ -4,7 +4,7 @@ use Rattle.kdf_journal.specs.Counts.{calls, clock, moves}
 use Rattle.kdf_journal.specs.Steps.{steps}
 use Rattle.kdf_schedule.specs.Calls.{AnOrder}
 use Rattle.kdf_course.specs.Follows.{Reaches}
-use Rattle.kdf_director.specs.Next.{lone_dispatched}
+use Rattle.kdf_theory.specs.Next.{lone_dispatched}
 use Rattle.kdf_check.specs.Keeps.{Keeps}
 use Rattle.kdf_check.proofs.schedule.obey_orders.Given as goal
 

@@ -1,6 +1,7 @@
 use Rattle.std.proofs.Common.{◌≡◌, true, ap}
 use Rattle.kdf_processor.specs.Lone.{is_live}
 use Rattle.kdf_director.specs.Fields.Parts.{Seat, reach_of, seat_of}
+use Rattle.kdf_theory.specs.Holders.{held_by}
 use Rattle.kdf_places.specs.Shared.{Shared, shared_in}
 use Rattle.kdf_director.proofs.Turns.Batching.{runs_by, runs_still}
 use Rattle.kdf_director.proofs.Turns.AfterTheTry.{if_ok, on_err}
@@ -27,7 +28,7 @@ pub returns-clause-ran : goal.returns-clause-ran
 returns-clause-ran c =
     let at = (goal.at.returns-clause-ran c).After-settle in
     if_ok c.try_next-tried.result.1 _ _
-    (λ x h. runs_by (reach_of c.args.stand.now.windows.now c.args.stand.now.slot.now) c.args.moment c.try_next-tried.result.0 (before at) (s at) (mid at) (between at) _ _ x.0 x.1 (live at)
+    (λ x h. runs_by (reach_of c.args.stand.now.windows.now c.args.stand.now.slot.now) (held_by c.args.journal.now.entries) c.args.moment c.try_next-tried.result.0 (before at) (s at) (mid at) (between at) _ _ x.0 x.1 (live at)
     h
     (c.settle.ensures.both c.try_next-tried.new.store))
     c.try_next-tried.ensures.tried
@@ -36,7 +37,7 @@ pub returns-clause-err : goal.returns-clause-err
 returns-clause-err c =
     let at = (goal.at.returns-clause-err c).After-settle in
     on_err c.try_next-tried.result.1 _ _
-    (λ h. runs_still (reach_of c.args.stand.now.windows.now c.args.stand.now.slot.now) c.args.moment c.try_next-tried.result.0 (before at) (s at) (mid at) (between at) _ _ (live at)
+    (λ h. runs_still (reach_of c.args.stand.now.windows.now c.args.stand.now.slot.now) (held_by c.args.journal.now.entries) c.args.moment c.try_next-tried.result.0 (before at) (s at) (mid at) (between at) _ _ (live at)
     h
     (c.settle.ensures.both c.try_next-tried.new.store))
     c.try_next-tried.ensures.err

@@ -14,24 +14,6 @@ returns-then-is_none-clause-asked g c =
     has_none (λ n a. goal.F-post g c.args.service.now n a) (word_over x r s)
     (none_told x r s (sym c.word_ahead.ensures ∙ none_if c.word_ahead.result (c.is_none.ensures ∙ ap not c.if-is_none.true)))
 
-pub word_asked-requires-clause-at_group : goal.word_asked-requires-clause-at_group
-word_asked-requires-clause-at_group g c = c.requires.at_group
-
-pub word_asked-requires-clause-in_store : goal.word_asked-requires-clause-in_store
-word_asked-requires-clause-in_store g c = c.requires.in_store
-
-pub word_asked-requires-clause-sixteen : goal.word_asked-requires-clause-sixteen
-word_asked-requires-clause-sixteen g c = c.requires.sixteen
-
-pub word_asked-requires-clause-dry : goal.word_asked-requires-clause-dry
-word_asked-requires-clause-dry g c = c.requires.dry
-
-pub word_asked-requires-clause-kept : goal.word_asked-requires-clause-kept
-word_asked-requires-clause-kept g c = c.requires.kept
-
-pub word_asked-requires-clause-active : goal.word_asked-requires-clause-active
-word_asked-requires-clause-active g c = c.requires.active
-
 pub returns-clause-asked : goal.returns-clause-asked
 returns-clause-asked g c =
     has_answer (λ n a. goal.F-post g c.args.service.now n a)

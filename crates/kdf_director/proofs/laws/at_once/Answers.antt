@@ -1,4 +1,4 @@
-use Rattle.kdf_director.proofs.Seen.OrdersSeen.{row_seen}
+use Rattle.kdf_theory.proofs.Seen.OrdersSeen.{row_seen}
 use Rattle.kdf_director.proofs.laws.at_once.Goals as goal
 
 pub returns : goal.returns

@@ -1,8 +1,8 @@
 use Rattle.std.proofs.Common.{◌∙◌, ap}
 use Rattle.kdf_processor.specs.Row.{row}
-use Rattle.kdf_director.specs.Flights.{flights_after}
-use Rattle.kdf_director.specs.Seen.{seen}
-use Rattle.kdf_director.proofs.Seen.OrdersSeen.{begun_seen}
+use Rattle.kdf_theory.specs.Flights.{flights_after}
+use Rattle.kdf_theory.specs.Seen.{seen}
+use Rattle.kdf_theory.proofs.Seen.OrdersSeen.{begun_seen}
 use Rattle.kdf_director.proofs.laws.begins.Goals as goal
 
 pub returns : goal.returns

@@ -1,5 +1,5 @@
-use Rattle.kdf_director.proofs.Seen.OrdersSeen.{begun_seen, hidden_seen}
-use Rattle.kdf_director.proofs.Seen.FlightsStay.{row_flying}
+use Rattle.kdf_theory.proofs.Seen.OrdersSeen.{begun_seen, hidden_seen}
+use Rattle.kdf_theory.proofs.Seen.FlightsStay.{row_flying}
 use Rattle.kdf_director.proofs.laws.commute.Goals as goal
 
 pub returns-clause-begun : goal.returns-clause-begun

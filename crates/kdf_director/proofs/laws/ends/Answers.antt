@@ -1,4 +1,4 @@
-use Rattle.kdf_director.proofs.Seen.TransfersEnd.{ends_seen, flying_ended}
+use Rattle.kdf_theory.proofs.Seen.TransfersEnd.{ends_seen, flying_ended}
 use Rattle.kdf_director.proofs.laws.ends.Goals as goal
 
 pub returns-clause-seen : goal.returns-clause-seen

@@ -1,5 +1,5 @@
 use Rattle.std.proofs.Common.{arith}
-use Rattle.kdf_director.proofs.Seen.WordsMove.{flying_moved, moves_seen}
+use Rattle.kdf_theory.proofs.Seen.WordsMove.{flying_moved, moves_seen}
 use Rattle.kdf_director.proofs.laws.moves.Goals as goal
 
 pub returns-clause-seen : goal.returns-clause-seen

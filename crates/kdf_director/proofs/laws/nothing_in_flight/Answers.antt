@@ -1,5 +1,5 @@
-use Rattle.kdf_director.proofs.Seen.NoneInFlight.{nothing_flying}
-use Rattle.kdf_director.proofs.Seen.SeenStates.{seen_nothing}
+use Rattle.kdf_theory.proofs.Seen.NoneInFlight.{nothing_flying}
+use Rattle.kdf_theory.proofs.Seen.SeenStates.{seen_nothing}
 use Rattle.kdf_director.proofs.laws.nothing_in_flight.Goals as goal
 
 pub returns-clause-seen : goal.returns-clause-seen

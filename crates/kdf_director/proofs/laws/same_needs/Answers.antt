@@ -1,6 +1,6 @@
 use Rattle.std.proofs.Common.{sym}
-use Rattle.kdf_director.specs.Seen.{pending, seen}
-use Rattle.kdf_director.proofs.Seen.SeenStates.{seen_agrees}
+use Rattle.kdf_theory.specs.Seen.{pending, seen}
+use Rattle.kdf_theory.proofs.Seen.SeenStates.{seen_agrees}
 use Rattle.kdf_processor.proofs.FrameLemmas.{first_agree, needs_agree}
 use Rattle.kdf_director.proofs.laws.same_needs.Goals as goal
 

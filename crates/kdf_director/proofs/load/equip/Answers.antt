@@ -6,7 +6,7 @@ use Rattle.kdf_director.specs.declared.slot.Loaded.{Loaded}
 use Rattle.kdf_director.specs.Fields.Filled.{first_seat, idle_spot, loaded, sizes_of, with_images, zero_cells}
 use Rattle.kdf_director.specs.Fields.Parts.{window_at}
 use Rattle.kdf_transfer.specs.ByNumber.{by_number}
-use Rattle.kdf_director.proofs.Loading.LoadedMachine.{all_within, is_loaded}
+use Rattle.kdf_director.proofs.Loading.LoadedMachine.{all_within, is_loaded, is_yard}
 use Rattle.kdf_director.proofs.Loading.SizesLoaded.{sizes_fit}
 use Rattle.kdf_director.proofs.load.equip.Goals as goal
 
@@ -22,14 +22,26 @@ filled_store-requires c =
     (c.windows_of-windows.ensures.value ∙ ap (λ xs. windows_from 1024 (sizes_of (map loaded xs))) c.deref.ensures.value)
     c.windows_of-windows.ensures.inside)
 
-pub returns : goal.returns
-returns c =
-    is_loaded _ c.requires
+pub invariant_of-result : goal.invariant_of-result
+invariant_of-result c =
+    is_yard _ c.args.slots.items _ _ _ c.requires
     (c.windows_of-windows.ensures.value ∙ ap (λ xs. windows_from 1024 (sizes_of (map loaded xs))) c.deref.ensures.value)
     c.windows_of-windows.ensures.inside
     c.windows_of-windows.ensures.apart
     (c.in_ok-store.ensures ∙ ap (λ xs. with_images c.windows_of-windows.result zero_cells (map loaded xs)) c.deref-2.ensures.value)
     (c.in_ok-programs.ensures.seats ∙ ap (map (λ (l : Loaded). first_seat (loaded l))) c.deref-3.ensures.value)
     (c.in_ok-programs.ensures.no_hold ∙ ap (map (λ (l : Loaded). (let o : Option Need = None in o))) c.deref-3.ensures.value)
-    (c.in_ok-devices.ensures.spots ∙ ap (λ xs. by_number (idle_spot (map loaded xs))) c.deref-4.ensures.value)
-    c.in_ok-devices.ensures.dry
+    (c.in_ok-places.ensures.spots ∙ ap (λ xs. by_number (idle_spot (map loaded xs))) c.deref-4.ensures.value)
+    c.in_ok-places.ensures.dry
+
+pub returns : goal.returns
+returns c =
+    is_loaded _ c.args.slots.items _ _ _ c.requires
+    (c.windows_of-windows.ensures.value ∙ ap (λ xs. windows_from 1024 (sizes_of (map loaded xs))) c.deref.ensures.value)
+    c.windows_of-windows.ensures.inside
+    c.windows_of-windows.ensures.apart
+    (c.in_ok-store.ensures ∙ ap (λ xs. with_images c.windows_of-windows.result zero_cells (map loaded xs)) c.deref-2.ensures.value)
+    (c.in_ok-programs.ensures.seats ∙ ap (map (λ (l : Loaded). first_seat (loaded l))) c.deref-3.ensures.value)
+    (c.in_ok-programs.ensures.no_hold ∙ ap (map (λ (l : Loaded). (let o : Option Need = None in o))) c.deref-3.ensures.value)
+    (c.in_ok-places.ensures.spots ∙ ap (λ xs. by_number (idle_spot (map loaded xs))) c.deref-4.ensures.value)
+    c.in_ok-places.ensures.dry

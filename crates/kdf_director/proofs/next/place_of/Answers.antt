@@ -2,7 +2,7 @@ use Rattle.std.proofs.Common.{eqb, length, sym, ap, ◌∙◌}
 use Rattle.std.proofs.lemmas.Bool.{eq-eqb, ne_eqb}
 use Rattle.kdf_processor.proofs.Finding.{found_behind, found_here}
 use Rattle.kdf_director.specs.Fields.Running.{seat_at, seats_in}
-use Rattle.kdf_director.proofs.Turns.OneProgram.{number_at, place_first}
+use Rattle.kdf_director.proofs.Turns.YardTurns.{number_at, place_first}
 use Rattle.kdf_director.proofs.next.place_of.Goals as goal
 
 pub loop-i-init : goal.loop-i-init

@@ -4,7 +4,7 @@ use Rattle.kdf_journal.specs.Counts.{clock}
 use Rattle.kdf_journal.specs.Steps.{steps}
 use Rattle.kdf_schedule.specs.declared.event.Event.TheVariants.{Orders}
 use Rattle.kdf_schedule.proofs.Schedules.{order_count-drop}
-use Rattle.kdf_director.specs.Follows.{entries_in}
+use Rattle.kdf_theory.specs.Follows.{entries_in}
 use Rattle.kdf_director.proofs.Course.EventsInTurn.{no_calls, ended_early, ended_late, one_more, rises-from, rises-first, rises-rest}
 use Rattle.kdf_director.proofs.schedule.follow_each.Goals as goal
 

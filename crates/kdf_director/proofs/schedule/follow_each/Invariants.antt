@@ -3,11 +3,11 @@ use Rattle.std.specs.Prelude.{sum_by}
 use Rattle.kdf_journal.specs.Counts.{calls, clock}
 use Rattle.kdf_journal.specs.Steps.{steps}
 use Rattle.kdf_schedule.specs.Calls.{calls_made, order_count}
-use Rattle.kdf_director.specs.Follows.{IsRising, entries_in}
+use Rattle.kdf_theory.specs.Follows.{IsRising, entries_in}
 use Rattle.kdf_course.specs.Follows.{Reaches}
-use Rattle.kdf_director.specs.Next.{lone_dispatched}
+use Rattle.kdf_theory.specs.Next.{lone_dispatched}
 use Rattle.kdf_director.proofs.schedule.follow_each.Given as goal
-use Rattle.kdf_director.specs.Served.{IsTrueFor}
+use Rattle.kdf_theory.specs.Served.{IsTrueFor}
 
 abbrev pub invariant-loop-event : goal.invariant-loop-event
 invariant-loop-event g l = record {

@@ -7,13 +7,13 @@ use Rattle.kdf_journal.specs.Steps.{steps}
 use Rattle.kdf_schedule.specs.declared.event.Event.{Event}
 use Rattle.kdf_schedule.specs.Calls.{calls_made, order_count}
 use Rattle.kdf_course.specs.Follows.{Reaches}
-use Rattle.kdf_director.specs.Follows.{IsRising, entries_in}
-use Rattle.kdf_director.specs.Legal.{IsLegal}
-use Rattle.kdf_director.specs.Next.{lone_dispatched}
-use Rattle.kdf_director.proofs.Course.CountsBounded.{few-calls, rising-on}
+use Rattle.kdf_theory.specs.Follows.{IsRising, entries_in}
+use Rattle.kdf_theory.specs.Legal.{IsLegal}
+use Rattle.kdf_theory.specs.Next.{lone_dispatched}
+use Rattle.kdf_theory.proofs.Course.CountsBounded.{few-calls, rising-on}
 use Rattle.kdf_director.proofs.Course.EventsInTurn.{order_count-append, rest-is, went-on}
 use Rattle.kdf_director.proofs.schedule.follow_on.Goals as goal
-use Rattle.kdf_director.specs.Served.{IsJournalFor, IsTrueFor}
+use Rattle.kdf_theory.specs.Served.{IsJournalFor, IsTrueFor}
 
 pub follow_each-requires-clause-few : goal.follow_each-requires-clause-few
 follow_each-requires-clause-few g c =

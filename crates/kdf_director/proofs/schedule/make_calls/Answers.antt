@@ -3,8 +3,8 @@ use Rattle.kdf_journal.specs.Counts.{calls}
 use Rattle.kdf_journal.specs.Steps.{Moves, Ends, Sets, Swaps}
 use Rattle.kdf_schedule.specs.Calls.{AMove, AnEnd, AClock, ASwap, orders_in}
 use Rattle.kdf_schedule.specs.Events.{IsInRange}
-use Rattle.kdf_director.specs.Follows.{entries_in}
-use Rattle.kdf_director.specs.Shown.{Shown}
+use Rattle.kdf_theory.specs.Follows.{entries_in}
+use Rattle.kdf_theory.specs.Shown.{Shown}
 use Rattle.kdf_director.proofs.Calls.OneCall.{entered_on, calls-entered, clock-entered}
 use Rattle.kdf_director.proofs.schedule.make_calls.Goals as goal
 use Rattle.kdf_director.proofs.Course.OneJournal.{true_entered}

@@ -1,7 +1,6 @@
-use Rattle.std.proofs.Common.{◌≡◌, ◌<◌, true, false, ℕ, length, get_or, map, subst}
+use Rattle.std.proofs.Common.{◌≡◌, ◌<◌, true, false, ℕ, Some, length, get_or, map, subst}
 use Rattle.kdf_transfer.specs.Devices.{fixture_of, progress_of}
 use Rattle.kdf_director.specs.Fields.Stints.{Back, is_open_of, keeping_of, no_keeping}
-use Rattle.kdf_director.specs.declared.stint.Loan.TheVariants as loan
 use Rattle.kdf_director.proofs.Physical.DevicesGivenBack.{handed_in, none_handed}
 use Rattle.kdf_director.proofs.stint.hand_in.Goals as goal
 
@@ -9,10 +8,9 @@ pub returns-in-Some : goal.returns-in-Some
 returns-in-Some c =
     let items = c.args.stints.now.items in
     let i : ℕ = c.in-Some.i in
-    handed_in items c.args.d i (loan.Back c.args.device) c.index_mut.result.now _ c.requires.one
+    handed_in items c.args.d i true (Some c.args.device) c.requires.one
     (subst (λ xs. i < length xs) c.deref.ensures.value c.in-Some.ensures.there)
     (subst (λ xs. is_open_of c.args.d (get_or (map keeping_of xs) i no_keeping) ≡ true) c.deref.ensures.value c.in-Some.ensures.open)
-    c.index_mut.ensures.value
 
 pub returns-in_default : goal.returns-in_default
 returns-in_default c =

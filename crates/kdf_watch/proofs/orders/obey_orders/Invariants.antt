@@ -1,6 +1,6 @@
 use Rattle.std.proofs.Common.{◌≡◌, ◌-◌}
 use Rattle.kdf_schedule.specs.Calls.{orders_in}
-use Rattle.kdf_director.specs.Served.{IsTrueFor}
+use Rattle.kdf_theory.specs.Served.{IsTrueFor}
 use Rattle.kdf_watch.specs.Cursors.{event_at}
 use Rattle.kdf_watch.specs.Onward.{IsAt}
 use Rattle.kdf_watch.specs.Stopped.{HasGone}

@@ -1,7 +1,7 @@
 use Rattle.std.proofs.Common.{◌<◌, arith, length, refl, sym, ap, subst, ◌∙◌}
 use Rattle.kdf_schedule.specs.declared.event.Event.TheVariants.{Orders}
-use Rattle.kdf_director.specs.Served.{IsTrueFor}
-use Rattle.kdf_director.specs.Shown.{Shown}
+use Rattle.kdf_theory.specs.Served.{IsTrueFor}
+use Rattle.kdf_theory.specs.Shown.{Shown}
 use Rattle.kdf_watch.specs.declared.cursor.Cursor.{Cursor}
 use Rattle.kdf_watch.specs.Cursors.{event_at}
 use Rattle.kdf_watch.specs.Onward.{IsAt}

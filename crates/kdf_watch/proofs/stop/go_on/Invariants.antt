@@ -1,5 +1,5 @@
 use Rattle.std.proofs.Common.{◌≡◌, ◌-◌, length}
-use Rattle.kdf_director.specs.Served.{IsTrueFor}
+use Rattle.kdf_theory.specs.Served.{IsTrueFor}
 use Rattle.kdf_watch.specs.Onward.{IsAt}
 use Rattle.kdf_watch.specs.Stopped.{HasGone}
 use Rattle.kdf_watch.proofs.stop.go_on.Given as goal

@@ -1,6 +1,6 @@
 use Rattle.std.proofs.Common.{◌≡◌, length}
 use Rattle.kdf_journal.specs.Steps.{steps}
-use Rattle.kdf_director.specs.Served.{IsTrueFor}
+use Rattle.kdf_theory.specs.Served.{IsTrueFor}
 use Rattle.kdf_watch.specs.Cursors.{IsUpTo, calls_left}
 use Rattle.kdf_watch.proofs.Counting.{all_looks, hits}
 use Rattle.kdf_watch.proofs.stops.stops_at.Given as goal

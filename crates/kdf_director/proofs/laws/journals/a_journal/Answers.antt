@@ -1,4 +1,4 @@
-use Rattle.kdf_director.specs.Served.{unasked}
+use Rattle.kdf_theory.specs.Served.{unasked}
 use Rattle.kdf_director.proofs.Course.OneJournal.{a_journal_for}
 use Rattle.kdf_director.proofs.laws.journals.a_journal.Goals as goal
 

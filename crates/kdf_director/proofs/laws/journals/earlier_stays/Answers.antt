@@ -1,5 +1,5 @@
-use Rattle.kdf_director.proofs.Course.FlightsAdded.{earlier}
-use Rattle.kdf_director.proofs.Course.LegalFacts.{legal_asked}
+use Rattle.kdf_theory.proofs.Course.FlightsAdded.{earlier}
+use Rattle.kdf_theory.proofs.Course.LegalFacts.{legal_asked}
 use Rattle.kdf_director.proofs.laws.journals.earlier_stays.Goals as goal
 
 pub returns : goal.returns

@@ -1,6 +1,6 @@
-use Rattle.kdf_director.proofs.Course.FlightsAdded.{flight-told}
-use Rattle.kdf_director.proofs.Course.LegalFacts.{legal_alive}
-use Rattle.kdf_director.proofs.Course.FlightsOnCourse.{legal-course, mine-same}
+use Rattle.kdf_theory.proofs.Course.FlightsAdded.{flight-told}
+use Rattle.kdf_theory.proofs.Course.LegalFacts.{legal_alive}
+use Rattle.kdf_theory.proofs.Course.FlightsOnCourse.{legal-course, mine-same}
 use Rattle.kdf_director.proofs.laws.journals.in_flight.Goals as goal
 
 pub returns-clause-flying : goal.returns-clause-flying

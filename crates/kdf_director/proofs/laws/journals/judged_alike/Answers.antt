@@ -1,6 +1,6 @@
-use Rattle.kdf_director.specs.ByJournal.{own, seen_of}
-use Rattle.kdf_director.proofs.Course.SeenJournals.{judged, same-need, same-note, same-step}
-use Rattle.kdf_director.proofs.Course.Worlds.{next-world}
+use Rattle.kdf_theory.specs.ByJournal.{own, seen_of}
+use Rattle.kdf_theory.proofs.Course.SeenJournals.{judged, same-need, same-note, same-step}
+use Rattle.kdf_theory.proofs.Course.Worlds.{next-world}
 use Rattle.kdf_director.proofs.laws.journals.judged_alike.Goals as goal
 
 pub returns-clause-held : goal.returns-clause-held

@@ -1,6 +1,6 @@
-use Rattle.kdf_director.proofs.Course.WorldsJudged.{legal_added, legal_before, legal_nil, true_added, true_nil}
-use Rattle.kdf_director.proofs.Course.FlightsOnCourse.{none-first}
-use Rattle.kdf_director.proofs.Course.OwnSteps.{own-nil}
+use Rattle.kdf_theory.proofs.Course.WorldsJudged.{legal_added, legal_before, legal_nil, true_added, true_nil}
+use Rattle.kdf_theory.proofs.Course.FlightsOnCourse.{none-first}
+use Rattle.kdf_theory.proofs.Course.OwnSteps.{own-nil}
 use Rattle.kdf_director.proofs.laws.journals.legal_step.Goals as goal
 
 pub returns-clause-empty : goal.returns-clause-empty

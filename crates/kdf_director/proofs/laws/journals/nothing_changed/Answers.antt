@@ -1,9 +1,9 @@
 use Rattle.std.proofs.Common.{refl}
 use Rattle.std.proofs.Math.Path.{fun_ext}
 use Rattle.kdf_journal.specs.Steps.{Holds, Waits, Sets, Swaps}
-use Rattle.kdf_director.proofs.Course.LegalFacts.{legal_asked}
-use Rattle.kdf_director.proofs.Course.FlightsOnCourse.{flights-quiet, legal-course}
-use Rattle.kdf_director.proofs.Course.OwnSteps.{own-same}
+use Rattle.kdf_theory.proofs.Course.LegalFacts.{legal_asked}
+use Rattle.kdf_theory.proofs.Course.FlightsOnCourse.{flights-quiet, legal-course}
+use Rattle.kdf_theory.proofs.Course.OwnSteps.{own-same}
 use Rattle.kdf_director.proofs.laws.journals.nothing_changed.Goals as goal
 
 pub returns-clause-held : goal.returns-clause-held

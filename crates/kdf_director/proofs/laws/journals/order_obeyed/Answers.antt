@@ -1,4 +1,4 @@
-use Rattle.kdf_director.proofs.Course.OrdersObeyed.{obeys-flights, obeys-others, obeys-own, obeys-seen}
+use Rattle.kdf_theory.proofs.Course.OrdersObeyed.{obeys-flights, obeys-others, obeys-own, obeys-seen}
 use Rattle.kdf_director.proofs.laws.journals.order_obeyed.Goals as goal
 
 pub returns-clause-own : goal.returns-clause-own

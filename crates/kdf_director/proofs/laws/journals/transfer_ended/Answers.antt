@@ -1,10 +1,10 @@
 use Rattle.std.proofs.Common.{refl}
 use Rattle.kdf_journal.specs.Steps.{Ends}
-use Rattle.kdf_director.proofs.Course.FlightsAdded.{flights-end}
-use Rattle.kdf_director.proofs.Course.LegalFacts.{legal_asked}
-use Rattle.kdf_director.proofs.Course.FlightsOnCourse.{legal-course}
-use Rattle.kdf_director.proofs.Course.OwnSteps.{own-same}
-use Rattle.kdf_director.proofs.Course.SeenJournals.{end-none, end-seen}
+use Rattle.kdf_theory.proofs.Course.FlightsAdded.{flights-end}
+use Rattle.kdf_theory.proofs.Course.LegalFacts.{legal_asked}
+use Rattle.kdf_theory.proofs.Course.FlightsOnCourse.{legal-course}
+use Rattle.kdf_theory.proofs.Course.OwnSteps.{own-same}
+use Rattle.kdf_theory.proofs.Course.SeenJournals.{end-none, end-seen}
 use Rattle.kdf_director.proofs.laws.journals.transfer_ended.Goals as goal
 
 pub returns-clause-own : goal.returns-clause-own

@@ -1,5 +1,5 @@
-use Rattle.kdf_director.proofs.Course.FlightsOnCourse.{legal-course}
-use Rattle.kdf_director.proofs.Course.SeenJournals.{two-ends}
+use Rattle.kdf_theory.proofs.Course.FlightsOnCourse.{legal-course}
+use Rattle.kdf_theory.proofs.Course.SeenJournals.{two-ends}
 use Rattle.kdf_director.proofs.laws.journals.two_ends.Goals as goal
 
 pub returns : goal.returns

@@ -1,10 +1,10 @@
 use Rattle.std.proofs.Common.{refl}
 use Rattle.kdf_journal.specs.Steps.{Moves}
-use Rattle.kdf_director.proofs.Course.FlightsAdded.{flights-move}
-use Rattle.kdf_director.proofs.Course.LegalFacts.{legal_asked}
-use Rattle.kdf_director.proofs.Course.FlightsOnCourse.{legal-course}
-use Rattle.kdf_director.proofs.Course.OwnSteps.{own-same}
-use Rattle.kdf_director.proofs.Course.SeenJournals.{move-none, move-seen}
+use Rattle.kdf_theory.proofs.Course.FlightsAdded.{flights-move}
+use Rattle.kdf_theory.proofs.Course.LegalFacts.{legal_asked}
+use Rattle.kdf_theory.proofs.Course.FlightsOnCourse.{legal-course}
+use Rattle.kdf_theory.proofs.Course.OwnSteps.{own-same}
+use Rattle.kdf_theory.proofs.Course.SeenJournals.{move-none, move-seen}
 use Rattle.kdf_director.proofs.laws.journals.words_moved.Goals as goal
 
 pub returns-clause-own : goal.returns-clause-own

@@ -1,5 +1,5 @@
 use Rattle.kdf_director.proofs.Course.OneJournal.{journal_for_cut, true_for_cut, whole_for_cut}
-use Rattle.kdf_director.proofs.Course.WorldsJudged.{legal_cut}
+use Rattle.kdf_theory.proofs.Course.WorldsJudged.{legal_cut}
 use Rattle.kdf_director.proofs.laws.served.cut.Goals as goal
 
 pub returns-clause-legal : goal.returns-clause-legal

@@ -1,7 +1,8 @@
 use Rattle.std.proofs.Common.{ap, ◌∙◌, subst}
 use Rattle.kdf_director.specs.Fields.Going.{any_on}
-use Rattle.kdf_director.specs.Next.{any_live}
-use Rattle.kdf_director.specs.Shown.{Shown, ShowsSeen}
+use Rattle.kdf_theory.specs.Next.{any_live}
+use Rattle.kdf_director.specs.Fields.Machines.{stands}
+use Rattle.kdf_theory.specs.Shown.{Shown, ShowsSeen}
 use Rattle.kdf_director.proofs.Linking.EventsEntered.{shown_seen}
 use Rattle.kdf_director.proofs.Linking.FieldsShow.{live_shown}
 use Rattle.kdf_director.proofs.machine.Machine.is_any_live.Goals as goal
@@ -11,10 +12,10 @@ returns-clause-live c =
     let m = c.self.inside in
     c.is_any_on.ensures
     ∙ ap any_on c.deref.ensures.value
-    ∙ live_shown m.slots.items m.windows m.store m.programs.items m.devices.items m.journal.entries m.journal.spare m.room c.self.invariant
+    ∙ live_shown m c.self.invariant
     ∙ ap (λ (v : Shown). any_live v.slots v.journal) c.self.view_is
 
 pub returns-clause-seen : goal.returns-clause-seen
 returns-clause-seen c =
     let m = c.self.inside in
-    subst ShowsSeen c.self.view_is (shown_seen m.slots.items m.windows m.store m.programs.items m.devices.items m.journal.entries m.journal.spare m.room c.self.invariant)
+    subst ShowsSeen c.self.view_is (shown_seen (stands m) m.journal m.room c.self.invariant.ready)

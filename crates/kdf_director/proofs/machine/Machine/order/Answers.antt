@@ -1,4 +1,4 @@
-use Rattle.kdf_director.specs.Served.{unasked}
+use Rattle.kdf_theory.specs.Served.{unasked}
 use Rattle.kdf_director.proofs.Course.OneJournal.{advance_unserved, answered_unserved}
 use Rattle.kdf_director.proofs.Turns.AfterTheTry.{if_ok}
 use Rattle.kdf_director.proofs.machine.Machine.order.Goals as goal

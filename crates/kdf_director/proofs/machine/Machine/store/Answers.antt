@@ -2,7 +2,7 @@ use Rattle.std.specs.Prelude.{IfSome}
 use Rattle.std.proofs.Common.{◌<◌, subst}
 use Rattle.kdf_processor.specs.State.{State}
 use Rattle.kdf_director.specs.Lends.{IsStored}
-use Rattle.kdf_director.specs.Shown.{Shown, state_of}
+use Rattle.kdf_theory.specs.Shown.{Shown, state_of}
 use Rattle.kdf_director.proofs.Linking.FieldsShow.{store_shown}
 use Rattle.kdf_director.proofs.machine.Machine.store.Goals as goal
 
@@ -10,4 +10,4 @@ pub returns : goal.returns
 returns c = λ p a.
     let m = c.self.inside in
     subst (λ (v : Shown). IfSome (state_of v p) (λ (x : State). a < x.stock.claims.size → IsStored v m.store p a x)) c.self.view_is
-    (store_shown m.slots.items m.windows m.store m.programs.items m.devices.items m.journal.entries m.journal.spare m.room c.self.invariant p a)
+    (store_shown m c.self.invariant p a)

@@ -9,7 +9,6 @@ use Rattle.kdf_director.specs.Fields.Stints.{Loan, keeping_of, with_loan}
 use Rattle.kdf_director.specs.Fields.Turn.{part_of, shared}
 use Rattle.kdf_director.proofs.Physical.PoolDevices.{IsIts}
 use Rattle.kdf_director.proofs.Physical.FreeDevices.{back_is, left_is, leaves_there, not_busy}
-use Rattle.kdf_director.proofs.Physical.PartsShow.{holder_is}
 use Rattle.kdf_director.proofs.Turns.TurnsKeep.{active_in, give_active, give_kept, kept_in}
 use Rattle.kdf_director.proofs.turn.Turn.return_pooled.Goals as goal
 use Rattle.kdf_director.proofs.turn.Turn.return_pooled.Goals.{After-take_back_at, After-hand_in}
@@ -20,7 +19,7 @@ its c =
     let t = c.args.self.now in
     record {
       pooled = c.requires.pooled;
-      holder = holder_is t.p _ (sym ((active_in t).marks c.args.d c.requires.pooled) ∙ c.requires.its);
+      lent = sym ((active_in t).marks c.args.d c.requires.pooled) ∙ c.requires.its;
       idle = not_busy (spot_at (shared t).spots c.args.d).flight c.requires.idle;
     }
 
@@ -60,7 +59,7 @@ invariant_of-self-clause-active c =
     let t = c.args.self.now in
     let at = (goal.at.invariant_of-self-clause-active c).After-take_back_at in
     let by = (goal.at.invariant_of-self-clause-active c).After-hand_in in
-    subst (λ e. IsActiveBy t.p t.window t.slot.now (set t.claimed.now e false) c.hand_in.new.stints.items c.take_back_at.new.places.items) (sym c.from-2.ensures)
+    subst (λ e. IsActiveBy t.p t.window t.slot.now (set t.claimed.now e false) c.hand_in.new.stints.items) (sym c.from-2.ensures)
     (give_active t c.args.d c.hand_in.new.stints.items c.take_back_at.new.places.items (inside at) (its at) (are by (leaves at)) (shows at))
 
 pub returns : goal.returns
@@ -69,7 +68,7 @@ returns c =
     let at = (goal.at.returns c).After-take_back_at in
     let by = (goal.at.returns c).After-hand_in in
     record {
-      same = record { moment = refl; claimed = refl; spooled = refl; stints = refl; store = refl; places = refl; block = refl };
+      same = record { moment = refl; journal = refl; claimed = refl; spooled = refl; stints = refl; store = refl; places = refl; block = refl };
       part = ap₂ (λ e ks. let q : Part = record (part_of t) { claimed = set t.claimed.now e false; stints = ks } in q) c.from-2.ensures (are by (leaves at));
       shared = ap (λ ss. let s : Shared = record { cells = t.store.now; spots = ss } in s) (shows at);
       note = refl;

@@ -1,6 +1,6 @@
 use Rattle.std.proofs.Common.{is_some, ap, subst, ◌∙◌}
 use Rattle.kdf_processor.specs.Effect.{Asks, IsOut}
-use Rattle.kdf_director.specs.True.{one_if}
+use Rattle.kdf_theory.specs.True.{one_if}
 use Rattle.kdf_director.specs.Fields.Turn.{Acts}
 use Rattle.kdf_director.proofs.Physical.PartsShow.{one_more}
 use Rattle.kdf_director.proofs.turn.TurnPort.ask_area.Goals as goal

@@ -1,6 +1,6 @@
 use Rattle.std.proofs.Common.{ap, subst, ◌∙◌}
 use Rattle.kdf_processor.specs.Effect.{Asks, IsBusy}
-use Rattle.kdf_director.specs.True.{one_if}
+use Rattle.kdf_theory.specs.True.{one_if}
 use Rattle.kdf_director.specs.Fields.Turn.{Acts}
 use Rattle.kdf_director.proofs.Physical.PartsShow.{one_more}
 use Rattle.kdf_director.proofs.turn.TurnPort.ask_busy.Goals as goal

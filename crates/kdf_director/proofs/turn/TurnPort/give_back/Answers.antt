@@ -8,7 +8,7 @@ use Rattle.kdf_director.specs.Fields.Shared.{after_act}
 use Rattle.kdf_director.specs.Fields.Turn.{Acts, part_of, shared}
 use Rattle.kdf_director.proofs.Physical.PoolDevices.{active-marked}
 use Rattle.kdf_director.proofs.Physical.PartsShow.{claimed_small}
-use Rattle.kdf_director.proofs.Turns.TurnsKeep.{marked, places_of}
+use Rattle.kdf_director.proofs.Turns.TurnsKeep.{marked}
 use Rattle.kdf_director.proofs.turn.TurnPort.give_back.Goals as goal
 use Rattle.kdf_director.proofs.turn.TurnPort.give_back.Goals.{After-is_some}
 
@@ -25,7 +25,7 @@ return_pooled-requires-clause-pooled c = pooled (goal.at.return_pooled-requires-
 pub invariant_of-self-clause-active : goal.invariant_of-self-clause-active
 invariant_of-self-clause-active c =
     let t = c.args.self.now in
-    active-marked (marked t) (places_of t) c.from.result false
+    active-marked (marked t) c.from.result false
     (ap (in_pool (marked t)) c.from.ensures ∙ pooled (goal.at.invariant_of-self-clause-active c).After-is_some ∙ c.if-is_some.false)
     t.active
 
@@ -39,7 +39,7 @@ returns-else-is_some c =
     let t = c.args.self.now in
     let not = pooled (goal.at.returns-else-is_some c).After-is_some ∙ c.if-is_some.false in
     record {
-      same = record { moment = refl; claimed = refl; spooled = refl; stints = refl; store = refl; places = refl; block = refl };
+      same = record { moment = refl; journal = refl; claimed = refl; spooled = refl; stints = refl; store = refl; places = refl; block = refl };
       part = ap (λ e. let q : Part = record (part_of t) { claimed = set t.claimed.now e false } in q) c.from.ensures
           ∙ ap (λ b. part_after (part_of t) (shared t) (Releases b c.args.device)) (sym not);
       shared = ap (λ b. after_act (part_of t) (shared t) (Releases b c.args.device)) (sym not);

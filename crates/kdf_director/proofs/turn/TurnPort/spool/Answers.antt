@@ -43,7 +43,7 @@ returns c =
     let t = c.args.self.now in
     let items = c.push_reserved.ensures.items ∙ ap (λ x. t.spooled.now.items ++ one c.args.stream x ∷ []) (text of (free to)) in
     record {
-      same = record { moment = refl; claimed = refl; spooled = refl; stints = refl; store = refl; places = refl; block = refl };
+      same = record { moment = refl; journal = refl; claimed = refl; spooled = refl; stints = refl; store = refl; places = refl; block = refl };
       part = ap (λ xs. let q : Part = record (part_of t) { spooled = xs } in q) items;
       shared = refl;
       note = refl;

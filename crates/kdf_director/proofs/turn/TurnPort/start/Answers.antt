@@ -1,4 +1,4 @@
-use Rattle.std.proofs.Common.{◌≡◌, ◌+◌, ◌<◌, true, length, map, Some, is_some, ap, ◌∙◌, sym, subst, arith}
+use Rattle.std.proofs.Common.{◌≡◌, ◌+◌, ◌<◌, true, length, map, is_some, ap, ◌∙◌, sym, subst, arith}
 use Rattle.kdf_transfer.specs.AtOnce.{kind_of, has_area}
 use Rattle.kdf_transfer.specs.Devices.{is_kind}
 use Rattle.kdf_places.specs.Spots.{spot_at, spot_kind, spot_of}
@@ -7,8 +7,8 @@ use Rattle.kdf_places.specs.Transfers.{IsFreeArea}
 use Rattle.kdf_director.specs.Fields.Turn.{part_of, shared}
 use Rattle.kdf_director.proofs.Physical.TransfersBegin.{free_groups, free_area}
 use Rattle.kdf_places.proofs.TransfersBegin.{length-start}
-use Rattle.kdf_director.proofs.Physical.PartsShow.{claim_fixture, claim_holder, claim_spot}
-use Rattle.kdf_director.proofs.Turns.TurnsKeep.{active_in, kept_in, start_active, start_kept}
+use Rattle.kdf_director.proofs.Physical.PartsShow.{claim_fixture, claim_spot}
+use Rattle.kdf_director.proofs.Turns.TurnsKeep.{kept_in, start_kept}
 use Rattle.std.proofs.lemmas.List.{length-map}
 use Rattle.kdf_director.proofs.turn.TurnPort.start.Goals as goal
 use Rattle.kdf_director.proofs.turn.TurnPort.start.Goals.{After-from, After-place-2}
@@ -39,15 +39,9 @@ invariant_of-self-clause-in_store c =
     let within = t.in_store in
     omega arith
 
--- its device is the program's, and stays where it is
+-- its device stays where it is
 inside : (c : After-from) → c.from.result < length (map spot_of c.args.self.now.places.now.items)
 inside c = omega (arith, c.from.ensures, c.requires.number, c.args.self.now.sixteen, length-map c.args.self.now.places.now.items spot_of)
-
-holder : (c : After-from) → (spot_at (shared c.args.self.now).spots c.from.result).holder ≡ Some c.args.self.now.p
-holder c =
-    let t = c.args.self.now in
-    ap (λ e. (spot_at (shared t).spots e).holder) c.from.ensures
-    ∙ claim_holder (part_of t) (shared t) c.args.device (kind_of c.args.order) (kept_in t) (active_in t) c.requires.kind
 
 some : (c : After-from) → is_some (spot_at (shared c.args.self.now).spots c.from.result).fixture ≡ true
 some c =
@@ -58,9 +52,7 @@ some c =
 pub invariant_of-self-clause-kept : goal.invariant_of-self-clause-kept
 invariant_of-self-clause-kept c =
     let at = (goal.at.invariant_of-self-clause-kept c).After-from in
-    start_kept c.args.self.now c.from.result c.args.order c.place.result c.place-2.result c.start_at.new.places.items (inside at) (holder at) c.start_at.ensures.spots (some at)
+    start_kept c.args.self.now c.from.result c.args.order c.place.result c.place-2.result c.start_at.new.places.items (inside at) c.start_at.ensures.spots (some at)
 
 pub invariant_of-self-clause-active : goal.invariant_of-self-clause-active
-invariant_of-self-clause-active c =
-    let at = (goal.at.invariant_of-self-clause-active c).After-from in
-    start_active c.args.self.now c.from.result c.args.order c.place.result c.place-2.result c.start_at.new.places.items (inside at) (holder at) c.start_at.ensures.spots
+invariant_of-self-clause-active c = c.args.self.now.active

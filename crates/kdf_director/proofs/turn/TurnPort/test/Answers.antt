@@ -4,7 +4,7 @@ use Rattle.kdf_places.specs.Spots.{spot_at, spot_of}
 use Rattle.kdf_director.specs.Fields.Turn.{part_of, shared}
 use Rattle.kdf_transfer.proofs.Numbers.{limit_is}
 use Rattle.kdf_director.proofs.Physical.PartsShow.{claimed_has, claimed_small, own_device}
-use Rattle.kdf_director.proofs.Turns.TurnsKeep.{active_in, kept_in}
+use Rattle.kdf_director.proofs.Turns.TurnsKeep.{active_in}
 use Rattle.kdf_director.proofs.turn.TurnPort.test.Goals as goal
 
 pub test_in-requires : goal.test_in-requires
@@ -18,4 +18,4 @@ returns c =
     let t = c.args.self.now in
     c.test_in.ensures
     ∙ ap (λ ps. test_of c.args.what (spot_at (map spot_of ps) c.args.device).progress) c.deref.ensures.value
-    ∙ sym (ap (test_of c.args.what) (own_device (part_of t) 0 (shared t) c.args.device (claimed_small (part_of t) (shared t) c.args.device c.requires.claimed) (claimed_has (part_of t) (shared t) c.args.device (kept_in t) (active_in t) c.requires.claimed)))
+    ∙ sym (ap (test_of c.args.what) (own_device (part_of t) 0 (shared t) c.args.device (claimed_small (part_of t) (shared t) c.args.device c.requires.claimed) (claimed_has (part_of t) (shared t) c.args.device (active_in t) c.requires.claimed)))

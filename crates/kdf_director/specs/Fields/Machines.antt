@@ -1,0 +1,16 @@
+-- The fields of a machine: how things stand by them, what is shown of them, and what holds of them.
+use Rattle.kdf_director.specs.declared.machine.Machine.TheInside.{Inside}
+use Rattle.kdf_director.specs.Fields.Agrees.{IsReady}
+use Rattle.kdf_director.specs.Fields.Standing.{Standing, shown_of, standing, IsYard}
+use Rattle.kdf_theory.specs.Shown.{Shown}
+
+abbrev pub stands : Inside → Standing
+stands m = standing m.slots.items m.windows m.store m.programs.items m.devices.items
+
+abbrev pub shown : Inside → Shown
+shown m = shown_of (stands m) m.journal m.room
+
+-- they are those of a yard, and how things stand in it agrees with the journal
+pub record IsMachine (m : Inside) : Type 0 where
+  pub yard : IsYard m.slots.items m.windows m.store m.programs.items m.devices.items
+  pub ready : IsReady (stands m) m.journal m.room

@@ -1,0 +1,14 @@
+pub mod ByJournal
+pub mod Course
+pub mod Flights
+pub mod Flying
+pub mod Follows
+pub mod Holders
+pub mod Legal
+pub mod Next
+pub mod Seen
+pub mod Served
+pub mod Shown
+pub mod Slots
+pub mod True
+pub mod World
