@@ -10,9 +10,9 @@ use Rattle.kdf_schedule.specs.declared.event.Event.TheVariants.{Orders, Move, En
 use Rattle.kdf_schedule.specs.Calls.{order_count}
 use Rattle.kdf_schedule.specs.Events.{IsInRange}
 use Rattle.kdf_job.specs.WellFormed as job
-use Rattle.kdf_director.specs.Follows.{IsRising, entries_in}
-use Rattle.kdf_director.specs.Served.{IsJournalFor}
-use Rattle.kdf_director.specs.Shown.{Shown}
+use Rattle.kdf_theory.specs.Follows.{IsRising, entries_in}
+use Rattle.kdf_theory.specs.Served.{IsJournalFor}
+use Rattle.kdf_theory.specs.Shown.{Shown}
 use Rattle.kdf_snapshot.specs.Rebuilt.{DiffersFrom, IsRefused}
 use Rattle.kdf_snapshot.specs.declared.rebuilt.RebuildError.{RebuildError}
 use Rattle.kdf_snapshot.specs.declared.rebuilt.RebuildError.TheVariants.{Differs, Memory}

@@ -8,3 +8,9 @@ pub mod Fronts
 pub mod Words
 pub mod Unserved
 pub mod SeenWords
+pub mod WholeLines
+pub mod WrittenParts
+pub mod JobSchedules
+pub mod SmallEntries
+pub mod LegalEntries
+pub mod JournalLengths

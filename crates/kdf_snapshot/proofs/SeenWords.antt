@@ -5,9 +5,9 @@ use Rattle.std.specs.List.{flat_map}
 use Rattle.kdf_transfer.specs.Slots.{Slot}
 use Rattle.kdf_processor.specs.State.{State}
 use Rattle.kdf_job.specs.Job.{SlotJob}
-use Rattle.kdf_director.specs.Shown.{Shown, ShowsSeen, state_at, state_in, state_of}
-use Rattle.kdf_director.specs.Slots.{slot_of, start_of}
-use Rattle.kdf_director.specs.ByJournal.{seen_of}
+use Rattle.kdf_theory.specs.Shown.{Shown, ShowsSeen, state_at, state_in, state_of}
+use Rattle.kdf_theory.specs.Slots.{slot_of, start_of}
+use Rattle.kdf_theory.specs.ByJournal.{seen_of}
 use Rattle.kdf_director.proofs.Linking.OrdersEntered.{state_there}
 use Rattle.kdf_snapshot.specs.Stores.{HasStore, slot_lines}
 

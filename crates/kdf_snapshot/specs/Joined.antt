@@ -4,7 +4,7 @@ use Rattle.kdf_schedule.specs.declared.event.Event.{Event}
 use Rattle.kdf_journal.specs.declared.entry.Entry.{Entry}
 use Rattle.kdf_job.specs.Job.{Job}
 use Rattle.kdf_director.specs.Loading.{slots_of}
-use Rattle.kdf_director.specs.Served.{IsJournalFor}
+use Rattle.kdf_theory.specs.Served.{IsJournalFor}
 
 -- the job whose schedule is that of the front job, and these events after it
 abbrev pub joined : Job → List Event → Job

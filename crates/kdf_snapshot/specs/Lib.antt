@@ -7,3 +7,4 @@ pub mod Parts
 pub mod Stores
 pub mod Rebuilt
 pub mod Joined
+pub mod Written

@@ -3,7 +3,7 @@ use Rattle.std.specs.Prelude.{ℕ, List}
 use Rattle.kdf_transfer.specs.Slots.{Slot}
 use Rattle.kdf_journal.specs.declared.entry.Entry.{Entry}
 use Rattle.kdf_schedule.specs.declared.event.Event.{Event}
-use Rattle.kdf_director.specs.Served.{IsJournalFor}
+use Rattle.kdf_theory.specs.Served.{IsJournalFor}
 use Rattle.kdf_snapshot.specs.Differs.{IsDifference}
 use Rattle.kdf_snapshot.specs.declared.rebuilt.RebuildError.{RebuildError}
 use Rattle.kdf_snapshot.specs.declared.rebuilt.RebuildError.TheVariants.{Differs, Memory}

@@ -4,7 +4,7 @@ use Rattle.std.specs.List.{flat_map, range_with_len}
 use Rattle.kdf_text.specs.Text.{octal}
 use Rattle.kdf_job.specs.Job.{Job, SlotJob}
 use Rattle.kdf_processor.specs.State.{State, word_at}
-use Rattle.kdf_director.specs.Shown.{Shown, state_of}
+use Rattle.kdf_theory.specs.Shown.{Shown, state_of}
 
 -- a word at an address of slot p
 abbrev pub store_line : (p a word : ℕ) → List ℕ

@@ -5,7 +5,6 @@ ghost use Rattle.kdf_snapshot.specs.declared.fault.SplitError.TheVariants.{Memor
 
 use kdf_fault::Numbered;
 use std::alloc::{AllocError, AllocFailed};
-use thiserror::Error;
 
 /// What is wrong with a snapshot. Of several faults, the one that is answered stands first here.
 #[derive(Clone, Copy, Debug, PartialEq, Eq)]
@@ -57,13 +56,11 @@ impl Numbered for SnapshotFault {
 }
 
 /// Why a snapshot has no parts.
-#[derive(Debug, Error, Drop)]
+#[derive(Drop)]
 pub enum SplitError {
     /// The first fault, and the number of its line.
-    #[error("{0:?} at line {1}")]
     Fault(SnapshotFault, u32),
     /// There was no memory for the entries.
-    #[error("out of memory")]
     Memory,
 }
 

@@ -1,17 +1,24 @@
 //! Laws of the definitions, each the contract of a function that does nothing.
-ghost use Rattle.std.specs.Prelude.{◌≡◌, ℕ, ◌+◌, ◌-◌, ◌<◌, All, List, ◌++◌, drop, length, take};
+ghost use Rattle.std.specs.Prelude.{◌≡◌, ℕ, ◌+◌, ◌-◌, ◌<◌, ◌≤◌, All, List, ◌++◌, Ok, drop, length, take};
 ghost use Rattle.kdf_text.specs.Lines.{lines};
 ghost use Rattle.kdf_text.specs.Text.{text};
 ghost use Rattle.kdf_journal.specs.declared.entry.Entry.{Entry};
+ghost use Rattle.kdf_journal.specs.Printed.{IsEntry};
 ghost use Rattle.kdf_journal.specs.Steps.{Step, steps};
+ghost use Rattle.kdf_transfer.specs.Slots.{Slot};
 ghost use Rattle.kdf_schedule.specs.declared.event.Event.{Event};
 ghost use Rattle.kdf_service.specs.Rules.{IsService};
 ghost use Rattle.kdf_job.specs.Job.{Job};
-ghost use Rattle.kdf_director.specs.Shown.{Shown, ShowsSeen, state_at};
-ghost use Rattle.kdf_director.specs.ByJournal.{seen_of};
+ghost use Rattle.kdf_job.specs.Limits.{most_words};
+ghost use Rattle.kdf_job.specs.WellFormed.{IsSchedule};
+ghost use Rattle.kdf_theory.specs.Shown.{Shown, ShowsSeen, state_at};
+ghost use Rattle.kdf_theory.specs.ByJournal.{seen_of};
+ghost use Rattle.kdf_theory.specs.Served.{IsJournalFor};
+ghost use Rattle.kdf_theory.specs.Slots.{AreSlots};
 ghost use Rattle.kdf_snapshot.specs.Joined.{IsJournalOf, joined};
-ghost use Rattle.kdf_snapshot.specs.Snapshot.{offset};
+ghost use Rattle.kdf_snapshot.specs.Snapshot.{offset, parts_of};
 ghost use Rattle.kdf_snapshot.specs.Stores.{HasStore, store_lines};
+ghost use Rattle.kdf_snapshot.specs.Written.{CanBeSealed, journal_text, parts_written, seal_text};
 
 /// What stands after the offset of a line is the text of that line and those after it. What stands between the offsets of two lines is
 /// the text of the lines between.
@@ -38,4 +45,21 @@ pub fn resumed<F: Fn(u64) -> u64>()
         IsJournalOf (F.post rule) front images J →
         IsJournalOf (F.post rule) (joined front further) images K →
         (Q : List Step) × (steps K ≡ Q ++ steps J) }
+{}
+
+/// What is written after the job of a snapshot is split again: into the entries of its journal, where their numbers fit their types, into
+/// what is sealed, and into whatever stands after it.
+pub fn split_again()
+    ensures { (first : ℕ) (J : List Entry) (sealed : List (List ℕ)) (more : List ℕ) →
+        All IsEntry J → All CanBeSealed sealed →
+        parts_of first (journal_text J ++ (seal_text sealed ++ more)) ≡ Ok (parts_written first J sealed) }
+{}
+
+/// The numbers of the entries of a journal fit their types, if it is that of slots with numbers below 4 and with stores of at most 8192
+/// words, under a schedule that a job may have, and with a service.
+pub fn fitting_entries<F: Fn(u64) -> u64>()
+    ensures { (rule : F) → IsService (F.pre rule) (F.post rule) → (slots : List Slot) → AreSlots slots →
+        All (λ (s : Slot). (s.p < 4) × (s.size ≤ most_words)) slots →
+        (events : List Event) → IsSchedule events → (J : List Entry) →
+        IsJournalFor (F.post rule) slots events J → All IsEntry J }
 {}

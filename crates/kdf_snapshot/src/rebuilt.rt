@@ -5,10 +5,10 @@ ghost use Rattle.kdf_job.specs.Job.{SlotJob};
 ghost use Rattle.kdf_job.specs.Shows.{shown_job, shown_slot};
 ghost use Rattle.kdf_job.specs.WellFormed.{IsJob};
 ghost use Rattle.kdf_place.specs.declared.image.Image.{Image};
-ghost use Rattle.kdf_director.specs.Follows.{entries_in};
+ghost use Rattle.kdf_theory.specs.Follows.{entries_in};
 ghost use Rattle.kdf_director.specs.Loading.{HaveImages, slots_of};
-ghost use Rattle.kdf_director.specs.Served.{unasked, IsJournalFor};
-ghost use Rattle.kdf_director.specs.Shown.{ShowsSeen};
+ghost use Rattle.kdf_theory.specs.Served.{unasked, IsJournalFor};
+ghost use Rattle.kdf_theory.specs.Shown.{ShowsSeen};
 ghost use Rattle.kdf_snapshot.specs.Rebuilt.{DiffersFrom, IsRefused};
 
 use crate::differs::first_difference;
@@ -18,6 +18,9 @@ use kdf_journal::Entry;
 use kdf_place::Image;
 use kdf_service::Service;
 use std::alloc::Global;
+
+/// The journal of a job has no more entries: at most two for each of 20,000,000 orders and for each of 500,000 other events.
+const MOST_ENTRIES: usize = 41_000_000;
 
 /// Why there is no machine whose journal is these entries.
 #[derive(Clone, Copy, Debug, PartialEq, Eq)]
@@ -29,7 +32,7 @@ pub enum RebuildError {
 }
 
 /// The machine of a job without a fault, with the images of its decks and with a service, after its first events, if its journal is these
-/// entries, of which there are fewer than 2^32. It has room for the later events.
+/// entries. It has room for the later events.
 ///
 /// # Errors
 ///
@@ -48,7 +51,6 @@ pub fn rebuild_with<F: Fn(u64) -> u64>(
     requires images { HaveImages (map shown_slot job.now.slots.items)
         (map (λ (x : Image). x.words.items) images.now) }
     requires within { first ≤ length job.now.events.items }
-    requires few { length entries.now < 2 ^ 32 }
     ensures slots { IfOk result (λ m. m.slots ≡ slots_of (map shown_slot job.now.slots.items)
         (map (λ (x : Image). x.words.items) images.now)) }
     ensures journal { IfOk result (λ m. IsJournalFor (F.post service.now) m.slots
@@ -63,7 +65,8 @@ pub fn rebuild_with<F: Fn(u64) -> u64>(
     let Ok(mut machine) = Machine::load(alloc, job, images) else {
         return Err(RebuildError::Memory);
     };
-    if machine.reserve_entries(entries.len() as u32).is_err() {
+    let many = entries.len().min(MOST_ENTRIES) as u32;
+    if machine.reserve_entries(many).is_err() {
         machine.close();
         return Err(RebuildError::Memory);
     }
@@ -94,7 +97,6 @@ pub fn rebuild(
         (map (λ (x : Image). x.words.items) images.now) }
     requires unserved { All (λ (slot : SlotJob). slot.served ≡ false) (map shown_slot job.now.slots.items) }
     requires within { first ≤ length job.now.events.items }
-    requires few { length entries.now < 2 ^ 32 }
     ensures slots { IfOk result (λ m. m.slots ≡ slots_of (map shown_slot job.now.slots.items)
         (map (λ (x : Image). x.words.items) images.now)) }
     ensures journal { IfOk result (λ m. IsJournalFor unasked m.slots
@@ -112,13 +114,13 @@ pub fn rebuild(
 
 /// The machine, if its journal is these entries.
 fn compared(machine: Machine, entries: &[Entry]) -> Result<Machine, RebuildError>
-    requires { length entries.now < 2 ^ 32 }
+    requires { length machine.journal < 2 ^ 32 }
     ensures machine { IfOk result (λ m. m ≡ machine) }
     ensures entries { IfOk result (λ m. machine.journal ≡ entries.now) }
     ensures refused { IfErr result (DiffersFrom machine.journal entries.now) }
     ensures told { IfErr result (λ e. e ≢ RebuildError.Memory) }
 {
-    match first_difference(entries, machine.journal().entries()) {
+    match first_difference(machine.journal().entries(), entries) {
         None => Ok(machine),
         Some(place) => {
             machine.close();

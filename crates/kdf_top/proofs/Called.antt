@@ -3,8 +3,8 @@ use Rattle.std.proofs.Common.{◌≡◌, ℕ, ◌<◌, ◌^◌, inl, inr, List, 
 use Rattle.kdf_journal.specs.declared.entry.Entry.{Entry}
 use Rattle.kdf_job.specs.Front.{front_job}
 use Rattle.kdf_job.specs.Job.{Job}
-use Rattle.kdf_director.specs.Served.{IsJournalFor}
-use Rattle.kdf_director.specs.Shown.{Shown}
+use Rattle.kdf_theory.specs.Served.{IsJournalFor}
+use Rattle.kdf_theory.specs.Shown.{Shown}
 use Rattle.kdf_director.proofs.Course.OneJournal.{one_for}
 use Rattle.kdf_text.specs.Lines.{is_text, line, lines}
 use Rattle.kdf_text.specs.Text.{text}

@@ -19,3 +19,6 @@ pub mod StopLines
 pub mod Hyphens
 pub mod Watches
 pub mod NamedCommands
+pub mod SealLines
+pub mod SavedTexts
+pub mod SavedRuns

@@ -1,6 +1,6 @@
 -- What a command makes, from its text and the machine that it keeps.
 use Rattle.std.proofs.Common.{◌≡◌, ℕ, List, [], Vec, Global, Option, Some, None, Result, Ok, Err, IfOk, true, false, sym, subst}
-use Rattle.kdf_director.specs.Shown.{Shown}
+use Rattle.kdf_theory.specs.Shown.{Shown}
 use Rattle.kdf_top.specs.declared.command.Command.{Command}
 use Rattle.kdf_top.specs.declared.making.Made.{Made}
 use Rattle.kdf_top.specs.Answers.{IsFaultless, IsMade, IsTrusted}

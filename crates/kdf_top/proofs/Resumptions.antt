@@ -11,8 +11,8 @@ use Rattle.kdf_job.specs.More.{joined, more_events, more_fault}
 use Rattle.kdf_job.specs.Shows.{shown_job}
 use Rattle.kdf_job.specs.WellFormed.{IsJob}
 use Rattle.kdf_job.specs.declared.job.TheConstants.{TEXT_LIMIT}
-use Rattle.kdf_director.specs.Served.{IsJournalFor}
-use Rattle.kdf_director.specs.Shown.{Shown}
+use Rattle.kdf_theory.specs.Served.{IsJournalFor}
+use Rattle.kdf_theory.specs.Shown.{Shown}
 use Rattle.kdf_snapshot.specs.Differs.{IsDifference}
 use Rattle.kdf_snapshot.specs.Parts.{IsInside, shown_parts}
 use Rattle.kdf_snapshot.specs.declared.parts.Parts.{Parts as SplitParts}

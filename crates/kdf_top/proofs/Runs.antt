@@ -11,7 +11,7 @@ use Rattle.kdf_job.specs.More.{more_fault}
 use Rattle.kdf_job.specs.Reading.{job_fault}
 use Rattle.kdf_job.specs.declared.fault.JobFault.{JobFault}
 use Rattle.kdf_job.specs.declared.job.TheConstants.{TEXT_LIMIT}
-use Rattle.kdf_director.specs.Shown.{Shown}
+use Rattle.kdf_theory.specs.Shown.{Shown}
 use Rattle.kdf_snapshot.specs.Snapshot.{Parts}
 use Rattle.kdf_snapshot.specs.declared.fault.SnapshotFault.{SnapshotFault}
 use Rattle.kdf_top.specs.declared.command.Command.{Command}

@@ -6,7 +6,7 @@ use Rattle.kdf_schedule.specs.declared.event.Event.{Event}
 use Rattle.kdf_schedule.specs.declared.event.Event.TheVariants.{Orders, Move, End, Clock, Swap}
 use Rattle.kdf_schedule.specs.Events.{IsInRange}
 use Rattle.kdf_job.specs.WellFormed as job
-use Rattle.kdf_director.specs.Follows.{IsRising, entries_in}
+use Rattle.kdf_theory.specs.Follows.{IsRising, entries_in}
 
 -- each event is an entry at most
 one_entry : (e : Event) → entries_in e ≤ 1

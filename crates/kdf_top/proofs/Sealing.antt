@@ -7,8 +7,8 @@ use Rattle.std.specs.List.{flat_map}
 use Rattle.kdf_text.specs.Text.{text}
 use Rattle.kdf_processor.specs.State.{State}
 use Rattle.kdf_job.specs.Job.{Job, SlotJob}
-use Rattle.kdf_director.specs.Shown.{Shown, ShowsSeen, state_at, state_of}
-use Rattle.kdf_director.specs.ByJournal.{seen_of}
+use Rattle.kdf_theory.specs.Shown.{Shown, ShowsSeen, state_at, state_of}
+use Rattle.kdf_theory.specs.ByJournal.{seen_of}
 use Rattle.kdf_report.specs.MadeFrom.{HasProgram, IsProgramOf}
 use Rattle.kdf_report.specs.Text.{journal_lines, section, sections_lines}
 use Rattle.kdf_report.proofs.SeenPrograms.{state_at-seen}

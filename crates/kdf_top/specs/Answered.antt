@@ -3,7 +3,7 @@
 use Rattle.std.specs.Prelude.{◌≡◌, ◌≢◌, ℕ, ◌+◌, ◌≤◌, ◌&&◌, List, [], length, true, false, Option, Some, None, is_some, IfSome}
 use Rattle.kdf_io.specs.Outside.{AddedFront, HasRisen, Advances, NothingLeft}
 use Rattle.kdf_io.specs.Reading.{TakesAtMost}
-use Rattle.kdf_director.specs.Shown.{Shown}
+use Rattle.kdf_theory.specs.Shown.{Shown}
 use Rattle.kdf_top.specs.Answers.{Answers, IsCalledBy, IsDoneBy, IsDoneOver, IsDue, IsDueBy, Wrote, WroteFront, WroteFrontBy, is_done, keeps_by, reads_by, refusal}
 use Rattle.kdf_top.specs.Commands.{input_of}
 use Rattle.kdf_top.specs.declared.command.Command.{Command}

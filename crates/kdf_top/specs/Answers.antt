@@ -6,7 +6,7 @@ use Rattle.kdf_text.specs.Text.{text}
 use Rattle.kdf_usercode.specs.Faults.{Found}
 use Rattle.kdf_job.specs.Front.{front_fault}
 use Rattle.kdf_job.specs.Reading.{job, job_fault}
-use Rattle.kdf_director.specs.Shown.{Shown}
+use Rattle.kdf_theory.specs.Shown.{Shown}
 use Rattle.kdf_top.specs.Commands.{command, input_of, is_read, is_too_long, keeps_machine, limit_by, text_in}
 use Rattle.kdf_top.specs.Deck.{deck_fault}
 use Rattle.kdf_top.specs.Due.{IsText, IsTextFrom, Keeps, job_of, journal_in}

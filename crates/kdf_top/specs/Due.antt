@@ -14,9 +14,9 @@ use Rattle.kdf_job.specs.Reading.{job}
 use Rattle.kdf_job.specs.Slots.{slot_of}
 use Rattle.kdf_processor.specs.Lone.{is_live, lone}
 use Rattle.kdf_processor.specs.State.{State, begin}
-use Rattle.kdf_director.specs.Served.{IsJournalFor}
-use Rattle.kdf_director.specs.Shown.{Shown, ShowsSeen}
-use Rattle.kdf_director.specs.ByJournal.{flights_of, own, seen_of}
+use Rattle.kdf_theory.specs.Served.{IsJournalFor}
+use Rattle.kdf_theory.specs.Shown.{Shown, ShowsSeen}
+use Rattle.kdf_theory.specs.ByJournal.{flights_of, own, seen_of}
 use Rattle.kdf_text.specs.Text.{end_line, text}
 use Rattle.kdf_check.specs.Report.{IsCheck}
 use Rattle.kdf_check.specs.declared.verdict.Verdict.{Verdict}

@@ -10,3 +10,4 @@ pub mod Codes
 pub mod Answered
 pub mod Due
 pub mod Values
+pub mod Saved

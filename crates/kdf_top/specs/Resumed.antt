@@ -5,9 +5,9 @@ use Rattle.kdf_text.specs.Lines.{lines}
 use Rattle.kdf_job.specs.Front.{front_job}
 use Rattle.kdf_job.specs.Shows.{shown_job}
 use Rattle.kdf_job.specs.declared.job.TheConstants.{TEXT_LIMIT}
-use Rattle.kdf_director.specs.Follows.{entries_in}
-use Rattle.kdf_director.specs.Served.{IsJournalFor}
-use Rattle.kdf_director.specs.Shown.{Shown, ShowsSeen}
+use Rattle.kdf_theory.specs.Follows.{entries_in}
+use Rattle.kdf_theory.specs.Served.{IsJournalFor}
+use Rattle.kdf_theory.specs.Shown.{Shown, ShowsSeen}
 use Rattle.kdf_top.specs.Loaded.{IsLoaded, slots_of}
 use Rattle.kdf_top.specs.Snapshots.{IsSnapshot, line_after_job, parts, resumed_job, sealed_lines}
 use Rattle.kdf_top.specs.declared.resuming.Snapshot.{Snapshot}

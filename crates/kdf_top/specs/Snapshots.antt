@@ -11,8 +11,8 @@ use Rattle.kdf_job.specs.More.{joined, more_events, more_fault}
 use Rattle.kdf_job.specs.Reading.{job}
 use Rattle.kdf_job.specs.declared.fault.JobFault.{JobFault}
 use Rattle.kdf_processor.specs.State.{State}
-use Rattle.kdf_director.specs.Served.{IsJournalFor}
-use Rattle.kdf_director.specs.ByJournal.{seen_of}
+use Rattle.kdf_theory.specs.Served.{IsJournalFor}
+use Rattle.kdf_theory.specs.ByJournal.{seen_of}
 use Rattle.kdf_report.specs.Text.{journal_lines, sections_lines}
 use Rattle.kdf_snapshot.specs.Differs.{IsDifference}
 use Rattle.kdf_snapshot.specs.Snapshot.{Parts, end_line, journal_line, parts_of, seal_line}

@@ -6,6 +6,7 @@ mod checking;
 mod command;
 mod decks;
 mod differing;
+pub mod laws;
 mod listing;
 mod loading;
 mod making;

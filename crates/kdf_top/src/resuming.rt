@@ -1,6 +1,6 @@
 //! A run that goes on from a snapshot.
 ghost use Rattle.std.specs.Prelude.{◌≡◌, ◌-◌, ◌≤◌, ℕ, List, drop, IfErr, IfOk, OnOk, length, take};
-ghost use Rattle.kdf_director.specs.Shown.{ShowsSeen};
+ghost use Rattle.kdf_theory.specs.Shown.{ShowsSeen};
 ghost use Rattle.kdf_job.specs.Shows.{shown_job};
 ghost use Rattle.kdf_job.specs.declared.job.TheConstants.{TEXT_LIMIT};
 ghost use Rattle.kdf_service.specs.Rules.{IsService};

@@ -13,7 +13,7 @@ use Rattle.kdf_schedule.specs.declared.event.Event.{Event}
 use Rattle.kdf_top.proofs.Schedules.{rises}
 use Rattle.kdf_watch.specs.Cursors.{KeepsLimits}
 use Rattle.kdf_director.specs.Loading.{slots_of}
-use Rattle.kdf_director.specs.Slots.{NoneServed}
+use Rattle.kdf_theory.specs.Slots.{NoneServed}
 
 -- each of the slots is well formed
 pub slot_at : (j : ReadJob) (k : ℕ) (s : ReadSlot) → IsJob (shown_job j) → k < length j.slots.items → s ≡ slice_index_or j.slots.items k s → IsSlot (shown_slot s)

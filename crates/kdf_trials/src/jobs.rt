@@ -1,7 +1,7 @@
 //! Jobs that are read, with the images of their decks.
 ghost use Rattle.std.specs.Prelude.{◌≤◌, map, length, sum_by, IfOk};
 ghost use Rattle.kdf_place.specs.declared.image.Image.{Image as Made};
-ghost use Rattle.kdf_director.specs.Follows.{entries_in};
+ghost use Rattle.kdf_theory.specs.Follows.{entries_in};
 ghost use Rattle.kdf_director.specs.Loading.{HaveImages};
 ghost use Rattle.kdf_job.specs.Shows.{shown_job, shown_slot};
 ghost use Rattle.kdf_job.specs.WellFormed.{IsJob};

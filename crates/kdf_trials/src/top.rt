@@ -1,6 +1,8 @@
-//! Whole calls over memory, with a source and a sink that fail at every call, and with several services.
+//! Whole calls over memory, with a source and a sink that fail at every call, and with several services; and a served program that is put
+//! away, resumed and checked.
 ghost use Rattle.kdf_service.specs.Rules.{IsService};
 
+mod saved;
 mod services;
 
 use kdf_io::{MemorySink, MemorySource};

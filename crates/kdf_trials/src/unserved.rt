@@ -2,7 +2,7 @@
 ghost use Rattle.std.specs.Prelude.{◌≡◌, All, IfOk, false, map, true};
 ghost use Rattle.kdf_place.specs.declared.image.Image.{Image as Made};
 ghost use Rattle.kdf_director.specs.Loading.{HaveImages, slots_of};
-ghost use Rattle.kdf_director.specs.Slots.{NoneServed};
+ghost use Rattle.kdf_theory.specs.Slots.{NoneServed};
 ghost use Rattle.kdf_job.specs.Job.{SlotJob as Shown};
 ghost use Rattle.kdf_job.specs.Shows.{shown_job, shown_slot};
 ghost use Rattle.kdf_job.specs.WellFormed.{IsJob};

@@ -1,6 +1,6 @@
 //! Runs that watches stop and that are continued: each comes to the report of the run that nobody watched.
 ghost use Rattle.std.specs.Prelude.{◌≡◌, ◌%◌, ◌≤◌, ◌==◌, ◌&&◌, ◌||◌, [], length, map, nat_le, sum_by};
-ghost use Rattle.kdf_director.specs.Follows.{entries_in};
+ghost use Rattle.kdf_theory.specs.Follows.{entries_in};
 ghost use Rattle.kdf_watch.specs.Cursors.{KeepsLimits};
 ghost use Rattle.kdf_place.specs.declared.image.Image.{Image as Made};
 ghost use Rattle.kdf_service.specs.Rules.{IsService};

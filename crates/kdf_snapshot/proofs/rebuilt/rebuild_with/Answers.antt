@@ -1,9 +1,10 @@
 use Rattle.std.proofs.Common.{length-take, take, drop, ap, sym, ◌∙◌, subst, arith}
 use Rattle.std.proofs.lemmas.Result.{IfErr-weaker, IfOk-weaker}
 use Rattle.std.specs.Prelude.{sum_by}
-use Rattle.kdf_director.specs.Follows.{entries_in}
-use Rattle.kdf_director.specs.Shown.{Shown, ShowsSeen}
+use Rattle.kdf_theory.specs.Follows.{entries_in}
+use Rattle.kdf_theory.specs.Shown.{Shown, ShowsSeen}
 use Rattle.kdf_snapshot.proofs.Fronts.{entries-bound, entries-parts, few-orders, kept, kept-journal, refused-as, rising-front}
+use Rattle.kdf_snapshot.proofs.JournalLengths.{few_entries}
 use Rattle.kdf_snapshot.proofs.rebuilt.rebuild_with.Goals as goal
 
 pub follow-requires-clause-few : goal.follow-requires-clause-few
@@ -47,3 +48,10 @@ pub returns-in-Ok-follow-clause-refused : goal.returns-in-Ok-follow-clause-refus
 returns-in-Ok-follow-clause-refused g c =
     let slots = c.follow.ensures.slots ∙ ap (λ (m : Shown). m.slots) c.reserve_entries.ensures ∙ c.in-Ok.ensures.slots in
     IfErr-weaker c.compared.result _ _ (λ e d. refused-as _ _ _ _ _ _ e slots (rw c.deref.ensures.value at c.in-Ok-follow.ensures.journal) d) c.compared.ensures.refused
+
+pub compared-requires : goal.compared-requires
+compared-requires g c =
+    let es = c.args.job.now.events.items in
+    let i = c.args.first in
+    few_entries _ _ (take i es) _ (rw c.deref.ensures.value at c.in-Ok-follow.ensures.journal)
+    (omega (arith, few-orders i es, c.requires.job.schedule.few_orders)) (omega (arith, length-take i es, c.requires.job.schedule.few))
