@@ -88,7 +88,7 @@ async function showFault({ status, text: answer }, job) {
     view.forgetFault();
     return null;
   }
-  const fault = faultOf(answer, job, texts.sentences);
+  const fault = faultOf(answer, job);
   const hint = status === SNAPSHOT_HAS_FAULT ? null : await hintOf(ask, fault, job);
   if (job === view.text) view.showFault(fault, hint);
   return fault;
@@ -171,7 +171,7 @@ function sayAnswer({ status, milliseconds, memory }, fault) {
 async function explain(job) {
   const { status, text } = await ask(["asm", "0"], job);
   if (!FAULTS.includes(status)) return null;
-  const fault = faultOf(text, job, texts.sentences);
+  const fault = faultOf(text, job);
   return { ...fault, hint: await hintOf(ask, fault, job) };
 }
 

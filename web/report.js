@@ -1,5 +1,7 @@
 // The texts that say what became of programs: the report of a run, and the text of a program that ran alone.
 
+import { ENTRIES, JOB } from "./tables.js";
+
 /** How many characters of a text are read at most. */
 export const LONGEST_READ = 20000000;
 
@@ -60,7 +62,7 @@ export function numberOf(octal) {
 }
 
 /** The entries of a call that finds a program held up. */
-export const HOLDS = ["LOV", "BUSY", "WAIT"];
+export const HOLDS = ENTRIES.filter(({ holds }) => holds).map(({ entry }) => entry);
 
 /** How many calls of the machine an entry records. */
 export function callsOf([kind, ...numbers]) {
@@ -92,7 +94,7 @@ export function callsOfOrders(entries, slot, orders) {
 }
 
 /** What a device of the pool is called, by its kind. */
-export const NAMES_OF_POOL = { TP: "punch", LP: "printer" };
+export const NAMES_OF_POOL = Object.fromEntries(JOB.kinds.map(({ kind, pooled }) => [kind, pooled]));
 
 /** The blocks of a device as lines. */
 export const linesOfBlocks = (blocks) => blocks.map(({ text, isLast }) => `${text}${isLast ? "   (last block mark)" : ""}`);
