@@ -83,8 +83,7 @@ def hint_of_v_stores(named: Named, statement: Statement) -> Optional[str]:
 
 def said_of_stores(owner: str, name: str, highest: Optional[int]) -> str:
     """Which stores of a name somebody has, in words."""
-    which = "no_stores" if highest is None else "stores" if highest else "one_store"
-    return hint(which, owner=owner, name=name, highest=highest)
+    return hint("no_stores" if highest is None else "stores" if highest else "one_store", owner=owner, name=name, highest=highest)
 
 
 def hint_of_parts(named: Named, _statement: Statement) -> str:
@@ -105,8 +104,7 @@ def hint_of_references(named: Named, statement: Statement) -> Optional[str]:
     if part is None:
         return None
     numbers = list(dict.fromkeys(str(whole(each.text)) for each in part.references))
-    which = "references" if len(numbers) > 1 else "reference" if numbers else "no_references"
-    return hint(which, part=part.name, numbers=listed(numbers or [""]))
+    return hint("references" if len(numbers) > 1 else "reference" if numbers else "no_references", part=part.name, numbers=listed(numbers or [""]))
 
 
 def hint_of_first_reference(named: Named, statement: Statement) -> Optional[str]:
