@@ -2,6 +2,8 @@
 
 import { ENTRIES, JOB } from "./tables.js";
 
+const GROUP = JOB.most.words_of_group;
+
 /** How many characters of a text are read at most. */
 export const LONGEST_READ = 20000000;
 
@@ -117,7 +119,7 @@ const SAID = {
   GIVE: (p, d) => `program ${p} gave device ${d} back to the pool`,
   FAIL: (p, kind) => `program ${p} failed: ${kind}`,
   ENDED: (p) => `program ${p} ended`,
-  LOV: (p, g) => `program ${p} is held up by group ${g}, words ${32 * g} to ${32 * g + 31}, which is locked out`,
+  LOV: (p, g) => `program ${p} is held up by group ${g}, words ${GROUP * g} to ${GROUP * g + GROUP - 1}, which is locked out`,
   BUSY: (p, d) => `program ${p} is held up by device ${d}, which has a transfer`,
   WAIT: (p, kind) => `program ${p} is held up by the pool, of which every ${NAMES_OF_POOL[kind]} has a holder`,
   IDLE: (n) => `${many(n, "call")} found all live programs held up`,
