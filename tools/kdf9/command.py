@@ -46,6 +46,10 @@ class Parser(argparse.ArgumentParser):
         self._positionals.title, self._optionals.title = "arguments", "options"
         self.add_argument("-h", "--help", action="help", help="says this, and ends")
 
+    def described(self) -> List[argparse.Action]:
+        """The arguments and the options, in the order in which the tool adds them, and first of all --help."""
+        return list(self._actions)
+
     def error(self, message: str) -> NoReturn:
         """Refuses arguments that are wrong in this way."""
         raise BadWords(message)
