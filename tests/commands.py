@@ -17,9 +17,9 @@ from kdf9.tools import TOOLS  # noqa: E402
 
 Cases = Iterator[Tuple[str, Optional[str]]]
 
-# The tools that read a report or JSON from standard input; the others but page read the file that their first argument names.
-READS_INPUT = ("picture", "json", "report")
-READS_FILE = tuple(name for name in TOOLS if name not in (*READS_INPUT, "page"))
+# The tools that read a report or JSON from standard input, and those that read nothing; the others read the file that their first argument names.
+READS_INPUT, READS_NOTHING = ("picture", "json", "report"), ("page", "clean", "package")
+READS_FILE = tuple(name for name in TOOLS if name not in (*READS_INPUT, *READS_NOTHING))
 
 # These need the machine as WebAssembly, which tests/page makes.
 WRITES_PAGE = ("page", "replay")
@@ -38,6 +38,7 @@ WRONG_WORDS = [
     (["schedule", "-", "16=3"], "DEVICE=N: has to be a number from 0 to 15, and 16 isn't one"), (["schedule", "-", "3"], "DEVICE=N: has to be the number of a device"),
     (["same"], "required: JOB"), (["same", "-", "-"], "can't both be standard input"), (["same", "-", "a", "b"], "b"),
     (["picture", "--svg"], "--svg"), (["json", "-"], "-"), (["report", "-"], "-"), (["page", "x"], "x"), (["replay"], "required: JOB"),
+    (["clean", "x"], "x"),
 ]
 
 # What is no text of a tool: its name and its bytes.

@@ -39,7 +39,8 @@ class Checkout:
         shutil.copy(ROOT / "tools/build", self.folder / "tools")
         shutil.copytree(ROOT / "tools/building", self.folder / "tools/building")
         shutil.copytree(ROOT / "tools/kdf9", self.folder / "tools/kdf9")
-        shutil.copy(ROOT / "tools/about", self.folder / "tools")
+        for tool in ("about", "clean"):
+            shutil.copy(ROOT / "tools" / tool, self.folder / "tools")
         shutil.copy(ROOT / "CHANGELOG.md", self.folder)
         self.write("docs/PROOFS.md", "# Proofs\n\nProved with `a kit that stands in` (and so on).\n")
 
@@ -75,10 +76,10 @@ class Checkout:
         log = self.folder / "log"
         return log.read_text().splitlines() if log.exists() else []
 
-    def begin(self, *words, **streams):
+    def begin(self, *words, variables=(), **streams):
         """A start of ./kdf9 by these words."""
         pipes = {"stdin": subprocess.DEVNULL, "stdout": subprocess.PIPE, "stderr": subprocess.PIPE, **streams}
-        variables = {"PATH": str(self.folder / "commands"), "KDF9_JOBS": "2"}
+        variables = {"PATH": str(self.folder / "commands"), "KDF9_JOBS": "2", "KDF9_DISK": "0", **dict(variables)}
         # Named as a program, the copy can't be started while a process that another thread begins has it open still.
         return subprocess.Popen([shutil.which("bash"), self.folder / "kdf9", *words], env=variables, text=True, **pipes)
 
@@ -184,7 +185,7 @@ def draws_a_bar_on_a_terminal(checkout):
 def writes_down_how_long_crates_took(checkout):
     checkout.write(WORD, "word\n")
     words = [sys.executable, "tools/build", "--times"]
-    variables = {"PATH": str(checkout.folder / "commands")}
+    variables = {"PATH": str(checkout.folder / "commands"), "KDF9_DISK": "0"}
     for _ in range(2):
         subprocess.run(words, cwd=checkout.folder, env=variables, stderr=subprocess.PIPE, check=True)
         yield None if (checkout.folder / TIMES).read_text() == "# seconds\nkdf9 1\nkdf_nest 1\nkdf_qstore 1\nkdf_word 1\n" else "other times"
