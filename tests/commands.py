@@ -17,9 +17,9 @@ from kdf9.tools import TOOLS  # noqa: E402
 
 Cases = Iterator[Tuple[str, Optional[str]]]
 
-# The tools that read a report or JSON from standard input; the others but page read the file that their first argument names.
-READS_INPUT = ("picture", "json", "report")
-READS_FILE = tuple(name for name in TOOLS if name not in (*READS_INPUT, "page"))
+# The tools that read a report or JSON from standard input, and those that read nothing; the others read the file that their first argument names.
+READS_INPUT, READS_NOTHING = ("picture", "json", "report"), ("page", "clean", "package")
+READS_FILE = tuple(name for name in TOOLS if name not in (*READS_INPUT, *READS_NOTHING))
 
 # These need the machine as WebAssembly, which tests/page makes.
 WRITES_PAGE = ("page", "replay")
@@ -40,6 +40,7 @@ WRONG_WORDS = [
     (["schedule", "-", "--speed", "16=1+1"], "--speed: has to be a number from 0 to 15"), (["schedule", "-", "--speeds", "fast"], "(choose from 'kdf9')"), (["schedule", "-", "--speed"], "--speed"),
     (["same"], "required: JOB"), (["same", "-", "-"], "can't both be standard input"), (["same", "-", "a", "b"], "b"),
     (["picture", "--svg"], "--svg"), (["json", "-"], "-"), (["report", "-"], "-"), (["page", "x"], "x"), (["replay"], "required: JOB"),
+    (["clean", "x"], "x"),
 ]
 
 # What is no text of a tool: its name and its bytes.
@@ -104,7 +105,7 @@ def tools_are_listed() -> Cases:
     built = re.findall(r"building the program: (\d+) crates|is proved: 1 of (\d+) ", document("TOOLS.md"))
     yield "the crates of docs/TOOLS.md", None if {int(one or other) for one, other in built} == {len(read_crates())} else f"are {built}"
     there = {path.name for path in (ROOT / "tools").iterdir() if path.is_file() and os.access(path, os.X_OK)}
-    yield "the files of the tools", None if there == {*TOOLS, "build", "kit_line"} else f"{there}"
+    yield "the files of the tools", None if there == {*TOOLS, "about", "build", "kit_line", "manual"} else f"{there}"
 
 
 def wrong_words_are_refused() -> Cases:

@@ -38,6 +38,11 @@ class Checkout:
         shutil.copy(ROOT / "kdf9", self.folder)
         shutil.copy(ROOT / "tools/build", self.folder / "tools")
         shutil.copytree(ROOT / "tools/building", self.folder / "tools/building")
+        shutil.copytree(ROOT / "tools/kdf9", self.folder / "tools/kdf9")
+        for tool in ("about", "clean"):
+            shutil.copy(ROOT / "tools" / tool, self.folder / "tools")
+        shutil.copy(ROOT / "CHANGELOG.md", self.folder)
+        self.write("docs/PROOFS.md", "# Proofs\n\nProved with `a kit that stands in` (and so on).\n")
 
     def write(self, name, text):
         """Writes a file, which is newer than the program then, as by an editor some time later."""
@@ -71,10 +76,10 @@ class Checkout:
         log = self.folder / "log"
         return log.read_text().splitlines() if log.exists() else []
 
-    def begin(self, *words, **streams):
+    def begin(self, *words, variables=(), **streams):
         """A start of ./kdf9 by these words."""
         pipes = {"stdin": subprocess.DEVNULL, "stdout": subprocess.PIPE, "stderr": subprocess.PIPE, **streams}
-        variables = {"PATH": str(self.folder / "commands"), "KDF9_JOBS": "2"}
+        variables = {"PATH": str(self.folder / "commands"), "KDF9_JOBS": "2", "KDF9_DISK": "0", **dict(variables)}
         # Named as a program, the copy can't be started while a process that another thread begins has it open still.
         return subprocess.Popen([shutil.which("bash"), self.folder / "kdf9", *words], env=variables, text=True, **pipes)
 
@@ -180,7 +185,7 @@ def draws_a_bar_on_a_terminal(checkout):
 def writes_down_how_long_crates_took(checkout):
     checkout.write(WORD, "word\n")
     words = [sys.executable, "tools/build", "--times"]
-    variables = {"PATH": str(checkout.folder / "commands")}
+    variables = {"PATH": str(checkout.folder / "commands"), "KDF9_DISK": "0"}
     for _ in range(2):
         subprocess.run(words, cwd=checkout.folder, env=variables, stderr=subprocess.PIPE, check=True)
         yield None if (checkout.folder / TIMES).read_text() == "# seconds\nkdf9 1\nkdf_nest 1\nkdf_qstore 1\nkdf_word 1\n" else "other times"
@@ -271,7 +276,7 @@ def starts_no_program_that_is_being_built(checkout):
 
 def says_how_a_job_is_handed_in(checkout):
     checkout.start("make", "0")
-    for words, said in (([], "./kdf9 run < FILE"), (["-h"], "./kdf9 run < FILE"), (["--help"], "./kdf9 run < FILE"), (["run", "my.job"], "./kdf9 run < my.job")):
+    for words, said in (([], "./kdf9 run < FILE; ./kdf9 --help lists"), (["run", "my.job"], "./kdf9 run < my.job")):
         yield differs(checkout.start(*words), 42, "<first>" + "".join(f"<{word}>" for word in words), said)
     for command, text in (("save", "a job"), ("resume", "a snapshot"), ("check", "a job with its report")):
         yield differs(checkout.start(command, "my.job"), 42, f"<first><{command}><my.job>", f"{text} is read from standard input: ./kdf9 {command} < my.job")
@@ -281,12 +286,51 @@ def says_how_a_job_is_handed_in(checkout):
         yield differs(checkout.start(*words), 42, "<first>" + "".join(f"<{word}>" for word in words))
 
 
+def says_what_there_is_without_a_program(checkout):
+    for words, part in ((["--help"], "tools, where JOB is"), (["-h"], "commands, which"), (["run", "--help"], "usage: ./kdf9 run < JOB\n"), (["alone", "0", "-h"], "alone K < JOB")):
+        run = checkout.start(*words)
+        yield None if run[0] == 0 and part in run[1] and not run[2] else f"{run}"
+    yield differs(checkout.start("walk", "--help"), 2, "", "walk is no command and no tool; ./kdf9 --help lists them")
+    checkout.without("python3")
+    yield differs(checkout.start("run", "--help"), 1, "", "--help needs python3, which isn't on this machine")
+    yield None if not checkout.builds() else "a program was built"
+
+
+def says_which_program_it_is(checkout):
+    yield version_differs(checkout, "not built yet")
+    checkout.start("make", "0")
+    yield version_differs(checkout, "proved and built on this machine, on ", ", with a kit that stands in\n")
+    checkout.write(NEST, "kdf_word\n")
+    yield version_differs(checkout, f"older than {NEST}; the next start")
+    checkout.start("make", "0")
+    yield version_differs(checkout, "proved and built on this machine")
+    (checkout.folder / "crates/kdf_word/out/proved-here").write_text("another kit")
+    checkout.write(MAIN, "second\n")
+    checkout.start("make", "0")
+    yield version_differs(checkout, "built on this machine, on ", "; 3 of its 4 crates were proved by that, and the others were proved before")
+    record = checkout.folder / f"{PROGRAM}.proved"
+    lines = record.read_text().splitlines()
+    record.write_text("\n".join([lines[0], "another machine", *lines[2:]]))
+    yield version_differs(checkout, "built on another machine, and not proved on this one")
+    checkout.build_by_hand()
+    yield version_differs(checkout, "there is no record of its build")
+    record.write_text("x\n")
+    yield version_differs(checkout, "there is no record of its build")
+
+
+def version_differs(checkout, *parts):
+    """What is wrong with what --version says: its four lines, and these parts of what it says of the program; or None."""
+    run = checkout.start("--version")
+    good = re.fullmatch(r"kdf9 \d+\.\d+\.\d+\ncommit: .+\nkit: a kit that stands in\nprogram: .+\n", run[1])
+    return None if good and run[0] == 0 and not run[2] and all(part in run[1] for part in parts) else f"{run} without {parts}"
+
+
 def says_that_a_terminal_is_read(checkout):
     checkout.start("make", "0")
     yield differs(at_terminal(checkout, "alone", "0"), 42, "<first><alone><0>job\n", "from the terminal")
     yield differs(at_terminal(checkout, "watch", "3", "8191"), 42, "<first><watch><3><8191>job\n", "reading a job from the terminal")
     yield differs(at_terminal(checkout, "check"), 42, "<first><check>job\n", "reading a job with its report from the terminal")
-    yield differs(at_terminal(checkout, "--help"), 42, "<first><--help>job\n", "./kdf9 run < FILE")
+    yield differs(at_terminal(checkout), 42, "<first>job\n", "./kdf9 run < FILE")
 
 
 def at_terminal(checkout, *words):
@@ -305,7 +349,7 @@ CASES = (
     draws_a_bar_on_a_terminal, writes_down_how_long_crates_took, says_that_there_is_no_rt, builds_what_has_changed, builds_nothing_for_a_date,
     sees_what_changed_while_it_built, names_the_source_that_is_newer, starts_in_a_copy, goes_by_dates_where_another_built,
     starts_in_a_copy_of_what_another_built, waits_for_another_start, starts_no_program_that_is_being_built, says_how_a_job_is_handed_in,
-    says_that_a_terminal_is_read,
+    says_what_there_is_without_a_program, says_which_program_it_is, says_that_a_terminal_is_read,
 )
 
 

@@ -68,6 +68,9 @@ def prove(name, uses):
 
 
 def main():
+    if sys.argv[1:] == ["version"]:
+        print("a kit that stands in")
+        return
     lines = (CRATES.parent / "crates.txt").read_text().splitlines()
     uses = {name: libraries.split() for name, _, libraries in (line.partition(":") for line in lines)}
     names = [*below(OWN, uses), OWN]

@@ -7,6 +7,7 @@ import sys
 import tempfile
 from concurrent.futures import ThreadPoolExecutor
 
+from builds import SUITES as BUILDS
 from commands import SUITES as COMMANDS
 from launcher import launcher_starts
 from pictures import SUITES as PICTURES
@@ -426,7 +427,7 @@ def documents_are_true():
 
 SUITES = (
     launcher_starts, faults_are_found, documents_have_no_other_faults, hints_are_given, failures_are_found, bad_input_is_refused,
-    turns_are_told, examples_are_shown, large_texts_take_seconds, documents_are_true, *COMMANDS, *PICTURES, *RUNS, *SAVED, *SLIPS, *STOPS,
+    turns_are_told, examples_are_shown, large_texts_take_seconds, documents_are_true, *BUILDS, *COMMANDS, *PICTURES, *RUNS, *SAVED, *SLIPS, *STOPS,
 )
 
 

@@ -20,6 +20,9 @@ PROGRAM = "kdf9"
 ROOMS = CRATES / PROGRAM / "out" / "rooms"
 SOURCES = ("src", "specs", "proofs")
 
+# What a check keeps for the next one: how far it came, and what it proved.
+KEPT = ("incremental", pathlib.Path("rlib", "stamp"))
+
 # What a check says goes to this file in the crate's folder.
 LOG = pathlib.Path("out", "check.log")
 
@@ -116,7 +119,7 @@ def begin_check(name, below, jobs):
     own = CRATES / name
     lock = os.open(own, os.O_RDONLY)
     words = ["run", "--jobs", str(jobs), "--", "make", "0"]
-    is_anew = not (own / "out" / "incremental").exists()
+    is_anew = not any((own / "out" / kept).exists() for kept in KEPT)
     folder = own
     if name != PROGRAM:
         wait_for_folder(lock, name)

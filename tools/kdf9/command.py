@@ -46,6 +46,10 @@ class Parser(argparse.ArgumentParser):
         self._positionals.title, self._optionals.title = "arguments", "options"
         self.add_argument("-h", "--help", action="help", help="says this, and ends")
 
+    def described(self) -> List[argparse.Action]:
+        """The arguments and the options, in the order in which the tool adds them, and first of all --help."""
+        return list(self._actions)
+
     def error(self, message: str) -> NoReturn:
         """Refuses arguments that are wrong in this way."""
         raise BadWords(message)
@@ -71,9 +75,14 @@ def main(name: str, arguments: Callable[[Parser], None], run: Callable[[argparse
 
 
 def status_of(name: str, arguments: Callable[[Parser], None], run: Callable[[argparse.Namespace], int], words: List[str]) -> int:
-    """The status with which a tool ends on these arguments. Bad input, and whatever else keeps it from its end, is said in one line."""
+    """The status with which a tool ends on these arguments."""
+    return guarded(name, lambda: parsed(name, arguments, run, words))
+
+
+def guarded(name: str, work: Callable[[], int]) -> int:
+    """The status of this work, which is done under this name. Bad input, and whatever else keeps it from its end, is said in one line."""
     try:
-        return ended(name, arguments, run, words)
+        return ended(name, work)
     except MemoryError:
         pass
     # Only here is the memory free again that the tool took: until then, the error still has all of its values.
@@ -81,10 +90,10 @@ def status_of(name: str, arguments: Callable[[Parser], None], run: Callable[[arg
     return BAD_INPUT
 
 
-def ended(name: str, arguments: Callable[[Parser], None], run: Callable[[argparse.Namespace], int], words: List[str]) -> int:
-    """The status of a tool that ends in any way but for want of memory."""
+def ended(name: str, work: Callable[[], int]) -> int:
+    """The status of work that ends in any way but for want of memory."""
     try:
-        return answered(name, arguments, run, words)
+        return written(work)
     except BadWords as why:
         tell(f"kdf9 {name}: {why}; usage: {TOOLS[name].usage} (--help says more)")
         return BAD_WORDS
@@ -104,19 +113,24 @@ def ended(name: str, arguments: Callable[[Parser], None], run: Callable[[argpars
     return BAD_INPUT
 
 
-def answered(name: str, arguments: Callable[[Parser], None], run: Callable[[argparse.Namespace], int], words: List[str]) -> int:
-    """The status of a tool that came to its end, with all that it wrote handed over."""
+def written(work: Callable[[], int]) -> int:
+    """The status of work that came to its end, with all that it wrote handed over."""
     if sys.stdout is None:
         raise BadInput("standard output is closed")
     sys.stdout.reconfigure(encoding=ENCODING, errors="replace")
+    status = work()
+    sys.stdout.flush()
+    return status
+
+
+def parsed(name: str, arguments: Callable[[Parser], None], run: Callable[[argparse.Namespace], int], words: List[str]) -> int:
+    """The status of a tool on these arguments; where they ask for it, it only says how it is used."""
     parser = Parser(name)
     arguments(parser)
     try:
-        status = run(parser.parse_intermixed_args(words))
+        return run(parser.parse_intermixed_args(words))
     except SystemExit:
-        status = 0
-    sys.stdout.flush()
-    return status
+        return 0
 
 
 def slip(why: Exception) -> str:

@@ -72,4 +72,9 @@ TOOLS = {tool.name: tool for tool in (
         "Writes the same page with a job in it, which opens at the run of that job.",
         "./kdf9 replay examples/reads-tape.job > kdf9.html",
     ),
+    Tool(
+        "clean", "[--show]",
+        "Gives back the disk that only makes the next proof shorter; the program and the page stay.",
+        "./kdf9 clean --show",
+    ),
 )}

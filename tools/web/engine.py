@@ -11,6 +11,7 @@ import shutil
 import subprocess
 import tempfile
 
+from building.progress import Stages
 from building.rooms import CRATES, ROOT, read_list
 
 SOURCES = ROOT / "web" / "engine"
@@ -45,6 +46,14 @@ LEVEL = "-O2"
 HEAD = re.compile(r"^target (?:datalayout|triple) = .*$", re.MULTILINE)
 ATTRIBUTES = re.compile(r' "(probe-stack|stack-probe-size|target-cpu)"="[^"]*"')
 FOREIGN = re.compile(r"(?:declare|attributes|define).*(?:llvm\.x86|x86|target-features)")
+
+
+# What is said of the two stages.
+PROVED, COMPILED = "its calls are proved", "it is compiled"
+
+# What a proof writes to the log when it has checked some functions, how much of the end of the log is read for it, and how often.
+CHECKED = re.compile(rb"so far: (\d+) of (\d+) functions checked")
+END_OF_LOG, PAUSE = 4096, 0.2
 
 
 class NoEngine(Exception):
@@ -108,11 +117,14 @@ def make_engine(found):
     now = sums()
     with tempfile.TemporaryDirectory(prefix="kdf9-page-") as folder, open(LOG, "w", encoding="utf-8") as log:
         room = Room(found, pathlib.Path(folder), log)
+        room.show.begins(PROVED)
         room.prove()
+        room.show.begins(COMPILED)
         room.compile()
         made = OUT / f"engine.{os.getpid()}"
         shutil.copy(room.folder / "engine.wasm", made)
         made.replace(MODULE)
+        room.show.ends()
     SUMS.write_text(now, encoding="ascii")
 
 
@@ -121,13 +133,36 @@ class Room:
 
     def __init__(self, found, folder, log):
         self.kit, self.folder, self.log = found, folder, log
+        self.show = Stages("the machine as WebAssembly", 2)
 
     def run(self, *words, **how):
         """Runs a tool, which has to succeed."""
-        try:
-            subprocess.run([str(word) for word in words], stdout=self.log, stderr=subprocess.STDOUT, check=True, **how)
-        except subprocess.CalledProcessError as why:
-            raise NoEngine(f"the machine could not be made: see {LOG.relative_to(ROOT)}") from why
+        with subprocess.Popen([str(word) for word in words], stdout=self.log, stderr=subprocess.STDOUT, **how) as process:
+            try:
+                self.wait_for(process)
+            except BaseException:
+                process.kill()
+                raise
+        if process.returncode:
+            raise NoEngine(f"the machine could not be made: see {LOG.relative_to(ROOT)}")
+
+    def wait_for(self, process):
+        """Waits until a tool has ended, and shows how far it is."""
+        while True:
+            try:
+                process.wait(PAUSE)
+                return
+            except subprocess.TimeoutExpired:
+                self.show.goes_on(self.checked())
+
+    def checked(self):
+        """How many functions are proved, if a proof is going on and the log says so."""
+        if self.show.name != PROVED:
+            return ""
+        with open(LOG, "rb") as log:
+            log.seek(max(0, log.seek(0, os.SEEK_END) - END_OF_LOG))
+            found = CHECKED.findall(log.read())
+        return "{} of {} functions".format(*(it.decode("ascii") for it in found[-1])) if found else ""
 
     def prove(self):
         """Proves the crate over the built libraries, and keeps its bitcode for x86-64."""

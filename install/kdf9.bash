@@ -1,0 +1,65 @@
+# Completes the commands, the tools and the options of kdf9, and jobs, slots and folders. Written by tools/manual.
+_kdf9_jobs() {
+    compgen -d -- "$1"
+    compgen -f -X '!*.job' -- "$1" || compgen -f -- "$1"
+}
+
+_kdf9_slots() {
+    local slots=
+    [ ! -f "$1" ] || slots=$(sed -n 's/^SLOT \([0-3]\)$/\1/p' "$1")
+    echo ${slots:-0 1 2 3}
+}
+
+# What stands in a place: a job, a slot, a folder, or one of some words.
+_kdf9_place() {
+    local word=${COMP_WORDS[COMP_CWORD]}
+    case $1 in
+        job) compopt -o filenames 2> /dev/null; mapfile -t COMPREPLY < <(_kdf9_jobs "$word") ;;
+        folder) compopt -o filenames 2> /dev/null; mapfile -t COMPREPLY < <(compgen -d -- "$word") ;;
+        slot) mapfile -t COMPREPLY < <(compgen -W "$(_kdf9_slots "${COMP_WORDS[2]}")" -- "$word") ;;
+        *) mapfile -t COMPREPLY < <(compgen -W "$1" -- "$word") ;;
+    esac
+}
+
+_kdf9() {
+    local places=() options='' with_word='' at place=0
+    COMPREPLY=()
+    case ${COMP_WORDS[1]} in
+        run) places=() options='--help' with_word='' ;;
+        alone) places=(slot) options='--help' with_word='' ;;
+        asm) places=(slot) options='--help' with_word='' ;;
+        make) places=('') options='--help' with_word='' ;;
+        save) places=() options='--help' with_word='' ;;
+        resume) places=() options='--help' with_word='' ;;
+        check) places=() options='--help' with_word='' ;;
+        watch) places=(slot '') options='--help' with_word='' ;;
+        explain) places=(job 'run resume check') options='--help --strict' with_word='' ;;
+        steps) places=(job slot '' '') options='--help --run --at --watch' with_word='--at --watch' ;;
+        listing) places=(job slot) options='--help' with_word='' ;;
+        schedule) places=(job '') options='--help --after --every' with_word='--after --every' ;;
+        same) places=(job job) options='--help' with_word='' ;;
+        picture) places=() options='--help --text' with_word='' ;;
+        json) places=() options='--help' with_word='' ;;
+        report) places=() options='--help' with_word='' ;;
+        page) places=() options='--help' with_word='' ;;
+        replay) places=(job) options='--help' with_word='' ;;
+        clean) places=() options='--help --show' with_word='' ;;
+    esac
+    if [ "$COMP_CWORD" = 1 ]; then
+        _kdf9_place 'run alone asm make save resume check watch explain steps listing schedule same picture json report page replay clean --help --version'
+        return
+    fi
+    for ((at = 2; at < COMP_CWORD; at++)); do
+        case " $with_word < > " in *" ${COMP_WORDS[at]} "*) ((at++)); continue ;; esac
+        [[ ${COMP_WORDS[at]} = -?* ]] || ((place++))
+    done
+    if [ "$at" -gt "$COMP_CWORD" ]; then
+        case ${COMP_WORDS[COMP_CWORD - 1]} in '<' | '>') _kdf9_place job ;; esac
+    elif [[ ${COMP_WORDS[COMP_CWORD]} = -* ]]; then
+        _kdf9_place "$options"
+    else
+        _kdf9_place "${places[place]}"
+    fi
+}
+
+complete -F _kdf9 kdf9

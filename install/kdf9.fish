@@ -1,0 +1,98 @@
+# Completes the commands, the tools and the options of kdf9, and jobs, slots and folders. Written by tools/manual.
+function __kdf9_slots
+    set -l words (commandline -opc)
+    set -l slots
+    test -f "$words[3]"; and set slots (sed -n 's/^SLOT \([0-3]\)$/\1/p' "$words[3]")
+    test (count $slots) -gt 0; or set slots 0 1 2 3
+    printf '%s\n' $slots
+end
+
+# Whether no name stands there yet, and whether the name that does is this one.
+function __kdf9_first
+    test (count (commandline -opc)) -eq 1
+end
+
+function __kdf9_is
+    set -l words (commandline -opc)
+    test (count $words) -gt 1; and test "$words[2]" = $argv[1]
+end
+
+# Whether it is this name, with so many places filled after it.
+function __kdf9_at
+    __kdf9_is $argv[1]; or return 1
+    set -l places 0
+    set -l is_of_option no
+    for word in (commandline -opc)[3..-1]
+        if test $is_of_option = yes
+            set is_of_option no
+        else if contains -- $word --at --watch --after --every
+            set is_of_option yes
+        else if not string match -q -- '-?*' $word
+            set places (math $places + 1)
+        end
+    end
+    test $places -eq $argv[2]
+end
+
+complete -c kdf9 -f
+complete -c kdf9 -n __kdf9_first -a run -d 'Runs a job under Director and writes its report.'
+complete -c kdf9 -n __kdf9_first -a alone -d 'Runs the program of slot K by itself and writes its section of the report.'
+complete -c kdf9 -n __kdf9_first -a asm -d 'Assembles the deck of slot K and lists its words.'
+complete -c kdf9 -n __kdf9_first -a make -d 'Makes a job of four slots from the number N, runs it, and writes a summary.'
+complete -c kdf9 -n __kdf9_first -a save -d 'Runs a job and puts the run away: it writes a snapshot.'
+complete -c kdf9 -n __kdf9_first -a resume -d 'Goes on from a snapshot with further lines of the schedule, and writes the report of the whole run.'
+complete -c kdf9 -n __kdf9_first -a check -d 'Says whether a report has the journal of its job, and where it first goes wrong.'
+complete -c kdf9 -n __kdf9_first -a watch -d 'Runs a job, and says when the program of slot K comes to word W.'
+complete -c kdf9 -n __kdf9_first -a explain -d 'Runs a job, passes on the output and the status, and says on standard error what is wrong, where and why.'
+complete -c kdf9 -n __kdf9_first -a steps -d 'Writes each order of a program as it is obeyed, with its statement and what it changed; or, with --at, each time that the program comes to a statement.'
+complete -c kdf9 -n __kdf9_first -a listing -d 'Writes the image of a deck next to its text, with the names of its words.'
+complete -c kdf9 -n __kdf9_first -a schedule -d 'Writes a job again with a schedule in which each transfer ends a fixed number of calls after it began.'
+complete -c kdf9 -n __kdf9_first -a same -d 'Says of each program of a job whether it comes to the same alone, or in another job.'
+complete -c kdf9 -n __kdf9_first -a picture -d 'Draws the journal of a report, as SVG or, with --text, for a terminal.'
+complete -c kdf9 -n __kdf9_first -a json -d 'Writes a report as JSON.'
+complete -c kdf9 -n __kdf9_first -a report -d 'Writes the report that a JSON text is.'
+complete -c kdf9 -n __kdf9_first -a page -d 'Writes the machine, an editor and the examples as one page for a browser.'
+complete -c kdf9 -n __kdf9_first -a replay -d 'Writes the same page with a job in it, which opens at the run of that job.'
+complete -c kdf9 -n __kdf9_first -a clean -d 'Gives back the disk that only makes the next proof shorter; the program and the page stay.'
+complete -c kdf9 -n __kdf9_first -a --help -d 'Lists the commands and the tools; after the name of one, it says more of that.'
+complete -c kdf9 -n __kdf9_first -a --version -d 'Says the version, the commit, the kit, and whether this program was proved on this machine.'
+complete -c kdf9 -n '__kdf9_is run' -l help -d 'says how it is used, and ends'
+complete -c kdf9 -n '__kdf9_at alone 0' -k -a '(__kdf9_slots)'
+complete -c kdf9 -n '__kdf9_is alone' -l help -d 'says how it is used, and ends'
+complete -c kdf9 -n '__kdf9_at asm 0' -k -a '(__kdf9_slots)'
+complete -c kdf9 -n '__kdf9_is asm' -l help -d 'says how it is used, and ends'
+complete -c kdf9 -n '__kdf9_is make' -l help -d 'says how it is used, and ends'
+complete -c kdf9 -n '__kdf9_is save' -l help -d 'says how it is used, and ends'
+complete -c kdf9 -n '__kdf9_is resume' -l help -d 'says how it is used, and ends'
+complete -c kdf9 -n '__kdf9_is check' -l help -d 'says how it is used, and ends'
+complete -c kdf9 -n '__kdf9_at watch 0' -k -a '(__kdf9_slots)'
+complete -c kdf9 -n '__kdf9_is watch' -l help -d 'says how it is used, and ends'
+complete -c kdf9 -n '__kdf9_at explain 0' -k -a '(__fish_complete_suffix .job)'
+complete -c kdf9 -n '__kdf9_at explain 1' -k -a 'run resume check'
+complete -c kdf9 -n '__kdf9_is explain' -l help -d 'says this, and ends'
+complete -c kdf9 -n '__kdf9_is explain' -l strict -d 'ends with status 1 if a program failed or can’t go on, or if a report isn’t that of its job'
+complete -c kdf9 -n '__kdf9_at steps 0' -k -a '(__fish_complete_suffix .job)'
+complete -c kdf9 -n '__kdf9_at steps 1' -k -a '(__kdf9_slots)'
+complete -c kdf9 -n '__kdf9_is steps' -l help -d 'says this, and ends'
+complete -c kdf9 -n '__kdf9_is steps' -l run -d 'shows the program as it ran under Director, and not by itself'
+complete -c kdf9 -n '__kdf9_is steps' -l at -x -d 'shows each time that the program came to this: a reference such as 1 or 3P2, a part such as P2, or a word and a syllable such as 12/3'
+complete -c kdf9 -n '__kdf9_is steps' -l watch -x -d 'shows this word each time, by its name in the deck or as En; more than one may be watched'
+complete -c kdf9 -n '__kdf9_at listing 0' -k -a '(__fish_complete_suffix .job)'
+complete -c kdf9 -n '__kdf9_at listing 1' -k -a '(__kdf9_slots)'
+complete -c kdf9 -n '__kdf9_is listing' -l help -d 'says this, and ends'
+complete -c kdf9 -n '__kdf9_at schedule 0' -k -a '(__fish_complete_suffix .job)'
+complete -c kdf9 -n '__kdf9_is schedule' -l help -d 'says this, and ends'
+complete -c kdf9 -n '__kdf9_is schedule' -l after -x -d 'each transfer ends N steps after it began; 20 if it is left out'
+complete -c kdf9 -n '__kdf9_is schedule' -l every -x -d 'a step is N calls, after which one word of the transfer moves; if it is left out, a step is a call'
+complete -c kdf9 -n '__kdf9_at same 0' -k -a '(__fish_complete_suffix .job)'
+complete -c kdf9 -n '__kdf9_at same 1' -k -a '(__fish_complete_suffix .job)'
+complete -c kdf9 -n '__kdf9_is same' -l help -d 'says this, and ends'
+complete -c kdf9 -n '__kdf9_is picture' -l help -d 'says this, and ends'
+complete -c kdf9 -n '__kdf9_is picture' -l text -d 'draws it in characters, for a terminal'
+complete -c kdf9 -n '__kdf9_is json' -l help -d 'says this, and ends'
+complete -c kdf9 -n '__kdf9_is report' -l help -d 'says this, and ends'
+complete -c kdf9 -n '__kdf9_is page' -l help -d 'says this, and ends'
+complete -c kdf9 -n '__kdf9_at replay 0' -k -a '(__fish_complete_suffix .job)'
+complete -c kdf9 -n '__kdf9_is replay' -l help -d 'says this, and ends'
+complete -c kdf9 -n '__kdf9_is clean' -l help -d 'says this, and ends'
+complete -c kdf9 -n '__kdf9_is clean' -l show -d 'only says what would be given back'

@@ -1,0 +1,64 @@
+#compdef kdf9
+# Completes the commands, the tools and the options of kdf9, and jobs, slots and folders. Written by tools/manual.
+_kdf9_slots() {
+    local -a slots
+    [[ ! -f $words[2] ]] || slots=(${(f)"$(sed -n 's/^SLOT \([0-3]\)$/\1/p' $words[2])"})
+    (( $#slots )) || slots=(0 1 2 3)
+    compadd -a slots
+}
+
+_kdf9() {
+    local curcontext=$curcontext state line
+    local -a names
+    names=(
+        'run:Runs a job under Director and writes its report.'
+        'alone:Runs the program of slot K by itself and writes its section of the report.'
+        'asm:Assembles the deck of slot K and lists its words.'
+        'make:Makes a job of four slots from the number N, runs it, and writes a summary.'
+        'save:Runs a job and puts the run away: it writes a snapshot.'
+        'resume:Goes on from a snapshot with further lines of the schedule, and writes the report of the whole run.'
+        'check:Says whether a report has the journal of its job, and where it first goes wrong.'
+        'watch:Runs a job, and says when the program of slot K comes to word W.'
+        'explain:Runs a job, passes on the output and the status, and says on standard error what is wrong, where and why.'
+        'steps:Writes each order of a program as it is obeyed, with its statement and what it changed; or, with --at, each time that the program comes to a statement.'
+        'listing:Writes the image of a deck next to its text, with the names of its words.'
+        'schedule:Writes a job again with a schedule in which each transfer ends a fixed number of calls after it began.'
+        'same:Says of each program of a job whether it comes to the same alone, or in another job.'
+        'picture:Draws the journal of a report, as SVG or, with --text, for a terminal.'
+        'json:Writes a report as JSON.'
+        'report:Writes the report that a JSON text is.'
+        'page:Writes the machine, an editor and the examples as one page for a browser.'
+        'replay:Writes the same page with a job in it, which opens at the run of that job.'
+        'clean:Gives back the disk that only makes the next proof shorter; the program and the page stay.'
+        '--help:Lists the commands and the tools; after the name of one, it says more of that.'
+        '--version:Says the version, the commit, the kit, and whether this program was proved on this machine.'
+    )
+    _arguments -C '1:command:->name' '*::argument:->argument' && return
+    case $state in
+        name) _describe 'command' names ;;
+        argument)
+            case $words[1] in
+                run) _arguments '--help[says how it is used, and ends]' ;;
+                alone) _arguments '1:slot:_kdf9_slots' '--help[says how it is used, and ends]' ;;
+                asm) _arguments '1:slot:_kdf9_slots' '--help[says how it is used, and ends]' ;;
+                make) _arguments '1:: ' '--help[says how it is used, and ends]' ;;
+                save) _arguments '--help[says how it is used, and ends]' ;;
+                resume) _arguments '--help[says how it is used, and ends]' ;;
+                check) _arguments '--help[says how it is used, and ends]' ;;
+                watch) _arguments '1:slot:_kdf9_slots' '2:: ' '--help[says how it is used, and ends]' ;;
+                explain) _arguments '1:job:_files -g "*.job"' '2:word:(run resume check)' '--help[says this, and ends]' '--strict[ends with status 1 if a program failed or can’t go on, or if a report isn’t that of its job]' ;;
+                steps) _arguments '1:job:_files -g "*.job"' '2:slot:_kdf9_slots' '3:: ' '4:: ' '--help[says this, and ends]' '--run[shows the program as it ran under Director, and not by itself]' '--at[shows each time that the program came to this, a reference such as 1 or 3P2, a part such as P2, or a word and a syllable such as 12/3]:STATEMENT: ' '--watch[shows this word each time, by its name in the deck or as En; more than one may be watched]:WORD: ' ;;
+                listing) _arguments '1:job:_files -g "*.job"' '2:slot:_kdf9_slots' '--help[says this, and ends]' ;;
+                schedule) _arguments '1:job:_files -g "*.job"' '2:: ' '--help[says this, and ends]' '--after[each transfer ends N steps after it began; 20 if it is left out]:N: ' '--every[a step is N calls, after which one word of the transfer moves; if it is left out, a step is a call]:N: ' ;;
+                same) _arguments '1:job:_files -g "*.job"' '2:job:_files -g "*.job"' '--help[says this, and ends]' ;;
+                picture) _arguments '--help[says this, and ends]' '--text[draws it in characters, for a terminal]' ;;
+                json) _arguments '--help[says this, and ends]' ;;
+                report) _arguments '--help[says this, and ends]' ;;
+                page) _arguments '--help[says this, and ends]' ;;
+                replay) _arguments '1:job:_files -g "*.job"' '--help[says this, and ends]' ;;
+                clean) _arguments '--help[says this, and ends]' '--show[only says what would be given back]' ;;
+            esac ;;
+    esac
+}
+
+_kdf9 "$@"
