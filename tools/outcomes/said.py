@@ -6,7 +6,7 @@ from outcomes.apart import Apart
 from outcomes.found import WAITS, Found, Result, Witness
 from outcomes.moments import Circle
 from outcomes.runs import Job
-from outcomes.search import NAIVE, Limits
+from outcomes.search import Limits
 from outcomes.witness import Shown
 
 # How many results of a program, joint outcomes and deadlocks are told; and how many lines of a section, events of a schedule and answers.
@@ -109,9 +109,9 @@ class Story:
         found, calls = self._found, self._limits.calls
         each = f"{calls} calls" if self._apart is None else f"{calls} calls of each program"
         what = ["END", *(["CLOCK"] if self._job.times else []), *(["SWAP"] if self._limits.swaps else [])]
-        yield f"{count(found.runs, 'run')} searched every placement of {listed(what)} within {each}; {count(self.shown.number, 'schedule')} were run once more and checked"
+        yield f"{count(found.runs, 'run')}, with {listed(what)} anywhere within {each}; {count(self.shown.number, 'schedule')} run once more, and each report checked"
         if found.left:
-            yield f"not whole: --runs ended the search with {count(found.left, 'schedule')} that it had still to run"
+            yield f"not whole: --runs ended the search, with {count(found.left, 'schedule')} still to be run"
         elif found.is_cut:
             yield f"whole within {each}; a program may go on after that"
         else:

@@ -2,14 +2,13 @@
 
 By the law `cut`, one run of a schedule shows each moment up to its end, so it serves all schedules that begin as it does.
 """
-import heapq
-import itertools
 from typing import Dict, Iterator, List, Optional
 
 from kdf9.schedule import Event
 from outcomes.found import Found
 from outcomes.moments import Moment, Path, Turn
-from outcomes.runs import Events, Job, Runner
+from outcomes.queue import Queue
+from outcomes.runs import Job, Runner
 
 # How many nodes are run at a time.
 BATCH = 16
@@ -32,18 +31,15 @@ class Search:
         self._job, self._limits, self._mode = job, limits, mode
         self._runner = Runner(job, limits.calls)
         self._seen: Dict[tuple, int] = {}
-        self._queue: List[tuple] = []
-        self._count = itertools.count()
+        self._queue = Queue(job)
         self.found = Found(job)
-        self.paths: List[Path] = []
 
     def all(self) -> Found:
         """What comes of all schedules within the limits."""
-        self._push(())
+        self._queue.push((), Moment(self._job.slots))
         try:
-            while self._queue and self._runner.number < self._limits.runs:
-                batch = [heapq.heappop(self._queue)[2] for _ in range(min(BATCH, len(self._queue), self._limits.runs - self._runner.number))]
-                for path in self._runner.paths(batch):
+            while len(self._queue) and self._runner.number < self._limits.runs:
+                for path in self._runner.paths(self._queue.pop(min(BATCH, self._limits.runs - self._runner.number))):
                     self.seen(path)
                     self._branch(path)
         finally:
@@ -55,18 +51,15 @@ class Search:
         """Keeps what a run shows."""
         self.found.keep(path)
 
-    def _push(self, events: Events) -> None:
-        start = events[-1].calls if events else 0
-        heapq.heappush(self._queue, (start, next(self._count), events))
-
     def _branch(self, path: Path) -> None:
         """Adds the children of a run to the queue, up to a moment from which an earlier run has shown everything."""
         for calls in range(path.start, len(path.turns)):
             if self._mode != NAIVE and (calls > path.start or not path.events) and self._is_known(path.moments[calls], calls):
                 return
             for line in self._lines(path, calls):
-                if self._mode == NAIVE or not self._is_known(path.moments[calls].after(line), calls):
-                    self._push(path.events + (Event(calls, line),))
+                moment = path.moments[calls].after(line)
+                if self._mode == NAIVE or not self._is_known(moment, calls):
+                    self._queue.push(path.events + (Event(calls, line),), moment)
         self.found.is_cut = self.found.is_cut or not self._is_settled(path)
 
     def _is_known(self, moment: Moment, calls: int) -> bool:
