@@ -20,9 +20,8 @@ class Program:
 
     def deck(self) -> str:
         """The text of the deck."""
-        if self.has_pool and self.chance.random() < 0.6:
-            for piece in (self.claim, self.transfer, self.use, self.claim):
-                piece()
+        if self.has_pool and self.chance.random() < 0.7:
+            self.take_two()
         any_piece = [self.claim, self.transfer, self.transfer, self.ask, self.ask, self.use, self.give, *[self.time] * 3 * self.has_clock]
         for _ in range(self.chance.randint(1, 3)):
             self.chance.choice(any_piece)()
@@ -39,6 +38,15 @@ class Program:
             self.kinds.append(kind)
             q = len(self.kinds)
             self.pieces.append(f"SET {KINDS[kind][0]}; SET 5; OUT; V{q - 1}; =Q{q}; =C{q};")
+
+    def take_two(self) -> None:
+        """Takes a device of each kind, and uses the first of them before it takes the second."""
+        self.claim()
+        self.transfers = max(1, self.transfers)
+        self.transfer()
+        self.use()
+        other = {"TP": "LP", "LP": "TP"}[self.kinds[0]]
+        self.pieces.append(f"SET {KINDS[other][0]}; SET 5; OUT; ERASE;")
 
     def any_q(self) -> int:
         """The Q-store of a device that was claimed."""
@@ -81,12 +89,12 @@ def job(seed: int) -> str:
     chance = random.Random(seed)
     has_pool, has_clock = chance.random() < 0.5, chance.random() < 0.3
     lines = ["KDF9 JOB 1"]
-    for slot in range(chance.choice([1, 2, 2, 2])):
+    for slot in range(chance.choice([1, 2, 2, 2, 2])):
         program = Program(chance, has_pool, has_clock, chance.choice([1, 1, 2]))
         lines += [f"SLOT {slot}", "STORE 128", "DECK", program.deck(), "ENDDECK"]
         for at, kind in enumerate(program.own):
             lines += [f"DEVICE {4 * slot + at} {kind}", *(["+ABCDEFGHIJKLMNOP"] if kind == "TR" else [])]
         lines += ["SHOW 0 1"] if chance.random() < 0.5 else []
-    pool = [f"DEVICE {8 + at} {kind}" for at, kind in enumerate(chance.choice([["TP", "LP"], ["TP", "LP", "LP"], ["TP", "TP", "LP"]]))]
+    pool = [f"DEVICE {8 + at} {kind}" for at, kind in enumerate(chance.choice([["TP", "LP"], ["TP", "LP"], ["TP", "LP", "LP"]]))]
     swap = ["SWAP 0 1"] if chance.random() < 0.2 else []
     return "\n".join([*lines, *(["POOL", *pool] if has_pool else []), "SCHEDULE", *swap, "ORDERS 1", *(["CLOCK 7"] if has_clock else []), "ENDJOB", ""])

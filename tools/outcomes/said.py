@@ -82,7 +82,8 @@ class Story:
             text = self.shown.deadlock(circle, witness)
             yield Told(f"deadlock after {count(witness.calls, 'call')}{said_of_events(witness)}: {self._said_of_circle(circle)}", f"deadlock-{number}.job", text)
         if self._job.pool and not deadlocks:
-            yield Told("no deadlock was found")
+            within = "" if self._found.is_whole else f" within {self._limits.calls} calls"
+            yield Told("no deadlock was found" if self._found.left else f"no schedule leads to a deadlock{within}")
         yield from more(len(deadlocks))
 
     def _said_of_circle(self, circle: Circle) -> str:
