@@ -36,6 +36,9 @@ WRONG_WORDS = [
     (["listing", "-", "x"], "SLOT: has to be a number from 0 to 3, and x isn't one"), (["listing", "-", ""], "and an empty word isn't one"),
     (["schedule"], "required: JOB"), (["schedule", "-", "--after"], "--after"), (["schedule", "-", "--every", "0"], "--every: has to be a number from 1"),
     (["schedule", "-", "16=3"], "DEVICE=N: has to be a number from 0 to 15, and 16 isn't one"), (["schedule", "-", "3"], "DEVICE=N: has to be the number of a device"),
+    (["explore"], "required: JOB"), (["explore", "-", "--calls", "0"], "--calls: has to be a number from 1 to 10000"), (["explore", "-", "--runs", "x"], "--runs"),
+    (["explore", "-", "--mode", "best"], "--mode"), (["explore", "-", "--out"], "--out"), (["explore", "-", "x"], "x"),
+    (["stats"], "required: JOB"), (["stats", "-", "--json", "--csv"], "not allowed with"), (["stats", "-", "-"], "- is given twice"),
     (["same"], "required: JOB"), (["same", "-", "-"], "can't both be standard input"), (["same", "-", "a", "b"], "b"),
     (["picture", "--svg"], "--svg"), (["json", "-"], "-"), (["report", "-"], "-"), (["page", "x"], "x"), (["replay"], "required: JOB"),
 ]

@@ -53,7 +53,7 @@ TOOLS = {tool.name: tool for tool in (
         "./kdf9 explore examples/two-programs-share-a-punch.job",
     ),
     Tool(
-        "stats", "JOB [OTHER ..] [--json | --csv]",
+        "stats", "JOB [OTHER ..] [--json] [--csv]",
         "Tells how many calls the programs and devices of a run had for what; of several jobs side by side.",
         "./kdf9 stats examples/computes-while-it-reads.job",
     ),
