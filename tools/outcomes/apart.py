@@ -1,4 +1,4 @@
-"""A job without a pool, of which at most one program can tell the clock: what each program is answered depends on no other, so each is searched by itself.
+"""A job without a pool and a clock: what each program is answered depends on no other, so each is searched by itself.
 
 The schedules of the whole job are put together from theirs: one program after the other, each as far as it has to be.
 """
