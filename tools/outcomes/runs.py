@@ -1,10 +1,9 @@
 """Runs of a job under schedules that are tried: the only place that starts the program for them, on all processors if there are many."""
-import itertools
 import multiprocessing
 import os
 from typing import Dict, Iterable, List, Optional, Sequence, Tuple
 
-from kdf9.job import join_lines, read_slots
+from kdf9.job import join_lines, parts_of, read_slots
 from kdf9.program import BadInput, answer_to
 from kdf9.schedule import Event, Schedule, lines_of_schedule, read_schedule, start_of
 from outcomes.moments import Path
@@ -28,13 +27,10 @@ class Job:
         self.pool: Dict[int, str] = next(iter(slots.values())).pool_kinds()
         self.times = sorted({int(event.line[6:]) for event in events if event.line.startswith("CLOCK ")} - {0})
         self.swaps = tuple(event for event in events if event.calls == 0 and event.line.startswith("SWAP "))
-        self._starts = {slot: slots[slot].deck_line - 4 for slot in self.slots}
 
     def alone(self, slot: int) -> "Job":
         """The job of the program of one slot, without a pool and a schedule."""
-        first = self._starts[slot]
-        ends = [start for start in self._starts.values() if start > first] + [len(self.head) - 1]
-        return Job(self.source, [self.lines[0], *self.lines[first:min(ends)], "SCHEDULE", "ENDJOB"])
+        return Job(self.source, [self.lines[0], *parts_of(self.lines)[slot], "SCHEDULE", "ENDJOB"])
 
     def text(self, events: Iterable[Event], calls: int) -> str:
         """The text of the job with these events in this number of calls, behind its own exchanges."""
@@ -94,9 +90,3 @@ def path_of(events: Events):
         return job.run(events, calls)
     except BadInput as why:
         return str(why)
-
-
-def batches(items, size: int):
-    """The items of an iterator, so many at a time."""
-    items = iter(items)
-    return iter(lambda: list(itertools.islice(items, size)), [])
