@@ -81,6 +81,7 @@ def words_of(name: str, given: Text) -> List[str]:
         "explain": [*chance.choice([[], [], ["run"], ["resume"], ["check"]]), *chance.choice([[], ["--strict"]])],
         "steps": [*chance.choice(ORDERS), *chance.choice([[], ["--run"], ["--run"], ["--at", "100"], ["--at", "2/3"], ["--watch", "Y0"]])],
         "listing": slot, "picture": chance.choice([[], ["--text"]]), "schedule": chance.choice(DELAYS),
+        "explore": ["--runs", "12", *chance.choice([[], ["--calls", "5"], ["--swap"], ["--mode", "naive"]])], "stats": chance.choice([[], ["--json"], ["--csv"]]),
     }.get(name, [])
     wrong = [chance.choice(["--x", "7", "-1", "", "x", "0", "--after", "é"])] if chance.random() < 0.03 else []
     return [*([] if name in ("picture", "json", "report") else ["-"]), *some, *wrong]

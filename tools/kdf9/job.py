@@ -74,6 +74,16 @@ def read_slots(lines):
     return slots
 
 
+def parts_of(lines):
+    """The lines of each slot of a job by its number, from its line SLOT on."""
+    slots = read_slots(lines)
+    starts = [slot.deck_line - 4 for slot in slots.values()]
+    last = max(slots.values(), key=lambda slot: slot.deck_line)
+    after = lines.index("ENDDECK", last.deck_line - 1)
+    ends = starts[1:] + [next(at for at in range(after, len(lines)) if lines[at] in ("POOL", "SCHEDULE"))]
+    return {number: lines[start:end] for number, start, end in zip(slots, starts, ends)}
+
+
 def read_pool(lines):
     """The lines of the pool's devices. They come after the last deck, in which a line may be anything."""
     after = lines[len(lines) - lines[::-1].index("ENDDECK"):]

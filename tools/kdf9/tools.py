@@ -48,6 +48,16 @@ TOOLS = {tool.name: tool for tool in (
         "./kdf9 same examples/adds-cards-while-a-tape-is-copied.job",
     ),
     Tool(
+        "explore", "JOB [--calls T] [--runs N] [--swap] [--mode naive] [--out FOLDER]",
+        "Finds what can come of a job over every schedule: results, deadlocks, and who can starve, each with a job that shows it.",
+        "./kdf9 explore examples/two-programs-share-a-punch.job",
+    ),
+    Tool(
+        "stats", "JOB [OTHER ..] [--json] [--csv]",
+        "Tells how many calls the programs and devices of a run had for what; of several jobs side by side.",
+        "./kdf9 stats examples/computes-while-it-reads.job",
+    ),
+    Tool(
         "picture", "[--text] < REPORT",
         "Draws the journal of a report, as SVG or, with --text, for a terminal.",
         "./kdf9 picture --text < examples/two-programs-share-a-punch.report",

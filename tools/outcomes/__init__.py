@@ -1,0 +1,1 @@
+"""What can come of a job over every schedule (docs/STUDY.md)."""
