@@ -18,6 +18,12 @@ FAULT_OF_JOB = f"sed 's/STORE 32/STORE 33/' {A_JOB}"
 TOO_LARGE = "{ printf 'KDF9 JOB 1\\n'; head -c 5000000 /dev/zero | tr '\\0' x; }"
 CHANGED = "examples/refuses-a-changed-snapshot.job"
 
+# A program that by itself has another word than under Director, which is never so of the real one.
+OTHER_ALONE = """own=$(mktemp); trap 'rm $own' EXIT; chmod +x $own
+echo '#!/bin/bash
+crates/kdf9/out/kdf9 "$@" | if [ "$1" = alone ]; then sed "s/^WORD 3 .*/WORD 3 0000000000000000/"; else cat; fi' > $own
+"""
+
 # What asks for something that a tool may say more about on standard error, or that needs the page.
 TALKATIVE, PAGES = ("explain", "page", "replay", "package"), ("page", "replay")
 
@@ -28,7 +34,7 @@ TRIED: Dict[str, List[Tuple[str, int]]] = {
     + [(f"echo x | ./kdf9 {it}", 1) for it in ("picture", "json", "report")] + [(f"./kdf9 steps {A_FAULT}", 1), (f"./kdf9 listing {A_JOB} 3", 1), ("./kdf9 package README.md/x", 1)],
     "can't be written": [(f"{it} > /dev/full", 1) for it in (f"./kdf9 listing {A_JOB}", "./kdf9 --help", "./kdf9 --version", "./kdf9 clean --show")]
     + [(f"./kdf9 {it} {A_JOB} >&-", 1) for it in ("listing", "explain")],
-    "isn't the same": [("sed 's/^+.*/+OTHER/' examples/reads-tape.job | ./kdf9 same examples/reads-tape.job -", 1)],
+    "isn't the same": [(f"{OTHER_ALONE} KDF9=$own {sys.executable} -S tools/same {A_JOB}", 1)],
     "`explain --strict`": [(f"./kdf9 explain --strict {A_FAILURE}", 1), ("./kdf9 explain --strict examples/finds-a-changed-digit.job", 1)],
     "wrong arguments": [(f"./kdf9 {it} --x", 2) for it in TOOLS] + [("./kdf9 walk --help", 2)],
     "with a fault. It": [
