@@ -44,9 +44,10 @@ _kdf9() {
         page) places=() options='--help' with_word='' ;;
         replay) places=(job) options='--help' with_word='' ;;
         clean) places=() options='--help --show' with_word='' ;;
+        package) places=(folder) options='--help' with_word='' ;;
     esac
     if [ "$COMP_CWORD" = 1 ]; then
-        _kdf9_place 'run alone asm make save resume check watch explain steps listing schedule same picture json report page replay clean --help --version'
+        _kdf9_place 'run alone asm make save resume check watch explain steps listing schedule same picture json report page replay clean package --help --version'
         return
     fi
     for ((at = 2; at < COMP_CWORD; at++)); do

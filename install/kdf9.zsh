@@ -30,6 +30,7 @@ _kdf9() {
         'page:Writes the machine, an editor and the examples as one page for a browser.'
         'replay:Writes the same page with a job in it, which opens at the run of that job.'
         'clean:Gives back the disk that only makes the next proof shorter; the program and the page stay.'
+        'package:Makes packages of the program, the tools and the documents, as a .tar.gz and a .deb.'
         '--help:Lists the commands and the tools; after the name of one, it says more of that.'
         '--version:Says the version, the commit, the kit, and whether this program was proved on this machine.'
     )
@@ -57,6 +58,7 @@ _kdf9() {
                 page) _arguments '--help[says this, and ends]' ;;
                 replay) _arguments '1:job:_files -g "*.job"' '--help[says this, and ends]' ;;
                 clean) _arguments '--help[says this, and ends]' '--show[only says what would be given back]' ;;
+                package) _arguments '1:folder:_files -/' '--help[says this, and ends]' ;;
             esac ;;
     esac
 }

@@ -6,6 +6,7 @@ import sys
 from typing import Iterator, Optional, Tuple
 
 from completions import shells
+from packages import packages_are_made
 from toolkit import ENVIRONMENT, ROOT, document, kdf9
 
 sys.path.insert(0, str(ROOT / "tools"))
@@ -76,7 +77,7 @@ def manual_is_current() -> Cases:
     yield "the manual page", None if done.returncode == 0 and not done.stderr and not missing else f"{missing} {done.stderr}"
 
 
-SUITES = (commands_are_those_of_the_program, help_is_given, changes_are_listed, manual_is_current, shells)
+SUITES = (commands_are_those_of_the_program, help_is_given, changes_are_listed, manual_is_current, shells, packages_are_made)
 
 
 def main() -> int:

@@ -15,6 +15,7 @@ from pictures import picture_is_wrong
 from runs import SUITES as RUNS
 from saved import SUITES as SAVED
 from slips import SUITES as SLIPS
+from statuses import SUITES as STATUSES
 from stops import SUITES as STOPS
 from toolkit import ENVIRONMENT, HEAD, PLAIN, ROOT, TAIL, document, example_report, examples, job_of_deck, kdf9, refused
 
@@ -427,7 +428,7 @@ def documents_are_true():
 
 SUITES = (
     launcher_starts, faults_are_found, documents_have_no_other_faults, hints_are_given, failures_are_found, bad_input_is_refused,
-    turns_are_told, examples_are_shown, large_texts_take_seconds, documents_are_true, *BUILDS, *COMMANDS, *PICTURES, *RUNS, *SAVED, *SLIPS, *STOPS,
+    turns_are_told, examples_are_shown, large_texts_take_seconds, documents_are_true, *BUILDS, *COMMANDS, *PICTURES, *RUNS, *SAVED, *SLIPS, *STATUSES, *STOPS,
 )
 
 

@@ -28,13 +28,13 @@ class Record(NamedTuple):
     crates: int
     here: int
 
-    def words(self) -> str:
-        """Whether the program was proved on this machine, in words."""
+    def words(self, here: str = "on this machine") -> str:
+        """Whether the program was proved here, in words."""
         if self.machine != machine():
-            return "built on another machine, and not proved on this one"
+            return f"built on another machine, and not proved {here}"
         if self.here == self.crates:
-            return f"proved and built on this machine, on {self.day}, with {self.kit}"
-        return f"built on this machine, on {self.day}; {self.here} of its {self.crates} crates were proved by that, and the others were proved before, perhaps elsewhere"
+            return f"proved and built {here}, on {self.day}, with {self.kit}"
+        return f"built {here}, on {self.day}; {self.here} of its {self.crates} crates were proved by that, and the others were proved before, perhaps elsewhere"
 
 
 def sum_of(file: pathlib.Path) -> str:

@@ -8,7 +8,7 @@ from typing import Iterable, List, NamedTuple, Optional
 from building.record import read_record, sum_of
 from kdf9.commands import COMMANDS
 from kdf9.program import ROOT
-from kdf9.tools import TOOLS, Tool
+from kdf9.tools import NAME, TOOLS, Tool
 
 CHANGES, PROOFS = ROOT / "CHANGELOG.md", ROOT / "docs" / "PROOFS.md"
 
@@ -25,7 +25,7 @@ OPTIONS = {
     "--version": "Says the version, the commit, the kit, and whether this program was proved on this machine.",
 }
 
-FIRST = "./kdf9 run < examples/adds-5-and-7.job"
+FIRST = f"{NAME} run < examples/adds-5-and-7.job"
 
 
 class State(NamedTuple):
@@ -43,7 +43,7 @@ def rows(tools: Iterable[Tool]) -> List[str]:
 def help_of_all() -> str:
     """All commands, tools and options, and an example."""
     lines = [
-        "usage: ./kdf9 COMMAND .., ./kdf9 TOOL .., or one of the options below", "",
+        f"usage: {NAME} COMMAND .., {NAME} TOOL .., or one of the options below", "",
         "commands, which read from standard input:", *rows(COMMANDS.values()), "",
         "tools, where JOB is a file, or - for standard input:", *rows(TOOLS.values()), "",
         "options:", *(f"  {option:<10} {does}" for option, does in OPTIONS.items()), "",
@@ -54,7 +54,7 @@ def help_of_all() -> str:
 
 def help_of(command: Tool) -> str:
     """How one command is used, what it does, and an example."""
-    return f"usage: {command.usage}\n\n{command.does}\n\nexample:\n  {command.example}\n"
+    return f"usage: {command.usage}\n\n{command.does}\n\nexample:\n  {command.shown_example}\n"
 
 
 def version() -> str:
@@ -95,8 +95,9 @@ def commit() -> str:
 
 def proof(program: pathlib.Path, state: State) -> str:
     """Whether the program was proved on this machine, in words. It isn't called proved here unless the record of its build says so."""
-    if packaged("program"):
-        return f"from a package, and not proved on this machine; where the package was made, it was {packaged('program')}"
+    said = packaged("program")
+    if said is not None:
+        return f"from a package, which proves nothing; where that was made, {f'it was {said}' if said else 'nobody wrote down where it was proved'}"
     if not state.is_there:
         return "not built yet; the next start of a command builds it"
     if state.newer:

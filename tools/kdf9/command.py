@@ -12,7 +12,7 @@ import sys
 from typing import Callable, List, NoReturn
 
 from kdf9.program import ENCODING, BadInput
-from kdf9.tools import TOOLS
+from kdf9.tools import NAME, TOOLS
 
 # The status for bad input, and for output that can't be written; and the status for wrong arguments.
 BAD_INPUT, BAD_WORDS = 1, 2
@@ -40,7 +40,7 @@ class Parser(argparse.ArgumentParser):
     def __init__(self, name: str) -> None:
         tool = TOOLS[name]
         super().__init__(
-            prog=f"./kdf9 {name}", usage=tool.usage, description=tool.does, epilog=f"example:\n  {tool.example}", add_help=False, allow_abbrev=False,
+            prog=f"{NAME} {name}", usage=tool.usage, description=tool.does, epilog=f"example:\n  {tool.shown_example}", add_help=False, allow_abbrev=False,
             formatter_class=argparse.RawDescriptionHelpFormatter,
         )
         self._positionals.title, self._optionals.title = "arguments", "options"

@@ -10,7 +10,7 @@ from kdf9.program import ROOT
 NAME = "runs jobs of a proved computer modelled on the English Electric KDF9"
 
 # A row of the table of exit statuses in docs/TOOLS.md.
-STATUS = re.compile(r"^\| ([0-9, or]+) \| (.*?) \| (.*?) \|$", re.MULTILINE)
+STATUS = re.compile(r"^\| ([0-9, or]+) \| (.*?) \| .* \| .* \|$", re.MULTILINE)
 
 
 def roff(text: str) -> str:
@@ -39,7 +39,7 @@ def section_of(entry: Entry) -> List[str]:
 def statuses() -> List[str]:
     """The exit statuses, by the table of docs/TOOLS.md."""
     table = (ROOT / "docs" / "TOOLS.md").read_text(encoding="utf-8")
-    return [line for status, when, _ in STATUS.findall(table) for line in item(status, f"{when[:1].upper()}{when[1:]}.")]
+    return [line for status, when in STATUS.findall(table) for line in item(status, f"{when[:1].upper()}{when[1:]}.")]
 
 
 def page() -> str:

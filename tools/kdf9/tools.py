@@ -2,7 +2,11 @@
 
 `--help` shows it. `./kdf9` and the list in docs/TOOLS.md are compared with it by tests/tools.
 """
+import os
 from typing import NamedTuple
+
+# How a user calls ./kdf9: one that comes from a package is called by its name alone, and says so by this variable.
+NAME = os.environ.get("KDF9_NAME", "./kdf9")
 
 
 class Tool(NamedTuple):
@@ -18,7 +22,12 @@ class Tool(NamedTuple):
     @property
     def usage(self) -> str:
         """How the tool is used, in one line."""
-        return f"./kdf9 {self.name} {self.arguments}"
+        return f"{NAME} {self.name} {self.arguments}"
+
+    @property
+    def shown_example(self) -> str:
+        """The example as a user types it."""
+        return self.example.replace("./kdf9", NAME)
 
 
 TOOLS = {tool.name: tool for tool in (
@@ -86,5 +95,10 @@ TOOLS = {tool.name: tool for tool in (
         "clean", "[--show]",
         "Gives back the disk that only makes the next proof shorter; the program and the page stay.",
         "./kdf9 clean --show",
+    ),
+    Tool(
+        "package", "[FOLDER]",
+        "Makes packages of the program, the tools and the documents, as a .tar.gz and a .deb.",
+        "./kdf9 package packages",
     ),
 )}
