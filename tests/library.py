@@ -40,7 +40,7 @@ BEHIND = b"\xa5" * 64
 NO_COMMANDS = [b"", b"\n", b"walk\n", b"run\nrun\n", b"run \n", b"RUN\n", b"alone\n", b"alone\n4\n", b"\xff\xfe\n", b"run\n\n", b"run\x00\n", b"-h\n"]
 
 # What is no job, and the line that names its fault.
-NO_JOBS = [(b"", "JOB Header 1\n"), (b"\n", "JOB Header 1\n"), (b"\x00" * 1000, "JOB Header 1\n"), (bytes(range(256)) * 16, "JOB Header 1\n"), (b"KDF9 JOB 1", "JOB Ended 2\n")]
+NO_JOBS = [(b"", "JOB Header 1\n"), (b"\n", "JOB Header 1\n"), (b"\x00" * 1000, "JOB Header 1\n"), (bytes(range(256)) * 16, "JOB Header 1\n"), (b"KDF9 JOB 1", "JOB BadLine 2\n")]
 
 # How Node is started: the first version whose memories have addresses of 64 bits by themselves is 24.
 OPTION, WITHOUT_OPTION = "--experimental-wasm-memory64", 24
