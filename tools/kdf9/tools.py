@@ -92,6 +92,11 @@ TOOLS = {tool.name: tool for tool in (
         "./kdf9 replay examples/reads-tape.job > kdf9.html",
     ),
     Tool(
+        "lib", "FOLDER",
+        "Writes the machine as a library for programs in C, Python and JavaScript, and says how to use it.",
+        "./kdf9 lib kdf9-library",
+    ),
+    Tool(
         "clean", "[--show]",
         "Gives back the disk that only makes the next proof shorter; the program and the page stay.",
         "./kdf9 clean --show",

@@ -76,5 +76,5 @@ def texts(start):
 def page(module, start=None):
     """The page, made from the bytes of the module. If there is a job, it runs when the page opens."""
     packed = base64.b64encode(gzip.compress(module, 9, mtime=0)).decode("ascii")
-    parts = {"STYLE": read("web/page.css"), "WORKER": read("web/worker.js"), "TEXTS": texts(start), "MODULE": packed, "SCRIPT": script()}
+    parts = {"STYLE": read("web/page.css"), "WORKER": script("worker"), "TEXTS": texts(start), "MODULE": packed, "SCRIPT": script()}
     return re.sub(r"/\* ([A-Z]+) \*/", lambda mark: parts[mark[1]], read("web/page.html"))
