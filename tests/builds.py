@@ -106,14 +106,14 @@ def kept_is_little() -> Cases:
 # Has a room of the page run two tools that take a while, and one that fails.
 STAGES = """
 import pathlib, sys
-from web import engine
+from building import engine
 folder = pathlib.Path(sys.argv[1])
 engine.LOG, engine.ROOT = folder / "log", folder
 with open(engine.LOG, "w") as log:
     room = engine.Room(folder, folder, log)
-    room.show.begins(engine.PROVED)
+    room.show.begins(engine.PROVING)
     room.run("bash", "-c", "echo so far: 3 of 41 functions checked; sleep 1.5")
-    room.show.begins(engine.COMPILED)
+    room.show.begins(engine.COMPILING)
     room.run("sleep", "1.5")
     room.show.ends()
     try:
@@ -129,7 +129,7 @@ def page_shows_its_stages() -> Cases:
     with tempfile.TemporaryDirectory() as folder:
         words = [sys.executable, "-c", STAGES, folder]
         done = subprocess.run(words, cwd=ROOT / "tools", capture_output=True, text=True, check=False)
-        told = [f"kdf9: the machine as WebAssembly: {line}" for line in lines]
+        told = [f"kdf9: the machine for other programs: {line}" for line in lines]
         good = done.stdout == "the machine could not be made: see log\n" and done.stderr.splitlines()[:-1] == told
         yield "the stages of the page", None if good and "is made, after 0:0" in done.stderr else f"{done}"
         ours, theirs = pty.openpty()
@@ -138,7 +138,7 @@ def page_shows_its_stages() -> Cases:
         os.close(theirs)
         drawn = os.read(ours, 65536).decode("ascii")
         os.close(ours)
-        due = [f"\r\x1b[Kkdf9: the machine as WebAssembly: {line}, 0:0" for line in lines]
+        due = [f"\r\x1b[Kkdf9: the machine for other programs: {line}, 0:0" for line in lines]
         good = all(line in drawn for line in due) and ", 3 of 41 functions" in drawn.split(lines[1])[0] and "functions" not in drawn.split(lines[1])[1]
         yield "the stages of the page on a terminal", None if good else f"{drawn!r}"
 

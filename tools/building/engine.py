@@ -82,20 +82,20 @@ def sums():
     return whole.hexdigest()
 
 
-def is_current():
-    """Whether what was made last was made from the sources as they are now."""
-    return MODULE.is_file() and COMPILED.is_file() and SUMS.is_file() and SUMS.read_text(encoding="ascii") == sums()
+def is_current(made=MODULE):
+    """Whether this file is there, and was made from the sources as they are now. A package has only the module."""
+    return made.is_file() and SUMS.is_file() and SUMS.read_text(encoding="ascii") == sums()
 
 
 def engine():
     """The bytes of the module. If it isn't current, it is made first."""
-    bring_up_to_date()
+    bring_up_to_date(MODULE)
     return MODULE.read_bytes()
 
 
 def library():
     """The two native libraries: one to link with, and one to load. What isn't current is made first."""
-    bring_up_to_date()
+    bring_up_to_date(COMPILED)
     if not (ARCHIVE.is_file() and SHARED.is_file()):
         with a_room() as room:
             room.link()
@@ -103,9 +103,9 @@ def library():
     return ARCHIVE, SHARED
 
 
-def bring_up_to_date():
-    """Makes the machine if it isn't current."""
-    if is_current():
+def bring_up_to_date(wanted):
+    """Makes the machine if this file of it isn't current."""
+    if is_current(wanted):
         return
     with a_room() as room:
         missing = [name for name, folder in libraries().items() if not (folder / f"{name}.rlib").exists()]

@@ -13,16 +13,16 @@ import tarfile
 import textwrap
 from typing import Dict, Iterator, Optional, Tuple
 
+from building import engine
 from building.record import read_record, sum_of
 from kdf9 import about, manual
 from kdf9.program import ROOT, BadInput
-from web import engine
 
-PROGRAM, PAGE = pathlib.Path("crates", "kdf9", "out", "kdf9"), pathlib.Path("crates", "kdf9", "out", "page")
+PROGRAM, MODULE = pathlib.Path("crates", "kdf9", "out", "kdf9"), engine.MODULE.relative_to(ROOT)
 HTML = "kdf9.html"
 
 # The folders and files of the repository that a package has, and the tools that only a clone needs.
-FOLDERS, FILES = ("docs", "examples", "tools", "web", "install"), ("kdf9", "README.md", "CHANGELOG.md", "crates.txt")
+FOLDERS, FILES = ("docs", "examples", "tables", "tools", "web", "install"), ("kdf9", "README.md", "CHANGELOG.md", "crates.txt")
 OF_A_CLONE = ("build", "build-times.txt", "kit_line", "manual", "__pycache__")
 
 # Where the files go that a system looks for in places of its own, and where it has the rest.
@@ -88,9 +88,9 @@ def stage(folder: pathlib.Path) -> bool:
 
 def stage_page(folder: pathlib.Path) -> None:
     """Adds the machine as WebAssembly, as one that is current there, and the page."""
-    (folder / PAGE).mkdir()
-    shutil.copy(engine.MODULE, folder / PAGE / engine.MODULE.name)
-    keeps = "from web import engine; engine.SUMS.write_text(engine.sums(), encoding='ascii')"
+    (folder / MODULE).parent.mkdir()
+    shutil.copy(engine.MODULE, folder / MODULE)
+    keeps = "from building import engine; engine.SUMS.write_text(engine.sums(), encoding='ascii')"
     subprocess.run([sys.executable, "-B", "-c", keeps], cwd=folder / "tools", check=True)
     with open(folder / HTML, "wb") as page:
         subprocess.run([folder / "kdf9", "page"], stdin=subprocess.DEVNULL, stdout=page, check=True)
