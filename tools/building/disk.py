@@ -4,12 +4,11 @@ import pathlib
 import shutil
 from typing import Dict, Iterable, List
 
-from building.rooms import CRATES, PROGRAM
+from building import engine
+from building.rooms import CRATES
 
 # What a build from nothing has on the disk at most, and what is kept after a build at most.
 WANTED, KEPT = 8_000_000_000, 2_000_000_000
-
-PAGE = CRATES / PROGRAM / "out" / "page"
 
 
 def free() -> int:
@@ -40,7 +39,7 @@ def size_of(folder: pathlib.Path) -> int:
 
 def kept_by_proofs() -> Dict[pathlib.Path, int]:
     """The folders in which a proof keeps what only makes the next one shorter, the largest first, each with its bytes."""
-    folders = [*CRATES.glob("*/out/incremental"), PAGE / "incremental"]
+    folders = [*CRATES.glob("*/out/incremental"), engine.KEPT]
     sizes = {it: size_of(it) for it in folders if it.is_dir()}
     return dict(sorted(sizes.items(), key=lambda it: -it[1]))
 
