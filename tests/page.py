@@ -8,10 +8,12 @@ import tempfile
 
 import browser
 from browser import Browser
+from page_kept import SUITES as KEPT, reloads_lose_nothing
 from page_pool import SUITES as POOL
 from page_runs import orders_are_those_of_the_program, runs_are_looked_at, runs_are_those_of_the_program
 from page_service import SUITES as SERVED
 from page_theorem import SUITES as THEOREM, no_run_before
+from page_verdicts import SUITES as VERDICTS, first_job_has_run
 from page_watch import SUITES as WATCHED
 from page_worker import worker_alone
 from shown import CTRL, Shown, id_of
@@ -242,12 +244,16 @@ def links_hold_jobs(shown, opened, address):
     link = shown.js(f"{id_of('address')}.value")
     due = (ROOT / "examples/walks-over-a-table.job").read_text(encoding="ascii")
     other = opened_link(opened, link)
-    yield "a link", None if other.js("kdf9.job()") == due and "job of the link" in other.state() else other.state()
+    yield "a link", None if other.js("kdf9.job()") == due and "job of the link. Done, in" in other.state() else other.state()
+    other.page.close()
+    yield "the address after a link was made", None if shown.js("location.href") == link else shown.js("location.href")
+    other = Shown(opened(address))
+    first = other.js("kdf9.job()")
     other.page.close()
     for damaged in (link[:-9], link[:60] + "AAAA" + link[64:], f"{address}#job=", f"{address}#job=%%"):
         other = opened_link(opened, damaged)
-        is_empty = "PROGRAM;\n  ZERO; OUT;\nFINISH;" in other.js("kdf9.job()")
-        yield f"a damaged link {damaged[-12:]}", None if "damaged" in other.state() and is_empty else other.state()
+        is_first = other.js("kdf9.job()") == first
+        yield f"a damaged link {damaged[-12:]}", None if "damaged" in other.state() and is_first else other.state()
         other.page.close()
 
 
@@ -323,7 +329,7 @@ def nothing_is_fetched(running, address):
 
 SUITES = (
     runs_are_looked_at, faults_are_shown, faults_stand_at_their_parts, parts_and_text_are_in_step, snapshots_are_resumed_and_reports_checked,
-    schedules_write_themselves, runs_are_stopped, faults_stand_at_their_places, *POOL, *SERVED, *WATCHED, *THEOREM, controls_have_names,
+    schedules_write_themselves, runs_are_stopped, faults_stand_at_their_places, *VERDICTS, *KEPT, *POOL, *SERVED, *WATCHED, *THEOREM, controls_have_names,
     orders_are_those_of_the_program, runs_are_those_of_the_program,
 )
 
@@ -340,7 +346,9 @@ def cases(file):
         shown = Shown(opened(address))
         for suite in SUITES:
             yield from suite(shown)
+        yield from first_job_has_run(opened, address)
         yield from no_run_before(opened, address)
+        yield from reloads_lose_nothing(opened, address)
         yield from links_hold_jobs(shown, opened, address)
         yield from browsers_without_the_machine(opened, address)
         yield from memory_comes_to_its_end(opened, address)

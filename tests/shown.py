@@ -15,7 +15,7 @@ class Shown:
 
     def __init__(self, opened):
         self.page = opened
-        self.page.wait(f"globalThis.kdf9 && {id_of('state')}.textContent.length > 0 && !{id_of('state')}.textContent.includes('loaded')")
+        self.page.wait(f"globalThis.kdf9 && !/loaded|^Running|^$/.test({id_of('state')}.textContent)")
 
     def js(self, expression):
         return self.page.js(expression)

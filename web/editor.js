@@ -12,9 +12,10 @@ export class Editor {
   constructor({ label, text, paint, onchange }) {
     this.paint = paint;
     this.fault = null;
+    this.stops = [];
     this.textarea = make("textarea", {
       id: freshId("text"), spellcheck: "false", autocapitalize: "off", autocomplete: "off", wrap: "off",
-      oninput: () => { this.fault = null; this.draw(); onchange(this.text); },
+      oninput: () => { this.forget(); this.draw(); onchange(this.text); },
       onscroll: () => this.scroll(),
     });
     this.numbers = make("pre", {});
@@ -30,8 +31,20 @@ export class Editor {
   }
 
   set text(text) {
-    this.fault = null;
+    this.forget();
     this.textarea.value = text;
+    this.draw();
+  }
+
+  /** Nothing is marked. */
+  forget() {
+    this.fault = null;
+    this.stops = [];
+  }
+
+  /** Marks the statements at which programs stopped. Each has the kind of its verdict, and where it begins and ends. */
+  markStops(stops) {
+    this.stops = stops;
     this.draw();
   }
 
@@ -69,7 +82,7 @@ export class Editor {
 
   /** The text in pieces, each of which has one look. */
   pieces(text) {
-    const parts = [...this.paint(text), ...(this.fault ? [{ kind: "wrong", ...this.fault }] : [])];
+    const parts = [...this.paint(text), ...this.stops.map(({ kind, ...place }) => ({ ...place, kind: `stopped ${kind}` })), ...(this.fault ? [{ kind: "wrong", ...this.fault }] : [])];
     const cuts = [...new Set([0, text.length, ...parts.flatMap(({ start, end }) => [start, Math.min(end, text.length)])])].sort((a, b) => a - b);
     const open = [];
     let next = 0;
@@ -84,8 +97,9 @@ export class Editor {
   }
 
   drawNumbers(count) {
-    const wrong = this.fault ? this.text.slice(0, this.fault.start).split("\n").length : 0;
-    const numbers = Array.from({ length: count }, (_, at) => (at + 1 === wrong ? make("span", { class: "wrong" }, `▸${at + 1}`) : `${at + 1}`));
+    const lineOf = (place) => this.text.slice(0, place).split("\n").length;
+    const marked = new Map([...this.stops.map(({ kind, start }) => [lineOf(start), kind]), ...(this.fault ? [[lineOf(this.fault.start), "wrong"]] : [])]);
+    const numbers = Array.from({ length: count }, (_, at) => (marked.has(at + 1) ? make("span", { class: marked.get(at + 1) }, `▸${at + 1}`) : `${at + 1}`));
     this.numbers.replaceChildren(...numbers.flatMap((number) => [number, "\n"]));
   }
 

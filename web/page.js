@@ -1,32 +1,34 @@
 // The page: what its buttons and keys do.
 
 import { byId, make } from "./dom.js";
-import { Engine, STATUSES, Stopped, bytesOf, canRun, unpacked } from "./engine.js";
+import { Engine, Stopped, bytesOf, canRun, unpacked } from "./engine.js";
 import { faultOf } from "./fault.js";
 import { hintOf } from "./hints.js";
-import { EMPTY_JOB, frontOf, readJob } from "./job.js";
+import { frontOf, readJob } from "./job.js";
 import { JobView } from "./jobview.js";
+import { Keeping } from "./keeping.js";
+import { timeOf } from "./kept.js";
 import { hasJob, jobOfLink, packedJob, saveFile } from "./link.js";
-import { layoutsOf, readResult, resultsOf, shownText } from "./results.js";
+import { outcomeOf, outcomeOfRecord, saidOfAnswer, showOutcome } from "./outcome.js";
 import { Replay } from "./replay.js";
-import { NoSchedule, scheduled } from "./schedule.js";
+import { NoSchedule, readDelays, scheduled } from "./schedule.js";
 import { MOST_SEED, shuffled, withOtherNeighbours } from "./shuffle.js";
 import { Theorem } from "./theorem.js";
-import { NoPlace, drawStops, readWatch, stopsOf, watchable, wordOf } from "./watch.js";
+import { NoPlace, watchable, wordOf } from "./watch.js";
 
-const DONE = 0, SNAPSHOT_HAS_FAULT = 8, FAULTS = [2, 3, SNAPSHOT_HAS_FAULT];
+const SNAPSHOT_HAS_FAULT = 8, FAULTS = [2, 3, SNAPSHOT_HAS_FAULT];
 
 /** The commands that have a slot or a number, those that read a job with a snapshot or a report after it, and those whose run can be shown call by call. */
 const WITH_VALUE = ["watch", "alone", "asm", "make"], READ_MORE = ["resume", "check"], RUN = ["run", "watch"];
 
-const MEBIBYTE = 2 ** 20;
-const OWN = "own";
+const OWN = "own", NO_LINK = "The link is damaged, or has no job in it. The job below is another one.";
 
 /** How many milliseconds after the last key the page looks for a fault of the job. */
 const PAUSE = 700;
 
 const texts = JSON.parse(byId("texts").textContent);
-const view = new JobView(byId("editors"), changed);
+const view = new JobView(byId("editors"), changed, (what, before) => keeping.offerUndo(`Removed: ${what}.`, before));
+const keeping = new Keeping({ text: () => view.text, bring: bringBack, put });
 let engine = null;
 let lastText = "";
 let lastRun = null; // what can be shown call by call: the job, its report, the layouts of its decks, and the stops of a watch if there was one
@@ -48,6 +50,7 @@ function say(text, isWrong = false) {
 
 /** The user has changed the job. */
 function changed() {
+  keeping.changed();
   byId("example").value = OWN;
   byId("link-said").hidden = true;
   byId("stale").hidden = lastText === "";
@@ -103,7 +106,7 @@ async function words() {
 
 /** Offers the places that can be watched in the deck of the chosen slot. */
 async function offerPlaces() {
-  if (!engine || engine.isBusy) return;
+  if (!engine) return;
   try {
     const places = await watchable(ask, view.text, byId("value").value);
     byId("places").replaceChildren(...places.map(([name, word]) => new Option(`word ${word}`, name)));
@@ -142,29 +145,40 @@ async function run() {
 
 /** Shows what the machine answers to the words of a command for the job. */
 async function runNow(asked) {
-  const { text } = view;
-  showText("", []);
+  const { text } = view, isRun = RUN.includes(asked[0]);
+  showText(null);
   const answer = await ask(asked, text);
   const fault = await showFault(answer, text);
-  const isDone = answer.status === DONE, layouts = isDone && asked[0] !== "make" ? await layoutsOf(ask, jobOf(asked[0], text)) : new Map();
-  const written = isDone ? answer.text : "", watch = readWatch(written), report = watch ? watch.report : written;
-  const read = readResult(report), stops = watch && stopsOf(watch, read);
-  showText(answer.text, [...(stops ? [drawStops(stops, layouts.get(stops.slot), look)] : []), ...resultsOf(read, layouts)]);
-  lastRun = RUN.includes(asked[0]) && read ? { text, report, layouts, stops } : null;
+  const outcome = await outcomeOf(ask, jobOf(asked[0], text), answer, texts.sentences);
+  showText(outcome, { look: isRun ? look : null, go: goToStop, change: isRun ? changeAndRun : null });
+  lastRun = isRun && outcome.read ? { ...outcome, text } : null;
   if (lastRun) theorem.take(lastRun);
+  if (text === view.text) view.showStops(outcome.verdicts?.all ?? []);
   byId("look").disabled = byId("see").disabled = lastRun === null;
   byId("stale").hidden = text === view.text;
-  sayAnswer(answer, fault);
+  sayAnswer(answer, fault, outcome.verdicts);
 }
 
-function sayAnswer({ status, milliseconds, memory }, fault) {
-  if (status === DONE) {
-    say(`Done, in ${Math.max(1, Math.round(milliseconds)).toLocaleString("en")} ms and ${(memory / MEBIBYTE).toFixed(1)} MiB.`);
-  } else {
-    const where = fault ? ` ${fault.name}, line ${fault.line} of the ${status === SNAPSHOT_HAS_FAULT ? "text" : "job"}. ${fault.said}` : "";
-    say(`Status ${status}: ${STATUSES[status]}.${where}`, true);
-  }
-  byId("state").dataset.status = status;
+function sayAnswer(answer, fault, verdicts) {
+  const { said, isWrong } = saidOfAnswer(answer, fault, verdicts);
+  say(said, isWrong);
+  byId("state").dataset.status = answer.status;
+}
+
+/** Goes to the statement at which a program stopped, if the job is still the one that was run. */
+function goToStop({ slot, statement }) {
+  if (!view.goToStatement(slot, statement)) say("The job has been changed since this run.", true);
+}
+
+/** Changes the job as a verdict proposes, and runs it again. */
+async function changeAndRun({ name, change }) {
+  const before = view.text;
+  view.show(change(before));
+  changed();
+  keeping.offerUndo(`Changed: ${name}.`, before);
+  byId("command").value = "run";
+  chooseCommand();
+  await run();
 }
 
 /** The fault of a job with its hint, as it is shown, or null if there is none. */
@@ -194,19 +208,16 @@ function goTo(part) {
   byId(part).scrollIntoView();
 }
 
-function showText(text, sections) {
-  lastText = text;
-  byId("stale").hidden = true;
+/** Shows what a command came to, or nothing if it is null. */
+function showText(outcome, acts) {
+  lastText = outcome?.text ?? "";
   lastRun = null;
   for (const id of ["look", "see", "compare-alone", "compare-before"]) byId(id).disabled = true;
+  byId("stale").hidden = true;
+  byId("save-report").disabled = lastText === "";
   replay.close();
   theorem.clear();
-  const shown = shownText(text);
-  byId("report").textContent = shown.text;
-  byId("rest").textContent = shown.rest;
-  byId("rest").hidden = shown.rest === "";
-  byId("save-report").disabled = text === "";
-  byId("sections").replaceChildren(...sections);
+  showOutcome(outcome, acts);
 }
 
 function stop() {
@@ -214,18 +225,15 @@ function stop() {
 }
 
 async function writeSchedule() {
-  const numbers = ["after", "every"].map((id) => byId(id).value.trim());
-  const delays = byId("delays").value.split(",").map((part) => part.trim()).filter((part) => part !== "");
-  if (!numbers.every((number) => /^\d{0,8}$/.test(number)) || !delays.every((delay) => /^\d{1,2}=\d{1,8}$/.test(delay))) {
-    return say("These aren't numbers of calls: 20, or 3=50 for device 3.", true);
-  }
-  const devices = new Map(delays.map((delay) => delay.split("=")).map(([device, steps]) => [device, Number(steps)]));
+  const delays = readDelays(...["after", "every", "delays"].map((id) => byId(id).value));
+  if (delays === null) return say("These aren't numbers of calls: 20, or 3=50 for device 3.", true);
   return work("Writing the schedule.", async () => {
-    const answer = await ask(["asm", "0"], view.text);
-    const fault = await showFault(answer, view.text);
+    const before = view.text, answer = await ask(["asm", "0"], before);
+    const fault = await showFault(answer, before);
     if (fault) return sayAnswer(answer, fault);
-    view.show(await scheduled(ask, view.text, { after: Number(numbers[0] || 20), every: Number(numbers[1]), devices }));
+    view.show(await scheduled(ask, before, delays));
     changed();
+    keeping.offerUndo("The schedule was written anew.", before);
     return say("The schedule is written. It can be changed like any other text.");
   });
 }
@@ -245,9 +253,10 @@ async function compareChanged(text, change) {
     byId("command").value = "run";
     chooseCommand();
     if (lastRun?.text !== view.text) await runNow(["run"]);
-    const said = lastRun && await change(seed);
+    const before = view.text, said = lastRun && await change(seed);
     if (!said) return;
     changed();
+    keeping.offerUndo(`${said} with seed ${seed}.`, before);
     await runNow(["run"]);
     if (lastRun) await theorem.withBefore(`${said} with seed ${seed}. Here is this run beside the run before.`);
   });
@@ -270,14 +279,36 @@ const changeNeighbours = () => compareChanged("Changing the neighbours.", async 
   return `The neighbours of program ${kept} begin with more orders now, chosen`;
 });
 
-/** Begins with another job, and with the words of its command. A run in progress is stopped. */
+/** Begins with another job, and with the words of its command. A run in progress is stopped, and the job that was there is kept. */
 function begin(text, args) {
+  keeping.putAway();
+  show(text, args);
+}
+
+/** Shows another job. */
+function show(text, args) {
   stop();
   view.show(text);
   byId("link-said").hidden = true;
   [byId("command").value, byId("value").value, byId("place").value] = [args[0], args[1] ?? "0", args[2] ?? "0"];
   chooseCommand();
-  showText("", []);
+  showText(null);
+}
+
+/** Shows a job that was kept. */
+function bringBack(text) {
+  byId("example").value = OWN;
+  show(text, ["run"]);
+  byId("job").focus();
+  say("Your job is here again.");
+}
+
+/** Shows a job as it was before its last change. */
+function put(text) {
+  view.show(text);
+  changed();
+  byId("job").focus();
+  say("The change is undone.");
 }
 
 function chooseCommand() {
@@ -296,8 +327,8 @@ function chooseExample() {
 }
 
 /** Shows the report that was recorded of an example, if the machine can't run. */
-function showRecorded({ report }) {
-  showText(report ?? "", report ? resultsOf(readResult(readWatch(report)?.report ?? report), new Map()) : []);
+function showRecorded({ job, report }) {
+  if (report) showText(outcomeOfRecord(job, report, texts.sentences));
 }
 
 async function openFile() {
@@ -313,6 +344,7 @@ async function openFile() {
 
 async function showLink() {
   const hash = await packedJob(view.text);
+  keeping.saved();
   byId("address").value = location.href.split("#")[0] + hash;
   byId("link-said").hidden = false;
   history.replaceState(null, "", hash);
@@ -320,14 +352,18 @@ async function showLink() {
   say("The link is below the buttons, and in the browser's address bar.");
 }
 
-/** Begins with the job of the link, if the link has one. Returns whether it has. */
+/** Begins with the job of the link, if the link has one. Returns whether it has. The job that is shown stays if the link is damaged or has no job. */
 async function openLink() {
   if (!hasJob(location.hash)) return false;
   const job = await jobOfLink(location.hash);
+  if (job === null || job === view.text) {
+    say(job === null ? NO_LINK : "This is the job of the link.", job === null);
+    return job !== null;
+  }
   byId("example").value = OWN;
-  begin(job ?? EMPTY_JOB, ["run"]);
-  if (job === null) say("The link is damaged, so here is an empty job.", true);
-  else if (engine) say("Ready, with the job of the link.");
+  begin(job, ["run"]);
+  await run();
+  if (engine) say(`This is the job of the link. ${byId("state").textContent}`, byId("state").classList.contains("wrong"));
   return true;
 }
 
@@ -359,7 +395,7 @@ function attend() {
   byId("compare-before").onclick = () => work("Comparing this run with the run before.", () => theorem.withBefore());
   byId("open").onclick = () => byId("file").click();
   byId("file").onchange = openFile;
-  byId("save").onclick = () => saveFile("kdf9.job", view.text);
+  byId("save").onclick = () => { saveFile("kdf9.job", view.text); keeping.saved(); };
   byId("save-report").onclick = () => saveFile("kdf9.report", lastText);
   byId("link").onclick = showLink;
   byId("address").onfocus = () => byId("address").select();
@@ -377,31 +413,42 @@ async function load() {
   engine = new Engine(module, byId("worker").textContent);
 }
 
+/** Begins with the job of this tab before it was loaded again. The job that the page or its link has is offered. */
+async function openOwn(own) {
+  const given = texts.start ?? (hasJob(location.hash) ? await jobOfLink(location.hash) : null);
+  bringBack(own.text);
+  keeping.resume();
+  if (given !== null && given !== own.text) keeping.offer("This page was opened with another job.", "Show that job", () => begin(given, ["run"]));
+  say(`Here is your job as it was on ${timeOf(own)}.`);
+}
+
+/** Begins with the job with which the page was made, and shows its run call by call; or with the first of the list. */
+async function openFirst() {
+  const isMade = typeof texts.start === "string", first = texts.jobs[byId("example").options[0].value];
+  byId("example").value = isMade ? OWN : byId("example").options[0].value;
+  begin(isMade ? texts.start : first.job, isMade ? ["run"] : first.args);
+  if (!engine) return showRecorded(isMade ? {} : first);
+  await run();
+  if (isMade && lastRun) look(0);
+}
+
 async function open() {
+  let lack = null;
   listExamples();
   attend();
   try {
     await load();
-    setBusy(false);
-    say("Ready.");
   } catch (error) {
-    say(`This browser can't run the machine: ${error.message}. The examples are shown with the reports that were recorded of them.`, true);
+    lack = `This browser can't run the machine: ${error.message}. The examples are shown with the reports that were recorded of them.`;
   }
-  if (await openLink()) return;
-  if (typeof texts.start === "string") return openStart();
-  byId("example").selectedIndex = 0;
-  const { job, args } = texts.jobs[byId("example").value];
-  begin(job, args);
-  if (!engine) showRecorded(texts.jobs[byId("example").value]);
-}
-
-/** Runs the job with which the page was made, and shows the run call by call. */
-async function openStart() {
-  byId("example").value = OWN;
-  begin(texts.start, ["run"]);
-  if (!engine) return;
-  await run();
-  if (lastRun) look(0);
+  setBusy(false);
+  const own = keeping.own();
+  if (own) await openOwn(own);
+  else if (!await openLink()) {
+    await openFirst();
+    if (hasJob(location.hash)) say(NO_LINK, true);
+  }
+  if (lack) say(lack, true);
 }
 
 // For use from the browser's console: the machine's answer to the words of a command for a job, the fault of a job, and the job and the text that are shown.

@@ -76,7 +76,7 @@ function deviceOf(name, { kind, place, flag, blocks }, state) {
 function journalOf(entries) {
   const rows = timed(entries.slice(0, MOST_ENTRIES)).map(([calls, entry]) => [entry.join(" "), saidOf(entry), `${calls}`]);
   const rest = entries.length > MOST_ENTRIES ? [make("p", {}, `${entries.length - MOST_ENTRIES} more entries are in the report.`)] : [];
-  return make("details", { open: true }, make("summary", {}, "The journal: what happened, in order"),
+  return make("details", {}, make("summary", {}, "The journal: what happened, in order"),
     table("Entries", ["entry", "what it says", "calls before it"], rows), ...rest);
 }
 

@@ -45,11 +45,18 @@ def script(name=MAIN):
 
 
 def sentences():
-    """What the documents say about each fault of a job, of a snapshot and of a deck."""
+    """What the documents say about each fault of a job, of a snapshot and of a deck, and about each kind of failure."""
     deck = {}
     for number, name, said in re.findall(r"^### (\d+) (\w+)\n\n(.*?)\n\n", read("docs/USERCODE.md"), re.MULTILINE | re.DOTALL):
         deck[name] = f"{' '.join(said.split())} (docs/USERCODE.md, fault {number})"
-    return {"job": plain(faults_of("job")), "snapshot": plain(faults_of("snapshot")), "deck": plain(deck)}
+    return {"job": plain(faults_of("job")), "snapshot": plain(faults_of("snapshot")), "deck": plain(deck), "failure": failures()}
+
+
+def failures():
+    """What docs/GLOSSARY.md says of each kind of failure, by its name."""
+    kinds = re.search(r"kinds of failure: (.*?) \|$", read("docs/GLOSSARY.md"), re.MULTILINE)[1]
+    rows = dict(re.findall(r"^\| (\w+) \| (.*?) \|$", read("docs/GLOSSARY.md"), re.MULTILINE))
+    return plain({name: rows[name].replace("**", "") for name in re.findall(r"[A-Z]+", kinds)})
 
 
 def faults_of(what):
