@@ -15,6 +15,7 @@ from page_service import SUITES as SERVED
 from page_theorem import SUITES as THEOREM, no_run_before
 from page_verdicts import SUITES as VERDICTS, first_job_has_run
 from page_watch import SUITES as WATCHED
+from page_words import SUITES as WORDS
 from page_worker import worker_alone
 from shown import CTRL, Shown, id_of
 from toolkit import HEAD, ROOT, TAIL, is_more, job_of_deck, kdf9
@@ -329,7 +330,7 @@ def nothing_is_fetched(running, address):
 
 SUITES = (
     runs_are_looked_at, faults_are_shown, faults_stand_at_their_parts, parts_and_text_are_in_step, snapshots_are_resumed_and_reports_checked,
-    schedules_write_themselves, runs_are_stopped, faults_stand_at_their_places, *VERDICTS, *KEPT, *POOL, *SERVED, *WATCHED, *THEOREM, controls_have_names,
+    schedules_write_themselves, runs_are_stopped, faults_stand_at_their_places, *VERDICTS, *KEPT, *WORDS, *POOL, *SERVED, *WATCHED, *THEOREM, controls_have_names,
     orders_are_those_of_the_program, runs_are_those_of_the_program,
 )
 

@@ -2,6 +2,7 @@
 // image, which the machine lists; nothing else about orders is known here.
 
 export const SYLLABLES = 6; // in a word
+const NOUGHT = "0".repeat(16); // a word that is zero
 const COMMENT = /\([^)]*\)?/g;
 const STATEMENT = /\*(?:[* \n]*\*)?|[^*; \n][^;]*/g;
 const DECLARATION = /^Y([A-Z]?)(\d+)$/;
@@ -53,6 +54,7 @@ export function readListing(text) {
 export class Layout {
   constructor(deck, listing) {
     this.start = listing.start;
+    this.words = listing.words;
     this.syllables = listing.words.flatMap(syllablesOf);
     this.references = listing.references.values();
     this.unplaced = [];
@@ -74,6 +76,16 @@ export class Layout {
   nameOf(address) {
     const found = this.names.find((names) => names.address <= address && address < names.address + names.count);
     return found ? `${found.before}${address - found.address}${found.behind}` : `E${address}`;
+  }
+
+  /** The addresses of the words that the deck gives names. */
+  get addresses() {
+    return this.names.flatMap(({ address, count }) => Array.from({ length: count }, (_, at) => address + at));
+  }
+
+  /** The word at an address as it is when the program begins, in octal digits. */
+  octalAt(address) {
+    return this.words[address] ?? NOUGHT;
   }
 
   /** The statement of the order at a syllable of a word, or undefined where no statement wrote it. */

@@ -1,7 +1,8 @@
 // The page: what its buttons and keys do.
 
-import { byId, make } from "./dom.js";
+import { byId } from "./dom.js";
 import { Engine, Stopped, bytesOf, canRun, unpacked } from "./engine.js";
+import { chooseFirst, chooseOwn, chosenJob, listJobs } from "./examples.js";
 import { faultOf } from "./fault.js";
 import { hintOf } from "./hints.js";
 import { frontOf, readJob } from "./job.js";
@@ -21,7 +22,7 @@ const SNAPSHOT_HAS_FAULT = 8, FAULTS = [2, 3, SNAPSHOT_HAS_FAULT];
 /** The commands that have a slot or a number, those that read a job with a snapshot or a report after it, and those whose run can be shown call by call. */
 const WITH_VALUE = ["watch", "alone", "asm", "make"], READ_MORE = ["resume", "check"], RUN = ["run", "watch"];
 
-const OWN = "own", NO_LINK = "The link is damaged, or has no job in it. The job below is another one.";
+const NO_LINK = "The link is damaged, or has no job in it. The job below is another one.";
 
 /** How many milliseconds after the last key the page looks for a fault of the job. */
 const PAUSE = 700;
@@ -51,7 +52,7 @@ function say(text, isWrong = false) {
 /** The user has changed the job. */
 function changed() {
   keeping.changed();
-  byId("example").value = OWN;
+  chooseOwn();
   byId("link-said").hidden = true;
   byId("stale").hidden = lastText === "";
   clearTimeout(pause);
@@ -149,7 +150,7 @@ async function runNow(asked) {
   showText(null);
   const answer = await ask(asked, text);
   const fault = await showFault(answer, text);
-  const outcome = await outcomeOf(ask, jobOf(asked[0], text), answer, texts.sentences);
+  const outcome = await outcomeOf(ask, jobOf(asked[0], text), answer, { isRun, ...texts });
   showText(outcome, { look: isRun ? look : null, go: goToStop, change: isRun ? changeAndRun : null });
   lastRun = isRun && outcome.read ? { ...outcome, text } : null;
   if (lastRun) theorem.take(lastRun);
@@ -297,7 +298,7 @@ function show(text, args) {
 
 /** Shows a job that was kept. */
 function bringBack(text) {
-  byId("example").value = OWN;
+  chooseOwn();
   show(text, ["run"]);
   byId("job").focus();
   say("Your job is here again.");
@@ -319,7 +320,7 @@ function chooseCommand() {
 }
 
 function chooseExample() {
-  const chosen = texts.jobs[byId("example").value];
+  const chosen = chosenJob(texts.jobs);
   if (!chosen) return;
   begin(chosen.job, chosen.args);
   if (engine) say("Ready.");
@@ -328,7 +329,7 @@ function chooseExample() {
 
 /** Shows the report that was recorded of an example, if the machine can't run. */
 function showRecorded({ job, report }) {
-  if (report) showText(outcomeOfRecord(job, report, texts.sentences));
+  if (report) showText(outcomeOfRecord(job, report, texts));
 }
 
 async function openFile() {
@@ -336,7 +337,7 @@ async function openFile() {
   if (!file) return;
   byId("file").value = "";
   const text = await file.text(), plain = text.replace(/\r\n?/g, "\n");
-  byId("example").value = OWN;
+  chooseOwn();
   begin(plain, ["run"]);
   if (text === plain) say(`${file.name} is open.`);
   else say(`${file.name} is open; its line ends, those of another system, were changed.`, true);
@@ -360,20 +361,11 @@ async function openLink() {
     say(job === null ? NO_LINK : "This is the job of the link.", job === null);
     return job !== null;
   }
-  byId("example").value = OWN;
+  chooseOwn();
   begin(job, ["run"]);
   await run();
   if (engine) say(`This is the job of the link. ${byId("state").textContent}`, byId("state").classList.contains("wrong"));
   return true;
-}
-
-function listExamples() {
-  const groups = new Map();
-  for (const [name, { group }] of Object.entries(texts.jobs)) {
-    if (!groups.has(group)) groups.set(group, make("optgroup", { label: group }));
-    groups.get(group).append(new Option(name.split("/")[1], name));
-  }
-  byId("example").append(...groups.values(), new Option("(a job of your own)", OWN));
 }
 
 function attend() {
@@ -424,17 +416,19 @@ async function openOwn(own) {
 
 /** Begins with the job with which the page was made, and shows its run call by call; or with the first of the list. */
 async function openFirst() {
-  const isMade = typeof texts.start === "string", first = texts.jobs[byId("example").options[0].value];
-  byId("example").value = isMade ? OWN : byId("example").options[0].value;
-  begin(isMade ? texts.start : first.job, isMade ? ["run"] : first.args);
-  if (!engine) return showRecorded(isMade ? {} : first);
+  const isMade = typeof texts.start === "string";
+  if (isMade) chooseOwn();
+  else chooseFirst();
+  const first = isMade ? { job: texts.start, args: ["run"] } : chosenJob(texts.jobs);
+  begin(first.job, first.args);
+  if (!engine) return showRecorded(first);
   await run();
   if (isMade && lastRun) look(0);
 }
 
 async function open() {
   let lack = null;
-  listExamples();
+  listJobs(texts.jobs);
   attend();
   try {
     await load();

@@ -143,13 +143,15 @@ export class Verdicts {
   }
 }
 
-/** The verdicts as a list. `go` goes to the statement of a verdict in the job, and `change` changes the job and runs it again; neither is offered if it is null. */
-export function drawVerdicts({ all }, { go, change }) {
+/** The verdicts as a list, and how many calls were made if the schedule has more. `go` goes to the statement of a verdict in the job, and `change` changes the job and runs it again; neither is offered if it is null. */
+export function drawVerdicts({ all, timeline, calls }, { go, change }) {
   const items = all.map((verdict) => {
     const { kind, said, statement, offers } = verdict;
     const show = statement && go ? [" ", button("Go to it", () => go(verdict))] : [];
     const changes = change ? offers.flatMap((offer) => [" ", button(offer.name, () => change(offer))]) : [];
     return make("li", { class: kind }, make("span", { class: "sign", "aria-hidden": "true" }, SIGNS[kind]), make("span", {}, said, ...show, ...changes));
   });
-  return make("ul", { class: "verdicts", "aria-label": "What came of each program" }, ...items);
+  const used = timeline.total, isFew = calls > used;
+  const list = make("ul", { class: "verdicts", "aria-label": "What came of each program" }, ...items);
+  return [list, ...(used && isFew ? [make("p", { class: "used" }, `The run made ${used.toLocaleString("en")} of the ${calls.toLocaleString("en")} calls of its schedule.`)] : [])];
 }

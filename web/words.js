@@ -25,12 +25,12 @@ export function choiceOfView(element) {
   return labelled("Words in octal, in decimal, and as", select);
 }
 
-/** A table of words, each with its name, its address, its value in octal, and whether the run changed it. */
+/** A table of words, each with its name, its address and its value in octal. */
 export function tableOfWords(caption, words, characters) {
   const head = ["name", "address", "octal", "decimal"].map((name) => make("th", { scope: "col" }, name));
   const views = Object.keys(VIEWS).map((name) => make("th", { scope: "col", "data-view": name }, name));
-  const rows = words.map(({ name, address, octal, isChanged }) => make("tr", {},
-    make("th", { scope: "row" }, isChanged ? `• ${name}` : name), make("td", {}, `${address}`), make("td", {}, make("code", {}, octal)),
+  const rows = words.map(({ name, address, octal }) => make("tr", {},
+    make("th", { scope: "row" }, name), make("td", {}, `${address}`), make("td", {}, make("code", {}, octal)),
     make("td", {}, numberOf(octal).toLocaleString("en")),
     ...Object.entries(VIEWS).map(([name, view]) => make("td", { "data-view": name }, make("code", {}, view(octal, characters))))));
   return make("table", { class: "words" }, make("caption", {}, caption), make("thead", {}, make("tr", {}, ...head, ...views)), make("tbody", {}, ...rows));

@@ -66,6 +66,18 @@ def faults_of(what):
     return {name: f"{said[0].upper()}{said[1:]}. (docs/JOB.md)" for name, said in rows}
 
 
+def characters():
+    """The 64 characters by their codes, as docs/USERCODE.md has them."""
+    rows = re.findall(r"^\| \*\*[0-7]\*\* \| (.*) \|$", read("docs/USERCODE.md"), re.MULTILINE)
+    return "".join(character(cell) for row in rows for cell in row.split(" | "))
+
+
+def character(cell):
+    """The character of a cell: it stands there by itself, or as the number of its byte or its name."""
+    by_number = re.search(r"byte (\d+)", cell)
+    return chr(int(by_number[1])) if by_number else cell[1] if cell.startswith("`") else {"space": " "}[cell]
+
+
 def plain(said):
     """The sentences without the backquotes around code."""
     return {name: sentence.replace("`", "") for name, sentence in said.items()}
@@ -91,7 +103,7 @@ def jobs_of_examples():
 def texts(start):
     """What the script shows, as JSON that is safe within a page. `start` is the job that runs when the page opens, or None."""
     jobs = dict([*jobs_of_first_hour(), *jobs_of_examples()])
-    return json.dumps({"jobs": jobs, "sentences": sentences(), "start": start}, ensure_ascii=False, separators=(",", ":")).replace("</", "<\\/")
+    return json.dumps({"jobs": jobs, "sentences": sentences(), "characters": characters(), "start": start}, ensure_ascii=False, separators=(",", ":")).replace("</", "<\\/")
 
 
 def page(module, start=None):
