@@ -6,7 +6,8 @@ const NOUGHT = "0".repeat(16); // a word that is zero
 const COMMENT = /\([^)]*\)?/g;
 const STATEMENT = /\*(?:[* \n]*\*)?|[^*; \n][^;]*/g;
 const DECLARATION = /^Y([A-Z]?)(\d+)$/;
-const OPENING = /^(?:PROGRAM|P(\d+))(?:V(\d+))?$/;
+/** The opening of a part, with its number, which is absent for the main part, and the number of its last V-store. */
+export const OPENING = /^(?:PROGRAM|P(\d+))(?:V(\d+))?$/;
 const CONSTANT = /^V(\d+)=/;
 
 /** The deck with spaces instead of its comments, so that offsets stay the same. */
@@ -76,6 +77,15 @@ export class Layout {
   nameOf(address) {
     const found = this.names.find((names) => names.address <= address && address < names.address + names.count);
     return found ? `${found.before}${address - found.address}${found.behind}` : `E${address}`;
+  }
+
+  /** The address of the store that a statement of a part names; undefined if it names none of this deck. */
+  addressOf({ text, part }) {
+    const named = /^=?(V|Y[A-Z]?)(\d+)(?:P(\d+))?(?:M\d+Q?)?$/.exec(text);
+    if (!named) return undefined;
+    const [, group, number, other] = named, own = Number(other ?? part ?? 0), behind = group === "V" && own ? `P${own}` : "";
+    const found = this.names.find((names) => names.before === group && names.behind === behind && Number(number) < names.count);
+    return found && found.address + Number(number);
   }
 
   /** The addresses of the words that the deck gives names. */

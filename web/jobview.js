@@ -33,9 +33,9 @@ function paintedJob(text) {
 
 export class JobView {
   /** The view of a job in an element of the page. `onchange` is called after each change that the user makes, and then `onremove` if something was removed, with
-   * what it was and the text of the job before. */
-  constructor(element, onchange, onremove) {
-    Object.assign(this, { onchange, onremove });
+   * what it was and the text of the job before. `assist` gives the element with the help for the editor of a deck, whose slot has this number. */
+  constructor(element, { onchange, onremove, assist }) {
+    Object.assign(this, { onchange, onremove, assist });
     this.isWhole = false;
     this.stops = [];
     this.controls = new Map();
@@ -139,7 +139,7 @@ export class JobView {
       this.box(`service ${at}`, SERVED, slot.isServed, (isServed) => { slot.isServed = isServed; }),
       button("Remove", () => this.remove(`the program in slot ${slot.number}`, () => this.job.slots.splice(at, 1), "add"),
         { "aria-label": `Remove the program in slot ${slot.number}` }));
-    return make("section", { class: "slot", "aria-labelledby": heading.id }, heading, deck.element, fields, this.drawDevices(slot, at, `slot ${slot.number}`));
+    return make("section", { class: "slot", "aria-labelledby": heading.id }, heading, deck.element, this.assist(deck, slot), fields, this.drawDevices(slot, at, `slot ${slot.number}`));
   }
 
   /** A box that is ticked or not, before its label. */

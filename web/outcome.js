@@ -1,7 +1,7 @@
 // What a command came to: what is read from the text that the machine wrote, and the part of the page that shows it.
 
 import { byId, make } from "./dom.js";
-import { drawTimeline } from "./drawing.js";
+import { HALF_WIDTH, drawTimeline } from "./drawing.js";
 import { STATUSES } from "./engine.js";
 import { layoutsOf, readResult, resultsOf, shownText, storesOf } from "./results.js";
 import { Timeline } from "./timeline.js";
@@ -45,7 +45,7 @@ function callsDrawn({ entries, total }) {
 /** The picture of a run. A click in it calls `look`. */
 function pictureOf({ timeline, stops }, look) {
   const calls = callsDrawn(timeline);
-  const { picture, mark } = drawTimeline(timeline, look ?? (() => {}), { name: "The run at a glance", calls, stops });
+  const { picture, mark } = drawTimeline(timeline, look ?? (() => {}), { name: "The run at a glance", calls, stops, width: HALF_WIDTH });
   mark(-1);
   const rest = timeline.total - calls;
   if (rest) picture.append(make("p", {}, `The ${rest.toLocaleString("en")} calls after these are idle.`));

@@ -1,19 +1,21 @@
 // The page: what its buttons and keys do.
 
+import { Assist } from "./assist.js";
+import { Changes } from "./changes.js";
 import { byId } from "./dom.js";
 import { Engine, Stopped, bytesOf, canRun, unpacked } from "./engine.js";
 import { chooseFirst, chooseOwn, chosenJob, listJobs } from "./examples.js";
 import { faultOf } from "./fault.js";
 import { hintOf } from "./hints.js";
-import { frontOf, readJob } from "./job.js";
+import { frontOf } from "./job.js";
 import { JobView } from "./jobview.js";
 import { Keeping } from "./keeping.js";
 import { timeOf } from "./kept.js";
+import { attendToKeys } from "./keys.js";
 import { hasJob, jobOfLink, packedJob, saveFile } from "./link.js";
 import { outcomeOf, outcomeOfRecord, saidOfAnswer, showOutcome } from "./outcome.js";
 import { Replay } from "./replay.js";
 import { NoSchedule, readDelays, scheduled } from "./schedule.js";
-import { MOST_SEED, shuffled, withOtherNeighbours } from "./shuffle.js";
 import { Theorem } from "./theorem.js";
 import { NoPlace, watchable, wordOf } from "./watch.js";
 
@@ -28,19 +30,20 @@ const NO_LINK = "The link is damaged, or has no job in it. The job below is anot
 const PAUSE = 700;
 
 const texts = JSON.parse(byId("texts").textContent);
-const view = new JobView(byId("editors"), changed, (what, before) => keeping.offerUndo(`Removed: ${what}.`, before));
+const view = new JobView(byId("editors"), {
+  onchange: changed, onremove: (what, before) => keeping.offerUndo(`Removed: ${what}.`, before),
+  assist: (editor, slot) => new Assist(editor, texts.help, (statement) => lastRun?.layouts.get(Number(slot.number))?.addressOf(statement)).element,
+});
 const keeping = new Keeping({ text: () => view.text, bring: bringBack, put });
 let engine = null;
 let lastText = "";
 let lastRun = null; // what can be shown call by call: the job, its report, the layouts of its decks, and the stops of a watch if there was one
 let pause = 0;
 
-// The job with the schedule that was shuffled last, and the job that it was made from. So a seed gives the same schedule however often it was shuffled before.
-const mixed = { text: null, from: null };
-
 const ask = (words, job) => engine.ask(words, job);
 const replay = new Replay(byId("replay"), { ask, say, failed: (error) => sayFailed(error) });
 const theorem = new Theorem(byId("compared"), { ask, say });
+const changes = new Changes({ ask, say, work, view, theorem, keeping, changed, run: runAgain, lastRun: () => lastRun });
 
 /** Says what has happened, in the line of the page that is read aloud. */
 function say(text, isWrong = false) {
@@ -144,6 +147,13 @@ async function run() {
   if (!byId("run").disabled) await work("Running.", async () => runNow(await words()));
 }
 
+/** Runs the job by `run`, whatever the chosen command was. */
+function runAgain() {
+  byId("command").value = "run";
+  chooseCommand();
+  return runNow(["run"]);
+}
+
 /** Shows what the machine answers to the words of a command for the job. */
 async function runNow(asked) {
   const { text } = view, isRun = RUN.includes(asked[0]);
@@ -177,9 +187,7 @@ async function changeAndRun({ name, change }) {
   view.show(change(before));
   changed();
   keeping.offerUndo(`Changed: ${name}.`, before);
-  byId("command").value = "run";
-  chooseCommand();
-  await run();
+  if (!byId("run").disabled) await work("Running.", runAgain);
 }
 
 /** The fault of a job with its hint, as it is shown, or null if there is none. */
@@ -238,47 +246,6 @@ async function writeSchedule() {
     return say("The schedule is written. It can be changed like any other text.");
   });
 }
-
-/** The seed that is typed, or one by chance; null if what is typed is none. */
-function readSeed() {
-  const typed = byId("seed").value.trim(), seed = typed === "" ? Math.floor(Math.random() * (MOST_SEED + 1)) : Number(typed);
-  return /^\d*$/.test(typed) && seed <= MOST_SEED ? seed : null;
-}
-
-/** Runs the job as `change` makes it from a seed, and compares the run with the one before, which is of the job as it was. `change` gives what is said of the two
- * runs, or null if it has said why there is no other job. */
-async function compareChanged(text, change) {
-  const seed = readSeed();
-  if (seed === null) return say(`A seed is a number from 0 to ${MOST_SEED}.`, true);
-  return work(text, async () => {
-    byId("command").value = "run";
-    chooseCommand();
-    if (lastRun?.text !== view.text) await runNow(["run"]);
-    const before = view.text, said = lastRun && await change(seed);
-    if (!said) return;
-    changed();
-    keeping.offerUndo(`${said} with seed ${seed}.`, before);
-    await runNow(["run"]);
-    if (lastRun) await theorem.withBefore(`${said} with seed ${seed}. Here is this run beside the run before.`);
-  });
-}
-
-const shuffle = () => compareChanged("Shuffling the schedule.", async (seed) => {
-  if (view.text !== mixed.text) mixed.from = view.text;
-  mixed.text = await shuffled(ask, mixed.from, seed);
-  if (mixed.text === mixed.from) return say("There is nothing to shuffle: this job has one program and no transfers.", true);
-  view.show(mixed.text);
-  return "The schedule was shuffled";
-});
-
-const changeNeighbours = () => compareChanged("Changing the neighbours.", async (seed) => {
-  const kept = byId("kept").value, numbers = readJob(view.text).slots.map(({ number }) => number);
-  if (!numbers.includes(kept) || numbers.length < 2) return say(`There is no program in slot ${kept} with a neighbour.`, true);
-  const text = await withOtherNeighbours(ask, view.text, kept, seed);
-  if (text === null) return say("There is no room in a neighbour's store, or its deck can't begin with other orders.", true);
-  view.show(text);
-  return `The neighbours of program ${kept} begin with more orders now, chosen`;
-});
 
 /** Begins with another job, and with the words of its command. A run in progress is stopped, and the job that was there is kept. */
 function begin(text, args) {
@@ -368,7 +335,15 @@ async function openLink() {
   return true;
 }
 
+/** Shows the page as it is read from afar, or as usual. */
+function switchLecture() {
+  const isOn = document.documentElement.classList.toggle("lecture");
+  byId("lecture").setAttribute("aria-pressed", `${isOn}`);
+}
+
 function attend() {
+  attendToKeys();
+  byId("lecture").onclick = switchLecture;
   byId("example").onchange = chooseExample;
   byId("command").onchange = () => {
     chooseCommand();
@@ -380,8 +355,8 @@ function attend() {
   byId("schedule").onclick = writeSchedule;
   byId("look").onclick = () => look(0);
   byId("place").onfocus = offerPlaces;
-  byId("shuffle").onclick = shuffle;
-  byId("neighbours").onclick = changeNeighbours;
+  byId("shuffle").onclick = () => changes.shuffle();
+  byId("neighbours").onclick = () => changes.changeNeighbours();
   byId("see").onclick = see;
   byId("compare-alone").onclick = compareWithAlone;
   byId("compare-before").onclick = () => work("Comparing this run with the run before.", () => theorem.withBefore());

@@ -92,7 +92,7 @@ function sectionOf(section, layout, store, characters) {
 function deviceOf(name, { kind, place, flag, blocks }, state) {
   const said = make("p", {}, `${name[0].toUpperCase()}${name.slice(1)}, ${kind}: ${state}, place ${place}, flag ${flag}`);
   if (!blocks.length) return said;
-  const attributes = { class: "blocks", tabindex: "0", "aria-label": `The blocks of ${name}` };
+  const attributes = { class: "blocks", tabindex: "0", role: "group", "aria-label": `The blocks of ${name}` };
   return make("div", {}, said, make("pre", attributes, linesOfBlocks(blocks).join("\n")));
 }
 

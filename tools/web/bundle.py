@@ -55,8 +55,7 @@ def sentences():
 def failures():
     """What docs/GLOSSARY.md says of each kind of failure, by its name."""
     kinds = re.search(r"kinds of failure: (.*?) \|$", read("docs/GLOSSARY.md"), re.MULTILINE)[1]
-    rows = dict(re.findall(r"^\| (\w+) \| (.*?) \|$", read("docs/GLOSSARY.md"), re.MULTILINE))
-    return plain({name: rows[name].replace("**", "") for name in re.findall(r"[A-Z]+", kinds)})
+    return {name: bare(glossary(name)) for name in re.findall(r"[A-Z]+", kinds)}
 
 
 def faults_of(what):
@@ -76,6 +75,47 @@ def character(cell):
     """The character of a cell: it stands there by itself, or as the number of its byte or its name."""
     by_number = re.search(r"byte (\d+)", cell)
     return chr(int(by_number[1])) if by_number else cell[1] if cell.startswith("`") else {"space": " "}[cell]
+
+
+def help_of_statements():
+    """What the documents say of each statement of a deck: of the orders by their names, of constants, of references, and of the sequence of a deck."""
+    usercode = read("docs/USERCODE.md")
+    sequence = [said for _, said in re.findall(r"^(\d)\. (.*)$", section(usercode, "The sequence of a deck"), re.MULTILINE)]
+    constants = re.findall(r"^\| (`.*?) \| (.*?) \|$", section(usercode, "Constants"), re.MULTILINE)
+    places = section(usercode, "References and jumps").strip().split("\n\n")[0]
+    return {
+        "orders": dict(entries_of_orders()), "sequence": entry(["The sequence of a deck:", *sequence]),
+        "constants": entry(["A constant gives a V-store its first value."], "The forms of constants", ["written", "is"], constants), "places": entry([places]),
+    }
+
+
+def entry(said, caption="", heads=(), rows=()):
+    """What is said of a statement, as paragraphs and rows of a table, without the marks of the documents."""
+    return {"said": [bare(each) for each in said], "caption": caption, "heads": list(heads), "rows": [[bare(cell) for cell in row] for row in rows]}
+
+
+def bare(text):
+    """A text without the marks of the documents around code and words."""
+    return " ".join(text.replace("`", "").replace("**", "").split())
+
+
+def section(text, name):
+    """The text below the heading of this name."""
+    return re.search(rf"^## {name}\n(.*?)(?=^## |\Z)", text, re.MULTILINE | re.DOTALL)[1]
+
+
+def glossary(word):
+    """What docs/GLOSSARY.md says of a word."""
+    return dict(re.findall(r"^\| (\w+) \| (.*?) \|$", read("docs/GLOSSARY.md"), re.MULTILINE))[word]
+
+
+def entries_of_orders():
+    """The entries of docs/ORDERS.md by their names, each with its examples."""
+    for name, body in re.findall(r"^### `(\S+)`\n\n(.*?)(?=^### |\Z)", read("docs/ORDERS.md"), re.MULTILINE | re.DOTALL):
+        said, _, examples = body.partition("| order | before | after |\n|---|---|---|\n")
+        rows = re.findall(r"^\| (.*?) \| (.*?) \| (.*?) \|$", examples, re.MULTILINE)
+        paragraphs = [each for each in re.split(r"\n\n|\n- ", said.strip()) if each]
+        yield name, entry(paragraphs, "Examples", ["order", "before", "after"], rows)
 
 
 def plain(said):
@@ -103,7 +143,7 @@ def jobs_of_examples():
 def texts(start):
     """What the script shows, as JSON that is safe within a page. `start` is the job that runs when the page opens, or None."""
     jobs = dict([*jobs_of_first_hour(), *jobs_of_examples()])
-    return json.dumps({"jobs": jobs, "sentences": sentences(), "characters": characters(), "start": start}, ensure_ascii=False, separators=(",", ":")).replace("</", "<\\/")
+    return json.dumps({"jobs": jobs, "sentences": sentences(), "characters": characters(), "help": help_of_statements(), "start": start}, ensure_ascii=False, separators=(",", ":")).replace("</", "<\\/")
 
 
 def page(module, start=None):
