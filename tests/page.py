@@ -8,6 +8,7 @@ import tempfile
 
 import browser
 from browser import Browser
+from page_firefox import page_in_firefox
 from page_help import SUITES as HELP
 from page_kept import SUITES as KEPT, reloads_lose_nothing
 from page_looks import SUITES as LOOKS
@@ -357,6 +358,7 @@ def cases(file):
         yield from memory_comes_to_its_end(opened, address)
         yield from nothing_is_fetched(running, address)
         yield from pages_are_made_with_jobs(opened, file)
+    yield from page_in_firefox(address)
 
 
 def take_pictures(opened, address):

@@ -43,7 +43,7 @@ def statements_are_explained(shown):
         body = re.search(rf"^### `{re.escape(name)}`\n\n(.*?)\n\n", orders, re.MULTILINE | re.DOTALL)[1]
         said, examples = " ".join(body.replace("`", "").split()), shown.js("document.querySelectorAll('.help tbody tr').length")
         yield f"help for {what}", None if said in seen and more in seen and examples else f"{seen[:300]}"
-    for what, part in (("YA2", "YLn, where L is a letter"), ("V0 = 7", "octal digits, below 2^48"), ("1; V0", "Jumps in lines 4, 5 lead here."), ("P7V1", "Jumps in lines 4 lead here.")):
+    for what, part in (("YA2", "YLn, where L is a letter"), ("V0 = 7", "octal digits, below 2^48"), ("1; V0", "The jumps in lines 4, 5 lead here."), ("P7V1", "The jumps in line 4 lead here.")):
         caret_at(shown, what)
         yield f"help for {what}", None if part in " ".join(shown.js(HELP)) else f"{shown.js(HELP)}"
     shown.write_job(job(DECK.replace("J9; ", "")))

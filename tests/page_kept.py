@@ -117,9 +117,9 @@ def reloads_lose_nothing(opened, address):
     shown.page.close()
     shown = Shown(opened(address, before=WITHOUT_STORAGE))
     shown.write_job(own_job(44))
-    shown.page.wait(f"!{id_of('offer')}.hidden")
-    good = "Save it as a file" in shown.js(OFFER) and shown.js(ASKS)
-    yield "a browser that keeps nothing", None if good else shown.js(OFFER)
+    shown.page.wait(f"!{id_of('not-kept')}.hidden")
+    said = shown.js(f"{id_of('not-kept')}.textContent")
+    yield "a browser that keeps nothing", None if "Save it as a file" in said and shown.js(ASKS) else said
     shown.page.close()
 
 

@@ -69,8 +69,9 @@ export class Assist {
 
   /** The names that go on as a text begins: orders, and the stores that the deck declares. */
   namesFor(text, caret) {
-    const { statements } = this, part = statementNear(statements, this.editor.text, caret)?.part ?? statements.findLast(({ start }) => start <= caret)?.part ?? null;
-    const stores = [...storesOfDeck(statements, part)].flatMap(([group, last]) => Array.from({ length: Math.min(last + 1, MOST_STORES) }, (_, at) => `${group}${at}`));
+    const { statements } = this, part = statements.findLast(({ start }) => start <= caret)?.part ?? null;
+    const storesOf = ([group, last]) => Array.from({ length: Math.min(last + 1, MOST_STORES) }, (_, at) => `${group}${at}`);
+    const stores = [...storesOfDeck(statements, part)].flatMap(storesOf);
     const named = stores.flatMap((store) => [store, `=${store}`]).filter((store) => text !== "" && store.startsWith(text));
     return [...new Set([...named, ...ordersFrom(this.help, text, referencesOf(statements, part))])];
   }
@@ -78,7 +79,8 @@ export class Assist {
   /** Says in a few words what the statement at the pointer is. */
   hover(event) {
     if (this.editor.text.length > LONGEST_READ || event.buttons) return;
-    const place = this.editor.placeAt(event.clientX, event.clientY), found = place === null ? undefined : this.statements.find(({ start, end }) => start <= place && place < end);
+    const place = this.editor.placeAt(event.clientX, event.clientY);
+    const found = place === null ? undefined : this.statements.find(({ start, end }) => start <= place && place < end);
     const entry = found && entryOf(this.help, found), title = entry ? `${found.written}: ${entry.said[0]}` : "";
     if (this.editor.textarea.title !== title) this.editor.textarea.title = title;
   }
@@ -96,14 +98,23 @@ export class Assist {
 
   /** What this deck says of a statement: the address of its store, and the lines of the place that it has or to which it jumps. */
   about(statement) {
-    const address = this.addressOf(statement), uses = usesOf(this.statements, statement).filter(({ start }) => start !== statement.start);
-    const lineOf = ({ start }) => lineAndColumn(this.editor.text, start).line;
-    const places = uses.filter(({ isJump }) => !isJump), jumps = uses.filter(({ isJump }) => isJump);
-    return [
-      ...(address === undefined ? [] : [`In this deck it is the word at address ${address}.`]),
-      ...(statement.isJump && places.length ? [`It jumps to line ${lineOf(places[0])}.`] : []),
-      ...(statement.isJump && statement.place && !places.length ? [`This deck has no place ${statement.place}.`] : []),
-      ...(!statement.isJump && statement.place ? [jumps.length ? `Jumps in lines ${[...new Set(jumps.map(lineOf))].join(", ")} lead here.` : "No jump of this deck leads here."] : []),
-    ];
+    const address = this.addressOf(statement);
+    const stored = address === undefined ? [] : [`In this deck it is the word at address ${address}.`];
+    return statement.place === null ? stored : [...stored, statement.isJump ? this.saidOfJump(statement) : this.saidOfPlace(statement)];
+  }
+
+  lineOf({ start }) {
+    return lineAndColumn(this.editor.text, start).line;
+  }
+
+  saidOfJump(jump) {
+    const place = usesOf(this.statements, jump).find(({ isJump }) => !isJump);
+    return place ? `It jumps to line ${this.lineOf(place)}.` : `This deck has no place ${jump.place}.`;
+  }
+
+  saidOfPlace(place) {
+    const lines = new Set(usesOf(this.statements, place).filter(({ isJump }) => isJump).map((jump) => this.lineOf(jump)));
+    if (lines.size === 0) return "No jump of this deck leads here.";
+    return lines.size === 1 ? `The jumps in line ${[...lines][0]} lead here.` : `The jumps in lines ${[...lines].join(", ")} lead here.`;
   }
 }

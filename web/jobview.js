@@ -189,7 +189,7 @@ export class JobView {
     const remove = button("Remove", () => this.remove(`device ${device.number}`, () => owner.devices.splice(index, 1), `add ${at}`),
       { "aria-label": `Remove device ${device.number}` });
     const fields = make("div", { class: "fields" }, labelled("Device", number), labelled("Kind", kind), ...label, remove);
-    return make("fieldset", {}, make("legend", {}, `Device ${device.number}`), fields, ...this.drawMedia(device, at, index));
+    return make("fieldset", {}, make("legend", {}, `Device ${device.number}, ${device.kind}${device.label ? ` ${device.label}` : ""}`), fields, ...this.drawMedia(device, at, index));
   }
 
   /** Makes a device one of another kind. One that begins empty loses what is on it. */

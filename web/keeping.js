@@ -6,6 +6,9 @@ import { Kept, nameOf, timeOf } from "./kept.js";
 /** How many milliseconds after the last change the job is kept. */
 const PAUSE = 700;
 
+/** A longer job leaves no room for others. */
+const LONGEST_KEPT = 500000;
+
 const NOT_KEPT = "This browser doesn't keep your job. Save it as a file before you close the page.";
 
 export class Keeping {
@@ -36,7 +39,9 @@ export class Keeping {
   keep() {
     clearTimeout(this.pause);
     if (!this.hasWork) return;
-    if (!this.kept.keep(this.text())) this.offer(NOT_KEPT);
+    const text = this.text(), isKept = text.length <= LONGEST_KEPT && this.kept.keep(text);
+    byId("not-kept").textContent = isKept ? "" : NOT_KEPT;
+    byId("not-kept").hidden = isKept;
     this.draw();
   }
 
@@ -48,6 +53,7 @@ export class Keeping {
   /** Another job will be shown. The one that is shown now is kept and offered, if somebody wrote at it. */
   putAway() {
     this.withdraw();
+    byId("not-kept").hidden = true;
     if (this.hasWork) this.offerBack(this.text());
     this.keep();
     this.kept.begin();
@@ -86,7 +92,7 @@ export class Keeping {
 
   /** Says something above the job, with a button. */
   offer(said, name, act) {
-    byId("offer").replaceChildren(`${said} `, ...(act ? [button(name, act)] : []));
+    byId("offer").replaceChildren(`${said} `, button(name, act));
     byId("offer").hidden = false;
   }
 

@@ -17,7 +17,10 @@ const KEYS = [
   ]],
 ];
 
-const isWriting = ({ tagName, type }) => tagName === "TEXTAREA" || tagName === "SELECT" || (tagName === "INPUT" && type !== "checkbox" && type !== "radio" && type !== "range");
+/** The kinds of INPUT into which one writes. */
+const WRITTEN = ["text", "search"];
+
+const isWriting = ({ tagName, type }) => tagName === "TEXTAREA" || tagName === "SELECT" || (tagName === "INPUT" && WRITTEN.includes(type));
 
 function show() {
   if (!byId("keys").open) byId("keys").showModal();

@@ -19,7 +19,8 @@ function nameOf(names, text) {
     ?? names.filter((name) => text.startsWith(name) && REST.test(text.slice(name.length))).sort((one, other) => other.length - one.length)[0];
 }
 
-/** What the documents say of a statement, which stands among the declarations if it has no part: paragraphs, and rows of a table with their heads; null if it is nothing. */
+/** What the documents say of a statement, which stands among the declarations if it has no part: paragraphs, and rows of a table with their heads; null if they say
+ * nothing. */
 export function entryOf(help, { text, part }) {
   if (CONSTANT.test(text)) return help.constants;
   if (part === null || OTHER.test(text)) return /^(?:\d+|\*)$/.test(text) ? help.places : help.sequence;

@@ -21,7 +21,8 @@ function outcomeWith(layouts, job, text, { sentences, characters }) {
   const watch = readWatch(text), report = watch ? watch.report : text, read = readResult(report);
   if (read === null) return { text, read };
   const timeline = new Timeline(read);
-  return { text, report, read, layouts, characters, timeline, stops: watch && stopsOf(watch, read), verdicts: new Verdicts(read, timeline, { layouts, sentences, text: job }) };
+  const verdicts = new Verdicts(read, timeline, { layouts, sentences, text: job });
+  return { text, report, read, layouts, characters, timeline, stops: watch && stopsOf(watch, read), verdicts };
 }
 
 /** What an answer of the machine to a command for a job says. The decks are listed for the names of their words. After a run that was short, the words are asked for

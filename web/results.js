@@ -67,9 +67,10 @@ function drawWords(section, layout, store, characters) {
   const first = [...all.filter(isChanged), ...rest.filter((address) => shown.has(address))], folded = rest.filter((address) => !shown.has(address));
   const drawn = (caption, addresses) => [tableOfWords(caption, addresses.slice(0, MOST_WORDS).map(wordAt), characters),
     ...(addresses.length > MOST_WORDS ? [make("p", {}, `${(addresses.length - MOST_WORDS).toLocaleString("en")} more words aren't shown.`)] : [])];
+  const summary = make("summary", {}, `${many(folded.length, "word")} that the run left unchanged`);
   return [
     ...(first.length ? drawn("Words", first) : []),
-    ...(folded.length ? [make("details", {}, make("summary", {}, `${many(folded.length, "word")} that the run left unchanged`), ...drawn("Unchanged words", folded))] : []),
+    ...(folded.length ? [make("details", {}, summary, ...drawn("Unchanged words", folded))] : []),
   ];
 }
 

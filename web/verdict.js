@@ -11,6 +11,12 @@ import { USUAL_DELAY, readSchedule, writeSchedule } from "./schedule.js";
 /** The sign of each kind of verdict. */
 const SIGNS = { ended: "✓", failed: "✗", held: "‖", deadlock: "↻", cut: "…" };
 
+/** What each kind of verdict says in short of one program, and of several. */
+const IN_SHORT = {
+  failed: ["failed", "failed"], deadlock: ["is in a deadlock", "are in a deadlock"], held: ["is held up", "are held up"], cut: ["isn't over", "aren't over"],
+  ended: ["has ended", "have ended"],
+};
+
 /** How many calls come after the end of a transfer if there are none, and how many times as many calls a run gets that had too few. */
 const MORE_CALLS = 100, TIMES_MORE = 10;
 const [[, MOST_CALLS]] = RANGES.ORDERS;
@@ -45,10 +51,12 @@ export class Verdicts {
     return this.all.every(({ kind }) => kind === "ended");
   }
 
-  /** All verdicts in a few words. */
+  /** All verdicts in a few words, those that aren't good first. */
   get summary() {
-    const names = { ended: "has ended", failed: "failed", held: "is held up", deadlock: "is in a deadlock", cut: "isn't over" };
-    return this.all.map(({ slot, kind }) => `Program ${slot} ${names[kind]}.`).join(" ");
+    return Object.entries(IN_SHORT).map(([kind, [one, several]]) => {
+      const slots = this.all.filter((verdict) => verdict.kind === kind).map(({ slot }) => slot);
+      return slots.length === 1 ? `Program ${slots[0]} ${one}.` : slots.length ? `Programs ${slots.join(" and ")} ${several}.` : "";
+    }).filter((said) => said !== "").join(" ");
   }
 
   /** What holds a program up at the end of the run, or null. */
@@ -124,7 +132,8 @@ export class Verdicts {
     if (hold.kind === "WAIT") return { said: `${this.saidOfWait(slot, hold)}.`, offers: [] };
     const devices = (hold.kind === "BUSY" ? [hold.number] : hold.devices).filter((device) => this.timeline.flightAfter(device, this.timeline.total));
     const flights = devices.map((device) => [device, this.timeline.flightAfter(device, this.timeline.total).start]);
-    const by = hold.kind === "BUSY" ? `device ${hold.number}, which has a transfer` : `words ${32 * hold.number} to ${32 * hold.number + 31}, which a transfer has locked out`;
+    const [first, last] = [32 * hold.number, 32 * hold.number + 31];
+    const by = hold.kind === "BUSY" ? `device ${hold.number}, which has a transfer` : `words ${first} to ${last}, which a transfer has locked out`;
     const missing = flights.map(([device, start]) => ` The schedule has no END ${device} after call ${start}, when the transfer began.`);
     const offers = this.job ? flights.map(([device, start]) => ({ name: `Write END ${device}`, change: (text) => withEnd(text, device, start) })) : [];
     const place = this.placeOf(slot, statement);
@@ -153,5 +162,6 @@ export function drawVerdicts({ all, timeline, calls }, { go, change }) {
   });
   const used = timeline.total, isFew = calls > used;
   const list = make("ul", { class: "verdicts", "aria-label": "What came of each program" }, ...items);
-  return [list, ...(used && isFew ? [make("p", { class: "used" }, `The run made ${used.toLocaleString("en")} of the ${calls.toLocaleString("en")} calls of its schedule.`)] : [])];
+  const said = `The run made ${used.toLocaleString("en")} of the ${calls.toLocaleString("en")} calls of its schedule.`;
+  return [list, ...(used && isFew ? [make("p", { class: "used" }, said)] : [])];
 }
