@@ -9,14 +9,14 @@ import tempfile
 import browser
 from browser import Browser
 from page_firefox import page_in_firefox
-from page_help import SUITES as HELP
+from page_help import SUITES as HELP, caret_at
 from page_kept import SUITES as KEPT, reloads_lose_nothing
 from page_looks import SUITES as LOOKS
 from page_pool import SUITES as POOL
 from page_runs import orders_are_those_of_the_program, runs_are_looked_at, runs_are_those_of_the_program
 from page_service import SUITES as SERVED
 from page_theorem import SUITES as THEOREM, no_run_before
-from page_verdicts import SUITES as VERDICTS, first_job_has_run
+from page_verdicts import HELD, SUITES as VERDICTS, first_job_has_run
 from page_watch import SUITES as WATCHED
 from page_words import SUITES as WORDS
 from page_worker import worker_alone
@@ -372,7 +372,19 @@ def take_pictures(opened, address):
     shown.type_into(".slot textarea", deck.replace("=V1; ZERO;", "=V1 ZERO;"))
     shown.page.wait("document.querySelector('.fault') !== null")
     shown.js("document.querySelector('.fault button').click()")
-    shown.page.picture(docs / "page-fault.png", x=0, y=310, width=600, height=400)
+    shown.page.picture(docs / "page-fault.png", whole=True, **around(shown, ".slot", 420))
+    shown.write_job(HELD)
+    shown.view("parts")
+    shown.run("run")
+    shown.page.picture(docs / "page-held.png", whole=True, **around(shown, "#results", 560))
+    caret_at(shown, "PRQ1")
+    shown.page.press("F1", 112)
+    shown.page.picture(docs / "page-help.png", whole=True, **around(shown, ".slot", 620))
+    shown.page.press("F1", 112)
+    shown.page.send("Emulation.setDeviceMetricsOverride", width=390, height=760, deviceScaleFactor=1, mobile=False)
+    shown.js("document.getElementById('verdicts').scrollIntoView()")
+    shown.page.picture(docs / "page-phone.png")
+    shown.page.send("Emulation.setDeviceMetricsOverride", width=1200, height=760, deviceScaleFactor=1, mobile=False)
     for name, call, file in ((PICTURED, PICTURED_CALL, "page-calls.png"), (SHARED, SHARED_CALL, "page-pool.png")):
         show_call(shown, name, call)
         shown.page.picture(docs / file)
@@ -384,6 +396,13 @@ def take_pictures(opened, address):
     top = shown.js(f"{id_of('theorem')}.getBoundingClientRect().top + scrollY")
     shown.page.picture(docs / "page-theorem.png", whole=True, x=0, y=top, width=1200, height=1110)
     shown.page.close()
+
+
+def around(shown, selector, height):
+    """The part of the page with an element, with a margin, and at most this height."""
+    left, top, width, high = shown.js(f"""(() => {{ const {{ left, top, width, height }} = document.querySelector({json.dumps(selector)}).getBoundingClientRect();
+        return [left, top + scrollY, width, height]; }})()""")
+    return {"x": left - 8, "y": top - 8, "width": width + 16, "height": min(high + 16, height)}
 
 
 def show_call(shown, name, call):

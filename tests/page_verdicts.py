@@ -9,6 +9,9 @@ READS = "PROGRAM V0; V0 = Q3/32/33;\n  SET 2; SET 5; OUT; V0; =Q1;\n  PRQ1; E32;
 TAPE = "DEVICE 3 TR\n+ABCDEFGH\n"
 LOOP = "PROGRAM;\n1; J1; FINISH;"
 
+# A job whose program is held up, since its schedule doesn't end a transfer.
+HELD = job(READS, TAPE)
+
 VERDICTS = "[...document.querySelectorAll('#verdicts li')].map((it) => [it.className, it.querySelector('span:last-child').textContent])"
 MARKED = "[...document.querySelectorAll('#editors .stopped')].map((it) => it.textContent)"
 
@@ -17,7 +20,7 @@ CASES = [
     ("one that ends", job("PROGRAM; ZERO; OUT; FINISH;"), [("ended", ["Program 0 has ended, after 3 orders."])], []),
     ("one that fails", job("PROGRAM;\n  SET 1; ERASE; ERASE;\n  FINISH;"), [("failed", ["Program 0 failed at ERASE, line 2 of its deck. NOUV: nesting store", "the nest has 0 words"])], ["ERASE"]),
     ("an area above the store", job(READS.replace("33", "64"), TAPE), [("failed", ["at PRQ1, line 3 of its deck. LIV: lock-in", "Q1 is 3/32/64;", "words 0 to 63"])], ["PRQ1"]),
-    ("a transfer without its END", job(READS, TAPE), [("held", ["held up at E32, line 3 of its deck, since call", "words 32 to 63", "has no END 3 after call"])], ["E32"]),
+    ("a transfer without its END", HELD, [("held", ["held up at E32, line 3 of its deck, since call", "words 32 to 63", "has no END 3 after call"])], ["E32"]),
     ("a loop", job(LOOP), [("cut", ["the 40 calls of the schedule are used up, in which it obeyed 40 orders. It is at J1, line 2"])], ["J1"]),
     ("a deadlock", RING, [("deadlock", ["for a printer of the pool, and program 1 has had device 4", "deadlock: it and program 1 wait"]),
                           ("deadlock", ["for a punch of the pool, and program 0 has had device 9", "deadlock: it and program 0 wait"])], ["OUT", "OUT"]),
@@ -25,7 +28,7 @@ CASES = [
 
 # A job, the button of a verdict, and what the run that follows has to have.
 CHANGES = [
-    (job(READS, TAPE), "Write END 3", "\nENDED 0\n"),
+    (HELD, "Write END 3", "\nENDED 0\n"),
     (job(READS, TAPE, "ORDERS 10\n"), "Write END 3", "\nENDED 0\n"),
     (job(LOOP), "Give the run 400 calls", "\nRAN 0 400\n"),
 ]
@@ -74,6 +77,12 @@ def verdicts_change_the_job(shown):
         yield f"{name} of {len(text)} bytes", None if due in shown.js("kdf9.text()") else shown.js("kdf9.job()")
         shown.js(f"{id_of('offer')}.querySelector('button').click()")
         yield f"undo: {name}", None if shown.js("kdf9.job()") == text else shown.js("kdf9.job()")
+    shown.run("run")
+    shown.type_into(".slot textarea", "PROGRAM; DUMMY;\n1; J1; FINISH;\n")
+    changed = shown.js("kdf9.job()")
+    shown.js("[...document.querySelectorAll('#verdicts button')].at(-1).click()")
+    said = shown.state()
+    yield "no change of another job", None if "has been changed since" in said and shown.js("kdf9.job()") == changed else said
     text = job(LOOP, schedule="ORDERS 20000000\n")
     shown.write_job(text)
     shown.run("run")
@@ -96,4 +105,18 @@ def verdicts_are_on_all_examples(shown):
         yield f"the verdicts of {path.stem}", None if good else f"{seen} for {states}"
 
 
-SUITES = verdicts_come_first, verdicts_change_the_job, verdicts_are_on_all_examples
+def stores_are_enlarged(shown):
+    """If a deck is too large for its store, the page says how many words it becomes, and writes the least store that has room."""
+    text = job("Y99; PROGRAM; ZERO; OUT; FINISH;", "DEVICE 3 TR\n+AB\nSHOW 0 1\n")
+    shown.write_job(text)
+    shown.view("parts")
+    shown.run("run")
+    said = shown.js("document.querySelector('.fault').textContent")
+    yield "how many words", None if "TooLarge" in said and "Hint: the deck becomes 102 words." in said else said
+    shown.js("[...document.querySelectorAll('.fault button')].find((it) => it.textContent === 'Write STORE 128').click()")
+    got = shown.run("run")
+    good = got[1] == 0 and shown.js("kdf9.job()") == text.replace("STORE 64", "STORE 128")
+    yield "a larger store is written", None if good else f"{got} {shown.js('kdf9.job()')}"
+
+
+SUITES = stores_are_enlarged, verdicts_come_first, verdicts_change_the_job, verdicts_are_on_all_examples

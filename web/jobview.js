@@ -246,8 +246,8 @@ export class JobView {
     return make("section", { class: "slot", "aria-labelledby": heading.id }, heading, editor.element);
   }
 
-  /** Shows a fault where it is, with its sentence, a hint, and a button that goes to it. */
-  showFault(fault, hint) {
+  /** Shows a fault where it is, with its sentence, a hint, a button that goes to it, and one that mends it if there is such a button. */
+  showFault(fault, hint, mend) {
     this.forgetFault();
     if (this.isTooLong) return;
     const { control, place, line, column, end } = this.placeOf(fault);
@@ -255,7 +255,7 @@ export class JobView {
     const subject = fault.subject ? `: ${fault.subject.length > 60 ? `${fault.subject.slice(0, 57)}...` : fault.subject}` : "";
     const element = control instanceof Editor ? control.textarea : control;
     this.said.replaceChildren(`${where}${fault.name}${subject}. ${fault.said}${hint ? ` Hint: ${hint}.` : ""} `,
-      button("Go to it", () => (control instanceof Editor ? control.goTo(place) : control.focus())));
+      button("Go to it", () => (control instanceof Editor ? control.goTo(place) : control.focus())), ...(mend ? [" ", mend] : []));
     (control instanceof Editor ? control.element : control.closest(".fields")).after(this.said);
     if (control instanceof Editor) control.mark(place, end);
     element.setAttribute("aria-invalid", "true");

@@ -67,7 +67,7 @@ export class Keeping {
 
   /** The job that is shown is one that was kept. */
   resume() {
-    this.hasWork = true;
+    Object.assign(this, { hasWork: true, isSaved: false });
   }
 
   offerBack(text) {

@@ -2,7 +2,7 @@
 
 import { Assist } from "./assist.js";
 import { Changes } from "./changes.js";
-import { byId } from "./dom.js";
+import { button, byId } from "./dom.js";
 import { Engine, Stopped, bytesOf, canRun, unpacked } from "./engine.js";
 import { chooseFirst, chooseOwn, chosenJob, listJobs } from "./examples.js";
 import { faultOf } from "./fault.js";
@@ -16,6 +16,7 @@ import { hasJob, jobOfLink, packedJob, saveFile } from "./link.js";
 import { outcomeOf, outcomeOfRecord, saidOfAnswer, showOutcome } from "./outcome.js";
 import { Replay } from "./replay.js";
 import { NoSchedule, readDelays, scheduled } from "./schedule.js";
+import { roomFor, withSize } from "./size.js";
 import { Theorem } from "./theorem.js";
 import { NoPlace, watchable, wordOf } from "./watch.js";
 
@@ -25,6 +26,8 @@ const SNAPSHOT_HAS_FAULT = 8, FAULTS = [2, 3, SNAPSHOT_HAS_FAULT];
 const WITH_VALUE = ["watch", "alone", "asm", "make"], READ_MORE = ["resume", "check"], RUN = ["run", "watch"];
 
 const NO_LINK = "The link is damaged, or has no job in it. The job below is another one.";
+
+const IS_CHANGED = "The job has been changed since this run. Run it again.";
 
 /** How many milliseconds after the last key the page looks for a fault of the job. */
 const PAUSE = 700;
@@ -97,8 +100,19 @@ async function showFault({ status, text: answer }, job) {
   }
   const fault = faultOf(answer, job, texts.sentences);
   const hint = status === SNAPSHOT_HAS_FAULT ? null : await hintOf(ask, fault, job);
-  if (job === view.text) view.showFault(fault, hint);
+  const room = fault.name === "TooLarge" ? await roomFor(ask, job, fault.slot) : null;
+  if (job === view.text) view.showFault(fault, room ? `the deck becomes ${room.words} words` : hint, room && enlargement(fault.slot, room.size));
   return fault;
+}
+
+/** The button that gives the program of a slot a larger store. */
+function enlargement(slot, size) {
+  return button(`Write STORE ${size}`, () => {
+    const before = view.text;
+    view.show(withSize(before, slot, size));
+    changed();
+    keeping.offerUndo(`Changed: STORE ${size}.`, before);
+  });
 }
 
 /** The words of the chosen command. A place that is watched may be written as a jump of the deck names it. */
@@ -178,16 +192,17 @@ function sayAnswer(answer, fault, verdicts) {
 
 /** Goes to the statement at which a program stopped, if the job is still the one that was run. */
 function goToStop({ slot, statement }) {
-  if (!view.goToStatement(slot, statement)) say("The job has been changed since this run.", true);
+  if (!view.goToStatement(slot, statement)) say(IS_CHANGED, true);
 }
 
-/** Changes the job as a verdict proposes, and runs it again. */
+/** Changes the job as a verdict proposes, if it is still the one that was run, and runs it again. */
 async function changeAndRun({ name, change }) {
   const before = view.text;
+  if (before !== lastRun?.text) return say(IS_CHANGED, true);
   view.show(change(before));
   changed();
   keeping.offerUndo(`Changed: ${name}.`, before);
-  if (!byId("run").disabled) await work("Running.", runAgain);
+  return work("Running.", runAgain);
 }
 
 /** The fault of a job with its hint, as it is shown, or null if there is none. */
@@ -268,6 +283,7 @@ function bringBack(text) {
   chooseOwn();
   show(text, ["run"]);
   byId("job").focus();
+  lookForFault();
   say("Your job is here again.");
 }
 
