@@ -33,9 +33,10 @@ const IS_CHANGED = "The job has been changed since this run. Run it again.";
 const PAUSE = 700;
 
 const texts = JSON.parse(byId("texts").textContent);
+const help = { orders: {} }; // what the documents say of statements, once it is unpacked
 const view = new JobView(byId("editors"), {
   onchange: changed, onremove: (what, before) => keeping.offerUndo(`Removed: ${what}.`, before),
-  assist: (editor, slot) => new Assist(editor, texts.help, (statement) => lastRun?.layouts.get(Number(slot.number))?.addressOf(statement)).element,
+  assist: (editor, slot) => new Assist(editor, help, (statement) => lastRun?.layouts.get(Number(slot.number))?.addressOf(statement)).element,
 });
 const keeping = new Keeping({ text: () => view.text, bring: bringBack, put });
 let engine = null;
@@ -391,6 +392,7 @@ function attend() {
 }
 
 async function load() {
+  if (typeof DecompressionStream === "function") Object.assign(help, JSON.parse(new TextDecoder().decode(await unpacked(bytesOf(byId("help").textContent)))));
   if (!canRun()) throw new Error("it lacks a 64 bit memory in WebAssembly");
   const module = await WebAssembly.compile(await unpacked(bytesOf(byId("module").textContent)));
   engine = new Engine(module, byId("worker").textContent);

@@ -143,11 +143,18 @@ def jobs_of_examples():
 def texts(start):
     """What the script shows, as JSON that is safe within a page. `start` is the job that runs when the page opens, or None."""
     jobs = dict([*jobs_of_first_hour(), *jobs_of_examples()])
-    return json.dumps({"jobs": jobs, "sentences": sentences(), "characters": characters(), "help": help_of_statements(), "start": start}, ensure_ascii=False, separators=(",", ":")).replace("</", "<\\/")
+    return json.dumps({"jobs": jobs, "sentences": sentences(), "characters": characters(), "start": start}, ensure_ascii=False, separators=(",", ":")).replace("</", "<\\/")
+
+
+def packed(data):
+    """Bytes as the page has them: compressed, in base64."""
+    return base64.b64encode(gzip.compress(data, 9, mtime=0)).decode("ascii")
 
 
 def page(module, start=None):
     """The page, made from the bytes of the module. If there is a job, it runs when the page opens."""
-    packed = base64.b64encode(gzip.compress(module, 9, mtime=0)).decode("ascii")
-    parts = {"STYLE": read("web/page.css"), "WORKER": read("web/worker.js"), "TEXTS": texts(start), "MODULE": packed, "SCRIPT": script()}
+    parts = {
+        "STYLE": read("web/page.css"), "WORKER": read("web/worker.js"), "TEXTS": texts(start), "MODULE": packed(module),
+        "HELP": packed(json.dumps(help_of_statements(), separators=(",", ":")).encode("ascii")), "SCRIPT": script(),
+    }
     return re.sub(r"/\* ([A-Z]+) \*/", lambda mark: parts[mark[1]], read("web/page.html"))
