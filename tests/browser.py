@@ -127,6 +127,20 @@ class Page:
                 raise Failed(f"this didn't come: {expression}")
             time.sleep(0.02)
 
+    def reload(self):
+        """Loads the page again, and waits until it is there."""
+        self.js("globalThis.isOld = true")
+        self.send("Page.reload")
+        end = time.monotonic() + PATIENCE
+        while time.monotonic() < end:
+            try:
+                if self.js("globalThis.isOld === undefined && document.readyState === 'complete'"):
+                    return
+            except Failed:
+                pass  # The old page is going.
+            time.sleep(0.02)
+        raise Failed("the page wasn't loaded again")
+
     def press(self, key, code, modifiers=0, text=""):
         """Presses a key, by its name and its number. `modifiers` is 2 for Ctrl."""
         for kind in ("keyDown", "keyUp"):

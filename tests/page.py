@@ -8,11 +8,17 @@ import tempfile
 
 import browser
 from browser import Browser
+from page_firefox import page_in_firefox
+from page_help import SUITES as HELP, caret_at
+from page_kept import SUITES as KEPT, reloads_lose_nothing
+from page_looks import SUITES as LOOKS
 from page_pool import SUITES as POOL
 from page_runs import orders_are_those_of_the_program, runs_are_looked_at, runs_are_those_of_the_program
 from page_service import SUITES as SERVED
 from page_theorem import SUITES as THEOREM, no_run_before
+from page_verdicts import HELD, SUITES as VERDICTS, first_job_has_run
 from page_watch import SUITES as WATCHED
+from page_words import SUITES as WORDS
 from page_worker import worker_alone
 from shown import CTRL, Shown, id_of
 from toolkit import HEAD, ROOT, TAIL, is_more, job_of_deck, kdf9
@@ -242,12 +248,16 @@ def links_hold_jobs(shown, opened, address):
     link = shown.js(f"{id_of('address')}.value")
     due = (ROOT / "examples/walks-over-a-table.job").read_text(encoding="ascii")
     other = opened_link(opened, link)
-    yield "a link", None if other.js("kdf9.job()") == due and "job of the link" in other.state() else other.state()
+    yield "a link", None if other.js("kdf9.job()") == due and "job of the link. Done, in" in other.state() else other.state()
+    other.page.close()
+    yield "the address after a link was made", None if shown.js("location.href") == link else shown.js("location.href")
+    other = Shown(opened(address))
+    first = other.js("kdf9.job()")
     other.page.close()
     for damaged in (link[:-9], link[:60] + "AAAA" + link[64:], f"{address}#job=", f"{address}#job=%%"):
         other = opened_link(opened, damaged)
-        is_empty = "PROGRAM;\n  ZERO; OUT;\nFINISH;" in other.js("kdf9.job()")
-        yield f"a damaged link {damaged[-12:]}", None if "damaged" in other.state() and is_empty else other.state()
+        is_first = other.js("kdf9.job()") == first
+        yield f"a damaged link {damaged[-12:]}", None if "damaged" in other.state() and is_first else other.state()
         other.page.close()
 
 
@@ -323,7 +333,7 @@ def nothing_is_fetched(running, address):
 
 SUITES = (
     runs_are_looked_at, faults_are_shown, faults_stand_at_their_parts, parts_and_text_are_in_step, snapshots_are_resumed_and_reports_checked,
-    schedules_write_themselves, runs_are_stopped, faults_stand_at_their_places, *POOL, *SERVED, *WATCHED, *THEOREM, controls_have_names,
+    schedules_write_themselves, runs_are_stopped, faults_stand_at_their_places, *VERDICTS, *KEPT, *WORDS, *HELP, *LOOKS, *POOL, *SERVED, *WATCHED, *THEOREM, controls_have_names,
     orders_are_those_of_the_program, runs_are_those_of_the_program,
 )
 
@@ -340,12 +350,15 @@ def cases(file):
         shown = Shown(opened(address))
         for suite in SUITES:
             yield from suite(shown)
+        yield from first_job_has_run(opened, address)
         yield from no_run_before(opened, address)
+        yield from reloads_lose_nothing(opened, address)
         yield from links_hold_jobs(shown, opened, address)
         yield from browsers_without_the_machine(opened, address)
         yield from memory_comes_to_its_end(opened, address)
         yield from nothing_is_fetched(running, address)
         yield from pages_are_made_with_jobs(opened, file)
+    yield from page_in_firefox(address)
 
 
 def take_pictures(opened, address):
@@ -359,7 +372,19 @@ def take_pictures(opened, address):
     shown.type_into(".slot textarea", deck.replace("=V1; ZERO;", "=V1 ZERO;"))
     shown.page.wait("document.querySelector('.fault') !== null")
     shown.js("document.querySelector('.fault button').click()")
-    shown.page.picture(docs / "page-fault.png", x=0, y=310, width=600, height=400)
+    shown.page.picture(docs / "page-fault.png", whole=True, **around(shown, ".slot", 420))
+    shown.write_job(HELD)
+    shown.view("parts")
+    shown.run("run")
+    shown.page.picture(docs / "page-held.png", whole=True, **around(shown, "#results", 560))
+    caret_at(shown, "PRQ1")
+    shown.page.press("F1", 112)
+    shown.page.picture(docs / "page-help.png", whole=True, **around(shown, ".slot", 620))
+    shown.page.press("F1", 112)
+    shown.page.send("Emulation.setDeviceMetricsOverride", width=390, height=760, deviceScaleFactor=1, mobile=False)
+    shown.js("document.getElementById('verdicts').scrollIntoView()")
+    shown.page.picture(docs / "page-phone.png")
+    shown.page.send("Emulation.setDeviceMetricsOverride", width=1200, height=760, deviceScaleFactor=1, mobile=False)
     for name, call, file in ((PICTURED, PICTURED_CALL, "page-calls.png"), (SHARED, SHARED_CALL, "page-pool.png")):
         show_call(shown, name, call)
         shown.page.picture(docs / file)
@@ -371,6 +396,13 @@ def take_pictures(opened, address):
     top = shown.js(f"{id_of('theorem')}.getBoundingClientRect().top + scrollY")
     shown.page.picture(docs / "page-theorem.png", whole=True, x=0, y=top, width=1200, height=1110)
     shown.page.close()
+
+
+def around(shown, selector, height):
+    """The part of the page with an element, with a margin, and at most this height."""
+    left, top, width, high = shown.js(f"""(() => {{ const {{ left, top, width, height }} = document.querySelector({json.dumps(selector)}).getBoundingClientRect();
+        return [left, top + scrollY, width, height]; }})()""")
+    return {"x": left - 8, "y": top - 8, "width": width + 16, "height": min(high + 16, height)}
 
 
 def show_call(shown, name, call):

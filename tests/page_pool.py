@@ -196,7 +196,7 @@ def stints_are_in_the_results(shown):
         yield f"stints of {name}, {' '.join(words)}", None if seen == due else f"{seen}"
     shown.write_job(all_jobs[SHARED])
     report = read_report(shown.run("run")[0], "the page's report")
-    rows = shown.js("[...document.querySelectorAll('#sections details td')].map((it) => it.textContent)")
+    rows = shown.js("[...document.querySelectorAll('#sections > details td')].map((it) => it.textContent)")
     for said in (
         "program 0 took device 9 from the pool", "program 1 is held up by the pool, of which every punch has a holder",
         "program 0 gave device 9 back to the pool",

@@ -13,7 +13,7 @@ BOXES = "[...document.querySelectorAll('.slot input[type=checkbox]')].map((it) =
 LABEL = "OUT 64 asks the installation's service"
 
 # What is said of each entry of the journal, and of those around a call.
-ROWS = "[...document.querySelectorAll('#sections details td')].map((it) => it.textContent)"
+ROWS = "[...document.querySelectorAll('#sections > details td')].map((it) => it.textContent)"
 ENTRIES = "[...document.querySelectorAll('#replay .journal li')].map((it) => it.textContent)"
 
 

@@ -270,12 +270,15 @@ def panel_is_for_everybody(shown):
 
 
 def no_run_before(opened, address):
-    """A fresh page compares nothing; after the first run it compares with the lone runs, and after the second with the run before."""
+    """After the first run, that of the job with which it opens, the page compares with the lone runs; after the second with the run before too; and without a run nothing."""
     shown = Shown(opened(address))
-    for due in ([True, True, True, False, False], [False, False, True, False, False], [False] * 5):
+    for due in ([False, False, True, False, False], [False] * 5):
         seen = shown.js(DISABLED)
         yield f"buttons of the panel: {json.dumps(due)}", None if seen == due else f"are {seen}"
         shown.run("run")
+    shown.example("adds-5-and-7")
+    seen = shown.js(DISABLED)
+    yield "buttons of the panel without a run", None if seen == [True, True, True, False, False] else f"are {seen}"
     shown.page.close()
 
 

@@ -15,7 +15,7 @@ class Shown:
 
     def __init__(self, opened):
         self.page = opened
-        self.page.wait(f"globalThis.kdf9 && {id_of('state')}.textContent.length > 0 && !{id_of('state')}.textContent.includes('loaded')")
+        self.page.wait(f"globalThis.kdf9 && !/loaded|^Running|^$/.test({id_of('state')}.textContent)")
 
     def js(self, expression):
         return self.page.js(expression)
@@ -30,7 +30,7 @@ class Shown:
 
     def choose(self, name, value):
         """Chooses an option of a list."""
-        self.js(f"{id_of(name)}.value = {json.dumps(value)}; {id_of(name)}.dispatchEvent(new Event('change'))")
+        self.js(f"(() => {{ const it = {id_of(name)}; it.value = {json.dumps(value)}; it.dispatchEvent(new Event('change')); }})()")
 
     def click(self, name):
         self.js(f"{id_of(name)}.click()")

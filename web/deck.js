@@ -2,10 +2,12 @@
 // image, which the machine lists; nothing else about orders is known here.
 
 export const SYLLABLES = 6; // in a word
+const NOUGHT = "0".repeat(16); // a word that is zero
 const COMMENT = /\([^)]*\)?/g;
 const STATEMENT = /\*(?:[* \n]*\*)?|[^*; \n][^;]*/g;
 const DECLARATION = /^Y([A-Z]?)(\d+)$/;
-const OPENING = /^(?:PROGRAM|P(\d+))(?:V(\d+))?$/;
+/** The opening of a part, with its number, which is absent for the main part, and the number of its last V-store. */
+export const OPENING = /^(?:PROGRAM|P(\d+))(?:V(\d+))?$/;
 const CONSTANT = /^V(\d+)=/;
 
 /** The deck with spaces instead of its comments, so that offsets stay the same. */
@@ -53,6 +55,7 @@ export function readListing(text) {
 export class Layout {
   constructor(deck, listing) {
     this.start = listing.start;
+    this.words = listing.words;
     this.syllables = listing.words.flatMap(syllablesOf);
     this.references = listing.references.values();
     this.unplaced = [];
@@ -74,6 +77,25 @@ export class Layout {
   nameOf(address) {
     const found = this.names.find((names) => names.address <= address && address < names.address + names.count);
     return found ? `${found.before}${address - found.address}${found.behind}` : `E${address}`;
+  }
+
+  /** The address of the store that a statement of a part names; undefined if it names none of this deck. */
+  addressOf({ text, part }) {
+    const named = /^=?(V|Y[A-Z]?)(\d+)(?:P(\d+))?(?:M\d+Q?)?$/.exec(text);
+    if (!named) return undefined;
+    const [, group, number, other] = named, own = Number(other ?? part ?? 0), behind = group === "V" && own ? `P${own}` : "";
+    const found = this.names.find((names) => names.before === group && names.behind === behind && Number(number) < names.count);
+    return found && found.address + Number(number);
+  }
+
+  /** The addresses of the words that the deck gives names. */
+  get addresses() {
+    return this.names.flatMap(({ address, count }) => Array.from({ length: count }, (_, at) => address + at));
+  }
+
+  /** The word at an address as it is when the program begins, in octal digits. */
+  octalAt(address) {
+    return this.words[address] ?? NOUGHT;
   }
 
   /** The statement of the order at a syllable of a word, or undefined where no statement wrote it. */

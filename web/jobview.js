@@ -32,10 +32,12 @@ function paintedJob(text) {
 }
 
 export class JobView {
-  /** The view of a job in an element of the page. `onchange` is called after each change that the user makes. */
-  constructor(element, onchange) {
-    this.onchange = onchange;
+  /** The view of a job in an element of the page. `onchange` is called after each change that the user makes, and then `onremove` if something was removed, with
+   * what it was and the text of the job before. `assist` gives the element with the help for the editor of a deck, whose slot has this number. */
+  constructor(element, { onchange, onremove, assist }) {
+    Object.assign(this, { onchange, onremove, assist });
     this.isWhole = false;
+    this.stops = [];
     this.controls = new Map();
     this.said = make("p", { class: "fault", id: freshId("fault") });
     this.notice = make("p", { class: "notice", hidden: true });
@@ -48,6 +50,7 @@ export class JobView {
   /** Shows another job. */
   show(text) {
     this.text = text;
+    this.stops = [];
     this.draw();
   }
 
@@ -68,6 +71,7 @@ export class JobView {
   changed(text) {
     this.text = text;
     this.forgetFault();
+    this.forgetStops();
     this.onchange();
   }
 
@@ -85,6 +89,15 @@ export class JobView {
     this.whole.element.hidden = this.isByParts || this.isTooLong;
     this.parts.replaceChildren(...(this.isByParts ? this.drawParts() : []));
     this.whole.text = this.whole.element.hidden ? "" : this.text;
+    this.markStops();
+  }
+
+  forgetStops() {
+    if (!this.stops.length) return;
+    this.stops = [];
+    for (const control of [...this.controls.values(), this.whole]) {
+      if (control instanceof Editor) control.markStops([]);
+    }
   }
 
   drawParts() {
@@ -107,6 +120,14 @@ export class JobView {
     (control instanceof Editor ? control.textarea : control)?.focus();
   }
 
+  /** Removes a part, which is called `what`, by `take`. The control of this name gets the focus. */
+  remove(what, take, name) {
+    const before = this.text;
+    take();
+    this.redraw(name);
+    this.onremove(what, before);
+  }
+
   drawSlot(slot, at) {
     const heading = make("h3", { id: freshId("slot"), tabindex: "-1" }, `Program in slot ${slot.number}`);
     const deck = new Editor({ label: "Deck", text: slot.deck, paint: painted, onchange: (text) => { slot.deck = text; this.partChanged(); } });
@@ -116,8 +137,9 @@ export class JobView {
       labelled("Show the words from, to", this.input(`shows ${at}`, editedShows(slot.shows), (value) => { slot.shows = readShows(value); },
         { size: "16", placeholder: "0 7, 32 40" })),
       this.box(`service ${at}`, SERVED, slot.isServed, (isServed) => { slot.isServed = isServed; }),
-      button("Remove", () => { this.job.slots.splice(at, 1); this.redraw("add"); }, { "aria-label": `Remove the program in slot ${slot.number}` }));
-    return make("section", { class: "slot", "aria-labelledby": heading.id }, heading, deck.element, fields, this.drawDevices(slot, at, `slot ${slot.number}`));
+      button("Remove", () => this.remove(`the program in slot ${slot.number}`, () => this.job.slots.splice(at, 1), "add"),
+        { "aria-label": `Remove the program in slot ${slot.number}` }));
+    return make("section", { class: "slot", "aria-labelledby": heading.id }, heading, deck.element, this.assist(deck, slot), fields, this.drawDevices(slot, at, `slot ${slot.number}`));
   }
 
   /** A box that is ticked or not, before its label. */
@@ -158,19 +180,30 @@ export class JobView {
 
   drawDevice(owner, at, device, index) {
     const kinds = new Set([...(at === POOL ? KINDS_OF_POOL : Object.keys(KINDS)), device.kind]);
-    const kind = choice([...kinds].map((each) => [each, each in KINDS ? `${each}, ${KINDS[each]}` : each]), device.kind, () => {
-      device.kind = kind.value;
-      device.label = kind.value === "MT" ? device.label || "TAPE" : "";
-      device.media = KINDS_OF_POOL.includes(kind.value) ? [] : readMedia(device.kind, device.media.map((line) => line.slice(1)).join("\n"));
-      this.redraw(`kind ${at} ${index}`);
-    });
+    const kind = choice([...kinds].map((each) => [each, each in KINDS ? `${each}, ${KINDS[each]}` : each]), device.kind,
+      () => this.changeKind(device, kind.value, `kind ${at} ${index}`));
     this.controls.set(`kind ${at} ${index}`, kind);
     const number = this.input(`device ${at} ${index}`, device.number, (value) => { device.number = value; }, { size: "3", inputmode: "numeric" });
     const named = this.input(`label ${at} ${index}`, device.label, (value) => { device.label = value; }, { size: "9" });
     const label = device.kind === "MT" || device.label ? [labelled("Label", named)] : [];
-    const remove = button("Remove", () => { owner.devices.splice(index, 1); this.redraw(`add ${at}`); }, { "aria-label": `Remove device ${device.number}` });
+    const remove = button("Remove", () => this.remove(`device ${device.number}`, () => owner.devices.splice(index, 1), `add ${at}`),
+      { "aria-label": `Remove device ${device.number}` });
     const fields = make("div", { class: "fields" }, labelled("Device", number), labelled("Kind", kind), ...label, remove);
-    return make("fieldset", {}, make("legend", {}, `Device ${device.number}`), fields, ...this.drawMedia(device, at, index));
+    return make("fieldset", {}, make("legend", {}, `Device ${device.number}, ${device.kind}${device.label ? ` ${device.label}` : ""}`), fields, ...this.drawMedia(device, at, index));
+  }
+
+  /** Makes a device one of another kind. One that begins empty loses what is on it. */
+  changeKind(device, kind, name) {
+    const isEmptied = KINDS_OF_POOL.includes(kind);
+    const isLoss = (isEmptied && device.media.length > 0) || (kind !== "MT" && (device.label !== "" || device.media.some((line) => line.startsWith("="))));
+    const change = () => {
+      device.kind = kind;
+      device.label = kind === "MT" ? device.label || "TAPE" : "";
+      device.media = isEmptied ? [] : readMedia(kind, device.media.map((line) => line.slice(1)).join("\n"));
+    };
+    if (isLoss) return this.remove(`what was on device ${device.number}`, change, name);
+    change();
+    return this.redraw(name);
   }
 
   /** What is on a device, unless it begins empty. */
@@ -194,7 +227,7 @@ export class JobView {
   drawPool() {
     const { pool } = this.job, free = this.freeNumber();
     const add = button("Add a pool", () => this.addPool(free), { disabled: free === undefined });
-    const remove = button("Remove", () => { this.job.pool = null; this.redraw("add pool"); }, { "aria-label": "Remove the pool" });
+    const remove = button("Remove", () => this.remove("the pool", () => { this.job.pool = null; }, "add pool"), { "aria-label": "Remove the pool" });
     if (!pool) {
       this.controls.set("add pool", add);
       return add;
@@ -213,8 +246,8 @@ export class JobView {
     return make("section", { class: "slot", "aria-labelledby": heading.id }, heading, editor.element);
   }
 
-  /** Shows a fault where it is, with its sentence, a hint, and a button that goes to it. */
-  showFault(fault, hint) {
+  /** Shows a fault where it is, with its sentence, a hint, a button that goes to it, and one that mends it if there is such a button. */
+  showFault(fault, hint, mend) {
     this.forgetFault();
     if (this.isTooLong) return;
     const { control, place, line, column, end } = this.placeOf(fault);
@@ -222,12 +255,48 @@ export class JobView {
     const subject = fault.subject ? `: ${fault.subject.length > 60 ? `${fault.subject.slice(0, 57)}...` : fault.subject}` : "";
     const element = control instanceof Editor ? control.textarea : control;
     this.said.replaceChildren(`${where}${fault.name}${subject}. ${fault.said}${hint ? ` Hint: ${hint}.` : ""} `,
-      button("Go to it", () => (control instanceof Editor ? control.goTo(place) : control.focus())));
+      button("Go to it", () => (control instanceof Editor ? control.goTo(place) : control.focus())), ...(mend ? [" ", mend] : []));
     (control instanceof Editor ? control.element : control.closest(".fields")).after(this.said);
     if (control instanceof Editor) control.mark(place, end);
     element.setAttribute("aria-invalid", "true");
     element.setAttribute("aria-describedby", this.said.id);
     this.faulty = { control, element };
+  }
+
+  /** Marks the statements at which programs stopped, until the job is changed. */
+  showStops(stops) {
+    this.stops = stops.filter(({ kind, statement }) => statement && kind !== "ended");
+    this.markStops();
+  }
+
+  markStops() {
+    const marked = new Map();
+    for (const { kind, slot, statement } of this.stops) {
+      const found = this.placeOfStatement(slot, statement);
+      if (found) marked.set(found.editor, [...marked.get(found.editor) ?? [], { kind, start: found.start, end: found.end }]);
+    }
+    for (const [editor, marks] of marked) editor.markStops(marks);
+  }
+
+  /** The editor that has a statement of the deck of a slot, and where it is in it; null if none has. */
+  placeOfStatement(slot, { start, end }) {
+    if (this.isTooLong) return null;
+    if (this.isByParts) {
+      const editor = this.controls.get(`deck ${this.job.slots.findIndex(({ number }) => number === `${slot}`)}`);
+      return editor ? { editor, start, end } : null;
+    }
+    const job = readJob(this.text), at = job?.slots.findIndex(({ number }) => number === `${slot}`);
+    if (!job || at < 0) return null;
+    const placed = placedLines(job), first = placed.findIndex((line) => line.part === "deck" && line.slot === at) + 1;
+    const before = placed.slice(0, first).reduce((sum, { text }) => sum + text.length + 1, 0);
+    return { editor: this.whole, start: before + start, end: before + end };
+  }
+
+  /** Puts the caret at a statement at which a program stopped. Returns whether it is still marked. */
+  goToStatement(slot, statement) {
+    const found = this.stops.some((stop) => stop.slot === slot && stop.statement === statement) && this.placeOfStatement(slot, statement);
+    if (found) found.editor.goTo(found.start);
+    return Boolean(found);
   }
 
   /** The control that has a fault, and where the fault is in it. */

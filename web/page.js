@@ -1,43 +1,53 @@
 // The page: what its buttons and keys do.
 
-import { byId, make } from "./dom.js";
-import { Engine, STATUSES, Stopped, bytesOf, canRun, unpacked } from "./engine.js";
+import { Assist } from "./assist.js";
+import { Changes } from "./changes.js";
+import { button, byId } from "./dom.js";
+import { Engine, Stopped, bytesOf, canRun, unpacked } from "./engine.js";
+import { chooseFirst, chooseOwn, chosenJob, listJobs } from "./examples.js";
 import { faultOf } from "./fault.js";
 import { hintOf } from "./hints.js";
-import { EMPTY_JOB, frontOf, readJob } from "./job.js";
+import { frontOf } from "./job.js";
 import { JobView } from "./jobview.js";
+import { Keeping } from "./keeping.js";
+import { timeOf } from "./kept.js";
+import { attendToKeys } from "./keys.js";
 import { hasJob, jobOfLink, packedJob, saveFile } from "./link.js";
-import { layoutsOf, readResult, resultsOf, shownText } from "./results.js";
+import { outcomeOf, outcomeOfRecord, saidOfAnswer, showOutcome } from "./outcome.js";
 import { Replay } from "./replay.js";
-import { NoSchedule, scheduled } from "./schedule.js";
-import { MOST_SEED, shuffled, withOtherNeighbours } from "./shuffle.js";
+import { NoSchedule, readDelays, scheduled } from "./schedule.js";
+import { roomFor, withSize } from "./size.js";
 import { Theorem } from "./theorem.js";
-import { NoPlace, drawStops, readWatch, stopsOf, watchable, wordOf } from "./watch.js";
+import { NoPlace, watchable, wordOf } from "./watch.js";
 
-const DONE = 0, SNAPSHOT_HAS_FAULT = 8, FAULTS = [2, 3, SNAPSHOT_HAS_FAULT];
+const SNAPSHOT_HAS_FAULT = 8, FAULTS = [2, 3, SNAPSHOT_HAS_FAULT];
 
 /** The commands that have a slot or a number, those that read a job with a snapshot or a report after it, and those whose run can be shown call by call. */
 const WITH_VALUE = ["watch", "alone", "asm", "make"], READ_MORE = ["resume", "check"], RUN = ["run", "watch"];
 
-const MEBIBYTE = 2 ** 20;
-const OWN = "own";
+const NO_LINK = "The link is damaged, or has no job in it. The job below is another one.";
+
+const IS_CHANGED = "The job has been changed since this run. Run it again.";
 
 /** How many milliseconds after the last key the page looks for a fault of the job. */
 const PAUSE = 700;
 
 const texts = JSON.parse(byId("texts").textContent);
-const view = new JobView(byId("editors"), changed);
+const help = { orders: {} }; // what the documents say of statements, once it is unpacked
+const view = new JobView(byId("editors"), {
+  onchange: changed, onremove: (what, before) => keeping.offerUndo(`Removed: ${what}.`, before),
+  assist: (editor, slot) => new Assist(editor, help, (statement) => lastRun?.layouts.get(Number(slot.number))?.addressOf(statement)).element,
+});
+const keeping = new Keeping({ text: () => view.text, bring: bringBack, put });
 let engine = null;
 let lastText = "";
 let lastRun = null; // what can be shown call by call: the job, its report, the layouts of its decks, and the stops of a watch if there was one
 let pause = 0;
 
-// The job with the schedule that was shuffled last, and the job that it was made from. So a seed gives the same schedule however often it was shuffled before.
-const mixed = { text: null, from: null };
-
 const ask = (words, job) => engine.ask(words, job);
 const replay = new Replay(byId("replay"), { ask, say, failed: (error) => sayFailed(error) });
 const theorem = new Theorem(byId("compared"), { ask, say });
+const changes = new Changes({ ask, say, work, view, theorem, keeping, changed, run: runAgain, lastRun: () => lastRun });
 
 /** Says what has happened, in the line of the page that is read aloud. */
 function say(text, isWrong = false) {
@@ -48,7 +58,8 @@ function say(text, isWrong = false) {
 
 /** The user has changed the job. */
 function changed() {
-  byId("example").value = OWN;
+  keeping.changed();
+  chooseOwn();
   byId("link-said").hidden = true;
   byId("stale").hidden = lastText === "";
   clearTimeout(pause);
@@ -90,8 +101,19 @@ async function showFault({ status, text: answer }, job) {
   }
   const fault = faultOf(answer, job);
   const hint = status === SNAPSHOT_HAS_FAULT ? null : await hintOf(ask, fault, job);
-  if (job === view.text) view.showFault(fault, hint);
+  const room = fault.name === "TooLarge" ? await roomFor(ask, job, fault.slot) : null;
+  if (job === view.text) view.showFault(fault, room ? `the deck becomes ${room.words} words` : hint, room && enlargement(fault.slot, room.size));
   return fault;
+}
+
+/** The button that gives the program of a slot a larger store. */
+function enlargement(slot, size) {
+  return button(`Write STORE ${size}`, () => {
+    const before = view.text;
+    view.show(withSize(before, slot, size));
+    changed();
+    keeping.offerUndo(`Changed: STORE ${size}.`, before);
+  });
 }
 
 /** The words of the chosen command. A place that is watched may be written as a jump of the deck names it. */
@@ -103,7 +125,7 @@ async function words() {
 
 /** Offers the places that can be watched in the deck of the chosen slot. */
 async function offerPlaces() {
-  if (!engine || engine.isBusy) return;
+  if (!engine) return;
   try {
     const places = await watchable(ask, view.text, byId("value").value);
     byId("places").replaceChildren(...places.map(([name, word]) => new Option(`word ${word}`, name)));
@@ -140,31 +162,48 @@ async function run() {
   if (!byId("run").disabled) await work("Running.", async () => runNow(await words()));
 }
 
-/** Shows what the machine answers to the words of a command for the job. */
-async function runNow(asked) {
-  const { text } = view;
-  showText("", []);
-  const answer = await ask(asked, text);
-  const fault = await showFault(answer, text);
-  const isDone = answer.status === DONE, layouts = isDone && asked[0] !== "make" ? await layoutsOf(ask, jobOf(asked[0], text)) : new Map();
-  const written = isDone ? answer.text : "", watch = readWatch(written), report = watch ? watch.report : written;
-  const read = readResult(report), stops = watch && stopsOf(watch, read);
-  showText(answer.text, [...(stops ? [drawStops(stops, layouts.get(stops.slot), look)] : []), ...resultsOf(read, layouts)]);
-  lastRun = RUN.includes(asked[0]) && read ? { text, report, layouts, stops } : null;
-  if (lastRun) theorem.take(lastRun);
-  byId("look").disabled = byId("see").disabled = lastRun === null;
-  byId("stale").hidden = text === view.text;
-  sayAnswer(answer, fault);
+/** Runs the job by `run`, whatever the chosen command was. */
+function runAgain() {
+  byId("command").value = "run";
+  chooseCommand();
+  return runNow(["run"]);
 }
 
-function sayAnswer({ status, milliseconds, memory }, fault) {
-  if (status === DONE) {
-    say(`Done, in ${Math.max(1, Math.round(milliseconds)).toLocaleString("en")} ms and ${(memory / MEBIBYTE).toFixed(1)} MiB.`);
-  } else {
-    const where = fault ? ` ${fault.name}, line ${fault.line} of the ${status === SNAPSHOT_HAS_FAULT ? "text" : "job"}. ${fault.said}` : "";
-    say(`Status ${status}: ${STATUSES[status]}.${where}`, true);
-  }
-  byId("state").dataset.status = status;
+/** Shows what the machine answers to the words of a command for the job. */
+async function runNow(asked) {
+  const { text } = view, isRun = RUN.includes(asked[0]);
+  showText(null);
+  const answer = await ask(asked, text);
+  const fault = await showFault(answer, text);
+  const outcome = await outcomeOf(ask, jobOf(asked[0], text), answer, { isRun, ...texts });
+  showText(outcome, { look: isRun ? look : null, go: goToStop, change: isRun ? changeAndRun : null });
+  lastRun = isRun && outcome.read ? { ...outcome, text } : null;
+  if (lastRun) theorem.take(lastRun);
+  if (text === view.text) view.showStops(outcome.verdicts?.all ?? []);
+  byId("look").disabled = byId("see").disabled = lastRun === null;
+  byId("stale").hidden = text === view.text;
+  sayAnswer(answer, fault, outcome.verdicts);
+}
+
+function sayAnswer(answer, fault, verdicts) {
+  const { said, isWrong } = saidOfAnswer(answer, fault, verdicts);
+  say(said, isWrong);
+  byId("state").dataset.status = answer.status;
+}
+
+/** Goes to the statement at which a program stopped, if the job is still the one that was run. */
+function goToStop({ slot, statement }) {
+  if (!view.goToStatement(slot, statement)) say(IS_CHANGED, true);
+}
+
+/** Changes the job as a verdict proposes, if it is still the one that was run, and runs it again. */
+async function changeAndRun({ name, change }) {
+  const before = view.text;
+  if (before !== lastRun?.text) return say(IS_CHANGED, true);
+  view.show(change(before));
+  changed();
+  keeping.offerUndo(`Changed: ${name}.`, before);
+  return work("Running.", runAgain);
 }
 
 /** The fault of a job with its hint, as it is shown, or null if there is none. */
@@ -194,19 +233,16 @@ function goTo(part) {
   byId(part).scrollIntoView();
 }
 
-function showText(text, sections) {
-  lastText = text;
-  byId("stale").hidden = true;
+/** Shows what a command came to, or nothing if it is null. */
+function showText(outcome, acts) {
+  lastText = outcome?.text ?? "";
   lastRun = null;
   for (const id of ["look", "see", "compare-alone", "compare-before"]) byId(id).disabled = true;
+  byId("stale").hidden = true;
+  byId("save-report").disabled = lastText === "";
   replay.close();
   theorem.clear();
-  const shown = shownText(text);
-  byId("report").textContent = shown.text;
-  byId("rest").textContent = shown.rest;
-  byId("rest").hidden = shown.rest === "";
-  byId("save-report").disabled = text === "";
-  byId("sections").replaceChildren(...sections);
+  showOutcome(outcome, acts);
 }
 
 function stop() {
@@ -214,70 +250,50 @@ function stop() {
 }
 
 async function writeSchedule() {
-  const numbers = ["after", "every"].map((id) => byId(id).value.trim());
-  const delays = byId("delays").value.split(",").map((part) => part.trim()).filter((part) => part !== "");
-  if (!numbers.every((number) => /^\d{0,8}$/.test(number)) || !delays.every((delay) => /^\d{1,2}=\d{1,8}$/.test(delay))) {
-    return say("These aren't numbers of calls: 20, or 3=50 for device 3.", true);
-  }
-  const devices = new Map(delays.map((delay) => delay.split("=")).map(([device, steps]) => [device, Number(steps)]));
+  const delays = readDelays(...["after", "every", "delays"].map((id) => byId(id).value));
+  if (delays === null) return say("These aren't numbers of calls: 20, or 3=50 for device 3.", true);
   return work("Writing the schedule.", async () => {
-    const answer = await ask(["asm", "0"], view.text);
-    const fault = await showFault(answer, view.text);
+    const before = view.text, answer = await ask(["asm", "0"], before);
+    const fault = await showFault(answer, before);
     if (fault) return sayAnswer(answer, fault);
-    view.show(await scheduled(ask, view.text, { after: Number(numbers[0] || 20), every: Number(numbers[1]), devices }));
+    view.show(await scheduled(ask, before, delays));
     changed();
+    keeping.offerUndo("The schedule was written anew.", before);
     return say("The schedule is written. It can be changed like any other text.");
   });
 }
 
-/** The seed that is typed, or one by chance; null if what is typed is none. */
-function readSeed() {
-  const typed = byId("seed").value.trim(), seed = typed === "" ? Math.floor(Math.random() * (MOST_SEED + 1)) : Number(typed);
-  return /^\d*$/.test(typed) && seed <= MOST_SEED ? seed : null;
-}
-
-/** Runs the job as `change` makes it from a seed, and compares the run with the one before, which is of the job as it was. `change` gives what is said of the two
- * runs, or null if it has said why there is no other job. */
-async function compareChanged(text, change) {
-  const seed = readSeed();
-  if (seed === null) return say(`A seed is a number from 0 to ${MOST_SEED}.`, true);
-  return work(text, async () => {
-    byId("command").value = "run";
-    chooseCommand();
-    if (lastRun?.text !== view.text) await runNow(["run"]);
-    const said = lastRun && await change(seed);
-    if (!said) return;
-    changed();
-    await runNow(["run"]);
-    if (lastRun) await theorem.withBefore(`${said} with seed ${seed}. Here is this run beside the run before.`);
-  });
-}
-
-const shuffle = () => compareChanged("Shuffling the schedule.", async (seed) => {
-  if (view.text !== mixed.text) mixed.from = view.text;
-  mixed.text = await shuffled(ask, mixed.from, seed);
-  if (mixed.text === mixed.from) return say("There is nothing to shuffle: this job has one program and no transfers.", true);
-  view.show(mixed.text);
-  return "The schedule was shuffled";
-});
-
-const changeNeighbours = () => compareChanged("Changing the neighbours.", async (seed) => {
-  const kept = byId("kept").value, numbers = readJob(view.text).slots.map(({ number }) => number);
-  if (!numbers.includes(kept) || numbers.length < 2) return say(`There is no program in slot ${kept} with a neighbour.`, true);
-  const text = await withOtherNeighbours(ask, view.text, kept, seed);
-  if (text === null) return say("There is no room in a neighbour's store, or its deck can't begin with other orders.", true);
-  view.show(text);
-  return `The neighbours of program ${kept} begin with more orders now, chosen`;
-});
-
-/** Begins with another job, and with the words of its command. A run in progress is stopped. */
+/** Begins with another job, and with the words of its command. A run in progress is stopped, and the job that was there is kept. */
 function begin(text, args) {
+  keeping.putAway();
+  show(text, args);
+}
+
+/** Shows another job. */
+function show(text, args) {
   stop();
   view.show(text);
   byId("link-said").hidden = true;
   [byId("command").value, byId("value").value, byId("place").value] = [args[0], args[1] ?? "0", args[2] ?? "0"];
   chooseCommand();
-  showText("", []);
+  showText(null);
+}
+
+/** Shows a job that was kept. */
+function bringBack(text) {
+  chooseOwn();
+  show(text, ["run"]);
+  byId("job").focus();
+  lookForFault();
+  say("Your job is here again.");
+}
+
+/** Shows a job as it was before its last change. */
+function put(text) {
+  view.show(text);
+  changed();
+  byId("job").focus();
+  say("The change is undone.");
 }
 
 function chooseCommand() {
@@ -288,7 +304,7 @@ function chooseCommand() {
 }
 
 function chooseExample() {
-  const chosen = texts.jobs[byId("example").value];
+  const chosen = chosenJob(texts.jobs);
   if (!chosen) return;
   begin(chosen.job, chosen.args);
   if (engine) say("Ready.");
@@ -296,8 +312,8 @@ function chooseExample() {
 }
 
 /** Shows the report that was recorded of an example, if the machine can't run. */
-function showRecorded({ report }) {
-  showText(report ?? "", report ? resultsOf(readResult(readWatch(report)?.report ?? report), new Map()) : []);
+function showRecorded({ job, report }) {
+  if (report) showText(outcomeOfRecord(job, report, texts));
 }
 
 async function openFile() {
@@ -305,7 +321,7 @@ async function openFile() {
   if (!file) return;
   byId("file").value = "";
   const text = await file.text(), plain = text.replace(/\r\n?/g, "\n");
-  byId("example").value = OWN;
+  chooseOwn();
   begin(plain, ["run"]);
   if (text === plain) say(`${file.name} is open.`);
   else say(`${file.name} is open; its line ends, those of another system, were changed.`, true);
@@ -313,6 +329,7 @@ async function openFile() {
 
 async function showLink() {
   const hash = await packedJob(view.text);
+  keeping.saved();
   byId("address").value = location.href.split("#")[0] + hash;
   byId("link-said").hidden = false;
   history.replaceState(null, "", hash);
@@ -320,27 +337,30 @@ async function showLink() {
   say("The link is below the buttons, and in the browser's address bar.");
 }
 
-/** Begins with the job of the link, if the link has one. Returns whether it has. */
+/** Begins with the job of the link, if the link has one. Returns whether it has. The job that is shown stays if the link is damaged or has no job. */
 async function openLink() {
   if (!hasJob(location.hash)) return false;
   const job = await jobOfLink(location.hash);
-  byId("example").value = OWN;
-  begin(job ?? EMPTY_JOB, ["run"]);
-  if (job === null) say("The link is damaged, so here is an empty job.", true);
-  else if (engine) say("Ready, with the job of the link.");
+  if (job === null || job === view.text) {
+    say(job === null ? NO_LINK : "This is the job of the link.", job === null);
+    return job !== null;
+  }
+  chooseOwn();
+  begin(job, ["run"]);
+  await run();
+  if (engine) say(`This is the job of the link. ${byId("state").textContent}`, byId("state").classList.contains("wrong"));
   return true;
 }
 
-function listExamples() {
-  const groups = new Map();
-  for (const [name, { group }] of Object.entries(texts.jobs)) {
-    if (!groups.has(group)) groups.set(group, make("optgroup", { label: group }));
-    groups.get(group).append(new Option(name.split("/")[1], name));
-  }
-  byId("example").append(...groups.values(), new Option("(a job of your own)", OWN));
+/** Shows the page as it is read from afar, or as usual. */
+function switchLecture() {
+  const isOn = document.documentElement.classList.toggle("lecture");
+  byId("lecture").setAttribute("aria-pressed", `${isOn}`);
 }
 
 function attend() {
+  attendToKeys();
+  byId("lecture").onclick = switchLecture;
   byId("example").onchange = chooseExample;
   byId("command").onchange = () => {
     chooseCommand();
@@ -352,14 +372,14 @@ function attend() {
   byId("schedule").onclick = writeSchedule;
   byId("look").onclick = () => look(0);
   byId("place").onfocus = offerPlaces;
-  byId("shuffle").onclick = shuffle;
-  byId("neighbours").onclick = changeNeighbours;
+  byId("shuffle").onclick = () => changes.shuffle();
+  byId("neighbours").onclick = () => changes.changeNeighbours();
   byId("see").onclick = see;
   byId("compare-alone").onclick = compareWithAlone;
   byId("compare-before").onclick = () => work("Comparing this run with the run before.", () => theorem.withBefore());
   byId("open").onclick = () => byId("file").click();
   byId("file").onchange = openFile;
-  byId("save").onclick = () => saveFile("kdf9.job", view.text);
+  byId("save").onclick = () => { saveFile("kdf9.job", view.text); keeping.saved(); };
   byId("save-report").onclick = () => saveFile("kdf9.report", lastText);
   byId("link").onclick = showLink;
   byId("address").onfocus = () => byId("address").select();
@@ -372,36 +392,50 @@ function attend() {
 }
 
 async function load() {
+  if (typeof DecompressionStream === "function") Object.assign(help, JSON.parse(new TextDecoder().decode(await unpacked(bytesOf(byId("help").textContent)))));
   if (!canRun()) throw new Error("it lacks a 64 bit memory in WebAssembly");
   const module = await WebAssembly.compile(await unpacked(bytesOf(byId("module").textContent)));
   engine = new Engine(module, byId("worker").textContent);
 }
 
+/** Begins with the job of this tab before it was loaded again. The job that the page or its link has is offered. */
+async function openOwn(own) {
+  const given = texts.start ?? (hasJob(location.hash) ? await jobOfLink(location.hash) : null);
+  bringBack(own.text);
+  keeping.resume();
+  if (given !== null && given !== own.text) keeping.offer("This page was opened with another job.", "Show that job", () => begin(given, ["run"]));
+  say(`Here is your job as it was on ${timeOf(own)}.`);
+}
+
+/** Begins with the job with which the page was made, and shows its run call by call; or with the first of the list. */
+async function openFirst() {
+  const isMade = typeof texts.start === "string";
+  if (isMade) chooseOwn();
+  else chooseFirst();
+  const first = isMade ? { job: texts.start, args: ["run"] } : chosenJob(texts.jobs);
+  begin(first.job, first.args);
+  if (!engine) return showRecorded(first);
+  await run();
+  if (isMade && lastRun) look(0);
+}
+
 async function open() {
-  listExamples();
+  let lack = null;
+  listJobs(texts.jobs);
   attend();
   try {
     await load();
-    setBusy(false);
-    say("Ready.");
   } catch (error) {
-    say(`This browser can't run the machine: ${error.message}. The examples are shown with the reports that were recorded of them.`, true);
+    lack = `This browser can't run the machine: ${error.message}. The examples are shown with the reports that were recorded of them.`;
   }
-  if (await openLink()) return;
-  if (typeof texts.start === "string") return openStart();
-  byId("example").selectedIndex = 0;
-  const { job, args } = texts.jobs[byId("example").value];
-  begin(job, args);
-  if (!engine) showRecorded(texts.jobs[byId("example").value]);
-}
-
-/** Runs the job with which the page was made, and shows the run call by call. */
-async function openStart() {
-  byId("example").value = OWN;
-  begin(texts.start, ["run"]);
-  if (!engine) return;
-  await run();
-  if (lastRun) look(0);
+  setBusy(false);
+  const own = keeping.own();
+  if (own) await openOwn(own);
+  else if (!await openLink()) {
+    await openFirst();
+    if (hasJob(location.hash)) say(NO_LINK, true);
+  }
+  if (lack) say(lack, true);
 }
 
 // For use from the browser's console: the machine's answer to the words of a command for a job, the fault of a job, and the job and the text that are shown.

@@ -172,10 +172,10 @@ export class Replay {
   /** The deck with the next statement marked. */
   drawDeck(section, next) {
     const { deck } = this.slotOf(section.slot);
-    if (!next || section.state === "ENDED") return make("pre", { class: "deck", tabindex: "0", "aria-label": "Deck" }, deck);
+    if (!next || section.state === "ENDED") return make("pre", { class: "deck", tabindex: "0", role: "group", "aria-label": "Deck" }, deck);
     const mark = make("mark", {}, deck.slice(next.start, next.end));
     setTimeout(() => { mark.parentElement.scrollTop = mark.offsetTop - mark.parentElement.offsetTop - 60; });
-    return make("pre", { class: "deck", tabindex: "0", "aria-label": "Deck, with the next statement marked" }, deck.slice(0, next.start), mark, deck.slice(next.end));
+    return make("pre", { class: "deck", tabindex: "0", role: "group", "aria-label": "Deck, with the next statement marked" }, deck.slice(0, next.start), mark, deck.slice(next.end));
   }
 
   drawRegisters(section, before) {
@@ -229,7 +229,7 @@ export class Replay {
     const moves = flight ? this.timeline.entries.filter(isMove) : [];
     const said = `${isChanged ? CHANGED : ""}${name[0].toUpperCase()}${name.slice(1)}, ${kind}: ${state}, place ${place}`;
     const transfer = flight ? `; a transfer since call ${flight.start}, ${moves.reduce((sum, { entry }) => sum + entry[2], 0)} words moved by MOVE` : "";
-    const lines = mediumOf(device, media), attributes = { class: "blocks", tabindex: "0", "aria-label": `What is on ${name}` };
+    const lines = mediumOf(device, media), attributes = { class: "blocks", tabindex: "0", role: "group", "aria-label": `What is on ${name}` };
     return make("div", {}, make("p", {}, `${said}${transfer}.`), ...(lines.length ? [make("pre", attributes, lines.join("\n"))] : []));
   }
 

@@ -1,8 +1,9 @@
 // What came of a run: each program in words and tables, the journal in words, and the text itself.
 
-import { make, table } from "./dom.js";
+import { byId, make, table } from "./dom.js";
 import { Layout, readListing } from "./deck.js";
-import { readJob } from "./job.js";
+import { readJob, withStore, writeJob } from "./job.js";
+import { choiceOfView, tableOfWords } from "./words.js";
 import { LONGEST_READ, linesOfBlocks, many, numberOf, readReport, saidOf, stateOfStint, timed } from "./report.js";
 
 const OUT_OF_SERVICE = 64n;
@@ -29,6 +30,14 @@ export async function layoutsOf(ask, text) {
   return layouts;
 }
 
+/** The words of each program at the end of a run of a job, by their slots and addresses. The machine runs the job again, with the whole stores shown. */
+export async function storesOf(ask, text) {
+  const job = readJob(text);
+  const { status, text: report } = await ask(["run"], writeJob({ ...job, slots: job.slots.map(withStore) }));
+  const sections = status === 0 ? readResult(report)?.sections ?? [] : [];
+  return new Map(sections.map(({ slot, words }) => [slot, new Map(words.map(({ address, octal }) => [address, octal]))]));
+}
+
 /** What may have led to a failure, in words, or nothing. OUT 64 fails as OUT only in a slot that isn't served. */
 function hintOfOut({ state, nest }) {
   if (state !== "FAILED OUT" || numberOf(nest[0]) !== OUT_OF_SERVICE) return "";
@@ -47,11 +56,26 @@ function storyOf(section, layout) {
   return `Program ${slot} ${became}, after ${many(orders, "order")}. ${life === "ENDED" ? "" : stands}${hintOfOut(section)}`;
 }
 
-function sectionOf(section, layout) {
-  const parts = [make("h3", {}, `Program ${section.slot}`), make("p", {}, storyOf(section, layout))];
-  const words = section.words.slice(0, MOST_WORDS).map(({ address, octal }) => [layout?.nameOf(address) ?? `E${address}`, `${address}`, ...wordCells(octal)]);
-  if (words.length) parts.push(table("Words", ["name", "address", "octal", "decimal"], words));
-  if (section.words.length > MOST_WORDS) parts.push(make("p", {}, `${section.words.length - MOST_WORDS} more words stand in the report.`));
+/** The words of a program: those that the run changed come first, and then those that the job shows. The others that have names are folded. */
+function drawWords(section, layout, store) {
+  const shown = new Map(section.words.map(({ address, octal }) => [address, octal]));
+  const named = (layout?.addresses ?? []).filter((address) => store?.has(address));
+  const isChanged = (address) => layout !== undefined && valueOf(address) !== layout.octalAt(address);
+  const valueOf = (address) => shown.get(address) ?? store.get(address);
+  const wordAt = (address) => ({ name: layout?.nameOf(address) ?? `E${address}`, address, octal: valueOf(address) });
+  const all = [...new Set([...shown.keys(), ...named])].sort((one, other) => one - other), rest = all.filter((address) => !isChanged(address));
+  const first = [...all.filter(isChanged), ...rest.filter((address) => shown.has(address))], folded = rest.filter((address) => !shown.has(address));
+  const drawn = (caption, addresses) => [tableOfWords(caption, addresses.slice(0, MOST_WORDS).map(wordAt)),
+    ...(addresses.length > MOST_WORDS ? [make("p", {}, `${(addresses.length - MOST_WORDS).toLocaleString("en")} more words aren't shown.`)] : [])];
+  const summary = make("summary", {}, `${many(folded.length, "word")} that the run left unchanged`);
+  return [
+    ...(first.length ? drawn("Words", first) : []),
+    ...(folded.length ? [make("details", {}, summary, ...drawn("Unchanged words", folded))] : []),
+  ];
+}
+
+function sectionOf(section, layout, store) {
+  const parts = [make("h3", {}, `Program ${section.slot}`), make("p", {}, storyOf(section, layout)), ...drawWords(section, layout, store)];
   if (section.nest.length) parts.push(table("Nest, the top first", ["", "octal", "decimal"], section.nest.map((octal, at) => [`N${at + 1}`, ...wordCells(octal)])));
   if (section.qStores.length) {
     parts.push(table("Q-stores", ["", "counter", "increment", "modifier"], section.qStores.map(({ number, parts: [...cells] }) => [`Q${number}`, ...cells])));
@@ -69,22 +93,24 @@ function sectionOf(section, layout) {
 function deviceOf(name, { kind, place, flag, blocks }, state) {
   const said = make("p", {}, `${name[0].toUpperCase()}${name.slice(1)}, ${kind}: ${state}, place ${place}, flag ${flag}`);
   if (!blocks.length) return said;
-  const attributes = { class: "blocks", tabindex: "0", "aria-label": `The blocks of ${name}` };
+  const attributes = { class: "blocks", tabindex: "0", role: "group", "aria-label": `The blocks of ${name}` };
   return make("div", {}, said, make("pre", attributes, linesOfBlocks(blocks).join("\n")));
 }
 
 function journalOf(entries) {
   const rows = timed(entries.slice(0, MOST_ENTRIES)).map(([calls, entry]) => [entry.join(" "), saidOf(entry), `${calls}`]);
   const rest = entries.length > MOST_ENTRIES ? [make("p", {}, `${entries.length - MOST_ENTRIES} more entries are in the report.`)] : [];
-  return make("details", { open: true }, make("summary", {}, "The journal: what happened, in order"),
+  return make("details", {}, make("summary", {}, "The journal: what happened, in order"),
     table("Entries", ["entry", "what it says", "calls before it"], rows), ...rest);
 }
 
-/** What was read of a report or of the text of a lone run, as elements of the page; none if it is null. */
-export function resultsOf(read, layouts) {
+/** What was read of a report or of the text of a lone run, as elements of the page; none if it is null. `stores` has the words of each program if they are known. */
+export function resultsOf(read, layouts, stores) {
   if (read === null) return [];
   const { entries, sections } = read;
-  return [...sections.map((section) => sectionOf(section, layouts.get(section.slot))), ...(entries.length ? [journalOf(entries)] : [])];
+  const drawn = sections.map((section) => sectionOf(section, layouts.get(section.slot), stores?.get(section.slot)));
+  const hasWords = drawn.some((section) => section.querySelector(".words"));
+  return [...(hasWords ? [choiceOfView(byId("sections"))] : []), ...drawn, ...(entries.length ? [journalOf(entries)] : [])];
 }
 
 /** The text as it is shown: all of it, or its beginning if it is long. */

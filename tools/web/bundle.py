@@ -4,21 +4,13 @@ import gzip
 import json
 import re
 
-from building.rooms import ROOT
-
-WEB = ROOT / "web"
-FIRST_HOUR, EXAMPLES = "The first hour", "Examples"
+from web.documents import failures, help_of_statements, jobs_of_examples, jobs_of_first_hour, read
 
 # The main script, which imports the others.
 MAIN = "page"
 IMPORT = re.compile(r'^import (\{[^}]*\}) from "\./(\w+)\.js";\n', re.MULTILINE)
 TABLE = re.compile(r"/\* (tables/\w+\.json) \*/ null")
 EXPORT = re.compile(r"^export ((?:async )?(?:function|class|const) )(\w+)", re.MULTILINE)
-
-
-def read(path):
-    """The text of a file of the repository."""
-    return (ROOT / path).read_text(encoding="utf-8")
 
 
 def in_page(value):
@@ -50,31 +42,21 @@ def script(name=MAIN):
     return "\n".join(done.values())
 
 
-def jobs_of_first_hour():
-    """The jobs of the tour, each with the answer to `run` if the tour has it."""
-    tour = read("docs/TOUR.md")
-    for name, job in re.findall(r"^```job (\S+)\n(.*?)^```$", tour, re.MULTILINE | re.DOTALL):
-        answer = re.search(rf"^```sh\n\./kdf9 run < {re.escape(name)}\n```\n+```answer\n(.*?)^```$", tour, re.MULTILINE | re.DOTALL)
-        yield f"{FIRST_HOUR}/{name[:-len('.job')]}", {"group": FIRST_HOUR, "job": job, "args": ["run"], "report": answer and answer[1]}
-
-
-def jobs_of_examples():
-    """The examples in the sequence of docs/EXAMPLES.md, each with its arguments and its report."""
-    listed = re.findall(r"`([\w-]+)`", read("docs/EXAMPLES.md"))
-    for name in dict.fromkeys(listed):
-        if (ROOT / "examples" / f"{name}.job").is_file():
-            job, args, report = (read(f"examples/{name}.{part}") for part in ("job", "args", "report"))
-            yield f"{EXAMPLES}/{name}", {"group": EXAMPLES, "job": job, "args": args.split(), "report": report}
-
-
 def texts(start):
     """What the script shows, as JSON that is safe within a page. `start` is the job that runs when the page opens, or None."""
     jobs = dict([*jobs_of_first_hour(), *jobs_of_examples()])
-    return in_page({"jobs": jobs, "start": start})
+    return in_page({"jobs": jobs, "failures": failures(), "start": start})
+
+
+def packed(data):
+    """Bytes as the page has them: compressed, in base64."""
+    return base64.b64encode(gzip.compress(data, 9, mtime=0)).decode("ascii")
 
 
 def page(module, start=None):
     """The page, made from the bytes of the module. If there is a job, it runs when the page opens."""
-    packed = base64.b64encode(gzip.compress(module, 9, mtime=0)).decode("ascii")
-    parts = {"STYLE": read("web/page.css"), "WORKER": script("worker"), "TEXTS": texts(start), "MODULE": packed, "SCRIPT": script()}
+    parts = {
+        "STYLE": read("web/page.css"), "WORKER": script("worker"), "TEXTS": texts(start), "MODULE": packed(module),
+        "HELP": packed(json.dumps(help_of_statements(), separators=(",", ":")).encode("ascii")), "SCRIPT": script(),
+    }
     return re.sub(r"/\* ([A-Z]+) \*/", lambda mark: parts[mark[1]], read("web/page.html"))

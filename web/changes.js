@@ -1,0 +1,59 @@
+// Changes of the job by chance that leave each program what it is: another schedule, or other neighbours.
+
+import { byId } from "./dom.js";
+import { readJob } from "./job.js";
+import { MOST_SEED, shuffled, withOtherNeighbours } from "./shuffle.js";
+
+/** The seed that is typed, or one by chance; null if what is typed is none. */
+function readSeed() {
+  const typed = byId("seed").value.trim(), seed = typed === "" ? Math.floor(Math.random() * (MOST_SEED + 1)) : Number(typed);
+  return /^\d*$/.test(typed) && seed <= MOST_SEED ? seed : null;
+}
+
+export class Changes {
+  /** The changes of the job of a page, which gives what it can do: `work` does some work, `run` runs the job, and `lastRun` gives the last run. */
+  constructor(page) {
+    this.page = page;
+    // The job with the schedule that was shuffled last, and the job that it was made from. So a seed gives the same schedule however often it was shuffled before.
+    this.mixed = { text: null, from: null };
+  }
+
+  /** Runs the job as `change` makes it from a seed, and compares the run with the one before, which is of the job as it was. `change` gives what is said of the two
+   * runs, or null if it has said why there is no other job. */
+  async compare(text, change) {
+    const { say, work, run, view, theorem, keeping, changed, lastRun } = this.page, seed = readSeed();
+    if (seed === null) return say(`A seed is a number from 0 to ${MOST_SEED}.`, true);
+    return work(text, async () => {
+      if (lastRun()?.text !== view.text) await run();
+      const before = view.text, said = lastRun() && await change(seed);
+      if (!said) return;
+      changed();
+      keeping.offerUndo(`${said} with seed ${seed}.`, before);
+      await run();
+      if (lastRun()) await theorem.withBefore(`${said} with seed ${seed}. Here is this run beside the run before.`);
+    });
+  }
+
+  shuffle() {
+    const { mixed, page: { ask, say, view } } = this;
+    return this.compare("Shuffling the schedule.", async (seed) => {
+      if (view.text !== mixed.text) mixed.from = view.text;
+      mixed.text = await shuffled(ask, mixed.from, seed);
+      if (mixed.text === mixed.from) return say("There is nothing to shuffle: this job has one program and no transfers.", true);
+      view.show(mixed.text);
+      return "The schedule was shuffled";
+    });
+  }
+
+  changeNeighbours() {
+    const { ask, say, view } = this.page;
+    return this.compare("Changing the neighbours.", async (seed) => {
+      const kept = byId("kept").value, numbers = readJob(view.text).slots.map(({ number }) => number);
+      if (!numbers.includes(kept) || numbers.length < 2) return say(`There is no program in slot ${kept} with a neighbour.`, true);
+      const text = await withOtherNeighbours(ask, view.text, kept, seed);
+      if (text === null) return say("There is no room in a neighbour's store, or its deck can't begin with other orders.", true);
+      view.show(text);
+      return `The neighbours of program ${kept} begin with more orders now, chosen`;
+    });
+  }
+}

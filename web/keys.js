@@ -1,0 +1,39 @@
+// The keys of the page: a list of all of them, which the key ? shows.
+
+import { byId, make, table } from "./dom.js";
+
+/** The keys, and what each does, by where they work. */
+const KEYS = [
+  ["Everywhere", [
+    ["Ctrl Enter", "runs the job"], ["Escape", "stops a run, or closes what is open"], ["?", "shows this list, if no text is being written"],
+  ]],
+  ["In a deck", [
+    ["F1", "says what the statement at the caret is"], ["F2", "goes from a jump to its reference, and from a reference to the next jump to it"],
+    ["Ctrl Space", "offers names that go on as the statement begins"], ["Ctrl Alt F", "finds and replaces"],
+  ]],
+  ["In a run, call by call", [
+    ["b, f", "one call back, one call on"], ["e", "to the next event"], ["h", "to the next call that finds a program held up"],
+    ["o", "to the next order of the chosen program"], ["n, p", "after watch: to the next stop, to the previous stop"],
+  ]],
+];
+
+/** The kinds of INPUT into which one writes. */
+const WRITTEN = ["text", "search"];
+
+const isWriting = ({ tagName, type }) => tagName === "TEXTAREA" || tagName === "SELECT" || (tagName === "INPUT" && WRITTEN.includes(type));
+
+function show() {
+  if (!byId("keys").open) byId("keys").showModal();
+}
+
+/** Fills the list, and shows it by its key and its button. */
+export function attendToKeys() {
+  const keys = (names) => make("span", {}, ...names.split(", ").flatMap((name, at) => [...(at ? [", "] : []), make("kbd", {}, name)]));
+  byId("keys-list").replaceChildren(...KEYS.map(([where, rows]) => table(where, ["key", "does"], rows.map(([names, does]) => [keys(names), does]))));
+  byId("show-keys").onclick = show;
+  addEventListener("keydown", (event) => {
+    if (event.key !== "?" || isWriting(event.target)) return;
+    event.preventDefault();
+    show();
+  });
+}
