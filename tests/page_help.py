@@ -115,6 +115,10 @@ def statements_go_on(shown):
                       " === document.querySelector('.offers [aria-selected=true]').id]")
     shown.page.press("Escape", 27)
     is_open = shown.js("document.querySelector('.offers').checkVisibility()")
+    shown.js("[...document.querySelectorAll('button')].find((it) => it.textContent === 'Offer names').click()")
+    by_button = shown.js("document.querySelector('.offers').checkVisibility()")
+    shown.page.press("Escape", 27)
+    yield "names are offered by a button", None if by_button else "they aren't"
     yield "the arrows choose", None if chosen == ["DUP", True] and not is_open else f"{chosen} {is_open}"
 
 

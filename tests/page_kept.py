@@ -14,6 +14,9 @@ ASKS = "!dispatchEvent(new Event('beforeunload', { cancelable: true }))"
 # A browser that lets the page keep nothing.
 WITHOUT_STORAGE = "Object.defineProperty(globalThis, 'localStorage', { get() { throw new DOMException('no storage'); } });"
 
+# A page that isn't asked about when it is loaded again, since nobody is there to answer. Nobody has touched it, so the browser wouldn't ask anyway, but complain.
+WITHOUT_QUESTION = "addEventListener('beforeunload', (event) => event.stopImmediatePropagation());"
+
 TAPE = "reads-tape"
 
 
@@ -87,7 +90,7 @@ def last_jobs_are_listed(shown):
 
 def reloads_lose_nothing(opened, address):
     """After a reload, the job that was written is there, also if the page was opened by a link; a second tab begins anew."""
-    shown = Shown(opened(address))
+    shown = Shown(opened(address, before=WITHOUT_QUESTION))
     shown.write_job(own_job(41))
     shown.page.reload()
     shown = Shown(shown.page)

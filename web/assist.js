@@ -19,6 +19,7 @@ export class Assist {
     this.offers = new Offers(editor, (text, caret) => this.namesFor(text, caret));
     const tools = make("div", { class: "bar", role: "group", "aria-label": "Help with the deck" },
       button("What is this?", () => this.toggle(), { title: "F1" }), button("Go to reference", () => this.follow(), { title: "F2" }),
+      button("Offer names", () => this.offer(), { title: "Ctrl Space" }),
       button("Find", () => this.findLine.open(), { title: "Ctrl Alt F" }));
     this.element = make("div", {}, tools, this.findLine.element, this.panel);
     const { textarea } = editor;
@@ -51,6 +52,11 @@ export class Assist {
   toggle() {
     this.panel.hidden = !this.panel.hidden;
     if (!this.panel.hidden) this.draw();
+  }
+
+  offer() {
+    this.editor.textarea.focus();
+    this.offers.open();
   }
 
   caretMoved() {
