@@ -36,6 +36,8 @@ WRONG_WORDS = [
     (["listing", "-", "x"], "SLOT: has to be a number from 0 to 3, and x isn't one"), (["listing", "-", ""], "and an empty word isn't one"),
     (["schedule"], "required: JOB"), (["schedule", "-", "--after"], "--after"), (["schedule", "-", "--every", "0"], "--every: has to be a number from 1"),
     (["schedule", "-", "16=3"], "DEVICE=N: has to be a number from 0 to 15, and 16 isn't one"), (["schedule", "-", "3"], "DEVICE=N: has to be the number of a device"),
+    (["schedule", "-", "--speed", "3=5"], "--speed: has to be the number of a device, =, a number of calls, + and a number"), (["schedule", "-", "--speed", "3=5+"], "an empty word isn't one"),
+    (["schedule", "-", "--speed", "16=1+1"], "--speed: has to be a number from 0 to 15"), (["schedule", "-", "--speeds", "fast"], "(choose from 'kdf9')"), (["schedule", "-", "--speed"], "--speed"),
     (["same"], "required: JOB"), (["same", "-", "-"], "can't both be standard input"), (["same", "-", "a", "b"], "b"),
     (["picture", "--svg"], "--svg"), (["json", "-"], "-"), (["report", "-"], "-"), (["page", "x"], "x"), (["replay"], "required: JOB"),
 ]

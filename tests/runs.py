@@ -124,6 +124,58 @@ def reads_unevenly(lengths, rounds):
     return f"KDF9 JOB 1\nSLOT 0\nSTORE 2048\nDECK\n{deck}\nENDDECK\nDEVICE 2 TR\n+ABC\nSCHEDULE\nORDERS 20000\nENDJOB\n"
 
 
+def punches(devices):
+    """A job whose program punches areas of 1 to 9 words, one after the other, and waits for each transfer; with these lines of devices."""
+    deck = (
+        "PROGRAM V2; V0 = Q0/32/32; V1 = Q0/0/1; V2 = Q9/0/0; SET 1; SET 5; OUT; V0; =Q1; =C1; V2; =Q2;\n"
+        "1; PWQ1; INTQ1; V1; =+Q1; DC2; J1C2NZ; ZERO; OUT; FINISH;"
+    )
+    return f"KDF9 JOB 1\nSLOT 0\nSTORE 64\nDECK\n{deck}\nENDDECK\n{devices}SCHEDULE\nORDERS 2000000\nENDJOB\n"
+
+
+def times_of_transfers(text):
+    """How many calls each transfer of a job took, in the sequence of their ends, and the state of its program."""
+    calls, begun, times, report = 0, {}, [], kdf9(["run"], text).out
+    for line in report.split("\n"):
+        word, *rest = line.split(" ")
+        if word == "START":
+            begun[rest[1]] = calls
+        elif word == "END":
+            times.append(calls - begun.pop(rest[0]))
+        elif word in ("RAN", "IDLE"):
+            calls += int(rest[-1])
+        elif word in ("LOV", "BUSY", "WAIT"):
+            calls += 1
+    return times, re.search(r"^STATE (.*)$", report, re.MULTILINE)[1]
+
+
+# The devices of a job that punches, the arguments of schedule, and how long a transfer of so many words has to take.
+SPEEDS = [
+    ("DEVICE 3 TP\n", ["--speed", "3=7+5"], lambda words: 7 + 5 * words), ("DEVICE 3 TP\n", ["--speed", "3=9+0"], lambda words: 9),
+    ("DEVICE 3 TP\n", ["--speed", "3=0+1", "--every", "4"], lambda words: words), ("DEVICE 3 TP\n", ["--speed", "3=7+5", "3=4"], lambda words: 4),
+    ("DEVICE 3 TP\n", ["--speed", "3=7+5", "--speed", "3=1+2"], lambda words: 1 + 2 * words), ("DEVICE 3 TP\n", ["--speeds", "kdf9"], lambda words: 12121 * words),
+    ("DEVICE 3 TP\n", ["--speeds", "kdf9", "--speed", "3=2+2"], lambda words: 2 + 2 * words), ("POOL\nDEVICE 9 TP\n", ["--speed", "9=3+2"], lambda words: 3 + 2 * words),
+    ("DEVICE 3 TP\nDEVICE 4 TP\n", ["--speed", "4=3+2", "--after", "6"], lambda words: 6),
+]
+
+
+def transfers_go_by_their_lengths():
+    """A transfer of a device that has a speed takes as long as its area has words."""
+    for devices, words, taken in SPEEDS:
+        run = kdf9(["schedule", "-", *words], punches(devices))
+        found = times_of_transfers(run.out) if run.status == 0 else run
+        yield f"a schedule with {' '.join(words)}", None if found == ([taken(length) for length in range(1, 10)], "ENDED") else f"{found}"
+    cards = punches("DEVICE 3 CR\n+A\n" + "+B\n" * 9).replace("SET 1; SET 5", "SET 4; SET 5").replace("PWQ1", "CRQ1").replace("Q0/32/32", "Q0/32/39")
+    found = times_of_transfers(kdf9(["schedule", "-", "--speed", "3=0+2"], cards).out)
+    yield "a card has ten words at most", None if found == ([16, 18] + [20] * 7, "ENDED") else f"{found}"
+    rewinds = "PROGRAM V1; V0 = Q0/32/40; V1 = PA; V1; SET 4; OUT; V0; =Q1; =C1; MWQ1; INTQ1; MRWDQ1; INTQ1; ZERO; OUT; FINISH;"
+    tape = f"KDF9 JOB 1\nSLOT 0\nSTORE 64\nDECK\n{rewinds}\nENDDECK\nDEVICE 3 MT A\nSCHEDULE\nORDERS 9000\nENDJOB\n"
+    found = times_of_transfers(kdf9(["schedule", "-", "--speeds", "kdf9"], tape).out)
+    yield "an order without an area has no words", None if found == ([833 + 33 * 9, 833], "ENDED") else f"{found}"
+    none = kdf9(["schedule", "-", "--speed", "5=1+1"], punches("DEVICE 3 TP\n"))
+    yield "a speed of no device", None if refused(none) and none.err == "-: the job has no device 5\n" else f"{none}"
+
+
 def uneven_transfers_are_ended():
     """Where nothing tells when the next transfers begin, or where that is seen late, the schedule ends them all the same, and the program with them."""
     for what, lengths, rounds in UNEVEN:
@@ -258,6 +310,6 @@ def bad_input_is_refused():
 
 
 SUITES = (
-    schedules_are_written, uneven_transfers_are_ended, devices_of_the_pool_are_answers, programs_are_compared, orders_are_traced, answers_of_the_service_are_shown, examples_are_run,
+    schedules_are_written, transfers_go_by_their_lengths, uneven_transfers_are_ended, devices_of_the_pool_are_answers, programs_are_compared, orders_are_traced, answers_of_the_service_are_shown, examples_are_run,
     bad_input_is_refused,
 )

@@ -2,24 +2,19 @@
 
 import { HEADER, linesOf } from "./job.js";
 import { lineAndColumn, statementAt } from "./deck.js";
+import { FAULTS, JOB, KINDS, LINES } from "./tables.js";
 
-// Which field of a line is the faulty one, counted from 0.
-const WORD_AT_FAULT = {
-  SlotOrder: 1, SizeNotGroups: 1, StoreFull: 1, DeviceTwice: 1, BadLabel: 3, LabelTwice: 3, ShowRange: 1, ClockFalls: 1, TooManyOrders: 1,
-  PoolKind: 2,
-};
+/** The bytes of a medium that aren't characters: any but those of the table. */
+const NO_CHARACTER = new RegExp(`[^${JOB.characters.replace(/[\]\\^-]/g, "\\$&")}]`);
 
-/** The least and the greatest value of each field of a line that is a number. */
-export const RANGES = {
-  SLOT: [[0, 3]], STORE: [[32, 8192]], DEVICE: [[0, 15]], SHOW: [[0, 8191], [0, 8191]], ORDERS: [[1, 20000000]], MOVE: [[0, 15], [1, 4096]], END: [[0, 15]],
-  CLOCK: [[0, 2 ** 47 - 1]], SWAP: [[0, 3], [0, 3]],
-};
+/** Whether a text has only characters. */
+export const isOfCharacters = (text) => !NO_CHARACTER.test(text);
 
-const NO_CHARACTER = /[^ -`|]|[#&\\]/;
-const LONGEST = { CR: 80, MT: 32768 };
+/** What stands for a kind of device directly after the line POOL. */
+export const OF_POOL = "POOL";
 
-/** The kinds of devices that begin empty, and what stands for a kind directly after the line POOL. */
-const EMPTY = ["TP", "LP", "POOL"];
+/** The signs with which a line of a medium can begin, by the kind of its device: none if the device begins empty, as those of the pool do. */
+export const signsOf = (kind) => KINDS[kind]?.signs ?? [];
 
 /** The decks of a job by their slots: the index in the whole text where each begins and ends, and its first line. A deck begins three lines below its SLOT. */
 function decksOf(lines) {
@@ -42,23 +37,29 @@ function decksOf(lines) {
 
 /** The fault that the machine answers for a job, or for one with a snapshot after it: its name, its line and column in the text, both counted from 1, what is
  * written there, and the sentence that the documents have for it. A fault of a deck also has the slot, the offset in the deck as `place`, and the deck. */
-export function faultOf(answer, text, sentences) {
+export function faultOf(answer, text) {
   const [kind, ...words] = answer.trim().split(" ");
-  if (kind === "JOB") return faultOfJob(words[0], Number(words[1]), linesOf(text), sentences);
-  if (kind === "SNAPSHOT") return faultOfSnapshot(words[0], Number(words[1]), linesOf(text), sentences);
+  if (kind === "JOB") return faultOfJob(words[0], Number(words[1]), linesOf(text));
+  if (kind === "SNAPSHOT") return faultOfSnapshot(words[0], Number(words[1]), linesOf(text));
   const slot = Number(words[0]), place = Number(words[2]), lines = linesOf(text), found = decksOf(lines).get(slot);
   const deck = text.slice(found.start, found.end);
   const { line, column } = lineAndColumn(deck, place);
   const subject = words[1] === "BadByte" ? `byte ${deck.charCodeAt(place)}` : statementAt(deck, place)?.written ?? "";
-  return { name: words[1], line: found.line + line - 1, column, subject, slot, place, deck, lineOfDeck: line, said: sentences.deck[words[1]] };
+  return { name: words[1], line: found.line + line - 1, column, subject, slot, place, deck, lineOfDeck: line, said: saidOf("deck", words[1]) };
 }
 
-function faultOfSnapshot(name, line, lines, sentences) {
-  return { name, line, column: 1, subject: lines[line - 1] ?? "the text ends here", said: sentences.snapshot[name] };
+/** What the documents say about the fault of this name of a job, a snapshot or a deck, without the backquotes around code. */
+function saidOf(what, name) {
+  const at = FAULTS[what].findIndex((fault) => fault.name === name), said = FAULTS[what][at].says.replaceAll("`", "");
+  return what === "deck" ? `${said} (docs/USERCODE.md, fault ${at + 1})` : `${said[0].toUpperCase()}${said.slice(1)}. (docs/JOB.md)`;
 }
 
-function faultOfJob(name, line, lines, sentences) {
-  const said = sentences.job[name];
+function faultOfSnapshot(name, line, lines) {
+  return { name, line, column: 1, subject: lines[line - 1] ?? "the text ends here", said: saidOf("snapshot", name) };
+}
+
+function faultOfJob(name, line, lines) {
+  const said = saidOf("job", name);
   if (line > lines.length) return { name, line, column: 1, subject: "the job ends here", said };
   const text = lines[line - 1];
   return { name, line, column: columnOf(name, text, lines, line), subject: text, said };
@@ -68,7 +69,7 @@ function columnOf(name, text, lines, line) {
   if (name === "Header") return 1 + firstDifference(text, HEADER);
   if (name === "BadNumber") return columnOfWord(text, wordOfBadNumber(text));
   if (name === "BadMedium") return columnInMedium(text, kindAbove(lines, line));
-  return columnOfWord(text, WORD_AT_FAULT[name] ?? 0);
+  return columnOfWord(text, FAULTS.job.find((fault) => fault.name === name).field ?? 0);
 }
 
 function firstDifference(text, due) {
@@ -84,18 +85,18 @@ const columnOfWord = (text, index) => 1 + text.split(" ").slice(0, index).reduce
 export function wordOfBadNumber(text) {
   const [keyword, ...words] = text.split(" ");
   const isWrong = ([least, most], at) => at < words.length && !(/^(0|[1-9]\d*)$/.test(words[at]) && least <= Number(words[at]) && Number(words[at]) <= most);
-  return 1 + (RANGES[keyword] ?? []).findIndex(isWrong);
+  return 1 + (LINES[keyword]?.numbers ?? []).findIndex(isWrong);
 }
 
 /** The kind of the device to whose medium a line belongs, or POOL directly after that line. */
 export function kindAbove(lines, line) {
-  const above = lines.slice(0, line).findLast((text) => text.startsWith("DEVICE ") || text === "POOL") ?? "";
-  return above === "POOL" ? above : above.split(" ")[2] ?? "";
+  const above = lines.slice(0, line).findLast((text) => text.startsWith("DEVICE ") || text === OF_POOL) ?? "";
+  return above === OF_POOL ? above : above.split(" ")[2] ?? "";
 }
 
 /** The column at which a line of a medium is wrong: that of its `+` or `=`, of the first byte that isn't a character, or of the first one too many. */
 function columnInMedium(text, kind) {
-  if (EMPTY.includes(kind) || (text[0] === "=" && kind !== "MT") || text.length === 1) return 1;
+  if (!signsOf(kind).includes(text[0]) || text.length === 1) return 1;
   const stranger = text.slice(1).search(NO_CHARACTER);
-  return stranger >= 0 ? stranger + 2 : Math.min(text.length, (LONGEST[kind] ?? text.length) + 1) + 1;
+  return stranger >= 0 ? stranger + 2 : Math.min(text.length, (KINDS[kind].longest ?? text.length) + 1) + 1;
 }

@@ -1,11 +1,13 @@
 // The text of a job, and the same job by parts: its programs with their stores, decks and devices, whether the installation's service answers them, and the words
 // to be shown; its pool; and its schedule.
 
-export const HEADER = "KDF9 JOB 1";
-export const KINDS = { TR: "paper tape reader", TP: "paper tape punch", CR: "card reader", LP: "line printer", MT: "magnetic tape" };
+import { JOB } from "./tables.js";
 
-/** The kinds of devices that a pool may have. Devices of these kinds begin empty. */
-export const KINDS_OF_POOL = ["TP", "LP"];
+export const HEADER = JOB.header;
+export const KINDS = Object.fromEntries(JOB.kinds.map(({ kind, name }) => [kind, name]));
+
+/** The kinds of devices that a pool may have. */
+export const KINDS_OF_POOL = JOB.kinds.filter(({ pooled }) => pooled).map(({ kind }) => kind);
 
 /** What stands for the pool where a slot of the job is named by its index. */
 export const POOL = "pool";

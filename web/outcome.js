@@ -17,25 +17,25 @@ const DONE = 0, SNAPSHOT_HAS_FAULT = 8, MEBIBYTE = 2 ** 20;
 const IDLE_DRAWN = 40;
 
 /** What is read of a text that a command wrote for a job, if it is a report, or that of a lone run or a watch. */
-function outcomeWith(layouts, job, text, { sentences, characters }) {
+function outcomeWith(layouts, job, text, failures) {
   const watch = readWatch(text), report = watch ? watch.report : text, read = readResult(report);
   if (read === null) return { text, read };
   const timeline = new Timeline(read);
-  const verdicts = new Verdicts(read, timeline, { layouts, sentences, text: job });
-  return { text, report, read, layouts, characters, timeline, stops: watch && stopsOf(watch, read), verdicts };
+  const verdicts = new Verdicts(read, timeline, { layouts, failures, text: job });
+  return { text, report, read, layouts, timeline, stops: watch && stopsOf(watch, read), verdicts };
 }
 
 /** What an answer of the machine to a command for a job says. The decks are listed for the names of their words. After a run that was short, the words are asked for
  * that have names, too. */
-export async function outcomeOf(ask, job, answer, { isRun, ...texts }) {
+export async function outcomeOf(ask, job, answer, { isRun, failures }) {
   const isRead = answer.status === DONE && readResult(readWatch(answer.text)?.report ?? answer.text) !== null;
   const layouts = isRead ? await layoutsOf(ask, job) : new Map();
   const isAsked = isRead && isRun && answer.milliseconds < LONGEST_RUN && [...layouts.values()].some(({ addresses }) => addresses.length);
-  return { ...outcomeWith(layouts, job, answer.text, texts), stores: isAsked ? await storesOf(ask, job) : null };
+  return { ...outcomeWith(layouts, job, answer.text, failures), stores: isAsked ? await storesOf(ask, job) : null };
 }
 
 /** What a text says that was recorded of a job. */
-export const outcomeOfRecord = (job, text, texts) => outcomeWith(new Map(), job, text, texts);
+export const outcomeOfRecord = (job, text, failures) => outcomeWith(new Map(), job, text, failures);
 
 /** Up to which call a run is drawn: not to its end if it only waits there. */
 function callsDrawn({ entries, total }) {
@@ -56,10 +56,10 @@ function pictureOf({ timeline, stops }, look) {
 /** Shows what a command came to, or nothing if it is null. `look` shows a run call by call, `go` goes to a statement, and `change` changes the job; those that are null
  * aren't offered. */
 export function showOutcome(outcome, { look, go, change } = {}) {
-  const { text = "", read = null, layouts, stores, characters, timeline, stops, verdicts } = outcome ?? {}, shown = shownText(text);
+  const { text = "", read = null, layouts, stores, timeline, stops, verdicts } = outcome ?? {}, shown = shownText(text);
   byId("verdicts").replaceChildren(...(read ? drawVerdicts(verdicts, { go, change }) : []));
   byId("pictured").replaceChildren(...(read && timeline.total ? [pictureOf({ timeline, stops }, look)] : []));
-  byId("sections").replaceChildren(...(stops ? [drawStops(stops, layouts.get(stops.slot), look)] : []), ...resultsOf(read, layouts, stores, characters));
+  byId("sections").replaceChildren(...(stops ? [drawStops(stops, layouts.get(stops.slot), look)] : []), ...resultsOf(read, layouts, stores));
   byId("text-details").open = !read;
   byId("report").textContent = shown.text;
   byId("rest").textContent = shown.rest;

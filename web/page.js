@@ -99,7 +99,7 @@ async function showFault({ status, text: answer }, job) {
     view.forgetFault();
     return null;
   }
-  const fault = faultOf(answer, job, texts.sentences);
+  const fault = faultOf(answer, job);
   const hint = status === SNAPSHOT_HAS_FAULT ? null : await hintOf(ask, fault, job);
   const room = fault.name === "TooLarge" ? await roomFor(ask, job, fault.slot) : null;
   if (job === view.text) view.showFault(fault, room ? `the deck becomes ${room.words} words` : hint, room && enlargement(fault.slot, room.size));
@@ -175,7 +175,7 @@ async function runNow(asked) {
   showText(null);
   const answer = await ask(asked, text);
   const fault = await showFault(answer, text);
-  const outcome = await outcomeOf(ask, jobOf(asked[0], text), answer, { isRun, ...texts });
+  const outcome = await outcomeOf(ask, jobOf(asked[0], text), answer, { isRun, failures: texts.failures });
   showText(outcome, { look: isRun ? look : null, go: goToStop, change: isRun ? changeAndRun : null });
   lastRun = isRun && outcome.read ? { ...outcome, text } : null;
   if (lastRun) theorem.take(lastRun);
@@ -210,7 +210,7 @@ async function changeAndRun({ name, change }) {
 async function explain(job) {
   const { status, text } = await ask(["asm", "0"], job);
   if (!FAULTS.includes(status)) return null;
-  const fault = faultOf(text, job, texts.sentences);
+  const fault = faultOf(text, job);
   return { ...fault, hint: await hintOf(ask, fault, job) };
 }
 
@@ -313,7 +313,7 @@ function chooseExample() {
 
 /** Shows the report that was recorded of an example, if the machine can't run. */
 function showRecorded({ job, report }) {
-  if (report) showText(outcomeOfRecord(job, report, texts));
+  if (report) showText(outcomeOfRecord(job, report, texts.failures));
 }
 
 async function openFile() {

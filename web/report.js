@@ -1,5 +1,9 @@
 // The texts that say what became of programs: the report of a run, and the text of a program that ran alone.
 
+import { ENTRIES, JOB } from "./tables.js";
+
+const GROUP = JOB.most.words_of_group;
+
 /** How many characters of a text are read at most. */
 export const LONGEST_READ = 20000000;
 
@@ -60,7 +64,7 @@ export function numberOf(octal) {
 }
 
 /** The entries of a call that finds a program held up. */
-export const HOLDS = ["LOV", "BUSY", "WAIT"];
+export const HOLDS = ENTRIES.filter(({ holds }) => holds).map(({ entry }) => entry);
 
 /** How many calls of the machine an entry records. */
 export function callsOf([kind, ...numbers]) {
@@ -92,7 +96,7 @@ export function callsOfOrders(entries, slot, orders) {
 }
 
 /** What a device of the pool is called, by its kind. */
-export const NAMES_OF_POOL = { TP: "punch", LP: "printer" };
+export const NAMES_OF_POOL = Object.fromEntries(JOB.kinds.map(({ kind, pooled }) => [kind, pooled]));
 
 /** The blocks of a device as lines. */
 export const linesOfBlocks = (blocks) => blocks.map(({ text, isLast }) => `${text}${isLast ? "   (last block mark)" : ""}`);
@@ -115,7 +119,7 @@ const SAID = {
   GIVE: (p, d) => `program ${p} gave device ${d} back to the pool`,
   FAIL: (p, kind) => `program ${p} failed: ${kind}`,
   ENDED: (p) => `program ${p} ended`,
-  LOV: (p, g) => `program ${p} is held up by group ${g}, words ${32 * g} to ${32 * g + 31}, which is locked out`,
+  LOV: (p, g) => `program ${p} is held up by group ${g}, words ${GROUP * g} to ${GROUP * g + GROUP - 1}, which is locked out`,
   BUSY: (p, d) => `program ${p} is held up by device ${d}, which has a transfer`,
   WAIT: (p, kind) => `program ${p} is held up by the pool, of which every ${NAMES_OF_POOL[kind]} has a holder`,
   IDLE: (n) => `${many(n, "call")} found all live programs held up`,

@@ -57,7 +57,7 @@ function storyOf(section, layout) {
 }
 
 /** The words of a program: those that the run changed come first, and then those that the job shows. The others that have names are folded. */
-function drawWords(section, layout, store, characters) {
+function drawWords(section, layout, store) {
   const shown = new Map(section.words.map(({ address, octal }) => [address, octal]));
   const named = (layout?.addresses ?? []).filter((address) => store?.has(address));
   const isChanged = (address) => layout !== undefined && valueOf(address) !== layout.octalAt(address);
@@ -65,7 +65,7 @@ function drawWords(section, layout, store, characters) {
   const wordAt = (address) => ({ name: layout?.nameOf(address) ?? `E${address}`, address, octal: valueOf(address) });
   const all = [...new Set([...shown.keys(), ...named])].sort((one, other) => one - other), rest = all.filter((address) => !isChanged(address));
   const first = [...all.filter(isChanged), ...rest.filter((address) => shown.has(address))], folded = rest.filter((address) => !shown.has(address));
-  const drawn = (caption, addresses) => [tableOfWords(caption, addresses.slice(0, MOST_WORDS).map(wordAt), characters),
+  const drawn = (caption, addresses) => [tableOfWords(caption, addresses.slice(0, MOST_WORDS).map(wordAt)),
     ...(addresses.length > MOST_WORDS ? [make("p", {}, `${(addresses.length - MOST_WORDS).toLocaleString("en")} more words aren't shown.`)] : [])];
   const summary = make("summary", {}, `${many(folded.length, "word")} that the run left unchanged`);
   return [
@@ -74,8 +74,8 @@ function drawWords(section, layout, store, characters) {
   ];
 }
 
-function sectionOf(section, layout, store, characters) {
-  const parts = [make("h3", {}, `Program ${section.slot}`), make("p", {}, storyOf(section, layout)), ...drawWords(section, layout, store, characters)];
+function sectionOf(section, layout, store) {
+  const parts = [make("h3", {}, `Program ${section.slot}`), make("p", {}, storyOf(section, layout)), ...drawWords(section, layout, store)];
   if (section.nest.length) parts.push(table("Nest, the top first", ["", "octal", "decimal"], section.nest.map((octal, at) => [`N${at + 1}`, ...wordCells(octal)])));
   if (section.qStores.length) {
     parts.push(table("Q-stores", ["", "counter", "increment", "modifier"], section.qStores.map(({ number, parts: [...cells] }) => [`Q${number}`, ...cells])));
@@ -104,12 +104,11 @@ function journalOf(entries) {
     table("Entries", ["entry", "what it says", "calls before it"], rows), ...rest);
 }
 
-/** What was read of a report or of the text of a lone run, as elements of the page; none if it is null. `stores` has the words of each program if they are known, and
- * `characters` those of the codes. */
-export function resultsOf(read, layouts, stores, characters) {
+/** What was read of a report or of the text of a lone run, as elements of the page; none if it is null. `stores` has the words of each program if they are known. */
+export function resultsOf(read, layouts, stores) {
   if (read === null) return [];
   const { entries, sections } = read;
-  const drawn = sections.map((section) => sectionOf(section, layouts.get(section.slot), stores?.get(section.slot), characters));
+  const drawn = sections.map((section) => sectionOf(section, layouts.get(section.slot), stores?.get(section.slot)));
   const hasWords = drawn.some((section) => section.querySelector(".words"));
   return [...(hasWords ? [choiceOfView(byId("sections"))] : []), ...drawn, ...(entries.length ? [journalOf(entries)] : [])];
 }

@@ -3,8 +3,9 @@
 
 import { linesOf, readJob, textOf, writeJob } from "./job.js";
 import { callsOf, readReport, timed } from "./report.js";
+import { JOB } from "./tables.js";
 
-const MOST_LINES = 500000;
+const MOST_LINES = JOB.most.lines_of_schedule;
 const USUAL_WINDOW = 64;
 
 /** How many calls a transfer takes if nobody says. */

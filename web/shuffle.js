@@ -5,10 +5,12 @@ import { readJob, writeJob } from "./job.js";
 import { callsOf, readReport } from "./report.js";
 import { layoutsOf } from "./results.js";
 import { NoSchedule, readSchedule, withTransfers, writeSchedule } from "./schedule.js";
+import { LINES } from "./tables.js";
 
 export const MOST_SEED = 999999;
 
-const MOST_CALLS = 20000000, LONGEST_TRANSFER = 60, MOST_MOVES = 3, MOST_WORDS = 9, MOST_SWAPS = 6, MOST_DUMMIES = 9;
+const [[, MOST_CALLS]] = LINES.ORDERS.numbers;
+const LONGEST_TRANSFER = 60, MOST_MOVES = 3, MOST_WORDS = 9, MOST_SWAPS = 6, MOST_DUMMIES = 9;
 
 /** A number from 0 up to below `end`, which depends on nothing but the other numbers. */
 function chance(end, ...numbers) {

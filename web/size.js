@@ -1,10 +1,10 @@
 // How large a store has to be for a deck.
 
 import { readListing } from "./deck.js";
-import { RANGES } from "./fault.js";
 import { readJob, writeJob } from "./job.js";
+import { JOB, LINES } from "./tables.js";
 
-const GROUP = 32, [[, LARGEST]] = RANGES.STORE;
+const GROUP = JOB.most.words_of_group, [[, LARGEST]] = LINES.STORE.numbers;
 
 /** How many words a deck of a job becomes, and the size of the least store that has room for them; null if none has. The machine lists the deck in the largest
  * store. */

@@ -3,10 +3,10 @@
 
 import { lineAndColumn } from "./deck.js";
 import { button, make } from "./dom.js";
-import { RANGES } from "./fault.js";
 import { readJob, writeJob } from "./job.js";
 import { NAMES_OF_POOL, many, numberOf } from "./report.js";
 import { USUAL_DELAY, readSchedule, writeSchedule } from "./schedule.js";
+import { LINES } from "./tables.js";
 
 /** The sign of each kind of verdict. */
 const SIGNS = { ended: "✓", failed: "✗", held: "‖", deadlock: "↻", cut: "…" };
@@ -19,7 +19,7 @@ const IN_SHORT = {
 
 /** How many calls come after the end of a transfer if there are none, and how many times as many calls a run gets that had too few. */
 const MORE_CALLS = 100, TIMES_MORE = 10;
-const [[, MOST_CALLS]] = RANGES.ORDERS;
+const [[, MOST_CALLS]] = LINES.ORDERS.numbers;
 
 /** The job with a line END for a transfer of this device that began after so many calls. */
 export function withEnd(text, device, begun) {
@@ -37,10 +37,10 @@ export function withMoreCalls(text) {
   return writeJob({ ...job, schedule: writeSchedule({ calls: moreCalls(calls), events }) });
 }
 
-/** What came of the programs of a run. `sentences` are those of the documents. */
+/** What came of the programs of a run. `failures` has what the documents say of each kind of failure. */
 export class Verdicts {
-  constructor({ sections }, timeline, { layouts, sentences, text }) {
-    Object.assign(this, { timeline, layouts, failures: sentences.failure, job: readJob(text) });
+  constructor({ sections }, timeline, { layouts, failures, text }) {
+    Object.assign(this, { timeline, layouts, failures, job: readJob(text) });
     this.calls = this.job ? readSchedule(this.job.schedule).calls : 0;
     this.waiting = this.findCircle(sections);
     this.all = sections.map((section) => this.verdictOn(section));

@@ -2,6 +2,7 @@
 
 import { choice, labelled, make } from "./dom.js";
 import { numberOf } from "./report.js";
+import { JOB } from "./tables.js";
 
 const BITS = { character: 6n, half: 24n, part: 16n };
 
@@ -11,7 +12,7 @@ function partsOf(octal, bits) {
   return Array.from({ length: Number(count) }, (_, at) => (word >> (bits * (count - 1n - BigInt(at)))) & ((1n << bits) - 1n));
 }
 
-const charactersOf = (octal, characters) => partsOf(octal, BITS.character).map((code) => characters[Number(code)]).join("");
+const charactersOf = (octal) => partsOf(octal, BITS.character).map((code) => JOB.characters[Number(code)]).join("");
 const qStoreOf = (octal) => partsOf(octal, BITS.part).join("/");
 const halvesOf = (octal) => partsOf(octal, BITS.half).map((half) => BigInt.asIntN(24, half).toLocaleString("en")).join(", ");
 
@@ -26,12 +27,12 @@ export function choiceOfView(element) {
 }
 
 /** A table of words, each with its name, its address and its value in octal. */
-export function tableOfWords(caption, words, characters) {
+export function tableOfWords(caption, words) {
   const head = ["name", "address", "octal", "decimal"].map((name) => make("th", { scope: "col" }, name));
   const views = Object.keys(VIEWS).map((name) => make("th", { scope: "col", "data-view": name }, name));
   const rows = words.map(({ name, address, octal }) => make("tr", {},
     make("th", { scope: "row" }, name), make("td", {}, `${address}`), make("td", {}, make("code", {}, octal)),
     make("td", {}, numberOf(octal).toLocaleString("en")),
-    ...Object.entries(VIEWS).map(([name, view]) => make("td", { "data-view": name }, make("code", {}, view(octal, characters))))));
+    ...Object.entries(VIEWS).map(([name, view]) => make("td", { "data-view": name }, make("code", {}, view(octal))))));
   return make("table", { class: "words" }, make("caption", {}, caption), make("thead", {}, make("tr", {}, ...head, ...views)), make("tbody", {}, ...rows));
 }

@@ -7,18 +7,22 @@ from kdf9.deck import Layout, Row
 from kdf9.job import Slot
 from kdf9.report import Section
 from kdf9.service import SERVICE
+from kdf9.tables import kinds, table
 from kdf9.words import count, listed, whole
 
-KINDS = {"TP": "a paper tape punch", "TR": "a paper tape reader", "LP": "a line printer", "CR": "a card reader", "MT": "a magnetic tape"}
-CODES_OF_KINDS = {1: "TP", 2: "TR", 3: "LP", 4: "CR"}
-CHARACTERS = " \"~^_?%':=()$*,/0123456789`;+-.!@ABCDEFGHIJKLMNOPQRSTUVWXYZ[]|<>"
-MOST_WORDS = 4096
+KINDS = {kind: f"a {row['name']}" for kind, row in kinds().items()}
+CODES_OF_KINDS = {row["claimed_as"]: kind for kind, row in kinds().items() if "claimed_as" in row}
+CHARACTERS = table("job")["characters"]
+MOST_WORDS = table("job")["most"]["words_of_area"]
 
 BY_TWO = re.compile(r"=?M(\d+)M(\d+)Q?(H?)(N?)\Z")
 STORE = re.compile(r"=?((?:V|Y[A-Z]?|E)\d+(?:P\d+)?)(?:M(\d+)Q?)?\Z")
-TRANSFER = re.compile(r"(PRE?|PWE?|CR|LPE?|MFR|MBR|MW|MLW|MRWD|MFSK|MBSK)Q(\d+)\Z")
-TEST = re.compile(r"(BUSY|PAR|MBT|MLB|INT|TLO)Q(\d+)\Z")
-OF_KINDS = {"PR": "TR", "PRE": "TR", "PW": "TP", "PWE": "TP", "CR": "CR", "LP": "LP", "LPE": "LP"}
+
+# The kind of device that each order of a transfer needs, by its name without the Q-store; and the tests.
+OF_KINDS = {row["name"][:-len("Qq")]: row["device"] for row in table("orders")["orders"] if "device" in row}
+TESTS = [row["name"][:-len("Qq")] for row in table("orders")["orders"] if row["group"] == "tests"]
+TRANSFER = re.compile(rf"({'|'.join(OF_KINDS)})Q(\d+)\Z")
+TEST = re.compile(rf"({'|'.join(TESTS)})Q(\d+)\Z")
 
 # The numbers of OUT but that of the service, those with a second word, and what becomes of 64 if octal digits are taken for decimal ones, or the other way round.
 OUTS, OF_TWO_WORDS = [0, 3, 4, 5, 6, 8, 9], [4, 5, 6, 8]
@@ -134,7 +138,8 @@ def reason_of_out(case):
     call, *rest = map(number_of, case.section.nest)
     second = rest[0] if rest else None
     if call == 5:
-        return f"OUT 5 needs 1 (TP), 2 (TR), 3 (LP) or 4 (CR) in N2, but N2 is {second}"
+        codes = listed([f"{code} ({kind})" for code, kind in sorted(CODES_OF_KINDS.items())], "or")
+        return f"OUT 5 needs {codes} in N2, but N2 is {second}"
     if call == 8:
         return f"OUT 8 has streams 0 to 7, but the counter of N2 is {case.section.nest[1] >> 32}"
     if call == SERVICE:

@@ -4,40 +4,30 @@ from typing import NamedTuple
 
 from kdf9 import deck as decks
 from kdf9 import job as jobs
-from kdf9 import saved
+from kdf9 import saved, tables
 from kdf9.job import HEADER
-from kdf9.program import LARGE, ROOT, BadInput, ask, how_ended
+from kdf9.program import LARGE, BadInput, ask, how_ended
 from kdf9.words import capitals, listed, whole
 
 # The bytes that some editors write first, and how many blank lines before a job count as a slip.
 BYTE_ORDER_MARK = "\xef\xbb\xbf"
 BLANK_LINES = 9
 
-# Which field of a line is the one at fault, counted from 0.
-WORD_AT_FAULT = {
-    "SlotOrder": 1, "SizeNotGroups": 1, "StoreFull": 1, "DeviceTwice": 1, "BadLabel": 3, "LabelTwice": 3,
-    "ShowRange": 1, "ClockFalls": 1, "TooManyOrders": 1, "PoolKind": 2,
-}
-
-# The least and the greatest value of each number in a line.
-RANGES = {
-    "SLOT": [(0, 3)], "STORE": [(32, 8192)], "DEVICE": [(0, 15)], "SHOW": [(0, 8191), (0, 8191)],
-    "ORDERS": [(1, 20000000)], "MOVE": [(0, 15), (1, 4096)], "END": [(0, 15)], "CLOCK": [(0, 2**47 - 1)],
-    "SWAP": [(0, 3), (0, 3)],
-}
-KEYWORDS = {*RANGES, "DECK", "ENDDECK", "SERVICE", "POOL", "SCHEDULE", "ENDJOB"}
+# The least and the greatest value of each number in a line, by the word with which the line begins; and all such words but that of the first line.
+RANGES = {word: row["numbers"] for word, row in tables.lines().items() if "numbers" in row}
+KEYWORDS = {*tables.lines()}
 NUMBER = re.compile(r"(?:0|[1-9][0-9]*)\Z")
 
-# The kinds of devices that begin empty, and what stands for a kind directly after the line POOL.
-EMPTY = ("TP", "LP", "POOL")
+# What stands for a kind of device directly after the line POOL.
+POOL = "POOL"
 
-# The bytes of a medium that aren't characters, and the most characters of a line by the kind of its device.
-NO_CHARACTER = re.compile(r"[^ -`|]|[#&\\]")
-LONGEST = {"CR": 80, "MT": 32768}
+# A byte of a medium that isn't a character. The last of the table is End Message.
+NO_CHARACTER = re.compile(f"[^{re.escape(tables.table('job')['characters'])}]")
 
 LONGEST_SUBJECT = 60
 
-BYTE_13 = "the line has a byte 13, as Windows writes before each newline; remove them with tr -d '\\r'"
+# What to do on a terminal about bytes 13.
+BYTE_13 = f"{tables.hint('byte_13')}; remove them with tr -d '\\r'"
 
 
 class Fault(NamedTuple):
@@ -91,7 +81,7 @@ def fault_of_job(name, line, lines):
     elif name == "BadMedium":
         column = column_in_medium(text, device_above(lines, line))
     else:
-        column = column_of_word(text, WORD_AT_FAULT.get(name, 0))
+        column = column_of_word(text, tables.faults("job")[name].get("field", 0))
     return Fault(name, line, column, shown(text))
 
 
@@ -124,18 +114,28 @@ def word_of_bad_number(text):
 
 def device_above(lines, line):
     """The kind of the device whose medium a line belongs to, or POOL directly after that line."""
-    above = next(lines[at] for at in range(line - 1, -1, -1) if lines[at].startswith("DEVICE ") or lines[at] == "POOL")
-    return above.split(" ")[2] if above != "POOL" else above
+    above = next(lines[at] for at in range(line - 1, -1, -1) if lines[at].startswith("DEVICE ") or lines[at] == POOL)
+    return above.split(" ")[2] if above != POOL else above
+
+
+def signs_of(kind):
+    """The signs with which a line of a medium can begin for a device of this kind: none if it begins empty."""
+    return tables.kinds()[kind]["signs"] if kind != POOL else []
+
+
+def longest_of(kind, text):
+    """The most characters of a line of a medium, after its sign; no fewer than the text has where there is no bound."""
+    return tables.kinds()[kind].get("longest", len(text))
 
 
 def column_in_medium(text, kind):
     """The column at which a line of a medium is wrong: its mark, the first byte that isn't a character, or the first byte too many."""
-    if kind in EMPTY or (text[0] == "=" and kind != "MT"):
+    if text[0] not in signs_of(kind):
         return 1
     stranger = NO_CHARACTER.search(text, 1)
     if stranger:
         return stranger.start() + 1
-    return min(len(text), LONGEST.get(kind, len(text)) + 1) + 1 if len(text) > 1 else 1
+    return min(len(text), longest_of(kind, text) + 1) + 1 if len(text) > 1 else 1
 
 
 def shown(text):
@@ -153,18 +153,13 @@ def brief_at(text, column):
     return brief(text) if column < LONGEST_SUBJECT // 2 else "..." + brief(text[column - LONGEST_SUBJECT // 4:])
 
 
-def page(name):
-    """The text of a page of the documents."""
-    return (ROOT / "docs" / name).read_text(encoding="utf-8")
-
-
 def sentence(fault):
     """What the documents say of a fault, and where."""
     if fault.slot is None:
-        found = re.search(rf"^\| `{fault.name}` \| (.*?) \|$", page("JOB.md"), re.MULTILINE)
-        return found[1], "(docs/JOB.md)"
-    found = re.search(rf"^### (\d+) {fault.name}\n\n(.*?)\n\n", page("USERCODE.md"), re.MULTILINE | re.DOTALL)
-    return " ".join(found[2].split()), f"(docs/USERCODE.md, fault {found[1]})"
+        row = tables.faults("job").get(fault.name) or tables.faults("snapshot")[fault.name]
+        return row["says"], "(docs/JOB.md)"
+    rows = tables.faults("deck")
+    return rows[fault.name]["says"], f"(docs/USERCODE.md, fault {1 + list(rows).index(fault.name)})"
 
 
 def lines_of_job(source, text):
@@ -183,11 +178,11 @@ def hint_of_header(lines):
     if "\r" in first:
         return f"; {BYTE_13}"
     if first.startswith(BYTE_ORDER_MARK):
-        return "; the text begins with a byte-order mark; save it without one"
+        return f"; {tables.hint('byte_order_mark')}"
     if capitals(first) == HEADER:
-        return f"; lowercase letters aren't allowed here; write {HEADER}"
+        return f"; {tables.hint('capitals', text=HEADER)}"
     if not first.strip() and HEADER in lines[:BLANK_LINES]:
-        return "; nothing may come before it, not even a blank line"
+        return f"; {tables.hint('nothing_before')}"
     return ""
 
 

@@ -1,8 +1,10 @@
 """The text of a job in which the program found no fault of the job: its lines, its slots with their decks, and its pool."""
 from typing import NamedTuple
 
+from kdf9.tables import table
+
 # The first line of a job.
-HEADER = "KDF9 JOB 1"
+HEADER = table("job")["header"]
 
 # The line of a slot, directly after its deck, whose program the installation's service answers.
 SERVICE = "SERVICE"

@@ -156,7 +156,7 @@ def why_kept(stopped, holder, number):
         return "and has neither given it back nor ended"
     hold = stopped.hold_of(holder)
     why = "nobody will give anything back" if hold.kind == "WAIT" else "the schedule doesn't end its transfer"
-    return f"and is itself held up by {HOLDS[hold.kind].format(hold.number)}: {why}"
+    return f"and is itself held up by {HOLDS[hold.kind].format(number=hold.number)}: {why}"
 
 
 def groups_of_order(case):

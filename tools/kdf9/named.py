@@ -4,6 +4,7 @@ from typing import Dict, List, NamedTuple, Optional
 
 from kdf9.deck import CONSTANT, DECLARATION, OPENING, Statement, statements
 from kdf9.job import Slot
+from kdf9.tables import hint
 from kdf9.words import listed, whole
 
 # The part that a jump or a store names, and the letter of a Y-store.
@@ -76,27 +77,25 @@ def hint_of_v_stores(named: Named, statement: Statement) -> Optional[str]:
     if part is None:
         return None
     if constant and part.highest is not None and whole(constant[1]) <= part.highest:
-        return f"V{whole(constant[1])} has a constant already"
+        return hint("constant_twice", number=whole(constant[1]))
     return said_of_stores(f"{part.name} has", "V", part.highest)
 
 
 def said_of_stores(owner: str, name: str, highest: Optional[int]) -> str:
     """Which stores of a name somebody has, in words."""
-    if highest is None:
-        return f"{owner} no {name}-stores"
-    return f"{owner} {name}0" + (f" to {name}{highest}" if highest else "")
+    return hint("no_stores" if highest is None else "stores" if highest else "one_store", owner=owner, name=name, highest=highest)
 
 
 def hint_of_parts(named: Named, _statement: Statement) -> str:
     """Which parts the deck has."""
     parts = [f"P{number}" for number in named.parts if number]
-    return f"the deck has {listed(parts)} besides its main part" if parts else "the deck has only its main part"
+    return hint("parts", parts=listed(parts)) if parts else hint("no_parts")
 
 
 def hint_of_opening(named: Named, statement: Statement) -> str:
     """Where the part was opened first."""
     number = whole(OPENING.match(statement.text)[1])
-    return f"the first P{number} is at {named.place(named.parts[number].opening)}"
+    return hint("first_part", number=number, place=named.place(named.parts[number].opening))
 
 
 def hint_of_references(named: Named, statement: Statement) -> Optional[str]:
@@ -105,14 +104,14 @@ def hint_of_references(named: Named, statement: Statement) -> Optional[str]:
     if part is None:
         return None
     numbers = list(dict.fromkeys(str(whole(each.text)) for each in part.references))
-    return f"{part.name} has {'references' if len(numbers) > 1 else 'reference'} {listed(numbers)}" if numbers else f"{part.name} has no references"
+    return hint("references" if len(numbers) > 1 else "reference" if numbers else "no_references", part=part.name, numbers=listed(numbers or [""]))
 
 
 def hint_of_first_reference(named: Named, statement: Statement) -> Optional[str]:
     """Where the part has the reference first."""
     part = named.part_of(statement)
     first = next((each for each in part.references if whole(each.text) == whole(statement.text)), None) if part else None
-    return first and f"the first {whole(first.text)} of {part.name} is at {named.place(first)}"
+    return first and hint("first_reference", number=whole(first.text), part=part.name, place=named.place(first))
 
 
 HINTS = {

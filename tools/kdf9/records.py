@@ -4,16 +4,13 @@ import re
 
 from kdf9.job import read_lines
 from kdf9.program import ENCODING, BadInput
+from kdf9.tables import table
 
 HEADERS = re.compile(r"KDF9 (REPORT 1|ALONE [0-3])\Z")
 OCTAL = re.compile(r"[0-7]{16}\Z")
 
-# The fields after the first word of an entry, by name; the last one of FAIL and WAIT is a name.
-ENTRIES = {
-    "RAN": ("slot", "orders"), "START": ("slot", "device", "order"), "ANSWER": ("slot", "answer"), "FAIL": ("slot", "kind"), "ENDED": ("slot",),
-    "LOV": ("slot", "group"), "BUSY": ("slot", "device"), "WAIT": ("slot", "kind"), "IDLE": ("calls",), "MOVE": ("device", "words"),
-    "END": ("device",), "CLOCK": ("time",), "SWAP": ("slot", "other"), "TAKE": ("slot", "device"), "GIVE": ("slot", "device"),
-}
+# The fields after the first word of an entry, by name; a kind is a name, and the others are numbers.
+ENTRIES = {row["entry"]: row["fields"] for row in table("entries")}
 NAMES = ("kind",)
 
 # The lists of devices of a section, and the first word of their lines.

@@ -4,15 +4,11 @@ from typing import NamedTuple
 from kdf9.deck import WORD
 from kdf9.job import read_lines
 from kdf9.program import BadInput
+from kdf9.tables import table
 
-# The entries of a journal, and how many fields each of them has after its first word.
-ENTRIES = {
-    "RAN": 2, "START": 3, "ANSWER": 2, "FAIL": 2, "ENDED": 1, "LOV": 2, "BUSY": 2, "IDLE": 1,
-    "MOVE": 2, "END": 1, "CLOCK": 1, "SWAP": 2, "TAKE": 2, "GIVE": 2, "WAIT": 2,
-}
-
-# The entries whose last word is a name.
-NAMING = ("FAIL", "WAIT")
+# The entries of a journal, and how many fields each of them has after its first word; and those of which the last word is a name.
+ENTRIES = {row["entry"]: len(row["fields"]) for row in table("entries")}
+NAMING = [row["entry"] for row in table("entries") if row["fields"][-1] == "kind"]
 
 # No entry is longer; a longer number would take Python long, or be refused by it.
 LONGEST_ENTRY = 40

@@ -5,11 +5,12 @@ from typing import NamedTuple
 from kdf9.job import join_lines
 from kdf9.program import ask
 from kdf9.report import HEADER, length_of_journal
+from kdf9.tables import table
 
 JOURNAL, END, ENDJOB = "JOURNAL", "ENDSNAPSHOT", "ENDJOB"
 
 # The most bytes of a job that `run` reads.
-MOST_BYTES = 4194304
+MOST_BYTES = table("job")["most"]["bytes"]
 
 # The commands over a text that begins with a job, and how the line after the job begins if one of the last two reads it.
 RUN, RESUME, CHECK = "run", "resume", "check"

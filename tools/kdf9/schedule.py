@@ -2,8 +2,9 @@
 from typing import NamedTuple
 
 from kdf9.job import job_text
+from kdf9.tables import table
 
-MOST_LINES = 500000
+MOST_LINES = table("job")["most"]["lines_of_schedule"]
 
 
 class Event(NamedTuple):

@@ -1,8 +1,9 @@
 """A journal over time: how many calls were made when an entry was entered, and with which call each order was obeyed."""
 from kdf9.journal import calls_of
+from kdf9.tables import table
 
 # What holds a program up, in words, by the entry that says so.
-HOLDS = {"BUSY": "device {}", "LOV": "group {}", "WAIT": "the pool, which had no free {}"}
+HOLDS = {row["entry"]: row["holds"] for row in table("entries") if "holds" in row}
 
 
 def timed(entries):

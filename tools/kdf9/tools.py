@@ -38,8 +38,8 @@ TOOLS = {tool.name: tool for tool in (
         "./kdf9 listing examples/walks-over-a-table.job",
     ),
     Tool(
-        "schedule", "JOB [DEVICE=N ..] [--after N] [--every N]",
-        "Writes a job again with a schedule in which each transfer ends a fixed number of calls after it began.",
+        "schedule", "JOB [DEVICE=N ..] [--after N] [--every N] [--speed DEVICE=A+B ..] [--speeds NAME]",
+        "Writes a job again with a schedule in which each transfer ends a fixed number of calls after it began, or by its length.",
         "./kdf9 schedule examples/adds-cards.job --after 7 4=30",
     ),
     Tool(

@@ -90,7 +90,7 @@ def said_of(between, slot):
     holds, ran, scheduled, idle = [], Counter(), [], 0
     for calls, (kind, *numbers) in between:
         if kind in HOLDS and numbers[0] == slot:
-            holds.append(f"held up from call {calls + 1} by {HOLDS[kind].format(numbers[1])}")
+            holds.append(f"held up from call {calls + 1} by {HOLDS[kind].format(number=numbers[1])}")
         elif kind == "RAN":
             ran[numbers[0]] += numbers[1]
         elif kind == "IDLE":

@@ -1,4 +1,4 @@
-"""The page as one file: the module, the script, the style, and the texts that the script shows."""
+"""The page as one file: the module, the script with its tables, the style, and the texts that the script shows."""
 import base64
 import gzip
 import json
@@ -12,12 +12,18 @@ FIRST_HOUR, EXAMPLES = "The first hour", "Examples"
 # The main script, which imports the others.
 MAIN = "page"
 IMPORT = re.compile(r'^import (\{[^}]*\}) from "\./(\w+)\.js";\n', re.MULTILINE)
+TABLE = re.compile(r"/\* (tables/\w+\.json) \*/ null")
 EXPORT = re.compile(r"^export ((?:async )?(?:function|class|const) )(\w+)", re.MULTILINE)
 
 
 def read(path):
     """The text of a file of the repository."""
     return (ROOT / path).read_text(encoding="utf-8")
+
+
+def in_page(value):
+    """A value as JSON that is safe within a page."""
+    return json.dumps(value, ensure_ascii=False, separators=(",", ":")).replace("</", "<\\/")
 
 
 def script(name=MAIN):
@@ -28,7 +34,7 @@ def script(name=MAIN):
         if each in done:
             return
         done[each] = None
-        text = read(f"web/{each}.js")
+        text = TABLE.sub(lambda mark: in_page(json.loads(read(mark[1]))), read(f"web/{each}.js"))
         for names, used in IMPORT.findall(text):
             visit(used)
             missing = set(re.findall(r"\w+", names)) - set(exported[used])
@@ -44,37 +50,10 @@ def script(name=MAIN):
     return "\n".join(done.values())
 
 
-def sentences():
-    """What the documents say about each fault of a job, of a snapshot and of a deck, and about each kind of failure."""
-    deck = {}
-    for number, name, said in re.findall(r"^### (\d+) (\w+)\n\n(.*?)\n\n", read("docs/USERCODE.md"), re.MULTILINE | re.DOTALL):
-        deck[name] = f"{' '.join(said.split())} (docs/USERCODE.md, fault {number})"
-    return {"job": plain(faults_of("job")), "snapshot": plain(faults_of("snapshot")), "deck": plain(deck), "failure": failures()}
-
-
 def failures():
     """What docs/GLOSSARY.md says of each kind of failure, by its name."""
     kinds = re.search(r"kinds of failure: (.*?) \|$", read("docs/GLOSSARY.md"), re.MULTILINE)[1]
     return {name: bare(glossary(name)) for name in re.findall(r"[A-Z]+", kinds)}
-
-
-def faults_of(what):
-    """What docs/JOB.md says about each fault of this, by its name."""
-    table = read("docs/JOB.md").partition(f"## What is wrong with a {what}")[2].partition("\n## ")[0]
-    rows = re.findall(r"^\| `([A-Z]\w+)` \| (.*?) \|$", table, re.MULTILINE)
-    return {name: f"{said[0].upper()}{said[1:]}. (docs/JOB.md)" for name, said in rows}
-
-
-def characters():
-    """The 64 characters by their codes, as docs/USERCODE.md has them."""
-    rows = re.findall(r"^\| \*\*[0-7]\*\* \| (.*) \|$", read("docs/USERCODE.md"), re.MULTILINE)
-    return "".join(character(cell) for row in rows for cell in row.split(" | "))
-
-
-def character(cell):
-    """The character of a cell: it stands there by itself, or as the number of its byte or its name."""
-    by_number = re.search(r"byte (\d+)", cell)
-    return chr(int(by_number[1])) if by_number else cell[1] if cell.startswith("`") else {"space": " "}[cell]
 
 
 def help_of_statements():
@@ -118,11 +97,6 @@ def entries_of_orders():
         yield name, entry(paragraphs, "Examples", ["order", "before", "after"], rows)
 
 
-def plain(said):
-    """The sentences without the backquotes around code."""
-    return {name: sentence.replace("`", "") for name, sentence in said.items()}
-
-
 def jobs_of_first_hour():
     """The jobs of the tour, each with the answer to `run` if the tour has it."""
     tour = read("docs/TOUR.md")
@@ -143,7 +117,7 @@ def jobs_of_examples():
 def texts(start):
     """What the script shows, as JSON that is safe within a page. `start` is the job that runs when the page opens, or None."""
     jobs = dict([*jobs_of_first_hour(), *jobs_of_examples()])
-    return json.dumps({"jobs": jobs, "sentences": sentences(), "characters": characters(), "start": start}, ensure_ascii=False, separators=(",", ":")).replace("</", "<\\/")
+    return in_page({"jobs": jobs, "failures": failures(), "start": start})
 
 
 def packed(data):

@@ -1,0 +1,38 @@
+"""The tables of the folder tables/: each is read once, when it is first asked for. The page has the same ones (web/tables.js)."""
+import functools
+import json
+from typing import Any, Dict, List
+
+from kdf9.program import ROOT
+
+
+@functools.lru_cache(maxsize=None)
+def table(name: str) -> Any:
+    """The table of this name."""
+    return json.loads((ROOT / "tables" / f"{name}.json").read_text(encoding="utf-8"))
+
+
+def hint(name: str, /, **values: object) -> str:
+    """The hint of this name, with these values in the places of their names."""
+    return table("hints")[name].format(**values)
+
+
+def forms() -> List[str]:
+    """Every form of a statement whose operands are numbers, with a 0 for each of them."""
+    orders = table("orders")
+    return [form for order in orders["orders"] for form in order["forms"]] + [row["form"] for row in orders["statements"]]
+
+
+def lines() -> Dict[str, dict]:
+    """The rows of the lines of a job by the word with which each begins."""
+    return {row["word"]: row for row in table("job")["lines"]}
+
+
+def kinds() -> Dict[str, dict]:
+    """The rows of the kinds of devices by their names in a job."""
+    return {row["kind"]: row for row in table("job")["kinds"]}
+
+
+def faults(what: str) -> Dict[str, dict]:
+    """The rows of the faults of a job, a snapshot or a deck by their names."""
+    return {row["name"]: row for row in table("faults")[what]}

@@ -1,0 +1,26 @@
+// The tables of the folder tables/, which tools/web/bundle.py puts in the places of their names. The tools have the same ones (tools/kdf9/tables.py).
+
+const ORDERS = /* tables/orders.json */ null;
+const HINTS = /* tables/hints.json */ null;
+export const JOB = /* tables/job.json */ null;
+export const FAULTS = /* tables/faults.json */ null;
+
+const matching = ([names, said]) => [new RegExp(`^(?:${names})$`), said];
+const NAMES = /* tables/names.json */ null;
+
+/** What something is called on other machines, and how it is written here; and the orders of the KDF9 that this machine leaves out, besides floating point. */
+export const ELSEWHERE = NAMES.elsewhere.map(matching);
+export const LEFT_OUT = NAMES.left_out.map(matching);
+
+/** Every form of a statement whose operands are numbers, with a 0 for each of them. */
+export const FORMS = [...ORDERS.orders.flatMap(({ forms }) => Object.keys(forms)), ...ORDERS.statements.map(({ form }) => form)];
+
+/** The lines of a job by the word with which each begins, and the kinds of devices by their names in a job. */
+export const LINES = Object.fromEntries(JOB.lines.map((line) => [line.word, line]));
+export const KINDS = Object.fromEntries(JOB.kinds.map((kind) => [kind.kind, kind]));
+
+/** The entries of a journal. */
+export const ENTRIES = /* tables/entries.json */ null;
+
+/** The hint of this name, with these values in the places of their names. */
+export const hint = (name, values = {}) => HINTS[name].replace(/\{(\w+)\}/g, (_, each) => values[each]);
