@@ -12,18 +12,18 @@ from typing import Iterator, List, Optional, Tuple
 from toolkit import ENVIRONMENT, HEAD, ROOT, TAIL, Run, document, kdf9, refused, side_by_side
 
 sys.path.insert(0, str(ROOT / "tools"))
+from building.engine import is_current  # noqa: E402
 from building.rooms import read_crates  # noqa: E402
 from kdf9.tools import TOOLS  # noqa: E402
 
 Cases = Iterator[Tuple[str, Optional[str]]]
 
-# The tools that read a report or JSON from standard input; the others but page read the file that their first argument names.
+# The tools that read a report or JSON from standard input; the others but page and lib read the file that their first argument names.
 READS_INPUT = ("picture", "json", "report")
-READS_FILE = tuple(name for name in TOOLS if name not in (*READS_INPUT, "page"))
+READS_FILE = tuple(name for name in TOOLS if name not in (*READS_INPUT, "page", "lib"))
 
-# These need the machine as WebAssembly, which tests/page makes.
-WRITES_PAGE = ("page", "replay")
-ENGINE = ROOT / "crates" / "kdf9" / "out" / "page" / "engine.wasm"
+# These need the machine for other programs, which tests/page and tests/library make.
+NEEDS_ENGINE = ("page", "replay", "lib")
 
 # Wrong arguments, and what is said of them.
 WRONG_WORDS = [
@@ -40,6 +40,7 @@ WRONG_WORDS = [
     (["schedule", "-", "--speed", "16=1+1"], "--speed: has to be a number from 0 to 15"), (["schedule", "-", "--speeds", "fast"], "(choose from 'kdf9')"), (["schedule", "-", "--speed"], "--speed"),
     (["same"], "required: JOB"), (["same", "-", "-"], "can't both be standard input"), (["same", "-", "a", "b"], "b"),
     (["picture", "--svg"], "--svg"), (["json", "-"], "-"), (["report", "-"], "-"), (["page", "x"], "x"), (["replay"], "required: JOB"),
+    (["lib"], "required: FOLDER"), (["lib", "a", "b"], "b"),
 ]
 
 # What is no text of a tool: its name and its bytes.
@@ -85,7 +86,7 @@ def examples_of_tools_work() -> Cases:
         for name in ("kdf9", "examples"):
             pathlib.Path(folder, name).symlink_to(ROOT / name)
         for tool in TOOLS.values():
-            if tool.name not in WRITES_PAGE or ENGINE.exists():
+            if tool.name not in NEEDS_ENGINE or is_current():
                 done = subprocess.run(["bash", "-c", tool.example], cwd=folder, env=ENVIRONMENT, capture_output=True, check=False)
                 written = done.stdout or pathlib.Path(folder, "kdf9.html").read_bytes()
                 yield f"the example {tool.example}", None if done.returncode == 0 and written else f"{done}"

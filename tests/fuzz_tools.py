@@ -41,11 +41,11 @@ DELAYS = [[], ["--after", "0"], ["--after", "7"], ["--every", "2", "--after", "3
 # What no tool may say: the last is that it reads a deck in another way than the program.
 SLIPS = ("Traceback", "slip of the tool", OTHER_DECK)
 
-# The tools that read a text: all but page.
-READERS = [name for name in TOOLS if name != "page"]
+# The tools that read a text.
+READERS = [name for name in TOOLS if name not in ("page", "lib")]
 
 # The page has no machine here: making it takes minutes.
-output.engine = lambda say: b""
+output.engine = lambda: b""
 
 
 def loaded(name: str) -> object:

@@ -2,8 +2,12 @@
 import itertools
 import json
 import random
+import sys
 
 from toolkit import ROOT
+
+sys.path.insert(0, str(ROOT / "tools"))
+from web.bundle import script  # noqa: E402
 
 # Numbers at the edges of 64 and 128 bits, and places to shift by.
 EDGES = [0, 1, -1, 5, 2**47 - 1, 2**63 - 1, 2**63, 2**64 - 1, 2**64, -2**63, 2**95 + 12345, 2**127 - 1, -2**127, -2**64 - 7]
@@ -71,9 +75,9 @@ def cases_of_sums():
 
 
 def worker_alone(opened):
-    """The worker's script is right by itself."""
+    """What the machine needs around it is right by itself."""
     page = opened("about:blank")
-    page.js((ROOT / "web/worker.js").read_text(encoding="utf-8") + "; 0")
+    page.js(f"{script('machine')} const {{ imports, Heap }} = machine_js; 0")
     calls, due = zip(*cases_of_sums())
     got = page.js(CALLS.replace("CASES", json.dumps(calls)))
     wrong = [call for call, halves_of_sum, value in zip(calls, got, due) if int(halves_of_sum[0]) + (int(halves_of_sum[1]) << 64) != value % 2**128]

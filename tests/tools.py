@@ -417,7 +417,7 @@ def documents_are_true():
         yield f"docs/TOOLS.md: {command}", None if done.stdout == due else f"gives {done.stdout}"
     job = re.search(r"^```job share.job\n(.*?)```$", document("TOUR.md"), re.MULTILINE | re.DOTALL)[1]
     named = re.findall(r"`([a-z0-9-]+)`(?=[^|]*\|[^|]*\|$)", document("EXAMPLES.md"), re.MULTILINE)
-    there = {path.stem for path in (ROOT / "examples").iterdir()}
+    there = {path.stem for path in (ROOT / "examples").iterdir() if path.is_file()}
     yield "docs/EXAMPLES.md", None if sorted(named) == sorted(there) else f"differs by {there ^ set(named)}"
     reports = {picture: example_report(name) for picture, name in PICTURED.items()}
     for picture, of in {**reports, "share.svg": kdf9(["run"], job).out}.items():

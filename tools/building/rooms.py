@@ -30,8 +30,8 @@ def read_list():
     return {line.partition(":")[0].split()[0]: line for line in lines if line.strip()}
 
 
-def read_crates():
-    """The crates that the program uses, each after those that it uses itself, and the program last, with the names of all crates below each."""
+def read_crates(top=PROGRAM):
+    """The crates that the program uses, or another crate, each after those that it uses itself, and that one last, with the names of all crates below each."""
     uses = {name: line.partition(":")[2].split() for name, line in read_list().items()}
     below = {}
 
@@ -42,8 +42,13 @@ def read_crates():
                 visit(it)
             below[name] = list(dict.fromkeys(each for it in own for each in [*below[it], it]))
 
-    visit(PROGRAM)
+    visit(top)
     return below
+
+
+def crates_below(top):
+    """The names of all crates below a crate, each after those that it uses itself."""
+    return read_crates(top)[top]
 
 
 def kept_crates(crates):

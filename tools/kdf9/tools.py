@@ -72,4 +72,9 @@ TOOLS = {tool.name: tool for tool in (
         "Writes the same page with a job in it, which opens at the run of that job.",
         "./kdf9 replay examples/reads-tape.job > kdf9.html",
     ),
+    Tool(
+        "lib", "FOLDER",
+        "Writes the machine as a library for programs in C, Python and JavaScript, and says how to use it.",
+        "./kdf9 lib kdf9-library",
+    ),
 )}

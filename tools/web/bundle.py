@@ -128,7 +128,7 @@ def packed(data):
 def page(module, start=None):
     """The page, made from the bytes of the module. If there is a job, it runs when the page opens."""
     parts = {
-        "STYLE": read("web/page.css"), "WORKER": read("web/worker.js"), "TEXTS": texts(start), "MODULE": packed(module),
+        "STYLE": read("web/page.css"), "WORKER": script("worker"), "TEXTS": texts(start), "MODULE": packed(module),
         "HELP": packed(json.dumps(help_of_statements(), separators=(",", ":")).encode("ascii")), "SCRIPT": script(),
     }
     return re.sub(r"/\* ([A-Z]+) \*/", lambda mark: parts[mark[1]], read("web/page.html"))

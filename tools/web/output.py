@@ -2,10 +2,10 @@
 import signal
 import sys
 
+from building.engine import NoEngine, engine
 from building.progress import say
 from kdf9.program import BadInput
 from web.bundle import page
-from web.engine import NoEngine, engine
 
 
 def write_page(command, job=None):
@@ -15,7 +15,7 @@ def write_page(command, job=None):
     if signal.getsignal(signal.SIGINT) is signal.SIG_DFL:
         signal.signal(signal.SIGINT, signal.default_int_handler)
     try:
-        sys.stdout.buffer.write(page(engine(say), job).encode("utf-8"))
+        sys.stdout.buffer.write(page(engine(), job).encode("utf-8"))
     except NoEngine as why:
         raise BadInput(f"kdf9: {why}") from why
     except KeyboardInterrupt:

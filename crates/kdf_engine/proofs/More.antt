@@ -1,5 +1,5 @@
--- What is done and due with the answers of one service is so with those of another that gives the same answers.
-use Rattle.std.proofs.Common.{◌≡◌, ◌≢◌, ◌⊎◌, inl, inr, ℕ, ◌+◌, ◌≤◌, List, length, Bool, true, false, Option, Some, None, IfSome, refl, subst}
+-- What is called for and done with the answers of one service is so with those of another that gives the same answers.
+use Rattle.std.proofs.Common.{◌≡◌, ◌≢◌, ◌⊎◌, inl, inr, ℕ, ◌+◌, ◌≤◌, List, length, Bool, true, false, Option, Some, None, IfSome, subst}
 use Rattle.kdf_text.specs.Lines.{is_text, line, lines}
 use Rattle.kdf_journal.specs.declared.entry.Entry.{Entry}
 use Rattle.kdf_schedule.specs.declared.event.Event.{Event}
@@ -12,15 +12,15 @@ use Rattle.kdf_check.specs.Report.{IsCheck, IsJudged, head_line, told_lines}
 use Rattle.kdf_check.specs.Verdict.{CanGoOn, IsFirstWrong, IsVerdict, TellJournal}
 use Rattle.kdf_check.specs.declared.verdict.Verdict.{Verdict}
 use Rattle.kdf_check.specs.declared.verdict.Verdict.TheVariants.{Yes, No}
-use Rattle.kdf_top.specs.Answers.{IsCalledWhere, IsDoneBy, IsDueAt, IsDueBy, IsTextOf, IsTrusted, called_by, job_text}
-use Rattle.kdf_top.specs.Commands.{keeps_machine}
-use Rattle.kdf_top.specs.Due.{IsJournalWhere, IsMachineOf, IsTextFrom, Keeps, job_of}
+use Rattle.kdf_top.specs.Answers.{Answers, IsCalledBy, IsCalledWhere, IsDoneBy, IsTrusted, called_by, job_text}
+use Rattle.kdf_top.specs.Due.{IsMachineOf, IsTextFrom, Keeps, job_of}
 use Rattle.kdf_top.specs.Snapshots.{IsComparedFor}
 use Rattle.kdf_top.specs.declared.command.Command.{Command}
 use Rattle.kdf_top.specs.declared.command.Command.TheVariants.{Run, Save, Resume, Check, Alone, Asm, Make, Watch}
 use Rattle.kdf_top.specs.declared.status.Status.{Status}
 use Rattle.kdf_top.specs.declared.status.Status.TheVariants as status
-use Rattle.page.specs.Service.{exchanged}
+use Rattle.kdf_engine.specs.Service.{exchanged}
+use Rattle.kdf_engine.proofs.Called.{called_for}
 
 -- ---- where all answers of the one are answers of the other
 module _ (answers more : ℕ → ℕ → Type 0) (part : (n a : ℕ) → answers n a → more n a) where
@@ -82,14 +82,7 @@ module _ (answers same : ℕ → ℕ → Type 0) (part : (n a : ℕ) → answers
   from_same (Make n) bytes J due is = is
   from_same (Watch slot address) bytes J due is = is
 
-  where_same : (b : Bool) (j : Job) (J : List Entry) → IsJournalWhere answers b j J → IsJournalWhere same b j J
-  where_same true j J is = journal_same _ _ J is
-  where_same false j J is = is
-
-  text_same : (c : Command) (bytes due : List ℕ) → IsTextOf answers (Some c) bytes due → IsTextOf same (Some c) bytes due
-  text_same c bytes due is = (is.0, where_same (keeps_machine c) (job_of c bytes) is.0 is.1, from_same c bytes is.0 due is.2)
-
-  -- ---- what is called for, and what is due then
+  -- ---- what is called for
   compared_same : (bytes : List ℕ) (called : Status) → IsComparedFor answers bytes called → IsComparedFor same bytes called
   compared_same bytes called is = (is.0, journal_same _ _ is.0 is.1, is.2)
 
@@ -112,20 +105,9 @@ module _ (answers same : ℕ → ℕ → Type 0) (part : (n a : ℕ) → answers
   called_same (Make n) bytes found called is = is
   called_same (Watch slot address) bytes found called is = is
 
-  due_at_same : (called : Status) (c : Command) (bytes due : List ℕ) → IsDueAt answers called (Some c) bytes due
-      → IsDueAt same called (Some c) bytes due
-  due_at_same status.Done c bytes due is = text_same c bytes due is
-  due_at_same status.Usage c bytes due is = is
-  due_at_same (status.Job fault at) c bytes due is = is
-  due_at_same (status.Deck slot fault place) c bytes due is = is
-  due_at_same status.Large c bytes due is = is
-  due_at_same status.ReadFault c bytes due is = is
-  due_at_same status.WriteFault c bytes due is = is
-  due_at_same status.Memory c bytes due is = is
-  due_at_same (status.Snapshot fault at) c bytes due is = is
-
-  due_same : (c : Command) (bytes due : List ℕ) → IsDueBy answers (Some c) bytes due → IsDueBy same (Some c) bytes due
-  due_same c bytes due is = (is.0, called_same c (job_text c bytes) (called_by (Some c) bytes) is.0 is.1, due_at_same is.0 c (job_text c bytes) due is.2)
+  called_by_same : (c : Option Command) (bytes : List ℕ) (called : Status) → IsCalledBy answers c bytes called → IsCalledBy same c bytes called
+  called_by_same None bytes called is = is
+  called_by_same (Some c) bytes called is = called_same c (job_text c bytes) (called_by (Some c) bytes) called is
 
   -- ---- what is done
   machine_same : (j : Job) (m : Shown) → IsMachineOf answers j m → IsMachineOf same j m
@@ -160,22 +142,17 @@ module _ (answers same : ℕ → ℕ → Type 0) (part : (n a : ℕ) → answers
     is.2,
   )
 
--- ---- with the exchange
+-- ---- with the exchange, over a source that tells its bytes
 module _ (answers : ℕ → ℕ → Type 0) (part : (n a : ℕ) → answers n a → exchanged n a) (back : (n a : ℕ) → exchanged n a → answers n a) where
-  -- over a source that tells its bytes
-  pub done_for : (c : Option Command) (left : Option (List ℕ)) (bytes : List ℕ) (kept : Option Shown) (before after : Option (List ℕ))
+  pub done_told : (c : Option Command) (left : Option (List ℕ)) (bytes : List ℕ) (kept : Option Shown) (before after : Option (List ℕ))
       → left ≡ Some bytes
       → IfSome left (λ b. IsDoneBy answers c b kept before after) → IsDoneBy exchanged c bytes kept before after
-  done_for c left bytes kept before after told is =
+  done_told c left bytes kept before after told is =
       done_same answers exchanged part back c bytes kept before after (subst (λ (o : Option (List ℕ)). IfSome o (λ b. IsDoneBy answers c b kept before after)) told is)
 
-  due_back : (c : Option Command) (bytes due : List ℕ) → IsDueBy exchanged c bytes due → IsDueBy answers c bytes due
-  due_back None bytes due is = (status.Usage, refl, subst (λ (s : Status). IsDueAt exchanged s None bytes due) is.1 is.2)
-  due_back (Some c) bytes due is = due_same exchanged answers back part c bytes due is
-
-  pub room_for : (c : Option Command) (left : Option (List ℕ)) (bytes : List ℕ) (given : Status) (room : ℕ) → left ≡ Some bytes
-      → IfSome left (λ b. (due : List ℕ) → IsDueBy answers c b due → length due ≤ room → given ≢ status.WriteFault)
-      → (due : List ℕ) → IsDueBy exchanged c bytes due → length due ≤ room → given ≢ status.WriteFault
-  room_for c left bytes given room told writes due is =
-      subst (λ (o : Option (List ℕ)). IfSome o (λ b. (d : List ℕ) → IsDueBy answers c b d → length d ≤ room → given ≢ status.WriteFault)) told writes due
-      (due_back c bytes due is)
+  pub called_told : (c : Option Command) (left : Option (List ℕ)) (bytes : List ℕ) (given : Status) (read_failed write_failed : Type 0) → left ≡ Some bytes
+      → IfSome left (λ b. Answers (IsCalledBy answers c b) given read_failed write_failed)
+      → given ≢ status.ReadFault → given ≢ status.WriteFault → given ≢ status.Memory → IsCalledBy exchanged c bytes given
+  called_told c left bytes given read_failed write_failed told is read write memory =
+      let own = subst (λ (o : Option (List ℕ)). IfSome o (λ b. Answers (IsCalledBy answers c b) given read_failed write_failed)) told is in
+      called_by_same answers exchanged part back c bytes given (called_for (IsCalledBy answers c bytes) given read_failed write_failed own read write memory)

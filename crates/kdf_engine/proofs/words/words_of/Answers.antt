@@ -3,8 +3,8 @@ use Rattle.std.specs.Str.{is_utf8}
 use Rattle.std.specs.Str.Lines.{lines}
 use Rattle.std.proofs.lemmas.Bool.{false_from_ne_true}
 use Rattle.std.proofs.lemmas.Str.{IsUtf8-from_is_utf8, is_utf8-from_IsUtf8}
-use Rattle.page.specs.Words.{words_in}
-use Rattle.page.proofs.words_of.Goals as goal
+use Rattle.kdf_engine.specs.Words.{words_in}
+use Rattle.kdf_engine.proofs.words.words_of.Goals as goal
 
 words_of_utf8 : (bs : List ℕ) → is_utf8 bs ≡ true → words_in bs ≡ lines bs
 words_of_utf8 bs e = ap (λ (b : Bool). if b then lines bs else []) e

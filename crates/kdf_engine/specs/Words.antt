@@ -1,4 +1,4 @@
--- The words of a command, as the page hands them in.
+-- The words of a command, as a caller hands them in.
 use Rattle.std.specs.Prelude.{ℕ, List, [], if◌then◌else◌}
 use Rattle.std.specs.Str.{is_utf8}
 use Rattle.std.specs.Str.Lines.{lines}

@@ -1,4 +1,4 @@
--- The service of the page, as that of the program.
+-- The service of the library, which is that of the program.
 use Rattle.std.specs.Prelude.{◌≡◌, ℕ, ◌+◌, ◌*◌, ◌/◌, ◌%◌, ◌^◌}
 
 -- a is the answer to n: the word with its halves exchanged

@@ -1,0 +1,5 @@
+pub mod Called
+pub mod More
+pub mod Due
+pub mod Handed
+pub mod Coded

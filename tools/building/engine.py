@@ -1,0 +1,209 @@
+"""The machine for other programs: as a native library, and as WebAssembly. Both are made from the crate `kdf_engine`.
+
+The kit's own way to make WebAssembly accepts nothing that reaches the heap. So the crate is proved over the built libraries and lowered for x86-64, with a toolchain
+that keeps the LLVM bitcode. The kit's own clang and linker then make WebAssembly of that. The native library is what the kit itself compiles, with the kit's heap.
+"""
+import contextlib
+import hashlib
+import os
+import pathlib
+import re
+import shutil
+import subprocess
+import tempfile
+
+from building.progress import say
+from building.rooms import CRATES, ROOT, crates_below, read_list
+
+CRATE = "kdf_engine"
+OUT = CRATES / "kdf9" / "out" / "engine"
+SUMS, LOG = OUT / "engine.sums", OUT / "engine.log"
+
+# What is made: WebAssembly, what the kit compiled, and of that a library to link with and one to load.
+MODULE, COMPILED, ARCHIVE, SHARED = OUT / "engine.wasm", OUT / "libkdf_engine.a", OUT / "libkdf9.a", OUT / "libkdf9.so"
+
+# What the proof keeps, so that after a change only what has changed is proved again.
+KEPT = OUT / "incremental"
+
+# The calls that are exported.
+CALLS = ["kdf9_run", "kdf9_version"]
+
+TARGET = ["--target=wasm64-unknown-unknown", "-mcpu=lime1", "--no-default-config"]
+
+# The flags with which the kit's own clang is called for wasm64.
+FLAGS = """-expand-div-rem-bits=64 -expand-fp-convert-bits=64 -trap-unreachable -disable-machine-licm -disable-postra-machine-licm
+-sink-common-insts=false""".split()
+
+# What web/machine.js provides to the module.
+IMPORTS = ["rattle_alloc", "rattle_realloc", "rattle_dealloc", "__multi3", "__ashlti3", "__lshrti3", "__ashrti3"]
+# The bytes of the stack, the most bytes that the whole memory may have, and how much the compiler optimizes.
+STACK, MOST_MEMORY = 1 << 20, 1 << 32
+LEVEL = "-O2"
+
+# What says that the bitcode is for x86-64: the two lines at its head, and these attributes.
+HEAD = re.compile(r"^target (?:datalayout|triple) = .*$", re.MULTILINE)
+ATTRIBUTES = re.compile(r' "(probe-stack|stack-probe-size|target-cpu)"="[^"]*"')
+FOREIGN = re.compile(r"(?:declare|attributes|define).*(?:llvm\.x86|x86|target-features)")
+
+# What hides names of an object file, by either of its names. The kit has no such tool.
+HIDES = ("objcopy", "llvm-objcopy")
+
+
+class NoEngine(Exception):
+    """Why the machine can't be made."""
+
+
+def kit():
+    """The folder of the kit, or None if there is no kit."""
+    if not shutil.which("rt"):
+        return None
+    return pathlib.Path(subprocess.run(["rt", "doc"], capture_output=True, text=True, check=True).stdout.strip()).parent
+
+
+def libraries():
+    """The built library of each crate on which the machine is built. A crate comes before those that use it."""
+    return {name: CRATES / name / "out" / "rlib" for name in crates_below(CRATE)}
+
+
+def sums():
+    """One checksum of all the files from which the machine is made."""
+    files = [pathlib.Path(__file__), *(file for name in [*libraries(), CRATE] for file in sorted((CRATES / name / "src").rglob("*.rt")))]
+    whole = hashlib.sha256()
+    for file in files:
+        whole.update(file.read_bytes())
+    return whole.hexdigest()
+
+
+def is_current():
+    """Whether what was made last was made from the sources as they are now."""
+    return MODULE.is_file() and COMPILED.is_file() and SUMS.is_file() and SUMS.read_text(encoding="ascii") == sums()
+
+
+def engine():
+    """The bytes of the module. If it isn't current, it is made first."""
+    bring_up_to_date()
+    return MODULE.read_bytes()
+
+
+def library():
+    """The two native libraries: one to link with, and one to load. What isn't current is made first."""
+    bring_up_to_date()
+    if not (ARCHIVE.is_file() and SHARED.is_file()):
+        with a_room() as room:
+            room.link()
+            room.keep(ARCHIVE, SHARED)
+    return ARCHIVE, SHARED
+
+
+def bring_up_to_date():
+    """Makes the machine if it isn't current."""
+    if is_current():
+        return
+    with a_room() as room:
+        missing = [name for name, folder in libraries().items() if not (folder / f"{name}.rlib").exists()]
+        if missing:
+            raise NoEngine(f"the library {missing[0]} isn't built here, since the program was built elsewhere; cd crates/kdf9 && rt run -- make 0 builds all")
+        say("making the machine for other programs, which takes some minutes the first time")
+        now = sums()
+        room.prove()
+        room.compile()
+        for old in (SUMS, ARCHIVE, SHARED):
+            if old.exists():
+                old.unlink()
+        room.keep(MODULE, COMPILED)
+    SUMS.write_text(now, encoding="ascii")
+
+
+@contextlib.contextmanager
+def a_room():
+    """A room to make the machine in, which goes when it is done."""
+    found = kit()
+    if found is None:
+        raise NoEngine("the machine for other programs isn't made yet, and there is no rt on this machine to make it with")
+    OUT.mkdir(parents=True, exist_ok=True)
+    with tempfile.TemporaryDirectory(prefix="kdf9-engine-") as folder, open(LOG, "w", encoding="utf-8") as log:
+        yield Room(found, pathlib.Path(folder), log)
+
+
+class Room:
+    """A folder in which the tools of a kit make the machine. They write to a log."""
+
+    def __init__(self, found, folder, log):
+        self.kit, self.folder, self.log = found, folder, log
+        self.linker = found / "toolchain/bin/ld.lld"
+
+    def run(self, *words, **how):
+        """Runs a tool, which has to succeed."""
+        try:
+            subprocess.run([str(word) for word in words], stdout=self.log, stderr=subprocess.STDOUT, check=True, **how)
+        except (subprocess.CalledProcessError, OSError) as why:
+            raise NoEngine(f"the machine could not be made: see {LOG.relative_to(ROOT)}") from why
+
+    def keep(self, *files):
+        """Keeps what was made under these names. Each appears whole or not at all."""
+        for file in files:
+            made = OUT / f"{file.name}.{os.getpid()}"
+            shutil.copy(self.folder / file.name, made)
+            made.replace(file)
+
+    def prove(self):
+        """Proves the crate over the built libraries, compiles it, and keeps its bitcode for x86-64."""
+        self.keep_bitcode()
+        uses = read_list()[CRATE].partition(":")[2].split()
+        words = ["--crate-name", CRATE, "src/lib.rt", "--extern", f"std={self.kit}/rlibs/std.rlib", "-L", f"dependency={self.kit}/rlibs"]
+        for name, folder in libraries().items():
+            words += ["--extern", f"{name}={folder}/{name}.rlib"] if name in uses else []
+            words += ["-L", f"dependency={folder}"]
+        words += ["--antt-project", self.kit / "rattle/logic/antt-project.json", "--logic-built", self.kit / "logic_built", "--jobs", "1"]
+        words += ["--incremental", KEPT, "--crate-type", "staticlib", "--toolchain", self.folder / "toolchain", "--backend", "llvm"]
+        self.run(self.kit / "bin/rattle", "build", *words, "-o", self.folder / COMPILED.name, cwd=CRATES / CRATE)
+
+    def keep_bitcode(self):
+        """Makes a toolchain that is the kit's, except that its clang keeps the bitcode that it is given."""
+        tools = self.folder / "toolchain"
+        (tools / "bin").mkdir(parents=True)
+        (tools / "lib").symlink_to(self.kit / "toolchain/lib")
+        for tool in (self.kit / "toolchain/bin").iterdir():
+            if tool.name != "clang":
+                (tools / "bin" / tool.name).symlink_to(tool)
+        clang = tools / "bin/clang"
+        clang.write_text(f'#!/bin/sh\n[ ! -f module.bc ] || cp module.bc "{self.folder}/module.bc"\nexec "{self.kit}/toolchain/bin/clang" "$@"\n', encoding="utf-8")
+        clang.chmod(0o755)
+
+    def compile(self):
+        """Makes WebAssembly from the bitcode."""
+        clang = self.kit / "toolchain/bin/clang"
+        (self.folder / "empty.c").write_text("void empty(void) {}\n", encoding="ascii")
+        (self.folder / "imports").write_text("".join(f"{name}\n" for name in IMPORTS), encoding="ascii")
+        self.run(clang, *TARGET, "-S", "-emit-llvm", "-o", "empty.ll", "empty.c", cwd=self.folder)
+        whole = ["--target=x86_64-unknown-linux-gnu", "-x", "ir", "module.bc", "-S", "-emit-llvm", "-Xclang", "-disable-llvm-passes"]
+        self.run(clang, *whole, "-o", "x64.ll", cwd=self.folder)
+        self.retarget()
+        flags = [word for flag in FLAGS for word in ("-mllvm", flag)] + ["-ffunction-sections", "-fdata-sections", LEVEL]
+        self.run(clang, *TARGET, *flags, "-x", "ir", "-c", "wasm64.ll", "-o", "wasm64.o", cwd=self.folder)
+        sizes = ["--stack-first", "-z", f"stack-size={STACK}", f"--max-memory={MOST_MEMORY}", "--gc-sections", "--strip-all"]
+        doors = ["--no-entry", *(f"--export={name}" for name in [*CALLS, "__heap_base"]), "--allow-undefined-file=imports"]
+        self.run(self.linker, "-flavor", "wasm", "-mwasm64", *sizes, *doors, "wasm64.o", "-o", MODULE.name, cwd=self.folder)
+
+    def retarget(self):
+        """Writes the text of the bitcode for wasm64. It fails if anything is for x86-64 besides what it changes."""
+        heads = iter(HEAD.findall((self.folder / "empty.ll").read_text(encoding="utf-8")))
+        text, changed = HEAD.subn(lambda _: next(heads), (self.folder / "x64.ll").read_text(encoding="utf-8"), count=2)
+        lines = [ATTRIBUTES.sub("", line) if line.startswith("attributes") else line for line in text.split("\n")]
+        foreign = [line for line in lines if FOREIGN.match(line)]
+        if changed != 2 or foreign:
+            raise NoEngine(f"more of the compiled code is for x86-64 than this tool knows: {foreign[:1]}")
+        (self.folder / "wasm64.ll").write_text("\n".join(lines), encoding="utf-8")
+
+    def link(self):
+        """Links what was compiled with the kit's heap. All names are hidden but those of the calls."""
+        hides = next((found for found in map(shutil.which, HIDES) if found), None)
+        if hides is None:
+            raise NoEngine("the library isn't made, since there is no objcopy on this machine; binutils and LLVM have one")
+        kit_libraries = self.kit / "toolchain/lib"
+        elf = [self.linker, "-flavor", "gnu", "-m", "elf_x86_64"]
+        roots = [word for name in CALLS for word in ("-u", name)]
+        self.run(*elf, "-r", *roots, COMPILED, self.kit / "c/liblibc_c.a", kit_libraries / "libgcc.a", "-o", "whole.o", cwd=self.folder)
+        self.run(hides, *(f"--keep-global-symbol={name}" for name in CALLS), "whole.o", "kdf9.o", cwd=self.folder)
+        self.run(self.kit / "toolchain/bin/llvm-ar", "rcs", ARCHIVE.name, "kdf9.o", cwd=self.folder)
+        self.run(*elf, "-shared", "-soname", SHARED.name, "kdf9.o", kit_libraries / "libc.so.6", "-o", SHARED.name, cwd=self.folder)
