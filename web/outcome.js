@@ -27,15 +27,15 @@ function outcomeWith(layouts, job, text, { failures }) {
 
 /** What an answer of the machine to a command for a job says. The decks are listed for the names of their words. After a run that was short, the words are asked for
  * that have names, too. */
-export async function outcomeOf(ask, job, answer, { isRun, ...texts }) {
+export async function outcomeOf(ask, job, answer, { isRun, failures }) {
   const isRead = answer.status === DONE && readResult(readWatch(answer.text)?.report ?? answer.text) !== null;
   const layouts = isRead ? await layoutsOf(ask, job) : new Map();
   const isAsked = isRead && isRun && answer.milliseconds < LONGEST_RUN && [...layouts.values()].some(({ addresses }) => addresses.length);
-  return { ...outcomeWith(layouts, job, answer.text, texts), stores: isAsked ? await storesOf(ask, job) : null };
+  return { ...outcomeWith(layouts, job, answer.text, failures), stores: isAsked ? await storesOf(ask, job) : null };
 }
 
 /** What a text says that was recorded of a job. */
-export const outcomeOfRecord = (job, text, texts) => outcomeWith(new Map(), job, text, texts);
+export const outcomeOfRecord = (job, text, failures) => outcomeWith(new Map(), job, text, failures);
 
 /** Up to which call a run is drawn: not to its end if it only waits there. */
 function callsDrawn({ entries, total }) {

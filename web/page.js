@@ -175,7 +175,7 @@ async function runNow(asked) {
   showText(null);
   const answer = await ask(asked, text);
   const fault = await showFault(answer, text);
-  const outcome = await outcomeOf(ask, jobOf(asked[0], text), answer, { isRun, ...texts });
+  const outcome = await outcomeOf(ask, jobOf(asked[0], text), answer, { isRun, failures: texts.failures });
   showText(outcome, { look: isRun ? look : null, go: goToStop, change: isRun ? changeAndRun : null });
   lastRun = isRun && outcome.read ? { ...outcome, text } : null;
   if (lastRun) theorem.take(lastRun);
@@ -313,7 +313,7 @@ function chooseExample() {
 
 /** Shows the report that was recorded of an example, if the machine can't run. */
 function showRecorded({ job, report }) {
-  if (report) showText(outcomeOfRecord(job, report, texts));
+  if (report) showText(outcomeOfRecord(job, report, texts.failures));
 }
 
 async function openFile() {
