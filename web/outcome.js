@@ -17,7 +17,7 @@ const DONE = 0, SNAPSHOT_HAS_FAULT = 8, MEBIBYTE = 2 ** 20;
 const IDLE_DRAWN = 40;
 
 /** What is read of a text that a command wrote for a job, if it is a report, or that of a lone run or a watch. */
-function outcomeWith(layouts, job, text, { failures }) {
+function outcomeWith(layouts, job, text, failures) {
   const watch = readWatch(text), report = watch ? watch.report : text, read = readResult(report);
   if (read === null) return { text, read };
   const timeline = new Timeline(read);
