@@ -1,7 +1,6 @@
 // The page: what its buttons and keys do.
 
 import { Assist } from "./assist.js";
-import { Changes } from "./changes.js";
 import { button, byId } from "./dom.js";
 import { Engine, Stopped, bytesOf, canRun, unpacked } from "./engine.js";
 import { chooseFirst, chooseOwn, chosenJob, listJobs } from "./examples.js";
@@ -18,6 +17,7 @@ import { Replay } from "./replay.js";
 import { NoSchedule, readDelays, scheduled } from "./schedule.js";
 import { roomFor, withSize } from "./size.js";
 import { Theorem } from "./theorem.js";
+import { Variations } from "./variations.js";
 import { NoPlace, watchable, wordOf } from "./watch.js";
 
 const SNAPSHOT_HAS_FAULT = 8, FAULTS = [2, 3, SNAPSHOT_HAS_FAULT];
@@ -38,7 +38,7 @@ const view = new JobView(byId("editors"), {
   onchange: changed, onremove: (what, before) => keeping.offerUndo(`Removed: ${what}.`, before),
   assist: (editor, slot) => new Assist(editor, help, (statement) => lastRun?.layouts.get(Number(slot.number))?.addressOf(statement)).element,
 });
-const keeping = new Keeping({ text: () => view.text, bring: bringBack, put });
+const keeping = new Keeping({ text: () => view.text, bring: bringBack, undo: takeBack });
 let engine = null;
 let lastText = "";
 let lastRun = null; // what can be shown call by call: the job, its report, the layouts of its decks, and the stops of a watch if there was one
@@ -47,7 +47,7 @@ let pause = 0;
 const ask = (words, job) => engine.ask(words, job);
 const replay = new Replay(byId("replay"), { ask, say, failed: (error) => sayFailed(error) });
 const theorem = new Theorem(byId("compared"), { ask, say });
-const changes = new Changes({ ask, say, work, view, theorem, keeping, changed, run: runAgain, lastRun: () => lastRun });
+const variations = new Variations({ ask, say, work, view, theorem, keeping, changed, run: runAgain, lastRun: () => lastRun });
 
 /** Says what has happened, in the line of the page that is read aloud. */
 function say(text, isWrong = false) {
@@ -289,7 +289,7 @@ function bringBack(text) {
 }
 
 /** Shows a job as it was before its last change. */
-function put(text) {
+function takeBack(text) {
   view.show(text);
   changed();
   byId("job").focus();
@@ -372,8 +372,8 @@ function attend() {
   byId("schedule").onclick = writeSchedule;
   byId("look").onclick = () => look(0);
   byId("place").onfocus = offerPlaces;
-  byId("shuffle").onclick = () => changes.shuffle();
-  byId("neighbours").onclick = () => changes.changeNeighbours();
+  byId("shuffle").onclick = () => variations.shuffle();
+  byId("neighbours").onclick = () => variations.changeNeighbours();
   byId("see").onclick = see;
   byId("compare-alone").onclick = compareWithAlone;
   byId("compare-before").onclick = () => work("Comparing this run with the run before.", () => theorem.withBefore());
