@@ -16,4 +16,4 @@ def words_of_next(section: Section) -> int:
         raise BadInput(f"the order at {'/'.join(map(str, section.at))} of slot {section.number} begins no transfer")
     _, from_address, to_address = section.q_stores.get(second >> 4, (0, 0, 0))
     area = to_address - from_address + 1
-    return min(area, order.get("most_words", area))
+    return max(0, min(area, order.get("most_words", area)))
