@@ -2,4 +2,3 @@ pub mod Called
 pub mod More
 pub mod Due
 pub mod Handed
-pub mod Coded
