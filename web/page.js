@@ -6,7 +6,7 @@ import { Engine, Stopped, bytesOf, canRun, unpacked } from "./engine.js";
 import { chooseFirst, chooseOwn, chosenJob, listJobs } from "./examples.js";
 import { faultOf } from "./fault.js";
 import { hintOf } from "./hints.js";
-import { frontOf } from "./job.js";
+import { EMPTY_JOB, frontOf } from "./job.js";
 import { JobView } from "./jobview.js";
 import { Keeping } from "./keeping.js";
 import { timeOf } from "./kept.js";
@@ -32,8 +32,8 @@ const IS_CHANGED = "The job has been changed since this run. Run it again.";
 /** How many milliseconds after the last key the page looks for a fault of the job. */
 const PAUSE = 700;
 
-const texts = JSON.parse(byId("texts").textContent);
-const help = { orders: {} }; // what the documents say of statements, once it is unpacked
+// What the page shows, and what the documents say of statements, once they are unpacked.
+const texts = { jobs: {}, failures: {}, start: null }, help = { orders: {} };
 const view = new JobView(byId("editors"), {
   onchange: changed, onremove: (what, before) => keeping.offerUndo(`Removed: ${what}.`, before),
   assist: (editor, slot) => new Assist(editor, help, (statement) => lastRun?.layouts.get(Number(slot.number))?.addressOf(statement)).element,
@@ -392,7 +392,10 @@ function attend() {
 }
 
 async function load() {
-  if (typeof DecompressionStream === "function") Object.assign(help, JSON.parse(new TextDecoder().decode(await unpacked(bytesOf(byId("help").textContent)))));
+  for (const [name, value] of [["texts", texts], ["help", help]]) {
+    Object.assign(value, JSON.parse(new TextDecoder().decode(await unpacked(bytesOf(byId(name).textContent)))));
+  }
+  listJobs(texts.jobs);
   if (!canRun()) throw new Error("it lacks a 64 bit memory in WebAssembly");
   const module = await WebAssembly.compile(await unpacked(bytesOf(byId("module").textContent)));
   engine = new Engine(module, byId("worker").textContent);
@@ -412,7 +415,7 @@ async function openFirst() {
   const isMade = typeof texts.start === "string";
   if (isMade) chooseOwn();
   else chooseFirst();
-  const first = isMade ? { job: texts.start, args: ["run"] } : chosenJob(texts.jobs);
+  const first = isMade ? { job: texts.start, args: ["run"] } : chosenJob(texts.jobs) ?? { job: EMPTY_JOB, args: ["run"] };
   begin(first.job, first.args);
   if (!engine) return showRecorded(first);
   await run();
@@ -421,7 +424,6 @@ async function openFirst() {
 
 async function open() {
   let lack = null;
-  listJobs(texts.jobs);
   attend();
   try {
     await load();
