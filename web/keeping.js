@@ -12,9 +12,9 @@ const LONGEST_KEPT = 500000;
 const NOT_KEPT = "This browser doesn't keep your job. Save it as a file before you close the page.";
 
 export class Keeping {
-  /** `text` gives the job that is shown, `bring` shows another one, and `put` shows one as a change of the job. */
-  constructor({ text, bring, put }) {
-    Object.assign(this, { text, bring, put, kept: new Kept(), hasWork: false, isSaved: true, pause: 0 });
+  /** `text` gives the job that is shown, `bring` shows another one, and `undo` shows one in place of the job that a change made. */
+  constructor({ text, bring, undo }) {
+    Object.assign(this, { text, bring, undo, kept: new Kept(), hasWork: false, isSaved: true, pause: 0 });
     byId("last-jobs").ontoggle = () => this.draw();
     addEventListener("pagehide", () => this.keep());
     addEventListener("visibilitychange", () => this.keep());
@@ -79,7 +79,7 @@ export class Keeping {
     this.kept.keepApart(before);
     this.offer(said, "Undo", () => {
       this.withdraw();
-      this.put(before);
+      this.undo(before);
     });
     this.draw();
   }

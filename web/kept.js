@@ -45,12 +45,12 @@ export class Kept {
   /** Keeps a text as the job of this tab. Returns whether the browser keeps it. */
   keep(text) {
     this.id ??= freshId();
-    return this.put(this.id, text) && this.remember(this.id);
+    return this.write(this.id, text) && this.remember(this.id);
   }
 
   /** Keeps a text in a place of its own. */
   keepApart(text) {
-    return this.put(freshId(), text);
+    return this.write(freshId(), text);
   }
 
   /** What is written next gets a place of its own. */
@@ -60,16 +60,17 @@ export class Kept {
   }
 
   /** Puts a text first in the list. The oldest leave it if there are too many, or if the browser has no room for them. */
-  put(id, text) {
+  write(id, text) {
     const others = this.list().filter((entry) => entry.id !== id && entry.text !== text);
     const entries = [{ id, time: Date.now(), text }, ...others].slice(0, MOST_KEPT);
     for (; entries.length; entries.pop()) {
-      if (this.write(JSON.stringify(entries))) return true;
+      if (this.fits(JSON.stringify(entries))) return true;
     }
     return false;
   }
 
-  write(entries) {
+  /** Writes the list. Returns whether the browser has room for it. */
+  fits(entries) {
     try {
       this.storage.setItem(LIST, entries);
       return true;

@@ -6,7 +6,7 @@ const SMALLEST = 16; // bytes in the smallest block
 const TEXT_TOO_LONG = 6; // the status of a text that the room is too small for
 
 // The bytes of the room that is tried first for a text, and of the largest.
-const FIRST_ROOM = 1 << 20;
+const SMALLEST_ROOM = 1 << 20;
 const LARGEST_ROOM = 1 << 28;
 
 /** Makes a memory larger by so many pages. The number has the type of an address, but for the first engines that had such memories. */
@@ -137,6 +137,6 @@ export function compiled(bytes) {
  * milliseconds that it took, and the bytes of memory. A text of more than 256 MiB is left out, with status 6.
  */
 export function answer(module, words, job) {
-  const given = answerWithin(module, words, job, FIRST_ROOM);
+  const given = answerWithin(module, words, job, SMALLEST_ROOM);
   return given.status === TEXT_TOO_LONG && given.size <= LARGEST_ROOM ? answerWithin(module, words, job, given.size) : given;
 }

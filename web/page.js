@@ -1,13 +1,12 @@
 // The page: what its buttons and keys do.
 
 import { Assist } from "./assist.js";
-import { Changes } from "./changes.js";
 import { button, byId } from "./dom.js";
 import { Engine, Stopped, bytesOf, canRun, unpacked } from "./engine.js";
 import { chooseFirst, chooseOwn, chosenJob, listJobs } from "./examples.js";
 import { faultOf } from "./fault.js";
 import { hintOf } from "./hints.js";
-import { frontOf } from "./job.js";
+import { EMPTY_JOB, frontOf } from "./job.js";
 import { JobView } from "./jobview.js";
 import { Keeping } from "./keeping.js";
 import { timeOf } from "./kept.js";
@@ -18,6 +17,7 @@ import { Replay } from "./replay.js";
 import { NoSchedule, readDelays, scheduled } from "./schedule.js";
 import { roomFor, withSize } from "./size.js";
 import { Theorem } from "./theorem.js";
+import { Variations } from "./variations.js";
 import { NoPlace, watchable, wordOf } from "./watch.js";
 
 const SNAPSHOT_HAS_FAULT = 8, FAULTS = [2, 3, SNAPSHOT_HAS_FAULT];
@@ -32,13 +32,13 @@ const IS_CHANGED = "The job has been changed since this run. Run it again.";
 /** How many milliseconds after the last key the page looks for a fault of the job. */
 const PAUSE = 700;
 
-const texts = JSON.parse(byId("texts").textContent);
-const help = { orders: {} }; // what the documents say of statements, once it is unpacked
+// What the page shows, and what the documents say of statements, once they are unpacked.
+const texts = { jobs: {}, failures: {}, start: null }, help = { orders: {} };
 const view = new JobView(byId("editors"), {
   onchange: changed, onremove: (what, before) => keeping.offerUndo(`Removed: ${what}.`, before),
   assist: (editor, slot) => new Assist(editor, help, (statement) => lastRun?.layouts.get(Number(slot.number))?.addressOf(statement)).element,
 });
-const keeping = new Keeping({ text: () => view.text, bring: bringBack, put });
+const keeping = new Keeping({ text: () => view.text, bring: bringBack, undo: takeBack });
 let engine = null;
 let lastText = "";
 let lastRun = null; // what can be shown call by call: the job, its report, the layouts of its decks, and the stops of a watch if there was one
@@ -47,7 +47,7 @@ let pause = 0;
 const ask = (words, job) => engine.ask(words, job);
 const replay = new Replay(byId("replay"), { ask, say, failed: (error) => sayFailed(error) });
 const theorem = new Theorem(byId("compared"), { ask, say });
-const changes = new Changes({ ask, say, work, view, theorem, keeping, changed, run: runAgain, lastRun: () => lastRun });
+const variations = new Variations({ ask, say, work, view, theorem, keeping, changed, run: runAgain, lastRun: () => lastRun });
 
 /** Says what has happened, in the line of the page that is read aloud. */
 function say(text, isWrong = false) {
@@ -289,7 +289,7 @@ function bringBack(text) {
 }
 
 /** Shows a job as it was before its last change. */
-function put(text) {
+function takeBack(text) {
   view.show(text);
   changed();
   byId("job").focus();
@@ -372,8 +372,8 @@ function attend() {
   byId("schedule").onclick = writeSchedule;
   byId("look").onclick = () => look(0);
   byId("place").onfocus = offerPlaces;
-  byId("shuffle").onclick = () => changes.shuffle();
-  byId("neighbours").onclick = () => changes.changeNeighbours();
+  byId("shuffle").onclick = () => variations.shuffle();
+  byId("neighbours").onclick = () => variations.changeNeighbours();
   byId("see").onclick = see;
   byId("compare-alone").onclick = compareWithAlone;
   byId("compare-before").onclick = () => work("Comparing this run with the run before.", () => theorem.withBefore());
@@ -392,7 +392,10 @@ function attend() {
 }
 
 async function load() {
-  if (typeof DecompressionStream === "function") Object.assign(help, JSON.parse(new TextDecoder().decode(await unpacked(bytesOf(byId("help").textContent)))));
+  for (const [name, value] of [["texts", texts], ["help", help]]) {
+    Object.assign(value, JSON.parse(new TextDecoder().decode(await unpacked(bytesOf(byId(name).textContent)))));
+  }
+  listJobs(texts.jobs);
   if (!canRun()) throw new Error("it lacks a 64 bit memory in WebAssembly");
   const module = await WebAssembly.compile(await unpacked(bytesOf(byId("module").textContent)));
   engine = new Engine(module, byId("worker").textContent);
@@ -412,7 +415,7 @@ async function openFirst() {
   const isMade = typeof texts.start === "string";
   if (isMade) chooseOwn();
   else chooseFirst();
-  const first = isMade ? { job: texts.start, args: ["run"] } : chosenJob(texts.jobs);
+  const first = isMade ? { job: texts.start, args: ["run"] } : chosenJob(texts.jobs) ?? { job: EMPTY_JOB, args: ["run"] };
   begin(first.job, first.args);
   if (!engine) return showRecorded(first);
   await run();
@@ -421,7 +424,6 @@ async function openFirst() {
 
 async function open() {
   let lack = null;
-  listJobs(texts.jobs);
   attend();
   try {
     await load();

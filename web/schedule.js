@@ -8,9 +8,6 @@ import { JOB } from "./tables.js";
 const MOST_LINES = JOB.most.lines_of_schedule;
 const USUAL_WINDOW = 64;
 
-/** How many calls a transfer takes if nobody says. */
-export const USUAL_DELAY = 20;
-
 /** Why the schedule can't be written. */
 export class NoSchedule extends Error {}
 
@@ -21,7 +18,7 @@ export function readDelays(after, every, delays) {
   const own = delays.split(",").map((part) => part.trim()).filter((part) => part !== "");
   if (!numbers.every((number) => /^\d{0,8}$/.test(number)) || !own.every((delay) => /^\d{1,2}=\d{1,8}$/.test(delay))) return null;
   const devices = new Map(own.map((delay) => delay.split("=")).map(([device, steps]) => [device, Number(steps)]));
-  return { after: Number(numbers[0] || USUAL_DELAY), every: Number(numbers[1]), devices };
+  return { after: Number(numbers[0] || JOB.usual_delay), every: Number(numbers[1]), devices };
 }
 
 /** The number of calls of a schedule, and its events from first to last: for each its line, and the number of calls before it. */

@@ -15,6 +15,9 @@ export const LEFT_OUT = NAMES.left_out.map(matching);
 /** Every form of a statement whose operands are numbers, with a 0 for each of them. */
 export const FORMS = [...ORDERS.orders.flatMap(({ forms }) => Object.keys(forms)), ...ORDERS.statements.map(({ form }) => form)];
 
+/** The name of the order that each form of a statement means. */
+export const ENTRIES_OF_FORMS = Object.fromEntries(ORDERS.orders.flatMap(({ name, forms }) => Object.keys(forms).map((form) => [form, name])));
+
 /** The lines of a job by the word with which each begins, and the kinds of devices by their names in a job. */
 export const LINES = Object.fromEntries(JOB.lines.map((line) => [line.word, line]));
 export const KINDS = Object.fromEntries(JOB.kinds.map((kind) => [kind.kind, kind]));

@@ -5,8 +5,8 @@ import { lineAndColumn } from "./deck.js";
 import { button, make } from "./dom.js";
 import { readJob, writeJob } from "./job.js";
 import { NAMES_OF_POOL, many, numberOf } from "./report.js";
-import { USUAL_DELAY, readSchedule, writeSchedule } from "./schedule.js";
-import { LINES } from "./tables.js";
+import { readSchedule, writeSchedule } from "./schedule.js";
+import { JOB, LINES } from "./tables.js";
 
 /** The sign of each kind of verdict. */
 const SIGNS = { ended: "✓", failed: "✗", held: "‖", deadlock: "↻", cut: "…" };
@@ -23,7 +23,7 @@ const [[, MOST_CALLS]] = LINES.ORDERS.numbers;
 
 /** The job with a line END for a transfer of this device that began after so many calls. */
 export function withEnd(text, device, begun) {
-  const job = readJob(text), { calls, events } = readSchedule(job.schedule), at = Math.min(calls, begun + USUAL_DELAY);
+  const job = readJob(text), { calls, events } = readSchedule(job.schedule), at = Math.min(calls, begun + JOB.usual_delay);
   const sorted = [...events, { calls: at, line: `END ${device}` }].sort((one, other) => one.calls - other.calls);
   return writeJob({ ...job, schedule: writeSchedule({ calls: at < calls ? calls : calls + MORE_CALLS, events: sorted }) });
 }

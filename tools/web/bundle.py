@@ -43,9 +43,14 @@ def script(name=MAIN):
 
 
 def texts(start):
-    """What the script shows, as JSON that is safe within a page. `start` is the job that runs when the page opens, or None."""
+    """What the script shows, as JSON. `start` is the job that runs when the page opens, or None."""
     jobs = dict([*jobs_of_first_hour(), *jobs_of_examples()])
-    return in_page({"jobs": jobs, "failures": failures(), "start": start})
+    return json_of({"jobs": jobs, "failures": failures(), "start": start})
+
+
+def json_of(value):
+    """The bytes of a value as JSON."""
+    return json.dumps(value, separators=(",", ":")).encode("ascii")
 
 
 def packed(data):
@@ -56,7 +61,7 @@ def packed(data):
 def page(module, start=None):
     """The page, made from the bytes of the module. If there is a job, it runs when the page opens."""
     parts = {
-        "STYLE": read("web/page.css"), "WORKER": script("worker"), "TEXTS": texts(start), "MODULE": packed(module),
-        "HELP": packed(json.dumps(help_of_statements(), separators=(",", ":")).encode("ascii")), "SCRIPT": script(),
+        "STYLE": read("web/page.css"), "WORKER": script("worker"), "TEXTS": packed(texts(start)), "MODULE": packed(module),
+        "HELP": packed(json_of(help_of_statements())), "SCRIPT": script(),
     }
     return re.sub(r"/\* ([A-Z]+) \*/", lambda mark: parts[mark[1]], read("web/page.html"))

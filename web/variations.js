@@ -10,8 +10,8 @@ function readSeed() {
   return /^\d*$/.test(typed) && seed <= MOST_SEED ? seed : null;
 }
 
-export class Changes {
-  /** The changes of the job of a page, which gives what it can do: `work` does some work, `run` runs the job, and `lastRun` gives the last run. */
+export class Variations {
+  /** The variations of the job of a page, which gives what it can do: `work` does some work, `run` runs the job, and `lastRun` gives the last run. */
   constructor(page) {
     this.page = page;
     // The job with the schedule that was shuffled last, and the job that it was made from. So a seed gives the same schedule however often it was shuffled before.
