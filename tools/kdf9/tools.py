@@ -58,9 +58,9 @@ TOOLS = {tool.name: tool for tool in (
         "./kdf9 stats examples/computes-while-it-reads.job",
     ),
     Tool(
-        "study", "PLAN --out FOLDER [--part I/N]",
+        "study", "PLAN [--out FOLDER] [--part I/N]",
         "Runs a job with all combinations of some values, and keeps a row of measures for each run.",
-        "./kdf9 study examples/study/degree.json --out rows; cat rows/rows.csv",
+        "./kdf9 study examples/study/degree.json",
     ),
     Tool(
         "picture", "[--text] < REPORT",
