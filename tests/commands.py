@@ -41,6 +41,7 @@ WRONG_WORDS = [
     (["explore"], "required: JOB"), (["explore", "-", "--calls", "0"], "--calls: has to be a number from 1 to 10000"), (["explore", "-", "--runs", "x"], "--runs"),
     (["explore", "-", "--mode", "best"], "--mode"), (["explore", "-", "--out"], "--out"), (["explore", "-", "x"], "x"),
     (["stats"], "required: JOB"), (["stats", "-", "--json", "--csv"], "not allowed with"), (["stats", "-", "-"], "- is given twice"),
+    (["study"], "required: PLAN"), (["study", "-", "--part", "3/2"], "--part: has to be I/N"), (["study", "-", "--out"], "--out"),
     (["same"], "required: JOB"), (["same", "-", "-"], "can't both be standard input"), (["same", "-", "a", "b"], "b"),
     (["picture", "--svg"], "--svg"), (["json", "-"], "-"), (["report", "-"], "-"), (["page", "x"], "x"), (["replay"], "required: JOB"),
     (["clean", "x"], "x"),
@@ -59,7 +60,7 @@ SLOW = [["explain", "-"], ["steps", "-", "0", "19999999"], ["schedule", "-"], ["
 
 # Arguments with which a tool writes, and what it reads from standard input.
 JOB, REPORT = "examples/adds-5-and-7.job", "examples/adds-5-and-7.report"
-GOOD = [([name, "-"], JOB) for name in READS_FILE if name != "replay"] + [(["picture"], REPORT), (["picture", "--text"], REPORT), (["json"], REPORT)]
+GOOD = [([name, "-"], JOB) for name in READS_FILE if name not in ("replay", "study")] + [(["picture"], REPORT), (["picture", "--text"], REPORT), (["json"], REPORT)]
 
 # For how many seconds texts of chance are tried.
 FUZZED = 60

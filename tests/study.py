@@ -1,4 +1,4 @@
-"""Tries explore and stats on jobs that chance makes, and runs what docs/STUDY.md shows.
+"""Tries explore and stats on jobs that chance makes, studies of plans, and what docs/STUDY.md shows.
 
     python3 tests/study.py [JOBS [SEED]]     tries so many jobs, from this seed on
     python3 tests/study.py --fill            writes into docs/STUDY.md what its commands answer
@@ -17,6 +17,7 @@ from toolkit import ENVIRONMENT, ROOT, document, kdf9, refused
 
 sys.path.insert(0, str(ROOT / "tools"))
 
+import study_plans  # noqa: E402
 import study_stats  # noqa: E402
 from kdf9.job import read_lines  # noqa: E402
 from outcomes import runs as outcome_runs  # noqa: E402
@@ -135,7 +136,7 @@ def all_cases(number: int, seed: int) -> Iterable[Case]:
         yield from tried(workers, compared, number, seed)
         yield from tried(workers, with_exchanges, number * SWAPPED // JOBS, seed)
     yield from study_stats.cases(number, seed)
-    for cases in (page_is_so, files_are_made, outcomes_are_written, limits_are_told):
+    for cases in (page_is_so, files_are_made, outcomes_are_written, limits_are_told, study_plans.wrong_plans_are_refused, study_plans.studies_agree):
         yield from cases()
 
 

@@ -67,6 +67,11 @@ TOOLS = {tool.name: tool for tool in (
         "./kdf9 stats examples/computes-while-it-reads.job",
     ),
     Tool(
+        "study", "PLAN [--out FOLDER] [--part I/N]",
+        "Runs a job with all combinations of some values, and keeps a row of measures for each run.",
+        "./kdf9 study examples/study/degree.json",
+    ),
+    Tool(
         "picture", "[--text] < REPORT",
         "Draws the journal of a report, as SVG or, with --text, for a terminal.",
         "./kdf9 picture --text < examples/two-programs-share-a-punch.report",
