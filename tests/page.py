@@ -15,6 +15,7 @@ from page_looks import SUITES as LOOKS
 from page_pool import SUITES as POOL
 from page_runs import orders_are_those_of_the_program, runs_are_looked_at, runs_are_those_of_the_program
 from page_service import SUITES as SERVED
+from page_shipped import shipped_page_is_current
 from page_theorem import SUITES as THEOREM, no_run_before
 from page_verdicts import HELD, SUITES as VERDICTS, first_job_has_run
 from page_watch import SUITES as WATCHED
@@ -343,6 +344,7 @@ def cases(file):
     address = f"file://{file}"
     size = file.stat().st_size
     yield "the size of the page", None if size <= 600000 else f"is {size}"
+    yield from shipped_page_is_current(file)
     with Browser() as running:
         def opened(where, **how):
             return running.open(where, **how)
