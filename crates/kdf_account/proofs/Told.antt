@@ -16,4 +16,4 @@ calls_more ms i d lt =
 
 -- what stands for a moment where a list has none
 abbrev pub no_moment : Moment
-no_moment = record { call = 0; entry = Ran 0 0; unlocked = None; free = record { punches = 0; printers = 0; }; }
+no_moment = record { call = 0; entry = Ran 0 0; unlocked = None; free = record { punches = 0; printers = 0 } }
