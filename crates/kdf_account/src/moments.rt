@@ -1,0 +1,107 @@
+//! The moments of a run as JSON.
+ghost use Rattle.std.specs.Prelude.{◌≡◌, ◌++◌, OnOk, string_bytes};
+ghost use Rattle.kdf_account.specs.Json.{call_json, entry_json, kind_json, moment_json, moments_json, one_json, rest_json, start_json, two_json};
+
+use crate::moment::Moment;
+use kdf_journal::Entry;
+use std::alloc::AllocError;
+use std::fmt::Write;
+
+/// Writes the moments, with a comma between each two. Without memory nothing is said of `out`.
+pub fn write_moments(out: &mut String, moments: &[Moment]) -> Result<(), AllocError>
+    ensures { OnOk result (string_bytes out.new ≡ string_bytes out.old ++ moments_json moments.now) }
+{
+    match moments {
+        [] => Ok(()),
+        [first, rest @ ..] => {
+            write_moment(out, first)?;
+            write_rest(out, rest)
+        }
+    }
+}
+
+/// Writes each moment after a comma and the end of a line.
+fn write_rest(out: &mut String, moments: &[Moment]) -> Result<(), AllocError>
+    ensures { OnOk result (string_bytes out.new ≡ string_bytes out.old ++ rest_json moments.now) }
+{
+    for moment in moments {
+        out.push_str(",\n")?;
+        write_moment(out, moment)?;
+    }
+    Ok(())
+}
+
+/// Writes a moment: the number of calls before it, and its entry.
+fn write_moment(out: &mut String, moment: &Moment) -> Result<(), AllocError>
+    ensures { OnOk result (string_bytes out.new ≡ string_bytes out.old ++ moment_json moment.now) }
+{
+    write_call(out, moment.call)?;
+    write_entry(out, &moment.entry)?;
+    out.push_str("}")
+}
+
+fn write_call(out: &mut String, call: u32) -> Result<(), AllocError>
+    ensures { OnOk result (string_bytes out.new ≡ string_bytes out.old ++ call_json call) }
+{
+    write!(out, "{{\"call\":{call},\"entry\":")
+}
+
+/// Writes the name of an entry and its members.
+fn write_entry(out: &mut String, entry: &Entry) -> Result<(), AllocError>
+    ensures { OnOk result (string_bytes out.new ≡ string_bytes out.old ++ entry_json entry.now) }
+{
+    match *entry {
+        Entry::Ran { p, n } => write_two(out, "\"RAN\",\"slot\":", p, ",\"orders\":", n.into()),
+        Entry::Start { p, d, k } => write_start(out, p, d, k),
+        Entry::Answer { p, v } => write_two(out, "\"ANSWER\",\"slot\":", p, ",\"answer\":", v),
+        Entry::Take { p, d } => write_two(out, "\"TAKE\",\"slot\":", p, ",\"device\":", d.into()),
+        Entry::Give { p, d } => write_two(out, "\"GIVE\",\"slot\":", p, ",\"device\":", d.into()),
+        Entry::Fail { p, kind } => write_kind(out, "FAIL", p, kind.name()),
+        Entry::Ended { p } => write_one(out, "\"ENDED\",\"slot\":", p.into()),
+        Entry::Lov { p, group } => {
+            write_two(out, "\"LOV\",\"slot\":", p, ",\"group\":", group.into())
+        }
+        Entry::Busy { p, d } => write_two(out, "\"BUSY\",\"slot\":", p, ",\"device\":", d.into()),
+        Entry::Wait { p, kind } => write_kind(out, "WAIT", p, kind.name()),
+        Entry::Idle { n } => write_one(out, "\"IDLE\",\"calls\":", n.into()),
+        Entry::Move { d, n } => write_two(out, "\"MOVE\",\"device\":", d, ",\"words\":", n.into()),
+        Entry::End { d } => write_one(out, "\"END\",\"device\":", d.into()),
+        Entry::Clock { t } => write_one(out, "\"CLOCK\",\"time\":", t),
+        Entry::Swap { p, q } => write_two(out, "\"SWAP\",\"slot\":", p, ",\"other\":", q.into()),
+    }
+}
+
+/// Writes a number after what stands before it.
+fn write_one(out: &mut String, front: &str, n: u64) -> Result<(), AllocError>
+    ensures { OnOk result (string_bytes out.new ≡ string_bytes out.old ++ one_json front.now n) }
+{
+    write!(out, "{front}{n}")
+}
+
+/// Writes two numbers, each after what stands before it.
+fn write_two(
+    out: &mut String,
+    front: &str,
+    first: u8,
+    middle: &str,
+    second: u64,
+) -> Result<(), AllocError>
+    ensures { OnOk result (string_bytes out.new
+        ≡ string_bytes out.old ++ two_json front.now first middle.now second) }
+{
+    write!(out, "{front}{first}{middle}{second}")
+}
+
+/// Writes the begin of a transfer.
+fn write_start(out: &mut String, p: u8, d: u8, k: u32) -> Result<(), AllocError>
+    ensures { OnOk result (string_bytes out.new ≡ string_bytes out.old ++ start_json p d k) }
+{
+    write!(out, "\"START\",\"slot\":{p},\"device\":{d},\"order\":{k}")
+}
+
+/// Writes the name of an entry, a slot, and how its program failed or what kind of device it waits for.
+fn write_kind(out: &mut String, name: &str, p: u8, kind: &str) -> Result<(), AllocError>
+    ensures { OnOk result (string_bytes out.new ≡ string_bytes out.old ++ kind_json name.now p kind.now) }
+{
+    write!(out, "\"{name}\",\"slot\":{p},\"kind\":\"{kind}\"")
+}

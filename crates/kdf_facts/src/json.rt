@@ -1,0 +1,54 @@
+//! JSON: texts in quotes, and what every text of facts begins with.
+
+use std::alloc::AllocError;
+use std::fmt::Write;
+
+const DIGITS: [char; 16] = [
+    '0', '1', '2', '3', '4', '5', '6', '7', '8', '9', 'a', 'b', 'c', 'd', 'e', 'f',
+];
+
+/// Writes bytes as a text in quotes. A byte that isn't a printable character of ASCII is written as the character of its number.
+pub fn write_text(out: &mut String, bytes: &[u8]) -> Result<(), AllocError> {
+    out.push('"')?;
+    for byte in bytes {
+        write_byte(out, *byte)?;
+    }
+    out.push('"')
+}
+
+fn write_byte(out: &mut String, byte: u8) -> Result<(), AllocError> {
+    match byte {
+        b'"' | b'\\' => {
+            out.push('\\')?;
+            out.push(char::from(byte))
+        }
+        32..=126 => out.push(char::from(byte)),
+        _ => {
+            out.push_str("\\u00")?;
+            out.push(DIGITS[usize::from(byte / 16)])?;
+            out.push(DIGITS[usize::from(byte % 16)])
+        }
+    }
+}
+
+/// Writes a number, or `null`.
+pub fn write_number(out: &mut String, number: Option<u32>) -> Result<(), AllocError> {
+    match number {
+        Some(number) => write!(out, "{number}"),
+        None => out.push_str("null"),
+    }
+}
+
+/// Writes the end of a line before an item of a list, and a comma, unless it is the first.
+pub fn write_comma(out: &mut String, i: usize) -> Result<(), AllocError> {
+    out.push_str(if i == 0 { "\n" } else { ",\n" })
+}
+
+/// A length as a number of 32 bits. No list of facts has more items than there are events and calls.
+pub fn count_of(length: usize) -> u32 {
+    if length < 4_294_967_295 {
+        length as u32
+    } else {
+        4_294_967_295
+    }
+}

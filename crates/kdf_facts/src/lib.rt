@@ -1,0 +1,24 @@
+//! What there is to know of a job and of its run, as JSON: a fault with its place, a deck with its statements, and a run with its journal, its
+//! transfers and what became of each call.
+#![tactic(auto)]
+
+mod deck_lines;
+mod devices;
+mod endings;
+mod fault;
+mod fault_columns;
+mod flights;
+mod holds;
+mod json;
+mod layout;
+mod listing;
+mod places;
+mod programs;
+mod retrace;
+mod run;
+mod running;
+mod sentences;
+mod story;
+mod telling;
+
+pub use telling::facts;

@@ -1,0 +1,88 @@
+//! The programs of a run at its end.
+
+use crate::endings::Ending;
+use crate::flights::write_order;
+use crate::json::{write_comma, write_number};
+use crate::layout::Layout;
+use kdf_director::Machine;
+use kdf_processor::{Life, Registers};
+use std::alloc::AllocError;
+use std::fmt::Write;
+
+/// The deck of a slot.
+#[derive(Drop)]
+pub struct Deck<'a> {
+    pub p: u8,
+    pub layout: Layout<'a>,
+}
+
+/// The layout of the deck of a slot.
+pub fn layout_of<'a, 'b>(decks: &'a [Deck<'b>], p: u8) -> Option<&'a Layout<'b>> {
+    for deck in decks {
+        if deck.p == p {
+            return Some(&deck.layout);
+        }
+    }
+    None
+}
+
+/// Writes how each program is at the end: how many orders it obeyed, whether it is live, its next order, and what it waits for.
+pub fn write_programs(
+    out: &mut String,
+    decks: &[Deck<'_>],
+    machine: &Machine,
+    ending: &Ending<'_>,
+) -> Result<(), AllocError> {
+    for (i, deck) in decks.iter().enumerate() {
+        write_comma(out, i)?;
+        let p = deck.p;
+        write!(out, "{{\"slot\":{p}")?;
+        if let Some(registers) = machine.seen(p) {
+            write_registers(out, registers, &deck.layout)?;
+            write_waiting(out, registers.state, ending.waiting(p), ending)?;
+        }
+        out.push_str("}")?;
+    }
+    Ok(())
+}
+
+fn write_registers(
+    out: &mut String,
+    registers: &Registers,
+    layout: &Layout<'_>,
+) -> Result<(), AllocError> {
+    let orders = registers.ran;
+    write!(out, ",\"orders\":{orders}")?;
+    write_life(out, registers.state)?;
+    write_order(out, Some(registers.at), Some(layout))
+}
+
+/// Writes whether a program is live, and how it failed.
+fn write_life(out: &mut String, life: Life) -> Result<(), AllocError> {
+    match life {
+        Life::Live => out.push_str(",\"state\":\"LIVE\",\"failure\":null"),
+        Life::Ended => out.push_str(",\"state\":\"ENDED\",\"failure\":null"),
+        Life::Failed(kind) => {
+            let name = kind.name();
+            write!(out, ",\"state\":\"FAILED\",\"failure\":\"{name}\"")
+        }
+    }
+}
+
+/// Writes the number of the hold that a live program is in, and whether nothing but more calls is lacking.
+fn write_waiting(
+    out: &mut String,
+    life: Life,
+    waiting: Option<u32>,
+    ending: &Ending<'_>,
+) -> Result<(), AllocError> {
+    out.push_str(",\"hold\":")?;
+    write_number(out, waiting)?;
+    let Life::Live = life else {
+        return out.push_str(",\"lacks\":null");
+    };
+    match waiting {
+        Some(i) => ending.write_lack(out, i),
+        None => out.push_str(",\"lacks\":{\"what\":\"calls\"}"),
+    }
+}

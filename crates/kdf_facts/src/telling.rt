@@ -1,0 +1,184 @@
+//! The facts that the words of a command ask for.
+ghost use Rattle.std.specs.Prelude.{◌≡◌, ◌≤◌, Some, IfOk, length, map, string_bytes};
+ghost use Rattle.kdf_facts.specs.Run.{IsRunTold};
+ghost use Rattle.kdf_facts.specs.Told.{OfJob, TellsDeck, TellsFault, TellsJob};
+ghost use Rattle.kdf_facts.specs.declared.telling.Wanted.TheVariants as asked;
+ghost use Rattle.kdf_job.specs.Shows.{shown_job};
+ghost use Rattle.kdf_job.specs.WellFormed.{IsJob};
+ghost use Rattle.kdf_job.specs.declared.job.TheConstants.{TEXT_LIMIT};
+ghost use Rattle.kdf_service.specs.Rules.{IsService};
+ghost use Rattle.kdf_top.specs.Commands.{command};
+ghost use Rattle.kdf_top.specs.Loaded.{HasImages};
+ghost use Rattle.kdf_top.specs.declared.command.Command.TheVariants.{Run};
+
+use crate::deck_lines::deck_line;
+use crate::fault::{DeckFound, deck_fault, job_fault};
+use crate::layout::lay_out;
+use crate::listing::{absent, listing};
+use crate::run::{Loaded, run_facts};
+use kdf_job::{Job, JobError, read_job};
+use kdf_place::Image;
+use kdf_service::Service;
+use kdf_top::{Command, DecksError, assemble_decks, command_of};
+use std::alloc::{AllocError, Global};
+use std::fmt::Write;
+
+/// A job has so many bytes at most.
+const JOB_LIMIT: usize = 4_194_304;
+
+/// What facts are wanted of a job.
+#[derive(Clone, Copy)]
+enum Wanted {
+    /// Those of its run.
+    Run,
+    /// Those of the deck of a slot.
+    Listing(u8),
+}
+
+/// The facts that the words of a command ask for, over the text of a job: those of its run for `run`, those of the deck of a slot for `asm K`, or those
+/// of its first fault.
+pub fn facts<F: Fn(u64) -> u64>(
+    alloc: Global,
+    words: &[String],
+    bytes: &[u8],
+    service: &Service<F>,
+) -> Result<Vec<u8>, AllocError>
+    requires service { IsService (F.pre service.now) (F.post service.now) }
+    ensures run { command (map string_bytes words.now) ≡ Some Run → IfOk result (λ text.
+        OfJob (TellsJob (F.post service.now)) bytes.now text.items) }
+    ensures deck { command (map string_bytes words.now) ≡ Some Run → IfOk result (λ text.
+        OfJob TellsDeck bytes.now text.items) }
+    ensures fault { command (map string_bytes words.now) ≡ Some Run → IfOk result (λ text.
+        TellsFault bytes.now text.items) }
+{
+    let told = match command_of(alloc, words)? {
+        Some(Command::Run) => within(alloc, Wanted::Run, bytes, service)?,
+        Some(Command::Asm(p)) => within(alloc, Wanted::Listing(p), bytes, service)?,
+        _ => usage(alloc)?,
+    };
+    Ok(told.into_bytes())
+}
+
+/// What words are told that ask for no facts.
+fn usage(alloc: Global) -> Result<String, AllocError> {
+    let mut out = String::new(alloc);
+    out.push_str(
+        "{\"format\":\"kdf9-facts 1\",\"kind\":\"usage\",\"sentence\":\"facts are told of run and of asm K\"}\n",
+    )?;
+    Ok(out)
+}
+
+/// The facts of a job, or of a text that is too large for one.
+fn within<F: Fn(u64) -> u64>(
+    alloc: Global,
+    wanted: Wanted,
+    bytes: &[u8],
+    service: &Service<F>,
+) -> Result<String, AllocError>
+    requires service { IsService (F.pre service.now) (F.post service.now) }
+    ensures run { wanted ≡ asked.Run → IfOk result (λ text.
+        OfJob (TellsJob (F.post service.now)) bytes.now (string_bytes text)) }
+    ensures deck { IfOk result (λ text. OfJob TellsDeck bytes.now (string_bytes text)) }
+    ensures fault { IfOk result (λ text. TellsFault bytes.now (string_bytes text)) }
+{
+    if bytes.len() > JOB_LIMIT {
+        return large(alloc);
+    }
+    match read_job(alloc, bytes) {
+        Ok(job) => of_job(alloc, wanted, bytes, &job, service),
+        Err(JobError::Fault(fault, line)) => job_fault(alloc, bytes, fault, line),
+        Err(JobError::Memory) => Err(AllocError),
+    }
+}
+
+/// The facts of a text of more bytes than a job has.
+fn large(alloc: Global) -> Result<String, AllocError> {
+    let mut out = String::new(alloc);
+    write!(
+        out,
+        "{{\"format\":\"kdf9-facts 1\",\"kind\":\"fault\",\"of\":\"text\",\"name\":\"Large\",\"limit\":{JOB_LIMIT}}}\n"
+    )?;
+    Ok(out)
+}
+
+/// The facts of a job that was read, or of the first fault of its decks.
+fn of_job<F: Fn(u64) -> u64>(
+    alloc: Global,
+    wanted: Wanted,
+    bytes: &[u8],
+    job: &Job,
+    service: &Service<F>,
+) -> Result<String, AllocError>
+    requires service { IsService (F.pre service.now) (F.post service.now) }
+    requires few { length bytes.now ≤ TEXT_LIMIT }
+    requires job { IsJob (shown_job job.now) }
+    ensures run { wanted ≡ asked.Run → IfOk result (λ text.
+        TellsJob (F.post service.now) (shown_job job.now) (string_bytes text)) }
+    ensures deck { IfOk result (λ text. TellsDeck (shown_job job.now) (string_bytes text)) }
+{
+    match assemble_decks(alloc, &job.slots) {
+        Ok(images) => of_images(alloc, wanted, bytes, job, &images, service),
+        Err(DecksError::Fault(slot, fault, place)) => {
+            let found = DeckFound { slot, fault, place };
+            deck_fault(alloc, bytes, deck_of(job, slot), found)
+        }
+        Err(DecksError::Memory) => Err(AllocError),
+    }
+}
+
+/// The facts of a job whose decks have no fault.
+fn of_images<F: Fn(u64) -> u64>(
+    alloc: Global,
+    wanted: Wanted,
+    bytes: &[u8],
+    job: &Job,
+    images: &[Image],
+    service: &Service<F>,
+) -> Result<String, AllocError>
+    requires service { IsService (F.pre service.now) (F.post service.now) }
+    requires few { length bytes.now ≤ TEXT_LIMIT }
+    requires job { IsJob (shown_job job.now) }
+    requires images { HasImages (shown_job job.now).slots images.now }
+    ensures run { wanted ≡ asked.Run → IfOk result (λ text.
+        IsRunTold (F.post service.now) (shown_job job.now) (string_bytes text)) }
+{
+    let loaded = Loaded { bytes, job, images };
+    match wanted {
+        Wanted::Run => run_facts(alloc, loaded, service),
+        Wanted::Listing(p) => of_slot(alloc, p, loaded),
+    }
+}
+
+/// The text of the deck of a slot.
+fn deck_of(job: &Job, p: u8) -> &[u8] {
+    for slot in job.slots.iter() {
+        if slot.p == p {
+            return &slot.deck;
+        }
+    }
+    &[]
+}
+
+/// The facts of the deck of a slot.
+fn of_slot(alloc: Global, p: u8, loaded: Loaded<'_>) -> Result<String, AllocError>
+    requires { length loaded.bytes.now ≤ TEXT_LIMIT }
+{
+    match image_of(loaded.job, loaded.images, p) {
+        Some(image) => {
+            let text = deck_of(loaded.job, p);
+            let layout = lay_out(alloc, text, deck_line(loaded.bytes, p))?;
+            listing(alloc, p, &layout, image)
+        }
+        None => absent(alloc, p),
+    }
+}
+
+/// The image of the deck of a slot.
+fn image_of<'a>(job: &Job, images: &'a [Image], p: u8) -> Option<&'a Image> {
+    for (i, slot) in job.slots.iter().enumerate() {
+        if slot.p == p {
+            return images.get(i);
+        }
+    }
+    None
+}

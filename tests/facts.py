@@ -1,0 +1,221 @@
+"""Compares facts with their schema and with what the program answers.
+
+What is due is worked out in another way: from the journal and the sections of a report, from the listing of a deck, and from the line that tells a fault.
+"""
+import json
+import os
+import re
+import subprocess
+import sys
+from concurrent.futures import ThreadPoolExecutor
+
+from schema import Schema
+from toolkit import ROOT, document, job_of_deck
+
+sys.path.insert(0, str(ROOT / "tools"))
+from kdf9.report import read_report  # noqa: E402
+from kdf9.timeline import calls_of  # noqa: E402
+
+TOLD = os.environ.get("KDF_TOLD", ROOT / "crates" / "kdf_told" / "out" / "kdf_told")
+SCHEMA = Schema(json.loads((ROOT / "docs" / "schema" / "facts.json").read_text(encoding="utf-8")))
+
+# Jobs of more bytes are left out.
+MOST_BYTES = 1_000_000
+
+# The members of an entry, in the order in which its line has them, and the names of a device that a group of words has in common.
+MEMBERS = {
+    "RAN": ["slot", "orders"], "START": ["slot", "device", "order"], "ANSWER": ["slot", "answer"], "TAKE": ["slot", "device"], "GIVE": ["slot", "device"],
+    "FAIL": ["slot", "kind"], "ENDED": ["slot"], "LOV": ["slot", "group"], "BUSY": ["slot", "device"], "WAIT": ["slot", "kind"], "IDLE": ["calls"],
+    "MOVE": ["device", "words"], "END": ["device"], "CLOCK": ["time"], "SWAP": ["slot", "other"],
+}
+HOLDS = {"LOV": "group", "BUSY": "device", "WAIT": "pool"}
+
+# Decks with a fault, and what is told of it besides its name: the line and the column in the job, the text there, and of TooLarge the words and the store.
+FAULTS = [
+    ("PROGRAM;\nZERO; SET 40000;\nFINISH;", "BadNumber", 6, 7, "SET 40000"),
+    ("PROGRAM; (\n\n) ERAZE; FINISH;", "UnknownOrder", 7, 3, "ERAZE"),
+    ("PROGRAM; ZERO;\t FINISH;", "BadByte", 5, 15, "\t"),
+    ("Y31; PROGRAM; FINISH;", "TooLarge", 6, 1, "", 33, 64),
+    ("Y8191; PROGRAM; FINISH;", "TooLarge", 6, 1, "", None, None),
+]
+
+# Lines of a job with a fault, and the column of it.
+COLUMNS = [
+    ("KDF8 JOB 1\n", 4), ("KDF9 JOB 1\nSLOT 7\n", 6), ("KDF9 JOB 1\nSLOT 0\nSTORE 33\n", 7), ("KDF9 JOB 1\nSLOT 0\nSTORE 32\nSTACK\n", 1),
+    ("KDF9 JOB 1\nSLOT 0\nSTORE 32\nDECK\nENDDECK\nDEVICE 1 MT a-b\n", 13), ("KDF9 JOB 1\nSLOT 0\nSTORE 32\nDECK\nENDDECK\nDEVICE 1 TR\n+AB#\n", 4),
+    ("KDF9 JOB 1\nSLOT 0\nSTORE 32\nDECK\nENDDECK\nSHOW 3 99999\n", 8), ("KDF9 JOB 1\nSLOT 0\nSTORE 32\nDECK\nENDDECK\nPOOL\nDEVICE 1 TR\n", 10),
+]
+
+
+def told(words, text):
+    """The facts that these words ask for over a job."""
+    done = subprocess.run([TOLD, *words], input=text.encode("latin-1"), stdout=subprocess.PIPE, check=True)
+    return json.loads(done.stdout.decode("ascii"))
+
+
+def program():
+    """The program: that of the variable KDF9, or else the one that ./kdf9 starts, which is built first if it has to be."""
+    if "KDF9" in os.environ:
+        return os.environ["KDF9"]
+    subprocess.run([ROOT / "kdf9", "make", "0"], stdout=subprocess.DEVNULL, check=True)
+    return ROOT / "crates" / "kdf9" / "out" / "kdf9"
+
+
+PROGRAM = program()
+
+
+def answer(words, text):
+    """The text that the program answers to these words over a job."""
+    return subprocess.run([PROGRAM, *words], input=text.encode("latin-1"), stdout=subprocess.PIPE, check=False).stdout.decode("latin-1")
+
+
+def entry_line(entry):
+    """The line of an entry."""
+    return " ".join([entry["entry"], *(str(entry[name]) for name in MEMBERS[entry["entry"]])])
+
+
+def faults_of_run(facts, text):
+    """What is wrong with the facts of a run, by the report."""
+    report = read_report(text, "the report")
+    lines = text.split("\n")[1:1 + len(facts["entries"])]
+    if list(map(entry_line, facts["entries"])) != lines or len(report.entries) != len(lines):
+        yield "the entries aren't those of the report"
+        return
+    calls = 0
+    for entry, told_entry in zip(report.entries, facts["entries"]):
+        if told_entry["call"] != calls:
+            yield f"{entry_line(told_entry)}: call {told_entry['call']} for {calls}"
+        calls += calls_of(entry)
+    if facts["made"] != calls:
+        yield f"there are {calls} calls, and not {facts['made']}"
+    yield from faults_of_calls(facts, report, calls)
+    yield from faults_of_transfers(facts, report)
+    yield from faults_of_programs(facts, report)
+
+
+def faults_of_calls(facts, report, calls):
+    """What is wrong with what became of the calls."""
+    for program_calls in facts["calls"]:
+        slot, spent = program_calls["slot"], program_calls["calls"]
+        if spent["running"] + spent["ready"] + sum(spent["held"].values()) + spent["over"] != calls:
+            yield f"slot {slot}: the calls don't add up to {calls}"
+        if spent["running"] != report.sections[slot].orders:
+            yield f"slot {slot}: {spent['running']} calls for {report.sections[slot].orders} orders"
+    if facts["idle"] != sum(entry[1] for entry in report.entries if entry[0] == "IDLE"):
+        yield "idle calls differ"
+
+
+def faults_of_transfers(facts, report):
+    """What is wrong with the transfers, holds, questions and loans."""
+    starts = [(slot, device, order) for kind, slot, device, order in (entry for entry in report.entries if entry[0] == "START")]
+    if [(one["slot"], one["device"], one["order"]) for one in facts["transfers"]] != starts:
+        yield "the transfers aren't those of the entries"
+    for number, one in enumerate(facts["transfers"]):
+        if one["statement"] is None:
+            yield f"transfer {number} has no statement"
+        if one["area"] and [one["area"][0] // 32, one["area"][1] // 32] != one["groups"]:
+            yield f"transfer {number}: the area {one['area']} isn't in groups {one['groups']}"
+        if one["area"] and one["words"] > one["area"][1] - one["area"][0] + 1 or one["moved"] > one["words"]:
+            yield f"transfer {number}: too many words"
+    for device in facts["devices"]:
+        ends = [(one["ended"] or facts["made"]) - one["began"] for one in facts["transfers"] if one["device"] == device["device"]]
+        if (device["transfers"], device["busy"]) != (len(ends), sum(ends)):
+            yield f"device {device['device']}: its transfers don't add up"
+    holds = [(entry[1], HOLDS[entry[0]], entry[2]) for entry in report.entries if entry[0] in HOLDS]
+    if [(one["slot"], one["by"], one[one["by"]]) for one in facts["holds"]] != holds:
+        yield "the holds aren't those of the entries"
+    asks = [(entry[1], entry[2]) for entry in report.entries if entry[0] in ("ANSWER", "TAKE")]
+    if [(one["slot"], one["answer"]) for one in facts["asks"]] != asks:
+        yield "the questions aren't those of the entries"
+    if len(facts["loans"]) != sum(entry[0] == "TAKE" for entry in report.entries):
+        yield "the loans aren't those of the entries"
+
+
+def faults_of_programs(facts, report):
+    """What is wrong with how the programs ended."""
+    for one in facts["programs"]:
+        section = report.sections[one["slot"]]
+        state = [one["state"], one["failure"]] if one["failure"] else [one["state"]]
+        if (state, one["orders"], tuple(one["at"])) != (section.state, section.orders, tuple(section.at)):
+            yield f"slot {one['slot']}: its end isn't that of its section"
+
+
+def faults_of_listing(facts, text):
+    """What is wrong with the facts of a deck, by its listing."""
+    words = re.findall(r"^WORD \d+ ([0-7]{16})$", text, re.MULTILINE)
+    references = [tuple(map(int, each)) for each in re.findall(r"^REF (\d+) (\d+) (\d+) (\d+)$", text, re.MULTILINE)]
+    if facts["words"] != words:
+        yield "the words aren't those of the listing"
+    if [(one["part"], one["reference"], *one["at"]) for one in facts["references"]] != references:
+        yield "the references aren't those of the listing"
+    orders = [one for one in facts["statements"] if one["syllables"]]
+    image = "".join(f"{int(word, 8):012x}" for word in words)
+    for one in orders:
+        at = 6 * one["at"][0] + one["at"][1]
+        size = 1 + (int(image[2 * at:2 * at + 2], 16) >= 0x40) + (int(image[2 * at:2 * at + 2], 16) >= 0x80)
+        if size != one["syllables"]:
+            yield f"{one['text']}: {one['syllables']} syllables at {one['at']}, where {size} stand"
+
+
+def faults_of_fault(facts, text):
+    """What is wrong with the facts of a fault, by the line that tells it."""
+    kind, *rest = text.split()
+    due = [facts["name"], str(facts["line"])] if kind == "JOB" else [str(facts.get("slot")), facts["name"], str(facts.get("offset"))]
+    if kind not in ("JOB", "DECK") or rest != due:
+        yield f"{facts['name']} for {text.strip()}"
+    pattern = rf"^\| `{facts['name']}` \| (.*?) \|$" if kind == "JOB" else rf"^### {facts['number']} {facts['name']}\n\n(.*?)\n\n"
+    found = re.search(pattern, document("JOB.md" if kind == "JOB" else "USERCODE.md"), re.MULTILINE | re.DOTALL)
+    if not found or " ".join(found[1].split()) != facts["sentence"]:
+        yield f"{facts['name']}: the sentence isn't that of the documents"
+
+
+CHECKS = {"run": faults_of_run, "listing": faults_of_listing, "fault": faults_of_fault}
+
+
+def cases():
+    """The examples and cases, and the words that facts are asked for with."""
+    for folder in ("examples", "tests/cases"):
+        for path in sorted((ROOT / folder).glob("*.job")):
+            text = path.read_text(encoding="latin-1")
+            if len(text) <= MOST_BYTES:
+                for words in (["run"], *(["asm", str(slot)] for slot in range(4))):
+                    yield f"{path.stem}: {' '.join(words)}", words, text
+
+
+def faults_of_case(case):
+    """What is wrong with the facts of a case."""
+    name, words, text = case
+    facts = told(words, text)
+    faults = SCHEMA.faults(facts) or list(CHECKS[facts["kind"]](facts, answer(words, text)))
+    return [f"{name}: {fault}" for fault in faults]
+
+
+def faults_of_decks():
+    """What is wrong with the facts of the faults of the tables above."""
+    for deck, name, line, column, subject, *size in FAULTS:
+        facts = told(["run"], job_of_deck(deck))
+        found = [facts[member] for member in ("name", "line", "column", "text")] + [facts[member] for member in ("words", "store") if size]
+        if found != [name, line, column, subject, *size]:
+            yield f"{deck!r}: {found}"
+    for job, column in COLUMNS:
+        facts = told(["run"], job)
+        if facts["column"] != column:
+            yield f"{job!r}: column {facts['column']} for {column}"
+
+
+def main():
+    """Tries every case; the status is 0 where each passed."""
+    if not os.path.exists(TOLD):
+        print(f"facts: there is no {TOLD}: rt ci makes it, and so does rt run in crates/kdf_told")
+        return 1
+    with ThreadPoolExecutor() as pool:
+        results = list(pool.map(faults_of_case, cases()))
+    results += [[fault] for fault in faults_of_decks()] or [[]]
+    faults = [fault for result in results for fault in result]
+    print(*(f"facts: {fault}" for fault in faults[:50]), sep="\n", end="\n" if faults else "")
+    print(f"facts: {sum(not result for result in results)} passed, {sum(map(bool, results))} failed")
+    return 1 if faults else 0
+
+
+if __name__ == "__main__":
+    sys.exit(main())
