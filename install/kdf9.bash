@@ -36,18 +36,22 @@ _kdf9() {
         explain) places=(job 'run resume check') options='--help --strict' with_word='' ;;
         steps) places=(job slot '' '') options='--help --run --at --watch' with_word='--at --watch' ;;
         listing) places=(job slot) options='--help' with_word='' ;;
-        schedule) places=(job '') options='--help --after --every' with_word='--after --every' ;;
+        schedule) places=(job '') options='--help --after --every --speed --speeds' with_word='--after --every --speed --speeds' ;;
         same) places=(job job) options='--help' with_word='' ;;
+        explore) places=(job) options='--help --calls --runs --swap --mode --out' with_word='--calls --runs --out' ;;
+        stats) places=(job job) options='--help --json --csv' with_word='' ;;
+        study) places=('') options='--help --out --part' with_word='--out --part' ;;
         picture) places=() options='--help --text' with_word='' ;;
         json) places=() options='--help' with_word='' ;;
         report) places=() options='--help' with_word='' ;;
         page) places=() options='--help' with_word='' ;;
         replay) places=(job) options='--help' with_word='' ;;
+        lib) places=(folder) options='--help' with_word='' ;;
         clean) places=() options='--help --show' with_word='' ;;
         package) places=(folder) options='--help' with_word='' ;;
     esac
     if [ "$COMP_CWORD" = 1 ]; then
-        _kdf9_place 'run alone asm make save resume check watch explain steps listing schedule same picture json report page replay clean package --help --version'
+        _kdf9_place 'run alone asm make save resume check watch explain steps listing schedule same explore stats study picture json report page replay lib clean package --help --version'
         return
     fi
     for ((at = 2; at < COMP_CWORD; at++)); do

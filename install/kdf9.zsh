@@ -22,13 +22,17 @@ _kdf9() {
         'explain:Runs a job, passes on the output and the status, and says on standard error what is wrong, where and why.'
         'steps:Writes each order of a program as it is obeyed, with its statement and what it changed; or, with --at, each time that the program comes to a statement.'
         'listing:Writes the image of a deck next to its text, with the names of its words.'
-        'schedule:Writes a job again with a schedule in which each transfer ends a fixed number of calls after it began.'
+        'schedule:Writes a job again with a schedule in which each transfer ends a fixed number of calls after it began, or by its length.'
         'same:Says of each program of a job whether it comes to the same alone, or in another job.'
+        'explore:Finds what can come of a job over every schedule: results, deadlocks, and who can starve, each with a job that shows it.'
+        'stats:Tells how many calls the programs and devices of a run had for what; of several jobs side by side.'
+        'study:Runs a job with all combinations of some values, and keeps a row of measures for each run.'
         'picture:Draws the journal of a report, as SVG or, with --text, for a terminal.'
         'json:Writes a report as JSON.'
         'report:Writes the report that a JSON text is.'
         'page:Writes the machine, an editor and the examples as one page for a browser.'
         'replay:Writes the same page with a job in it, which opens at the run of that job.'
+        'lib:Writes the machine as a library for programs in C, Python and JavaScript, and says how to use it.'
         'clean:Gives back the disk that only makes the next proof shorter; the program and the page stay.'
         'package:Makes packages of the program, the tools and the documents, as a .tar.gz and a .deb.'
         '--help:Lists the commands and the tools; after the name of one, it says more of that.'
@@ -50,13 +54,17 @@ _kdf9() {
                 explain) _arguments '1:job:_files -g "*.job"' '2:word:(run resume check)' '--help[says this, and ends]' '--strict[ends with status 1 if a program failed or can’t go on, or if a report isn’t that of its job]' ;;
                 steps) _arguments '1:job:_files -g "*.job"' '2:slot:_kdf9_slots' '3:: ' '4:: ' '--help[says this, and ends]' '--run[shows the program as it ran under Director, and not by itself]' '--at[shows each time that the program came to this, a reference such as 1 or 3P2, a part such as P2, or a word and a syllable such as 12/3]:STATEMENT: ' '--watch[shows this word each time, by its name in the deck or as En; more than one may be watched]:WORD: ' ;;
                 listing) _arguments '1:job:_files -g "*.job"' '2:slot:_kdf9_slots' '--help[says this, and ends]' ;;
-                schedule) _arguments '1:job:_files -g "*.job"' '2:: ' '--help[says this, and ends]' '--after[each transfer ends N steps after it began; 20 if it is left out]:N: ' '--every[a step is N calls, after which one word of the transfer moves; if it is left out, a step is a call]:N: ' ;;
+                schedule) _arguments '1:job:_files -g "*.job"' '2:: ' '--help[says this, and ends]' '--after[each transfer ends N steps after it began; 20 if it is left out]:N: ' '--every[a step is N calls, after which one word of the transfer moves; if it is left out, a step is a call]:N: ' '--speed[each transfer of this device ends A calls after it began, and B more for each word of its area; it can be given for several devices]:DEVICE=A+B: ' '--speeds[a speed for each device by its kind, kdf9 is what the KDF9’s devices did, at 6 microseconds an order]:NAME: ' ;;
                 same) _arguments '1:job:_files -g "*.job"' '2:job:_files -g "*.job"' '--help[says this, and ends]' ;;
+                explore) _arguments '1:job:_files -g "*.job"' '--help[says this, and ends]' '--calls[the calls of a schedule; 60 if it is left out]:T: ' '--runs[the most runs of a search; 2000 if it is left out]:N: ' '--swap[priorities may be exchanged at any moment]' '--mode[naive runs each schedule by itself, to be compared with]' '--out[writes a job for each outcome to this folder, which has to be new or empty]:FOLDER: ' ;;
+                stats) _arguments '1:job:_files -g "*.job"' '2:job:_files -g "*.job"' '--help[says this, and ends]' '--json[writes JSON]' '--csv[writes CSV, with a line for each measure]' ;;
+                study) _arguments '1:: ' '--help[says this, and ends]' '--out[keeps the rows; it has to be new, or to have rows of the same plan. Without it the rows are only written]:FOLDER: ' '--part[does only each N-th run, the I-th of them first]:I/N: ' ;;
                 picture) _arguments '--help[says this, and ends]' '--text[draws it in characters, for a terminal]' ;;
                 json) _arguments '--help[says this, and ends]' ;;
                 report) _arguments '--help[says this, and ends]' ;;
                 page) _arguments '--help[says this, and ends]' ;;
                 replay) _arguments '1:job:_files -g "*.job"' '--help[says this, and ends]' ;;
+                lib) _arguments '1:folder:_files -/' '--help[says this, and ends]' ;;
                 clean) _arguments '--help[says this, and ends]' '--show[only says what would be given back]' ;;
                 package) _arguments '1:folder:_files -/' '--help[says this, and ends]' ;;
             esac ;;
