@@ -15,7 +15,7 @@ Cases = Iterator[Tuple[str, Optional[str]]]
 
 # What is typed, with a tab where the shell completes, and the words that kdf9 is handed.
 TYPED = [
-    ("kdf9 expl\texamples/adds-5\t", "explain examples/adds-5-and-7.job"), ("kdf9 wat\t3 4", "watch 3 4"), ("kdf9 --v\t", "--version"),
+    ("kdf9 expla\texamples/adds-5\t", "explain examples/adds-5-and-7.job"), ("kdf9 wat\t3 4", "watch 3 4"), ("kdf9 --v\t", "--version"),
     ("kdf9 steps examples/adds-5-and-7.job \t", "steps examples/adds-5-and-7.job 0"), ("kdf9 listing --h\t", "listing --help"),
     ("kdf9 explain x re\t", "explain x resume"), ("kdf9 same x examples/asks-the\t", "same x examples/asks-the-service.job"),
     ("kdf9 schedule --after 7 examples/adds-cards-w\t", "schedule --after 7 examples/adds-cards-while-a-tape-is-copied.job"), ("kdf9 explain x --st\t", "explain x --strict"),
@@ -23,7 +23,7 @@ TYPED = [
 
 # What stands before the cursor, and all that fish offers there.
 OFFERED = [
-    ("kdf9 s", ["save", "steps", "schedule", "same"]), ("./kdf9 expl", ["explain"]), ("kdf9 alone ", ["0", "1", "2", "3"]), ("kdf9 --v", ["--version"]),
+    ("kdf9 s", ["same", "save", "schedule", "stats", "steps", "study"]), ("./kdf9 expla", ["explain"]), ("kdf9 alone ", ["0", "1", "2", "3"]), ("kdf9 --v", ["--version"]),
     ("kdf9 listing examples/adds-cards-while-a-tape-is-copied.job ", ["0", "1"]), ("kdf9 explain x re", ["resume"]), ("kdf9 steps x 0 --w", ["--watch"]),
     ("kdf9 steps x --at 1 ", ["0", "1", "2", "3"]), ("kdf9 explain x run --s", ["--strict"]), ("kdf9 make ", []),
 ]

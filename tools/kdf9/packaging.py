@@ -90,6 +90,7 @@ def stage_page(folder: pathlib.Path) -> None:
     """Adds the machine as WebAssembly, as one that is current there, and the page."""
     (folder / MODULE).parent.mkdir()
     shutil.copy(engine.MODULE, folder / MODULE)
+    (folder / MODULE).chmod(0o644)
     keeps = "from building import engine; engine.SUMS.write_text(engine.sums(), encoding='ascii')"
     subprocess.run([sys.executable, "-B", "-c", keeps], cwd=folder / "tools", check=True)
     with open(folder / HTML, "wb") as page:
