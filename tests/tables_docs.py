@@ -108,7 +108,7 @@ def codes_stand_in_the_tables(read: Read, tables: dict) -> Cases:
             seen.update(names)
             strangers = [name for name in names if name not in orders]
             if strangers:
-                yield f"row {codes} of docs/MACHINE.md", f"{strangers} are no orders"
+                yield f"the codes {codes} in docs/MACHINE.md", f"{strangers} are no orders"
                 continue
             if part.startswith("### Tests"):
                 due = [int(orders[name]["code"][-1]) for name in names]
@@ -116,7 +116,7 @@ def codes_stand_in_the_tables(read: Read, tables: dict) -> Cases:
                 due = [first_code(orders[name]) - base for name in names]
             found = codes_in(codes)
             whole = len(found) // len(names)
-            yield f"row {codes} of docs/MACHINE.md", None if found[::whole] == due and len(found) == whole * len(names) else f"{cell} have the codes {[f'{code:02X}' for code in due]}"
+            yield f"the codes {codes} in docs/MACHINE.md", None if found[::whole] == due and len(found) == whole * len(names) else f"{cell} have the codes {[f'{code:02X}' for code in due]}"
     missing = [name for name in orders if name not in seen and name not in ("En", "=En", "SET")]
     yield "the orders of docs/MACHINE.md", None if not missing else f"{missing} are in no table by code"
 

@@ -1,0 +1,142 @@
+// The machine for JavaScript, in a page and in Node. This file has everything between the proved code and a script: the heap, 128-bit arithmetic, and how texts are
+// handed in and out. Each question gets a fresh instance of the module, so that no run sees another's memory.
+
+const PAGE = 65536;
+const SMALLEST = 16; // bytes in the smallest block
+const TEXT_TOO_LONG = 6; // the status of a text that the room is too small for
+
+// The bytes of the room that is tried first for a text, and of the largest.
+const SMALLEST_ROOM = 1 << 20;
+const LARGEST_ROOM = 1 << 28;
+
+/** Makes a memory larger by so many pages. The number has the type of an address, but for the first engines that had such memories. */
+function grow(memory, pages) {
+  try {
+    memory.grow(BigInt(pages));
+  } catch (error) {
+    if (!(error instanceof TypeError)) throw error;
+    memory.grow(pages);
+  }
+}
+
+/** The heap that the proved code asks for memory. Its blocks have 16, 32, 64 .. bytes, and a block that was given back is used again. */
+export class Heap {
+  constructor(memory, base) {
+    this.memory = memory;
+    this.top = Math.ceil(base / SMALLEST) * SMALLEST;
+    this.sizes = new Map();
+    this.free = new Map();
+  }
+
+  /** The address of a block of at least this many bytes, or 0 if there is no memory. */
+  take(bytes) {
+    let size = SMALLEST;
+    while (size < bytes) size *= 2;
+    const again = this.free.get(size)?.pop();
+    const at = again ?? this.grow(size);
+    if (at) this.sizes.set(at, size);
+    return at;
+  }
+
+  /** The address of a new block. The memory grows if it has to. */
+  grow(size) {
+    const end = this.top + size;
+    const missing = Math.ceil((end - this.memory.buffer.byteLength) / PAGE);
+    try {
+      if (missing > 0) grow(this.memory, missing);
+    } catch {
+      return 0;
+    }
+    const at = this.top;
+    this.top = end;
+    return at;
+  }
+
+  giveBack(at) {
+    const size = this.sizes.get(at);
+    if (size === undefined) return;
+    this.sizes.delete(at);
+    if (!this.free.has(size)) this.free.set(size, []);
+    this.free.get(size).push(at);
+  }
+
+  /** The block itself if it has this many bytes; otherwise a larger one, with the bytes that are kept. */
+  change(at, kept, bytes) {
+    if (bytes <= this.sizes.get(at)) return at;
+    const to = this.take(bytes);
+    if (!to) return 0;
+    new Uint8Array(this.memory.buffer).copyWithin(to, at, at + kept);
+    this.giveBack(at);
+    return to;
+  }
+}
+
+/** A signed 128-bit number, from its two halves. */
+const wide = (low, high) => BigInt.asUintN(64, low) | (high << 64n);
+
+/** What the proved code imports: the heap, and 128-bit arithmetic, for which WebAssembly has no instructions. */
+export function imports(machine) {
+  const writePair = (at, low, high) => {
+    const view = new DataView(machine.memory.buffer);
+    view.setBigUint64(Number(at), BigInt.asUintN(64, low), true);
+    view.setBigUint64(Number(at) + 8, BigInt.asUintN(64, high), true);
+  };
+  const writeWide = (at, value) => writePair(at, value, value >> 64n);
+  // If there is no block, the first word says so, and the address in the second is never used.
+  const writeBlock = (at, block) => writePair(at, block ? 1n : 0n, BigInt(block || SMALLEST));
+  return {
+    rattle_alloc: (out, bytes, alignment) => writeBlock(out, machine.heap.take(Number(bytes || alignment))),
+    rattle_realloc: (out, at, kept, bytes, alignment) => writeBlock(out, machine.heap.change(Number(at), Number(kept), Number(bytes || alignment))),
+    rattle_dealloc: (at) => machine.heap.giveBack(Number(at)),
+    __multi3: (out, a, aHigh, b, bHigh) => writeWide(out, wide(a, aHigh) * wide(b, bHigh)),
+    __ashlti3: (out, low, high, places) => writeWide(out, wide(low, high) << BigInt(places)),
+    __ashrti3: (out, low, high, places) => writeWide(out, wide(low, high) >> BigInt(places)),
+    __lshrti3: (out, low, high, places) => writeWide(out, BigInt.asUintN(128, wide(low, high)) >> BigInt(places)),
+  };
+}
+
+/** The words of a command as the proved code takes them: each on a line of its own. */
+function linesOf(words) {
+  if (words.some((word) => /[\r\n]/.test(word))) throw new TypeError("a word of a command has no end of a line in it");
+  return new TextEncoder().encode(words.map((word) => `${word}\n`).join(""));
+}
+
+/** The answer to the words of a command for a job, with a text of at most `room` bytes. */
+function answerWithin(module, words, job, room) {
+  const machine = {};
+  const { exports } = new WebAssembly.Instance(module, { env: imports(machine) });
+  machine.memory = exports.memory;
+  machine.heap = new Heap(exports.memory, Number(exports.__heap_base.value));
+  const place = (bytes) => {
+    const at = machine.heap.take(bytes);
+    if (!at) throw new RangeError("there is no memory");
+    return at;
+  };
+  const handIn = (bytes) => {
+    const at = place(bytes.length);
+    new Uint8Array(machine.memory.buffer).set(bytes, at);
+    return [BigInt(at), BigInt(bytes.length)];
+  };
+  const text = place(room), wanted = place(8);
+  const slices = [...handIn(linesOf(words)), ...handIn(job)];
+  const began = performance.now();
+  const status = exports.kdf9_run(...slices, BigInt(text), BigInt(room), BigInt(wanted));
+  const milliseconds = performance.now() - began;
+  const size = Number(new DataView(machine.memory.buffer).getBigUint64(wanted, true));
+  const written = new Uint8Array(machine.memory.buffer).slice(text, text + (size <= room ? size : 0));
+  return { status, text: written, size, milliseconds, memory: machine.memory.buffer.byteLength };
+}
+
+/** The proved code, from the bytes of its module. */
+export function compiled(bytes) {
+  return WebAssembly.compile(bytes);
+}
+
+/**
+ * What the proved code answers to the words of a command for a job, which is bytes: the number of the status, the text as bytes, how many bytes it has, the
+ * milliseconds that it took, and the bytes of memory. A text of more than 256 MiB is left out, with status 6.
+ */
+export function answer(module, words, job) {
+  const given = answerWithin(module, words, job, SMALLEST_ROOM);
+  return given.status === TEXT_TOO_LONG && given.size <= LARGEST_ROOM ? answerWithin(module, words, job, given.size) : given;
+}
