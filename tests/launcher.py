@@ -311,7 +311,7 @@ def says_which_program_it_is(checkout):
     record = checkout.folder / f"{PROGRAM}.proved"
     lines = record.read_text().splitlines()
     record.write_text("\n".join([lines[0], "another machine", *lines[2:]]))
-    yield version_differs(checkout, "built on another machine, and not proved on this one")
+    yield version_differs(checkout, "built on another machine, and not proved on this machine")
     checkout.build_by_hand()
     yield version_differs(checkout, "there is no record of its build")
     record.write_text("x\n")
