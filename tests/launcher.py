@@ -52,10 +52,10 @@ class Checkout:
         self.date(name, 10)
 
     def date(self, name, seconds):
-        """Makes a file this many seconds newer than the program."""
+        """Makes a file this many seconds newer than the program, and than all that its build left, which may have taken long."""
         program = self.folder / PROGRAM
         if program.exists():
-            at = program.stat().st_mtime + seconds
+            at = max(program.stat().st_mtime, time.time()) + seconds
             os.utime(self.folder / name, (at, at))
 
     def build_by_hand(self):
