@@ -15,6 +15,15 @@ LOOPS = {
     "fetch, add, store, JCqNZS": b"Y0; PROGRAM V0; V0 = 1; SET 1; =C1; *; 1; Y0; V0; +; =Y0; J1C1NZS; FINISH;\n",
 }
 
+# Reads a block of 4,096 words, writes it, and rewinds both tapes, again and again.
+BLOCK = b"ABCDEFGH" * 4096
+COPIES = (
+    b"PROGRAM V2; V0=PIN; V1=POUT; V2=Q0/64/4159;\n"
+    b"V0; SET 4; OUT; V2; =Q1; =C1; V1; SET 4; OUT; V2; =Q2; =C2;\n"
+    b"1; MFRQ1; MWQ2; MRWDQ1; MRWDQ2; J1; FINISH;\n"
+)
+ROUND = b"ORDERS 6\nEND 6\nORDERS 2\nEND 8\nORDERS 2\nEND 6\nEND 8\nORDERS 2\n"
+
 # What wait4 tells of a child's peak begins with that of this script, some 14 MB. So each run is stopped at its end, where the system still
 # tells the peak of its own memory. The job is written once the system knows that, so no run ends before.
 trace = ctypes.CDLL(None, use_errno=True).ptrace
@@ -28,6 +37,18 @@ Best = namedtuple("Best", "seconds peak runs")
 def slot(p, store, deck, devices=b""):
     """The lines of a slot: its store of so many words, its deck, and its devices with their media."""
     return b"SLOT %d\nSTORE %d\nDECK\n%sENDDECK\n%s" % (p, store, deck, devices)
+
+
+def tapes():
+    """A slot that copies a block of 4,096 words from tape to tape, again and again: a round for each time that ROUND stands in the schedule."""
+    return slot(0, 4224, COPIES, b"DEVICE 6 MT IN\n+" + BLOCK + b"\nDEVICE 8 MT OUT\n")
+
+
+# Two loops of five orders, one of which asks.
+ASKS = {
+    "asks the time": slot(0, 32, b"PROGRAM; 1; SET 9; OUT; NOT; ERASE; J1; FINISH;\n"),
+    "asks the service": slot(0, 32, b"PROGRAM; 1; SET 7; SETB100; OUT; ERASE; J1; FINISH;\n", b"SERVICE\n"),
+}
 
 
 def job(slots, schedule):
