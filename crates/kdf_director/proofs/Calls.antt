@@ -4,6 +4,7 @@ pub mod CallsAtOnce
 pub mod CallsInTurn
 pub mod FoundLive
 pub mod GoingFurther
+pub mod Halting
 pub mod NoneGoesOn
 pub mod OneCall
 pub mod OnlyCall

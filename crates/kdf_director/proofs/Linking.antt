@@ -4,6 +4,7 @@ pub mod EventsEntered
 pub mod EventsFollowed
 pub mod FieldsShow
 pub mod FoundByNumber
+pub mod Halted
 pub mod HoldersChange
 pub mod JudgedAlike
 pub mod MachineLends

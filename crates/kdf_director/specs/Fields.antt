@@ -6,6 +6,7 @@ pub mod CanTurn
 pub mod Filled
 pub mod Following
 pub mod Going
+pub mod Halted
 pub mod Keeping
 pub mod Machines
 pub mod Notes

@@ -1,6 +1,7 @@
 pub mod Advance
 pub mod Examples
 pub mod Fields
+pub mod Halts
 pub mod Lends
 pub mod Loading
 pub mod Orders

@@ -8,6 +8,7 @@ mod dispatch;
 mod entries;
 pub mod examples;
 mod fill;
+mod halt;
 mod hearing;
 pub mod laws;
 mod load;
@@ -27,6 +28,7 @@ mod turn;
 pub mod worked;
 mod yard;
 
+pub use halt::Halt;
 use kdf_places::Place;
 pub use machine::{EVENT_LIMIT, Machine, Progress};
 use moment::Moment;

@@ -14,6 +14,7 @@ ghost use Rattle.kdf_service.specs.Rules.{IsService};
 ghost use Rattle.kdf_director.specs.Advance.{AdvanceWith, Enters, OthersStay};
 ghost use Rattle.kdf_theory.specs.Legal.{IsLegal, IsTrue};
 ghost use Rattle.kdf_director.specs.Lends.{IsLent, IsStored, window_in};
+ghost use Rattle.kdf_director.specs.Halts.{HasMadeButTo, HasMadeTo};
 ghost use Rattle.kdf_director.specs.Loading.{HaveImages, slots_of};
 ghost use Rattle.kdf_director.specs.Fields.Agrees.{IsReady};
 ghost use Rattle.kdf_director.specs.Fields.Standing.{shown_of};
@@ -26,7 +27,6 @@ ghost use Rattle.kdf_theory.specs.Slots.{NoneServed};
 #[cfg(test)]
 mod fields;
 
-use crate::advance::Calls;
 use crate::dispatch::window_of;
 use crate::load::load_yard;
 use crate::moves::word_of;
@@ -34,7 +34,7 @@ use crate::next::is_any_on;
 use crate::shown::{
     device_in, is_claimed_in, registers_of, stint_in, stints_of, texts_of, window_given,
 };
-use crate::{Loaded, Place, Program, Yard};
+use crate::{Halt, Loaded, Place, Program, Yard};
 use kdf_job::Job;
 use kdf_journal::{CALL_LIMIT, Entry, Journal};
 use kdf_lockout::Store;
@@ -164,11 +164,32 @@ impl Machine {
         ensures room { self.new.room ≡ self.old.room }
         ensures err { OnErr result (HasMadeButFewer (F.post service.now) most self.old self.new) }
     {
-        let due = Calls {
-            service,
-            room: self.room,
-            most,
-        };
+        let mut left = most;
+        self.orders_to(&mut left, service, Halt::Never)
+    }
+
+    /// Of so many calls that are left, one at least, those up to one after which they stop, or that found no live program.
+    /// Answers what the last did, and leaves the number of those that are left still. At Err some are made, and the one
+    /// that had no memory has changed nothing.
+    ///
+    /// Everything that runs a schedule makes its calls here, even one by itself: what obeys an order is compiled into
+    /// this loop, which it would not be if it stood in two. The loop stays apart from its caller, whose values would be
+    /// moved out of its way at each order.
+    #[inline(never)]
+    pub fn orders_to<F: Fn(u64) -> u64>(
+        &mut self,
+        left: &mut u32,
+        service: &Service<F>,
+        halt: Halt,
+    ) -> Result<Progress, AllocError>
+        requires service { IsService (F.pre service.now) (F.post service.now) }
+        requires some { 0 < left.old }
+        requires few { calls self.old.journal + left.old ≤ CALL_LIMIT }
+        ensures made { IfOk result (HasMadeTo (F.post service.now) halt left.old left.new self.old self.new) }
+        ensures slots { self.new.slots ≡ self.old.slots }
+        ensures room { self.new.room ≡ self.old.room }
+        ensures err { OnErr result (HasMadeButTo (F.post service.now) halt left.old left.new self.old self.new) }
+    {
         let mut yard = Yard {
             alloc: self.alloc,
             windows: self.windows,
@@ -177,7 +198,8 @@ impl Machine {
             programs: mem::replace(&mut self.programs, Vec::new(self.alloc)),
             places: mem::replace(&mut self.devices, Vec::new(self.alloc)),
         };
-        let made = yard.orders(&mut self.journal, &due);
+        let room = self.room;
+        let made = yard.orders(&mut self.journal, left, service, room, halt);
         // What stood in the fields meanwhile is empty and has no memory, so there is nothing to drop.
         let Yard {
             alloc: _,

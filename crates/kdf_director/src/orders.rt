@@ -8,13 +8,13 @@ ghost use Rattle.kdf_director.specs.Fields.Agrees.{IsReady};
 ghost use Rattle.kdf_director.specs.Fields.Standing.{shown_of};
 ghost use Rattle.kdf_theory.specs.Next.{lone_dispatched};
 ghost use Rattle.kdf_director.specs.Orders.{HasMadeAll, HasMadeFewer};
+ghost use Rattle.kdf_director.specs.Halts.{HasMadeButTo, HasMadeTo};
 ghost use Rattle.kdf_director.specs.Progressed.{found_live};
-ghost use Rattle.kdf_director.specs.Runs.{HasMadeAtMost, HasMadeButFewer};
 ghost use Rattle.kdf_theory.specs.Served.{IsTrueFor};
 ghost use Rattle.kdf_service.specs.Rules.{IsService};
 
 use crate::advance::Calls;
-use crate::{Machine, Progress, Yard};
+use crate::{Halt, Machine, Progress, Yard};
 use kdf_journal::{CALL_LIMIT, Journal};
 use kdf_service::Service;
 use std::alloc::AllocError;
@@ -33,34 +33,37 @@ fn found_live(progress: Progress) -> bool
 }
 
 impl Yard {
-    /// So many calls in turn, one at least, or fewer, where the last found no live program. Answers what the last did.
-    /// At Err some are made, and the one that had no memory has changed nothing.
+    /// Of so many calls that are left, one at least, those up to one after which they stop, or that found no live program.
+    /// Answers what the last did, and leaves the number of those that are left still. At Err some are made, and the one
+    /// that had no memory has changed nothing.
     #[inline(always)]
     pub(crate) fn orders<F: Fn(u64) -> u64>(
         &mut self,
         journal: &mut Journal,
-        due: &Calls<'_, F>,
+        left: &mut u32,
+        service: &Service<F>,
+        room: u32,
+        halt: Halt,
     ) -> Result<Progress, AllocError>
-        requires service { IsService (F.pre due.now.service.now) (F.post due.now.service.now) }
-        requires ready { IsReady self.old journal.old due.now.room }
-        requires some { 0 < due.now.most }
-        requires few { calls journal.old.entries + due.now.most ≤ CALL_LIMIT }
-        ensures ready { IsReady self.new journal.new due.now.room }
-        ensures made { IfOk result (HasMadeAtMost (F.post due.now.service.now) due.now.most
-            (shown_of self.old journal.old due.now.room) (shown_of self.new journal.new due.now.room)) }
-        ensures err { OnErr result (HasMadeButFewer (F.post due.now.service.now) due.now.most
-            (shown_of self.old journal.old due.now.room) (shown_of self.new journal.new due.now.room)) }
+        requires service { IsService (F.pre service.now) (F.post service.now) }
+        requires ready { IsReady self.old journal.old room }
+        requires some { 0 < left.old }
+        requires few { calls journal.old.entries + left.old ≤ CALL_LIMIT }
+        ensures ready { IsReady self.new journal.new room }
+        ensures made { IfOk result (HasMadeTo (F.post service.now) halt left.old left.new
+            (shown_of self.old journal.old room) (shown_of self.new journal.new room)) }
+        ensures err { OnErr result (HasMadeButTo (F.post service.now) halt left.old left.new
+            (shown_of self.old journal.old room) (shown_of self.new journal.new room)) }
     {
-        let mut left = due.most;
         loop {
             let calls = Calls {
-                service: due.service,
-                room: due.room,
-                most: left,
+                service,
+                room,
+                most: halt.batch(*left),
             };
             let (made, progress) = self.advance(journal, &calls)?;
-            left -= made;
-            if left == 0 || !found_live(progress) {
+            *left -= made;
+            if *left == 0 || !found_live(progress) || self.stops(halt, progress) {
                 return Ok(progress);
             }
         }
@@ -70,11 +73,7 @@ impl Yard {
 impl Machine {
     /// So many calls in turn, one at least, each as `order_with` makes it, or fewer, where the last found no live
     /// program. Answers what the last did. At Err some are made, and the one that had no memory has changed nothing.
-    ///
-    /// Everything that runs a schedule makes its calls here, even one by itself: what obeys an order is compiled into
-    /// this loop, which it would not be if it stood in two. The loop stays apart from its caller, whose values would be
-    /// moved out of its way at each order.
-    #[inline(never)]
+    #[inline(always)]
     pub fn orders_with<F: Fn(u64) -> u64>(
         &mut self,
         n: u32,

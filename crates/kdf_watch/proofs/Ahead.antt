@@ -78,3 +78,12 @@ rest-here es c within = elim (cases_lt c.event (length es)) [
       let none : c.calls ≡ 0 = omega (arith, within, ap orders_in past) in
       ap (λ (k : ℕ). replicate k AnOrder ++ drop k (calls_made (drop c.event es))) none
 ]
+
+-- some calls of its orders
+pub left-orders : (es : List Event) (k : ℕ) (c : Cursor) → c.event < length es → c.calls + k ≤ orders_in (event_at es c.event) → calls_left es c ≡ replicate k AnOrder ++ calls_left es (record { event = c.event; calls = c.calls + k })
+left-orders es zero c lt le = let same : c.calls ≡ c.calls + 0 = omega arith in ap (λ (j : ℕ). calls_left es (record { event = c.event; calls = j })) same
+left-orders es (suc k) c lt le =
+    let same : c.calls + 1 + k ≡ c.calls + suc k = omega arith in
+    left-order es c lt (omega (arith, le))
+    ∙ (ap (λ (cs : List Call). AnOrder ∷ cs) (left-orders es k (called c) lt (omega (arith, le)))
+    ∙ ap (λ (j : ℕ). AnOrder ∷ (replicate k AnOrder ++ calls_left es (record { event = c.event; calls = j }))) same)

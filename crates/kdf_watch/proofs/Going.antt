@@ -1,10 +1,10 @@
 -- The journal follows the events just up to the cursor, one call or event further on.
-use Rattle.std.proofs.Common.{◌≡◌, ℕ, ◌+◌, ◌≤◌, ◌<◌, List, [], ◌∷◌, ◌++◌, true, false, inl, inr, refl, sym, ◌∙◌, ap, subst, arith, append_assoc, length, drop}
-use Rattle.std.specs.Prelude.{sum_by}
+use Rattle.std.proofs.Common.{◌≡◌, ℕ, ◌+◌, ◌-◌, ◌≤◌, ◌<◌, List, [], ◌∷◌, ◌++◌, true, false, inl, inr, refl, sym, ◌∙◌, ap, subst, arith, append_assoc, length, drop}
+use Rattle.std.specs.Prelude.{replicate, sum_by}
 use Rattle.std.proofs.lemmas.List.Sums.{sum_by-drop_more}
 use Rattle.kdf_journal.specs.declared.entry.Entry.{Entry}
 use Rattle.kdf_journal.specs.Counts.{calls, clock}
-use Rattle.kdf_journal.specs.Steps.{Step, Obeys, Holds, Waits, Moves, Ends, Sets, Swaps, added, steps}
+use Rattle.kdf_journal.specs.Steps.{Step, Moves, Ends, Sets, Swaps, added, steps}
 use Rattle.kdf_journal.proofs.Added.{calls_by, calls-added, clock_by, clock-added}
 use Rattle.kdf_journal.proofs.Steps.{steps-added}
 use Rattle.kdf_schedule.specs.declared.event.Event.{Event}
@@ -14,18 +14,20 @@ use Rattle.kdf_schedule.specs.Events.{IsInRange}
 use Rattle.kdf_schedule.proofs.Schedules.{order_count-drop}
 use Rattle.kdf_transfer.specs.Slots.{Slot}
 use Rattle.kdf_course.specs.Follows.{call_of, answered, EachLive}
+use Rattle.kdf_course.proofs.Reaching.{answered-append}
 use Rattle.kdf_director.specs.Advance.{Enters}
+use Rattle.kdf_director.specs.Runs.{HasMadeOn}
 use Rattle.kdf_theory.specs.Follows.{Follows, IsRising, IsWhole, entries_in, time_behind}
 use Rattle.kdf_theory.specs.Legal.{IsLegal}
 use Rattle.kdf_theory.specs.Next.{any_live, lone_dispatched}
 use Rattle.kdf_theory.specs.Shown.{Shown}
 use Rattle.kdf_director.proofs.Course.EventsInTurn.{rises-first, rises-from, rises-rest}
 use Rattle.kdf_watch.specs.declared.cursor.Cursor.{Cursor}
-use Rattle.kdf_watch.specs.Called.{Tells}
+use Rattle.kdf_watch.specs.Called.{HasMoved}
 use Rattle.kdf_watch.specs.Cursors.{event_at, calls_left}
-use Rattle.kdf_watch.specs.Onward.{IsAt, called, passed}
+use Rattle.kdf_watch.specs.Onward.{IsAt, passed}
 use Rattle.kdf_watch.specs.Entered.{HasEntered}
-use Rattle.kdf_watch.proofs.Ahead.{left-order, left-over, left-event, left-none}
+use Rattle.kdf_watch.proofs.Ahead.{left-orders, left-over, left-event, left-none}
 
 -- a call more was answered
 pub follows_more : (slots : List Slot) (cs left : List Call) (c : Call) (J : List Entry) (s : Step) → Follows slots cs (c ∷ left) J → call_of s ≡ c → IsLegal slots J → any_live slots J ≡ true → Follows slots cs left (added J s)
@@ -33,24 +35,6 @@ follows_more slots cs left c J s f is legal live = record {
   in_order = ap (λ (P : List Step). answered P ++ left) (steps-added J s) ∙ (append_assoc (answered (steps J)) (call_of s ∷ []) left ∙ (ap (λ (d : Call). answered (steps J) ++ d ∷ left) is ∙ f.in_order));
   lived = subst (EachLive (lone_dispatched slots)) (sym (steps-added J s)) (f.lived, subst (λ (K : List Entry). any_live slots K ≡ true) (sym legal.in_form) live);
 }
-
-one_call : (s : Step) → calls_by s ≤ 1
-one_call (Obeys p note) = omega arith
-one_call (Holds p by) = omega arith
-one_call Waits = omega arith
-one_call (Moves d n) = omega arith
-one_call (Ends d) = omega arith
-one_call (Sets t) = omega arith
-one_call (Swaps p q) = omega arith
-
-same_time : (t : ℕ) (s : Step) → call_of s ≡ AnOrder → clock_by t s ≡ t
-same_time t (Obeys p note) is = refl
-same_time t (Holds p by) is = refl
-same_time t Waits is = refl
-same_time t (Moves d n) is = refl
-same_time t (Ends d) is = refl
-same_time t (Sets u) is = cc
-same_time t (Swaps p q) is = refl
 
 module _ (es : List Event) (c : Cursor) (m : Shown) (at : IsAt es c m) (lt : c.event < length es) where
   orders-here : order_count (drop c.event es) ≡ orders_in (event_at es c.event) + order_count (drop (c.event + 1) es)
@@ -71,28 +55,33 @@ module _ (es : List Event) (c : Cursor) (m : Shown) (at : IsAt es c m) (lt : c.e
   rises-after : IsRising (time_behind (clock m.journal) (event_at es c.event)) (drop (c.event + 1) es)
   rises-after = rises-rest (clock m.journal) (event_at es c.event) (drop (c.event + 1) es) rises-here
 
-  -- a call of its ORDERS
-  module _ (less : c.calls < orders_in (event_at es c.event)) where
-    pub few_calls : calls m.journal < 20000000
-    few_calls = omega (arith, at.few, orders-here, less)
+  -- there are calls enough for its ORDERS
+  pub fit_calls : (n : ℕ) → n ≡ orders_in (event_at es c.event) → c.calls < n → calls m.journal + (n - c.calls) ≤ 20000000
+  fit_calls n is less = omega (arith, at.few, orders-here, is, less)
 
-    pub at_called : (w : Shown) (s : Step) → Tells m w s → call_of s ≡ AnOrder → w.slots ≡ m.slots → w.room ≡ m.room → IsLegal m.slots m.journal → IsAt es (called c) w
-    at_called w s tells is same room legal = record {
-      place = at.place;
-      within = omega (arith, less);
-      follows =
-          subst (λ (K : List Entry). Follows w.slots (calls_made es) (calls_left es (called c)) K) (sym tells.journal)
-          (subst (λ (S : List Slot). Follows S (calls_made es) (calls_left es (called c)) (added m.journal s)) (sym same)
-          (follows_more m.slots (calls_made es) (calls_left es (called c)) AnOrder m.journal s
-          (subst (λ (cs : List Call). Follows m.slots (calls_made es) cs m.journal) (left-order es c lt less) at.follows) is legal tells.live));
-      few = omega (arith, at.few, ap calls tells.journal, calls-added m.journal s, one_call s);
-      room = omega (arith, at.room, room);
-      rises = subst (λ (t : ℕ). IsRising t (drop c.event es)) (sym time) at.rises;
-      time = omega (arith, at.time, time);
-    }
-      where
-        time : clock w.journal ≡ clock m.journal
-        time = ap clock tells.journal ∙ (clock-added m.journal s ∙ same_time (clock m.journal) s is)
+  -- some calls of its ORDERS
+  pub at_made : (answers : ℕ → ℕ → Type 0) (k j : ℕ) (w : Shown) → HasMadeOn answers k m w → c.calls + k ≡ j → j ≤ orders_in (event_at es c.event) → IsAt es (record { event = c.event; calls = j }) w
+  at_made answers k j w h is within = record {
+    place = at.place;
+    within = within;
+    follows = record {
+      in_order =
+          ap (λ (P : List Step). answered P ++ calls_left es (record { event = c.event; calls = j })) h.goes_on
+          ∙ (ap (λ (cs : List Call). cs ++ calls_left es (record { event = c.event; calls = j })) (answered-append h.more (steps m.journal) ∙ ap (λ (cs : List Call). answered (steps m.journal) ++ cs) h.in_order)
+          ∙ (append_assoc (answered (steps m.journal)) (replicate k AnOrder) (calls_left es (record { event = c.event; calls = j }))
+          ∙ (ap (λ (cs : List Call). answered (steps m.journal) ++ cs)
+          (sym (left-orders es k c lt (omega (arith, is, within)) ∙ ap (λ (i : ℕ). replicate k AnOrder ++ calls_left es (record { event = c.event; calls = i })) is))
+          ∙ at.follows.in_order)));
+      lived = subst (λ (S : List Slot). EachLive (lone_dispatched S) (steps w.journal)) (sym h.slots) (h.lived at.follows.lived);
+    };
+    few = omega (arith, at.few, h.few, is);
+    room = omega (arith, at.room, h.room);
+    rises = subst (λ (t : ℕ). IsRising t (drop c.event es)) (sym h.time) at.rises;
+    time = omega (arith, at.time, h.time);
+  }
+
+  pub at_moved : (answers : ℕ → ℕ → Type 0) (j : ℕ) (w : Shown) → HasMoved answers c.calls j m w → j ≤ orders_in (event_at es c.event) → IsAt es (record { event = c.event; calls = j }) w
+  at_moved answers j w moved within = at_made answers moved.made j w moved.on moved.count within
 
   -- the event is passed
   module _ (all : orders_in (event_at es c.event) ≤ c.calls) where

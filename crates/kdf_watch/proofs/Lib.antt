@@ -4,4 +4,5 @@ pub mod Limits
 pub mod Going
 pub mod Gone
 pub mod Looking
+pub mod Passing
 pub mod Counting

@@ -5,7 +5,7 @@ use Rattle.std.proofs.Common.{◌≡◌, ◌≢◌, ℕ, zero, suc, ◌<◌, ◌
 use Rattle.std.proofs.lemmas.Bool.{cases_eq, eq-eqb, ne_eqb}
 use Rattle.kdf_journal.specs.declared.entry.Entry.{Entry}
 use Rattle.kdf_journal.specs.Counts.{answers, calls, clock, ran}
-use Rattle.kdf_journal.specs.Steps.{Holds, Waits}
+use Rattle.kdf_journal.specs.Steps.{Note, Step, Holds, Obeys, Waits}
 use Rattle.kdf_journal.proofs.Bounds.{ran-le-calls}
 use Rattle.kdf_course.specs.World as course
 use Rattle.kdf_transfer.specs.Slots.{Slot}
@@ -18,7 +18,7 @@ use Rattle.kdf_director.specs.declared.machine.Progress.TheVariants as progress
 use Rattle.kdf_director.specs.Advance.{Advance, AdvanceWith, HeldUp, Obeyed, Waited}
 use Rattle.kdf_theory.specs.Legal.{IsLegal, note_of}
 use Rattle.kdf_theory.specs.Next.{lives}
-use Rattle.kdf_director.specs.Orders.{HasMade, HasMadeAll, HasMadeFewer}
+use Rattle.kdf_director.specs.Orders.{HasMade}
 use Rattle.kdf_theory.specs.Shown.{Shown, ShowsSeen, state_at, state_in, state_of, world_of}
 use Rattle.kdf_theory.specs.Slots.{slot_of, start, start_of}
 use Rattle.kdf_theory.specs.ByJournal.{own, seen_of}
@@ -28,10 +28,10 @@ use Rattle.kdf_director.proofs.Calls.OneCall.{calls-took, clock-took}
 use Rattle.kdf_theory.proofs.Course.LegalFacts.{legal_alive}
 use Rattle.kdf_director.proofs.Calls.FoundLive.{found_is, next_four}
 use Rattle.kdf_theory.proofs.Course.Worlds.{next_slot}
-use Rattle.kdf_watch.specs.declared.call.Called.TheVariants.{Seen, Unseen}
 use Rattle.kdf_watch.specs.declared.look.Look.{Look}
-use Rattle.kdf_watch.specs.Called.{HasCalled}
+use Rattle.kdf_watch.specs.Called.{IsBlind, Tells}
 use Rattle.kdf_watch.specs.Looks.{look_at}
+use Rattle.kdf_watch.specs.Rules.{IsLook}
 use Rattle.kdf_watch.proofs.Placed.{lone_there}
 
 -- ---- the place of its next order
@@ -113,18 +113,18 @@ module _ (m : Shown) (p : ℕ) (seen : ShowsSeen m) (is : is_some (slot_of m.slo
 
 -- ---- a call
 
-module _ (answers : ℕ → ℕ → Type 0) (old new : Shown) where
-  at_once : (k : ℕ) → k < 1 → (between : Shown) → HasMade answers k old between → between ≡ old
-  at_once zero lt between made = made
-  at_once (suc k) lt between made = absurd (omega (arith, lt))
+-- a program obeyed, and this is the look at it
+abbrev pub Sighted : Shown → Shown → Look → Type 0
+Sighted m w look = (note : Note) × Tells m w (Obeys look.p note) × (look ≡ look_at m.slots w.journal look.p) × IsLook look
 
-  -- one call is all of one call
-  pub one_call : (r : Progress) → HasMadeAll answers 1 old new r → AdvanceWith answers old new r
-  one_call r all = subst (λ (m : Shown). AdvanceWith answers m new r) (at_once all.before all.within all.between all.made) all.last
+-- or none did
+abbrev pub Unsighted : Shown → Shown → Type 0
+Unsighted m w = (s : Step) × Tells m w s × IsBlind s
 
-  -- fewer than one are none
-  pub no_call : HasMadeFewer answers 1 old new → new ≡ old
-  no_call fewer = at_once fewer.0 fewer.1 new fewer.2
+-- no call is none
+pub at_once : (answers : ℕ → ℕ → Type 0) (k : ℕ) → k ≡ 0 → (old between : Shown) → HasMade answers k old between → between ≡ old
+at_once answers zero none old between made = made
+at_once answers (suc k) none old between made = absurd cc
 
 module _ (answers : ℕ → ℕ → Type 0) (m w : Shown) (r : Progress) (took : AdvanceWith answers m w r) where
   obeyed : (p : ℕ) → r ≡ progress.Ran p → Obeyed took.heard m w p
@@ -133,7 +133,7 @@ module _ (answers : ℕ → ℕ → Type 0) (m w : Shown) (r : Progress) (took :
   pub slot_there : (p : ℕ) → r ≡ progress.Ran p → w.slots ≡ m.slots → is_some (slot_of w.slots p) ≡ true
   slot_there p is same = ap (λ (S : List Slot). is_some (slot_of S p)) same ∙ next_slot (world_of m) m.slots m.journal p (obeyed p is).was_next
 
-  seen_by : (heard : ℕ) (p : ℕ) → Obeyed heard m w p → w.slots ≡ m.slots → calls m.journal < 20000000 → clock m.journal ≤ 140737488355327 → HasCalled m w (Seen (look_at w.slots w.journal p))
+  seen_by : (heard : ℕ) (p : ℕ) → Obeyed heard m w p → w.slots ≡ m.slots → calls m.journal < 20000000 → clock m.journal ≤ 140737488355327 → Sighted m w (look_at w.slots w.journal p)
   seen_by heard p did same few time = (
     note_of (state_at m p) (truth (world_of m) m.journal p heard),
     record { live = found_is heard m w (progress.Ran p) did; journal = did.journal },
@@ -146,15 +146,15 @@ module _ (answers : ℕ → ℕ → Type 0) (m w : Shown) (r : Progress) (took :
     },
   )
 
-  pub called_seen : (p : ℕ) → r ≡ progress.Ran p → w.slots ≡ m.slots → calls m.journal < 20000000 → clock m.journal ≤ 140737488355327 → (look : Look) → look ≡ look_at w.slots w.journal p → HasCalled m w (Seen look)
-  called_seen p is same few time look look_is = subst (λ (x : Look). HasCalled m w (Seen x)) (sym look_is) (seen_by took.heard p (obeyed p is) same few time)
+  pub called_seen : (p : ℕ) → r ≡ progress.Ran p → w.slots ≡ m.slots → calls m.journal < 20000000 → clock m.journal ≤ 140737488355327 → (look : Look) → look ≡ look_at w.slots w.journal p → Sighted m w look
+  called_seen p is same few time look look_is = subst (λ (x : Look). Sighted m w x) (sym look_is) (seen_by took.heard p (obeyed p is) same few time)
 
-  held_by : (heard : ℕ) (p : ℕ) (need : Need) → HeldUp m w p need → HasCalled m w Unseen
-  held_by heard p need did = (Holds p (hold_of need), record { live = found_is heard m w (progress.Held p need) did; journal = did.journal }, refl, λ slots J. refl)
+  held_by : (heard : ℕ) (p : ℕ) (need : Need) → HeldUp m w p need → Unsighted m w
+  held_by heard p need did = (Holds p (hold_of need), record { live = found_is heard m w (progress.Held p need) did; journal = did.journal }, λ slots J. refl)
 
-  idle_by : Waited m w → HasCalled m w Unseen
-  idle_by did = (Waits, record { live = did.live; journal = did.journal }, refl, λ slots J. refl)
+  idle_by : Waited m w → Unsighted m w
+  idle_by did = (Waits, record { live = did.live; journal = did.journal }, λ slots J. refl)
 
-  pub called_unseen : ((p : ℕ) × (need : Need) × (r ≡ progress.Held p need)) ⊎ (r ≡ progress.Idle) → HasCalled m w Unseen
+  pub called_unseen : ((p : ℕ) × (need : Need) × (r ≡ progress.Held p need)) ⊎ (r ≡ progress.Idle) → Unsighted m w
   called_unseen (inl held) = held_by took.heard held.0 held.1 (subst (Advance took.heard m w) held.2 took.advance)
   called_unseen (inr idle) = idle_by (subst (Advance took.heard m w) idle took.advance)

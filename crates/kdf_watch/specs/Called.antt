@@ -1,16 +1,18 @@
--- What a call of the machine comes to.
-use Rattle.std.specs.Prelude.{◌≡◌, List, [], true, false}
+-- What calls of the machine come to.
+use Rattle.std.specs.Prelude.{ℕ, ◌≡◌, ◌+◌, ◌<◌, ◌≤◌, List, [], Bool, true, false}
 use Rattle.kdf_journal.specs.declared.entry.Entry.{Entry}
 use Rattle.kdf_journal.specs.Steps.{Note, Step, Obeys, added}
-use Rattle.kdf_schedule.specs.Calls.{AnOrder}
 use Rattle.kdf_transfer.specs.Slots.{Slot}
-use Rattle.kdf_course.specs.Follows.{call_of}
+use Rattle.kdf_director.specs.Runs.{HasMadeOn}
+use Rattle.kdf_theory.specs.Legal.{IsLegal}
 use Rattle.kdf_theory.specs.Next.{any_live}
 use Rattle.kdf_theory.specs.Shown.{Shown}
 use Rattle.kdf_watch.specs.declared.call.Called.{Called}
 use Rattle.kdf_watch.specs.declared.call.Called.TheVariants.{Seen, Unseen, Over}
+use Rattle.kdf_watch.specs.declared.look.Look.{Look}
 use Rattle.kdf_watch.specs.Looks.{look_at, looks_in}
 use Rattle.kdf_watch.specs.Rules.{IsLook}
+use Rattle.kdf_watch.specs.Stopped.{HasGone}
 
 -- the journal tells this step more, before which a program was live
 pub record Tells (old new : Shown) (s : Step) : Type 0 where
@@ -21,10 +23,32 @@ pub record Tells (old new : Shown) (s : Step) : Type 0 where
 abbrev pub IsBlind : Step → Type 0
 IsBlind s = (slots : List Slot) (J : List Entry) → looks_in slots J s ≡ []
 
--- a call was answered: a program obeyed, and this is the look at it; or one was held or all were; or no program is live
-abbrev pub HasCalled : Shown → Shown → Called → Type 0
-HasCalled old new (Seen look) =
-    (note : Note) × Tells old new (Obeys look.p note) × (look ≡ look_at old.slots new.journal look.p)
-    × IsLook look
-HasCalled old new Unseen = (s : Step) × Tells old new s × (call_of s ≡ AnOrder) × IsBlind s
-HasCalled old new Over = (any_live old.slots old.journal ≡ false) × (new ≡ old)
+-- the machine has gone on, and by one order more, whose look this is
+pub record HasLooked (sees : Look → Bool → Type 0) (old new : Shown) (look : Look) : Type 0 where
+  pub between : Shown
+  pub gone : HasGone sees old between
+  pub same : between.slots ≡ old.slots
+  pub legal : IsLegal between.slots between.journal
+  pub note : Note
+  pub tells : Tells between new (Obeys look.p note)
+  pub look_is : look ≡ look_at between.slots new.journal look.p
+  pub is_look : IsLook look
+
+-- calls were answered: a program obeyed, and this is the look at it; or the last of them obeyed none; or no program is
+-- live
+abbrev pub HasCalled : (Look → Bool → Type 0) → Shown → Shown → Called → Type 0
+HasCalled sees old new (Seen look) = HasLooked sees old new look
+HasCalled sees old new Unseen = HasGone sees old new
+HasCalled sees old new Over = HasGone sees old new × (any_live new.slots new.journal ≡ false)
+
+-- so many calls of a line were made before, and so many after, each of which found a live program
+pub record HasMoved (answers : ℕ → ℕ → Type 0) (before after : ℕ) (old new : Shown) : Type 0 where
+  pub made : ℕ
+  pub on : HasMadeOn answers made old new
+  pub count : before + made ≡ after
+
+-- so they are more after calls that were answered so
+abbrev pub IsFurther : (before after : ℕ) → Called → Type 0
+IsFurther before after (Seen look) = before < after
+IsFurther before after Unseen = before < after
+IsFurther before after Over = before ≤ after

@@ -19,6 +19,7 @@ pub use cursor::Cursor;
 use event::pass;
 pub use look::Look;
 use orders::obey_orders;
+use stop::go_to;
 pub use stop::{Stop, go};
 pub use stops::stops_at;
 pub use watch::Watch;

@@ -5,27 +5,28 @@ ghost use Rattle.kdf_service.specs.Rules.{IsService};
 ghost use Rattle.kdf_theory.specs.Served.{IsTrueFor};
 ghost use Rattle.kdf_watch.specs.Cursors.{event_at};
 ghost use Rattle.kdf_watch.specs.Onward.{IsAt};
-ghost use Rattle.kdf_watch.specs.Rules.{IsWatch};
+ghost use Rattle.kdf_watch.specs.Rules.{IsStopFor, IsWatch};
 ghost use Rattle.kdf_watch.specs.Stopped.{HasGone, HasPaused};
 
 use crate::{Called, Cursor, Look, Stop, Watch, call};
-use kdf_director::Machine;
+use kdf_director::{Halt, Machine};
 use kdf_schedule::Event;
 use kdf_service::Service;
 use std::alloc::AllocError;
 
-/// The orders of the event at the cursor that are left, until the watch answers true of a look, or no program is live. Its loop stays apart
-/// from its caller, whose values would be moved out of its way at each order.
-#[inline(never)]
+/// The orders of the event at the cursor that are left, until the watch answers true of a look, or no program is live.
+/// It isn't asked where calls that stop so don't.
 pub fn obey_orders<F: Fn(u64) -> u64, G: Fn(Look) -> bool>(
     machine: &mut Machine,
     events: &[Event],
     cursor: &mut Cursor,
     service: &Service<F>,
     watch: &Watch<G>,
+    halt: Halt,
 ) -> Result<Option<Stop>, AllocError>
     requires service { IsService (F.pre service.now) (F.post service.now) }
     requires watch { IsWatch (G.pre watch.now) (G.post watch.now) }
+    requires stop { IsStopFor (G.post watch.now) halt }
     requires more { cursor.old.event < length events.now }
     requires at { IsAt events.now cursor.old machine.old }
     ensures at { IsAt events.now cursor.new machine.new }
@@ -40,14 +41,13 @@ pub fn obey_orders<F: Fn(u64) -> u64, G: Fn(Look) -> bool>(
 {
     let n = orders_of(events[cursor.event as usize]);
     while cursor.calls < n {
-        match call(machine, service)? {
+        match call(machine, &mut cursor.calls, n, service, watch, halt)? {
             Called::Seen(look) => {
-                cursor.calls += 1;
                 if watch.sees(look) {
                     return Ok(Some(Stop::Watched(look)));
                 }
             }
-            Called::Unseen => cursor.calls += 1,
+            Called::Unseen => {}
             Called::Over => return Ok(Some(Stop::Finished)),
         }
     }

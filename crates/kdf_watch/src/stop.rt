@@ -6,11 +6,11 @@ ghost use Rattle.kdf_service.specs.Rules.{IsService};
 ghost use Rattle.kdf_theory.specs.Served.{IsTrueFor};
 ghost use Rattle.kdf_watch.specs.Cursors.{IsUpTo, KeepsLimits};
 ghost use Rattle.kdf_watch.specs.Onward.{IsAt};
-ghost use Rattle.kdf_watch.specs.Rules.{IsWatch};
+ghost use Rattle.kdf_watch.specs.Rules.{IsStopFor, IsWatch};
 ghost use Rattle.kdf_watch.specs.Stopped.{HasGone, HasStopped};
 
 use crate::{Cursor, Look, Watch, obey_orders, pass};
-use kdf_director::{EVENT_LIMIT, Machine};
+use kdf_director::{EVENT_LIMIT, Halt, Machine};
 use kdf_schedule::Event;
 use kdf_service::Service;
 use std::alloc::AllocError;
@@ -47,8 +47,33 @@ pub fn go<F: Fn(u64) -> u64, G: Fn(Look) -> bool>(
     ensures stopped { IfOk result (HasStopped (G.post watch.now) events.now machine.old machine.new) }
     ensures err { OnErr result (HasGone (G.post watch.now) machine.old machine.new) }
 {
+    go_to(machine, events, cursor, service, watch, Halt::Each)
+}
+
+/// The same, where the rule answers false of each look at which calls that stop so don't: it isn't asked there, and the
+/// calls before one at which they do are made at once.
+pub(crate) fn go_to<F: Fn(u64) -> u64, G: Fn(Look) -> bool>(
+    machine: &mut Machine,
+    events: &[Event],
+    cursor: &mut Cursor,
+    service: &Service<F>,
+    watch: &Watch<G>,
+    halt: Halt,
+) -> Result<Stop, AllocError>
+    requires service { IsService (F.pre service.now) (F.post service.now) }
+    requires watch { IsWatch (G.pre watch.now) (G.post watch.now) }
+    requires stop { IsStopFor (G.post watch.now) halt }
+    requires limits { KeepsLimits events.now }
+    requires at { IsUpTo events.now cursor.old machine.old }
+    ensures at { IsUpTo events.now cursor.new machine.new }
+    ensures truthful { IsTrueFor (F.post service.now) machine.old.slots machine.old.journal
+        → IsTrueFor (F.post service.now) machine.new.slots machine.new.journal }
+    ensures slots { machine.new.slots ≡ machine.old.slots }
+    ensures stopped { IfOk result (HasStopped (G.post watch.now) events.now machine.old machine.new) }
+    ensures err { OnErr result (HasGone (G.post watch.now) machine.old machine.new) }
+{
     let _journal = machine.journal();
-    go_on(machine, events, cursor, service, watch)
+    go_on(machine, events, cursor, service, watch, halt)
 }
 
 /// The same, where the events that are left keep what the machine asks.
@@ -58,9 +83,11 @@ fn go_on<F: Fn(u64) -> u64, G: Fn(Look) -> bool>(
     cursor: &mut Cursor,
     service: &Service<F>,
     watch: &Watch<G>,
+    halt: Halt,
 ) -> Result<Stop, AllocError>
     requires service { IsService (F.pre service.now) (F.post service.now) }
     requires watch { IsWatch (G.pre watch.now) (G.post watch.now) }
+    requires stop { IsStopFor (G.post watch.now) halt }
     requires short { length events.now ≤ EVENT_LIMIT }
     requires in_range { All IsInRange events.now }
     requires at { IsAt events.now cursor.old machine.old }
@@ -72,7 +99,7 @@ fn go_on<F: Fn(u64) -> u64, G: Fn(Look) -> bool>(
     ensures err { OnErr result (HasGone (G.post watch.now) machine.old machine.new) }
 {
     while (cursor.event as usize) < events.len() {
-        if let Some(stop) = obey_orders(machine, events, cursor, service, watch)? {
+        if let Some(stop) = obey_orders(machine, events, cursor, service, watch, halt)? {
             return Ok(stop);
         }
         if !pass(machine, events, cursor) {

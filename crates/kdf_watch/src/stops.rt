@@ -10,8 +10,8 @@ ghost use Rattle.kdf_theory.specs.Shown.{ShowsSeen};
 ghost use Rattle.kdf_watch.specs.Hits.{is_at};
 ghost use Rattle.kdf_watch.specs.Stops.{stops_of};
 
-use crate::{Cursor, Look, Stop, Watch, go};
-use kdf_director::{EVENT_LIMIT, Machine};
+use crate::{Cursor, Look, Stop, Watch, go_to};
+use kdf_director::{EVENT_LIMIT, Halt, Machine};
 use kdf_journal::CALL_LIMIT;
 use kdf_schedule::Event;
 use kdf_service::Service;
@@ -48,7 +48,8 @@ pub fn stops_at<F: Fn(u64) -> u64>(
             ensures { result ≡ is_at k at look }
         { look.p == k && look.at == at },
     );
-    while let Stop::Watched(look) = go(machine, events, &mut cursor, service, &watch)? {
+    let halt = Halt::At { p: k, at };
+    while let Stop::Watched(look) = go_to(machine, events, &mut cursor, service, &watch, halt)? {
         numbers.push(look.ran)?;
     }
     let _journal = machine.journal();

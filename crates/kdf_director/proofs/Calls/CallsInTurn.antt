@@ -18,7 +18,7 @@ module _ (answers : ℕ → ℕ → Type 0) (old : Shown) where
   -- after i calls
   module _ (i : ℕ) (m : Shown) (h : HasMadeOn answers i old m) where
     -- some more were made
-    pub some_more : (k : ℕ) (new : Shown) (r : Progress) → HasMadeSome answers k m new r → HasMadeSome answers (k + i) old new r
+    unfoldable pub some_more : (k : ℕ) (new : Shown) (r : Progress) → HasMadeSome answers k m new r → HasMadeSome answers (k + i) old new r
     some_more k new r x =
         let before = x.before in
         let count = x.count in

@@ -20,11 +20,10 @@ use Rattle.kdf_transfer.specs.ByNumber.{device_count}
 use Rattle.kdf_director.specs.Fields.Parts.{Reach, Seat}
 use Rattle.kdf_places.specs.Shared.{Shared}
 use Rattle.kdf_director.specs.Fields.Running.{no_seat, own_state, IsRunning}
-use Rattle.kdf_places.specs.Transfers.{after_end, after_move, ended_spot, moved_spot}
+use Rattle.kdf_places.specs.Transfers.{after_end, after_move}
 use Rattle.kdf_theory.specs.Shown.{entered, states_seen}
 use Rattle.kdf_director.specs.Fields.Viewed.{states_in}
 use Rattle.kdf_director.specs.Fields.Standing.{Standing, shown_of}
-use Rattle.kdf_places.specs.Spots.{Spot, spot_at}
 use Rattle.kdf_theory.specs.ByJournal.{lone_world, seen_of}
 use Rattle.kdf_theory.specs.World.{need_of}
 use Rattle.kdf_director.proofs.Turns.FlightsMove.{ended_running, flown_running}

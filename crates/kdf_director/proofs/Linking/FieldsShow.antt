@@ -65,7 +65,7 @@ from_some : (o : Option State) (P : State → Type 0) (Q : Type 0) → ((x : Sta
 from_some None P Q then is = absurd is
 from_some (Some x) P Q then is = then x refl is
 
-twice : {X Y Z : Type 0} (f : Y → Z) (g : X → Y) (o : Option X) → option_map f (option_map g o) ≡ option_map (λ x. f (g x)) o
+pub twice : {X Y Z : Type 0} (f : Y → Z) (g : X → Y) (o : Option X) → option_map f (option_map g o) ≡ option_map (λ x. f (g x)) o
 twice f g None = refl
 twice f g (Some x) = refl
 

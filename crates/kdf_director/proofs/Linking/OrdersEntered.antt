@@ -5,7 +5,6 @@ use Rattle.std.proofs.Common.{◌≡◌, ◌≢◌, ℕ, suc, ◌<◌, ◌^◌, 
 use Rattle.std.proofs.lemmas.Bool.{cases_eq, eq-eqb, ne_eqb}
 use Rattle.kdf_journal.specs.declared.entry.Entry.{Entry}
 use Rattle.kdf_journal.specs.declared.journal.TheConstants.{CALL_LIMIT}
-use Rattle.kdf_journal.specs.declared.kind.Kind.{Kind}
 use Rattle.kdf_journal.specs.Counts.{calls, clock, holder}
 use Rattle.kdf_journal.specs.Steps.{Note, Obeys, added}
 use Rattle.kdf_journal.proofs.Added.{calls-added, moves-added}
@@ -24,9 +23,9 @@ use Rattle.kdf_director.specs.Fields.Following.{asked_at}
 use Rattle.kdf_theory.specs.Legal.{Meets, note_for, note_of, note_of_outcome}
 use Rattle.kdf_theory.specs.Next.{next}
 use Rattle.kdf_director.specs.Fields.Notes as notes
-use Rattle.kdf_director.specs.Fields.Parts.{Reach, Seat, in_pool}
+use Rattle.kdf_director.specs.Fields.Parts.{Reach, Seat}
 use Rattle.kdf_places.specs.Shared.{Shared}
-use Rattle.kdf_director.specs.Fields.Running.{outcome_at, hold_of, own_state, part_at, seat_at, IsRunning, reach_at}
+use Rattle.kdf_director.specs.Fields.Running.{outcome_at, hold_of, own_state, seat_at, IsRunning, reach_at}
 use Rattle.kdf_director.specs.Fields.Settled.{holder_left}
 use Rattle.kdf_theory.specs.Seen.{begun_row, seen}
 use Rattle.kdf_theory.specs.Shown.{Shown, state_at, state_in, world_of}

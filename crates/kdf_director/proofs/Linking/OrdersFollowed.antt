@@ -10,7 +10,6 @@ use Rattle.kdf_journal.specs.Steps.{Note, Obeys, added}
 use Rattle.kdf_journal.proofs.Added.{answer_in_note, answers_by, answers-added, pending_by, pending-added}
 use Rattle.kdf_lockout.specs.Groups.{Cells, group_at, is_out, lent_groups, lent_word, touched, word_here, words_in}
 use Rattle.kdf_transfer.specs.declared.order.TransferOrder.{TransferOrder}
-use Rattle.kdf_journal.specs.declared.kind.Kind.{Kind}
 use Rattle.kdf_transfer.specs.AtOnce.{has_area, kind_of, order_words}
 use Rattle.kdf_transfer.specs.Devices.{Fixture}
 use Rattle.kdf_transfer.specs.InFlight.{area_words, lent_at}
@@ -35,7 +34,7 @@ use Rattle.kdf_transfer.specs.ByNumber.{device_count}
 use Rattle.kdf_places.specs.Words as physical
 use Rattle.kdf_director.specs.Fields.Agrees.{AreLent}
 use Rattle.kdf_places.specs.Spots.{Held, Spot, blank_spot, no_spot, spot_at, fixture_or, leases_of, own_from}
-use Rattle.kdf_director.specs.Fields.Parts.{Part, Seat, Reach, asked_after, has_device, lent_to, own_claims, own_progress, own_stock}
+use Rattle.kdf_director.specs.Fields.Parts.{Part, Seat, Reach, asked_after, has_device, own_claims, own_progress, own_stock}
 use Rattle.kdf_places.specs.Shared.{Shared}
 use Rattle.kdf_director.specs.Fields.Shared.{Setting, view, after_act, moment}
 use Rattle.kdf_places.specs.Transfers.{start_lease, start_spot}

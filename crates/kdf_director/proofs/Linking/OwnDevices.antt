@@ -28,7 +28,7 @@ use Rattle.kdf_theory.specs.Shown.{IsDeviceAt, Shown, state_of}
 use Rattle.kdf_director.specs.Fields.Viewed.{states_in}
 use Rattle.kdf_theory.specs.Slots.{start_of}
 use Rattle.kdf_director.specs.declared.slot.Loaded.{Loaded}
-use Rattle.kdf_director.proofs.Linking.OwnStates.{program_is, same_number, state_is}
+use Rattle.kdf_director.proofs.Linking.OwnStates.{program_is, state_is}
 use Rattle.kdf_director.proofs.Physical.PartsShow.{own_device, own_is}
 use Rattle.kdf_director.specs.Fields.Stints.{lends}
 use Rattle.kdf_transfer.proofs.Numbers.{limit_is, number_at, number_past}

@@ -7,7 +7,6 @@ use Rattle.std.proofs.lemmas.Bool.{cases_eq, eq-eqb, ne_eqb}
 use Rattle.std.proofs.lemmas.List.{ext_get_or, get_or-map, get_or-set_same, get_or-set_other, length-map, length-set}
 use Rattle.kdf_journal.specs.declared.entry.Entry.{Entry}
 use Rattle.kdf_journal.specs.declared.journal.TheConstants.{CALL_LIMIT}
-use Rattle.kdf_journal.specs.declared.kind.Kind.{Kind}
 use Rattle.kdf_journal.specs.Counts.{answers, calls, clock, last_hold}
 use Rattle.kdf_journal.specs.Steps.{Note, Step, Obeys, Holds, Waits, added}
 use Rattle.kdf_journal.proofs.Added.{calls-added, hold_by, holder-quiet, last_hold-added, moves-added}

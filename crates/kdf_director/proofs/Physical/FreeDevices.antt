@@ -1,7 +1,7 @@
 -- The devices of the pool that aren't taken.
 use Rattle.std.specs.Prelude.{find, not, unwrap_or}
 use Rattle.std.specs.List.{range_with_len}
-use Rattle.std.proofs.Common.{◌≡◌, ℕ, ◌<◌, ◌&&◌, ◌||◌, ltb, Bool, true, false, List, get_or, map, Option, Some, None, is_some, is_none, cond, refl, sym, ap, ap₂, ◌∙◌, arith}
+use Rattle.std.proofs.Common.{◌≡◌, ℕ, ◌<◌, ◌&&◌, ◌||◌, ltb, Bool, true, false, List, get_or, Option, Some, None, is_some, is_none, cond, refl, sym, ap, ap₂, ◌∙◌, arith}
 use Rattle.std.proofs.lemmas.Bool.{and_from, and_parts, lt-ltb, or_parts}
 use Rattle.kdf_journal.specs.declared.kind.Kind.{Kind}
 use Rattle.kdf_journal.specs.declared.kind.Kind.TheVariants as kind

@@ -1,5 +1,5 @@
 -- Who has the devices of the pool after an order.
-use Rattle.std.proofs.Common.{◌≡◌, ◌≢◌, ℕ, ◌<◌, ◌||◌, true, false, List, length, map, set, Option, Some, None, cond, eqb, refl, sym, ap, ap₂, ◌∙◌, ⊎_elim, arith}
+use Rattle.std.proofs.Common.{◌≡◌, ◌≢◌, ℕ, ◌<◌, true, false, List, length, map, set, Option, Some, None, cond, refl, sym, ap, ◌∙◌, ⊎_elim, arith}
 use Rattle.std.proofs.lemmas.Bool.{cases_eq, eq-eqb, ne_eqb}
 use Rattle.std.proofs.lemmas.List.{get_or-set_other, get_or-set_same, length-set}
 use Rattle.kdf_processor.specs.declared.registers.Registers.{Registers}
@@ -20,7 +20,7 @@ use Rattle.kdf_director.specs.Fields.Shared.{Setting, after_act, view}
 use Rattle.kdf_director.specs.Fields.Stints.{lends}
 use Rattle.kdf_director.specs.Fields.Turned.{seat_after}
 use Rattle.kdf_theory.proofs.Seen.EffectsChecked.{IsLawful}
-use Rattle.kdf_director.proofs.Physical.PoolDevices.{gone_kind, taken_elsewhere, taken_there}
+use Rattle.kdf_director.proofs.Physical.PoolDevices.{taken_elsewhere, taken_there}
 use Rattle.kdf_director.proofs.Physical.StintsChange.{lends_here, lends_there}
 use Rattle.kdf_director.proofs.Turns.Borrowers.{borrower_at, borrower_none, borrower_same, others_none}
 use Rattle.kdf_director.proofs.Turns.OneOrder.{is_part, told_by, unlent_by}

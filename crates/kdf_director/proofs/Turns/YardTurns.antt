@@ -22,7 +22,6 @@ use Rattle.kdf_director.specs.declared.program.Program.{Program}
 use Rattle.kdf_director.specs.declared.slot.Loaded.{Loaded}
 use Rattle.kdf_director.specs.declared.yard.Yard.TheInside.{Inside}
 use Rattle.kdf_theory.specs.Holders.{held_by, is_held}
-use Rattle.kdf_director.specs.Fields.Agrees.{AreHeld}
 use Rattle.kdf_director.specs.Fields.Batches.{AreQuiet, HasBatch, HasTurnedOn}
 use Rattle.kdf_director.specs.Fields.Going.{goes, is_stopped, place_of, IsNearHold}
 use Rattle.kdf_director.specs.Fields.Shared.{is_pool_taken}

@@ -1,5 +1,5 @@
 -- What the try of one order does: to one program, and to all.
-use Rattle.std.specs.Prelude.{◌≡◌, ◌≢◌, ◌<◌, ℕ, List, [], length, true, Option}
+use Rattle.std.specs.Prelude.{◌≡◌, ◌≢◌, ◌<◌, ℕ, List, [], length, Option}
 use Rattle.kdf_processor.specs.Ahead.{act_word}
 use Rattle.kdf_processor.specs.declared.step.Step.{Step}
 use Rattle.kdf_processor.specs.Outcome.{Outcome, outcome}
