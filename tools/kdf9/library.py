@@ -1,16 +1,18 @@
-"""The machine for Python programs: `import kdf9; kdf9.run(job)`.
+"""The machine for Python programs: `import kdf9; kdf9.run(job)` and `kdf9.facts(job)`.
 
-It calls libkdf9.so, which `./kdf9 lib` makes, within this process. Where there is none, or it is older than the sources, it starts the program instead: what
-comes of a job is the same. Threads may call it at once.
+It calls libkdf9.so, which `./kdf9 lib` makes, within this process. Where there is none, or it is older than the sources, `run` starts the program instead: what
+comes of a job is the same. `facts` has the library made then. Threads may call it at once.
 """
 import functools
+import json
 import os
-from typing import Callable, Optional, Sequence, Union
+from typing import Any, Callable, Dict, Optional, Sequence, Union
 
 from kdf9.program import ENCODING, Answer, BadInput, ask, how_ended
 
-# The version of the calls that this module makes, and the status of a text that the room is too small for, and of want of memory.
+# The version of the calls that this module makes, the calls, and the status of a text that the room is too small for, and of want of memory.
 VERSION = 1
+RUN, FACTS = "kdf9_run", "kdf9_facts"
 NO_ROOM, NO_MEMORY = 6, 7
 
 # The bytes of the room that is tried first for a text.
@@ -67,6 +69,20 @@ def run(job: Text, *words: str) -> str:
     return answer.text
 
 
+def facts(job: Text, words: Sequence[str] = ("run",)) -> Dict[str, Any]:
+    """What there is to know of a job: the facts that the words of a command ask for, with the fields of docs/schema/facts.json. A job that is a `str` is taken
+    in UTF-8.
+
+    Where a line or a deck has a fault, the facts are those of the fault, of the kind `fault`. Raises NoLibrary where there is no library and none can be made,
+    and MemoryError where there is no memory.
+    """
+    answer = teller()(words, as_bytes(job))
+    if answer.status == NO_MEMORY:
+        raise MemoryError("the machine got no memory")
+    told: Dict[str, Any] = json.loads(answer.text)
+    return told
+
+
 def answer_to(words: Sequence[str], job: Text) -> Answer:
     """The status and the text that the program answers to the words of a command and a job, whatever they are."""
     return machine()(words, as_bytes(job))
@@ -86,6 +102,15 @@ def machine() -> Callable[[Sequence[str], bytes], Answer]:
         return lambda words, job: ask(list(words), job.decode(ENCODING))
 
 
+@functools.lru_cache(maxsize=None)
+def teller() -> Callable[[Sequence[str], bytes], Answer]:
+    """What tells facts: the library, which is made if it isn't there."""
+    try:
+        return loaded(library_file(), FACTS)
+    except NoLibrary:
+        return loaded(made_library(), FACTS)
+
+
 def library_file() -> str:
     """The file of the library: the one that the variable KDF9_LIBRARY names, or else the one that `./kdf9 lib` keeps."""
     named = os.environ.get("KDF9_LIBRARY")
@@ -98,22 +123,33 @@ def library_file() -> str:
     return str(engine.SHARED)
 
 
-def loaded(file: str) -> Callable[[Sequence[str], bytes], Answer]:
-    """What answers by the library of this file."""
+def made_library() -> str:
+    """The file of the library, which is made first."""
+    from building import engine  # pylint: disable=import-outside-toplevel
+
+    try:
+        return str(engine.library()[1])
+    except engine.NoEngine as why:
+        raise NoLibrary(f"facts need the library: {why}") from why
+
+
+def loaded(file: str, name: str = RUN) -> Callable[[Sequence[str], bytes], Answer]:
+    """What answers by a call of the library of this file."""
     import ctypes  # pylint: disable=import-outside-toplevel
 
     calls = ctypes.CDLL(file)
-    if calls.kdf9_version() != VERSION:
-        raise OSError(f"{file} has version {calls.kdf9_version()} of its calls, and this is for version {VERSION}")
+    if calls.kdf9_version() != VERSION or not hasattr(calls, name):
+        raise OSError(f"{file} has version {calls.kdf9_version()} of its calls, and this is for version {VERSION} with {name}")
     piece = [ctypes.c_char_p, ctypes.c_uint64]
-    calls.kdf9_run.argtypes = [*piece, *piece, *piece, ctypes.POINTER(ctypes.c_uint64)]
-    calls.kdf9_run.restype = ctypes.c_uint32
+    call = getattr(calls, name)
+    call.argtypes = [*piece, *piece, *piece, ctypes.POINTER(ctypes.c_uint64)]
+    call.restype = ctypes.c_uint32
 
     def answer(words: Sequence[str], job: bytes) -> Answer:
         asked, size, most = lines_of(words), ctypes.c_uint64(), FIRST_ROOM
         while True:
             room = ctypes.create_string_buffer(most)
-            status = calls.kdf9_run(asked, len(asked), job, len(job), room, most, ctypes.byref(size))
+            status = call(asked, len(asked), job, len(job), room, most, ctypes.byref(size))
             if status != NO_ROOM:
                 return Answer(status, ctypes.string_at(room, size.value).decode(ENCODING))
             most = size.value
