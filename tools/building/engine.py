@@ -26,7 +26,7 @@ MODULE, COMPILED, ARCHIVE, SHARED = OUT / "engine.wasm", OUT / "libkdf_engine.a"
 KEPT = OUT / "incremental"
 
 # The calls that are exported.
-CALLS = ["kdf9_run", "kdf9_version"]
+CALLS = ["kdf9_facts", "kdf9_run", "kdf9_version"]
 
 TARGET = ["--target=wasm64-unknown-unknown", "-mcpu=lime1", "--no-default-config"]
 

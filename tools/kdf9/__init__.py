@@ -6,12 +6,12 @@ For other programs, `kdf9.run(job)` is the machine, and `kdf9.facts(job)` tells 
 """
 from typing import TYPE_CHECKING
 
-from kdf9.library import Refused, run
+from kdf9.library import NoLibrary, Refused, run
 
 if TYPE_CHECKING:
     from kdf9.told import facts, listing
 
-__all__ = ["Refused", "facts", "listing", "run"]
+__all__ = ["NoLibrary", "Refused", "facts", "listing", "run"]
 
 # What of kdf9/told.py users call by the name of the package. It is loaded when it is first asked for, since many tools do without it.
 TOLD = ("facts", "listing")
