@@ -1,13 +1,10 @@
 """Why a program is still live when the run stops: it is held up for good, it is in a loop, or it never had a turn."""
 import re
 
-from kdf9 import report
 from kdf9.deck import WORD
-from kdf9.job import join_lines, read_slots
-from kdf9.program import answer_to
-from kdf9.schedule import cut, job_with, read_schedule, start_of
-from kdf9.timeline import call_of_order, held_by, in_flight, word_asked
-from kdf9.told import told_in
+from kdf9.runs import Run
+from kdf9.schedule import start_of
+from kdf9.timeline import held_by, in_flight, word_asked
 from kdf9.words import count, listed, whole
 
 GROUP = 32
@@ -21,21 +18,14 @@ LONGEST_LOOP = 40
 COUNTERS = re.compile(r"(?:J.*C|DC|=C)(\d+)")
 
 
-class Stopped:
-    """A run that has stopped: its job, its report and its facts, what it was like after any call, and the numbers of its lines where these aren't 1, 2 and so on."""
+class Stopped(Run):
+    """A run that has stopped, with its report, and the numbers of its lines where these aren't 1, 2 and so on."""
 
-    def __init__(self, lines, run, numbers=None):
-        self.lines, self.report = lines, run
-        self.numbers = numbers or range(1, len(lines) + 1)
-        self.facts = told_in(join_lines(lines), "run")
-        self.slots, self._schedule = read_slots(lines), read_schedule(lines)
+    def __init__(self, lines, report, numbers=None):
+        super().__init__(lines)
+        self.report, self.numbers = report, numbers or range(1, len(lines) + 1)
         self.flying = {each.device: each for each in sorted(in_flight(self.facts, self.facts.made + 1), key=lambda each: each.device)}
         self.pool = next(iter(self.slots.values())).pool_kinds()
-
-    def after_order(self, number, order):
-        """The section of the program of this slot after this order of its own."""
-        schedule = cut(self._schedule, call_of_order(self.facts, number, order))
-        return report.read_section(answer_to(["run"], job_with(self.slots, schedule)), number)
 
     def hold_of(self, number):
         """What a program was held up by last, if it hasn't obeyed an order since and the transfer that held it up goes on; or None."""

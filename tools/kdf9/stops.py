@@ -38,7 +38,7 @@ def stops_at(run, number, place, most):
 
 def watched(run, number, word, most):
     """The first stops at the beginning of a word."""
-    text = run.watch(number, word)
+    text = run.text(run.schedule, words=["watch", str(number), str(word)])
     stops = text[:text.index(f"\n{HEADER}\n")].split("\n", most + 1)[1:most + 1]
     orders = [int(line[len("STOP "):]) for line in stops]
     return Search(list(map(Stop, orders, calls_of_orders(run.facts, number, orders))))
@@ -51,7 +51,7 @@ def searched(run, number, place, most):
     with ThreadPoolExecutor(os.cpu_count()) as pool:
         for first in range(0, len(stops), AT_ONCE):
             part = stops[first:first + AT_ONCE]
-            places = pool.map(lambda stop: run.place_after(number, stop.call), part)
+            places = pool.map(lambda stop: run.after(number, stop.call, shown=False).place, part)
             found += [stop for stop, there in zip(part, places) if there == place]
             if len(found) >= most:
                 return Search(found[:most])
