@@ -124,19 +124,21 @@ def library_file() -> str:
         return named
     from building import engine  # pylint: disable=import-outside-toplevel
 
-    if not (engine.SHARED.is_file() and engine.is_current()):
+    if not engine.is_current(engine.SHARED):
         raise NoLibrary("it isn't made from these sources")
     return str(engine.SHARED)
 
 
 def made_library() -> str:
     """The file of the library, which is made first."""
-    from building import engine  # pylint: disable=import-outside-toplevel
+    from building import engine, progress  # pylint: disable=import-outside-toplevel
 
     try:
-        return str(engine.library()[1])
+        if not engine.is_current(engine.COMPILED):
+            progress.say("facts come from the machine as a library, which is made now; that takes a minute or some, this once")
+        return str(engine.shared())
     except engine.NoEngine as why:
-        raise NoLibrary(f"facts need the library: {why}") from why
+        raise NoLibrary(f"kdf9: facts need the library: {why}") from why
 
 
 def loaded(file: str, name: str = RUN) -> Callable[[Sequence[str], bytes], Answer]:

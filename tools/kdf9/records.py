@@ -30,7 +30,7 @@ def record_of_word(word: int) -> Record:
 def record_of_device(device: Device) -> Record:
     """A device with its blocks."""
     held, _, place, _, flag = device.state.split(" ")
-    blocks = [{"text": text, "marked": word == "LAST"} for word, text in device.blocks]
+    blocks = [{"text": text, "marked": is_marked} for text, is_marked in zip(device.blocks, device.marks)]
     return {"device": device.number, "kind": device.kind, "claimed": held == "HELD", "place": int(place), "flag": int(flag), "blocks": blocks}
 
 

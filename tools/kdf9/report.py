@@ -24,14 +24,15 @@ STATUSES = {"USAGE": 1, "JOB": 2, "DECK": 3, "LARGE": 4, "SNAPSHOT": 8}
 
 
 class Device(NamedTuple):
-    """A device of a section, or what a program did with one of the pool from taking it on: the number and kind, the words of the state, and
-    the blocks, each with the first word of its line.
+    """A device of a section, or what a program did with one of the pool from taking it on: the number and kind, the words of the state,
+    the blocks, and of each whether it has the Last Block Mark.
     """
 
     number: int
     kind: str
     state: str
     blocks: list
+    marks: list
 
 
 class Section:
@@ -89,12 +90,14 @@ def add_q_store(section, rest):
 
 def read_device(rest):
     number, kind, state = rest.split(" ", 2)
-    return Device(int(number), kind, state, [])
+    return Device(int(number), kind, state, [], [])
 
 
-def add_block(section, word, rest):
+def add_block(section, rest, is_marked):
     """Takes a block of the device in the last line of one; those of the pool come last."""
-    (section.stints or section.devices)[-1].blocks.append((word, rest))
+    device = (section.stints or section.devices)[-1]
+    device.blocks.append(rest)
+    device.marks.append(is_marked)
 
 
 READERS = {
@@ -109,8 +112,8 @@ READERS = {
     "SPOOL": lambda section, rest: section.spools.append(rest),
     "DEVICE": lambda section, rest: section.devices.append(read_device(rest)),
     "POOL": lambda section, rest: section.stints.append(read_device(rest)),
-    "BLOCK": lambda section, rest: add_block(section, "BLOCK", rest),
-    "LAST": lambda section, rest: add_block(section, "LAST", rest),
+    "BLOCK": lambda section, rest: add_block(section, rest, False),
+    "LAST": lambda section, rest: add_block(section, rest, True),
 }
 
 
@@ -184,7 +187,9 @@ def read_sections(lines, start, name):
     for at, line in enumerate(lines[start:], start):
         word, _, rest = line.partition(" ")
         try:
-            if line == "ENDREPORT" and at == len(lines) - 1:
+            if line == "ENDREPORT" and at < len(lines) - 1:
+                raise BadInput(f"{name}:{at + 2}: nothing may come after ENDREPORT")
+            if line == "ENDREPORT":
                 return checked(sections, at + 1, name)
             if word == "SLOT":
                 section = sections[SLOTS.index(rest)] = Section(SLOTS.index(rest))
