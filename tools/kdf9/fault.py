@@ -1,12 +1,12 @@
 """What is wrong with a job or a deck: where it is in the text, and what the documents say of it. The machine tells it (kdf9/told.py)."""
-from dataclasses import replace
+from __future__ import annotations
+
 from typing import List, Optional, Tuple
 
 from kdf9 import job as jobs
-from kdf9 import saved, tables
+from kdf9 import saved, tables, told
 from kdf9.job import HEADER, Slot
 from kdf9.program import LARGE, Answer, BadInput, ask, how_ended
-from kdf9.told import Fault, Listing, told_in
 from kdf9.words import capitals, listed
 
 # The bytes that some editors write first, and how many blank lines before a job count as a slip.
@@ -24,12 +24,12 @@ def head(source: str, line: int, column: int, name: str, subject: str) -> str:
     return f"{source}:{line}:{column}: {name}" + (f": {brief(subject)}" if subject else "")
 
 
-def head_of(source: str, fault: Fault) -> str:
+def head_of(source: str, fault: told.Fault) -> str:
     """The line that says where a fault is and what it is."""
     return head(source, fault.line, fault.column, fault.name, fault.subject)
 
 
-def fault_of(answer: Answer, lines: List[str], command: str = saved.RUN) -> Fault:
+def fault_of(answer: Answer, lines: List[str], command: str = saved.RUN) -> told.Fault:
     """The fault that a command of the program reports for a job of these lines, or for one with a snapshot or a report after it."""
     kind, *words = answer.text.split()
     if kind == "SNAPSHOT":
@@ -37,15 +37,15 @@ def fault_of(answer: Answer, lines: List[str], command: str = saved.RUN) -> Faul
     front = len(lines) if command == saved.RUN else saved.length_of_front(lines)
     is_further = kind == "JOB" and command == saved.RESUME and int(words[1]) > front
     job = saved.joined(lines) if is_further else saved.Joined(lines[:front], range(1, front + 1))
-    fault = told_in("\n".join(job.lines), "run")
-    return replace(fault, line=[*job.numbers, len(lines) + 1][fault.line - 1])
+    fault = told.told_in("\n".join(job.lines), "run")
+    return told.Fault(**{**vars(fault), "line": [*job.numbers, len(lines) + 1][fault.line - 1]})
 
 
-def fault_of_snapshot(name: str, line: int, lines: List[str]) -> Fault:
+def fault_of_snapshot(name: str, line: int, lines: List[str]) -> told.Fault:
     """The fault of this name in a line of a snapshot. If the line should be another, the column is where they begin to differ."""
     text = lines[line - 1] if line <= len(lines) else None
     column = 1 if text is None else 1 + first_difference(text, saved.due_in(lines, line))
-    return Fault("snapshot", name, 0, line, column, text, tables.faults("snapshot")[name]["says"])
+    return told.Fault(of="snapshot", name=name, line=line, column=column, text=text, sentence=tables.faults("snapshot")[name]["says"])
 
 
 def first_difference(text: str, due: str) -> int:
@@ -63,7 +63,7 @@ def brief_at(text: str, column: int) -> str:
     return brief(text) if column < LONGEST_SUBJECT // 2 else "..." + brief(text[column - LONGEST_SUBJECT // 4:])
 
 
-def sentence(fault: Fault) -> str:
+def sentence(fault: told.Fault) -> str:
     """What the documents say of a fault, and where."""
     return f"{fault.sentence} (docs/{f'USERCODE.md, fault {fault.number}' if fault.of == 'deck' else 'JOB.md'})"
 
@@ -74,7 +74,8 @@ def lines_of_job(source: str, text: str) -> List[str]:
     if lines[:1] == [HEADER]:
         return lines
     first = lines[0] if lines else None
-    fault = Fault("job", "Header", 1, 1, 1 + first_difference(first or "", HEADER), first, tables.faults("job")["Header"]["says"])
+    column, says = 1 + first_difference(first or "", HEADER), tables.faults("job")["Header"]["says"]
+    fault = told.Fault(of="job", name="Header", line=1, column=column, text=first, sentence=says)
     raise BadInput(f"{head_of(source, fault)}: {sentence(fault)}{hint_of_header(lines)}")
 
 
@@ -99,17 +100,17 @@ def sound_lines(source: str, text: str) -> List[str]:
     return lines
 
 
-def sound_slot(source: str, text: str, number: Optional[int]) -> Tuple[Slot, Listing]:
+def sound_slot(source: str, text: str, number: Optional[int]) -> Tuple[Slot, told.Listing]:
     """The slot of this number of a job, or its first for None, with the facts of its deck. A job with a fault, or without that slot, is bad input."""
     lines = lines_of_job(source, text)
-    told = told_in(text, "asm", str(number or 0))
-    if isinstance(told, Fault):
-        raise BadInput(f"{source}: the job has more than {told.limit} bytes" if told.of == "text" else head_of(source, told))
+    listing = told.told_in(text, "asm", str(number or 0))
+    if told.is_fault(listing):
+        raise BadInput(f"{source}: the job has more than {listing.limit} bytes" if listing.of == "text" else head_of(source, listing))
     slots = jobs.read_slots(lines)
     slot = slots[min(slots)] if number is None else slots.get(number)
     if slot is None:
         raise BadInput(f"{source}: the job has no slot {number}; it has {listed([f'slot {each}' for each in slots])}")
-    return slot, told if told.slot == slot.number else told_in(text, "asm", str(slot.number))
+    return slot, listing if listing.slot == slot.number else told.listing_in(text, slot.number)
 
 
 def refuse(source: str, lines: List[str], answer: Answer) -> None:

@@ -1,14 +1,15 @@
 """The run of a job, which can be stopped after any call."""
+from __future__ import annotations
+
 import functools
 from typing import Iterable, List
 
+from kdf9 import told
 from kdf9.job import join_lines, read_slots
 from kdf9.program import answer_to
 from kdf9.report import Section, read_section
 from kdf9.schedule import Schedule, cut, cut_before_next, job_with, read_schedule
 from kdf9.timeline import call_of_order
-from kdf9.told import Run as Facts
-from kdf9.told import told_in
 
 
 class Run:
@@ -18,9 +19,9 @@ class Run:
         self.lines, self.slots, self.schedule = lines, read_slots(lines), read_schedule(lines)
 
     @functools.cached_property
-    def facts(self) -> Facts:
+    def facts(self) -> told.Run:
         """The facts of the whole run."""
-        return told_in(join_lines(self.lines), "run")
+        return told.told_in(join_lines(self.lines), "run")
 
     def text(self, schedule: Schedule, shown: Iterable[int] = (), words: Iterable[str] = ("run",)) -> str:
         """What a command writes of the run by this schedule, with the whole stores of the slots that are shown."""

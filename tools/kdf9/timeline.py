@@ -1,8 +1,10 @@
 """The facts of a run over time: with which call each order was obeyed, what went on then, and what a program was answered."""
+from __future__ import annotations
+
 from typing import Dict, Iterable, Iterator, List, Optional
 
+from kdf9 import told
 from kdf9.tables import table
-from kdf9.told import Ask, Hold, Run, Transfer
 
 # What holds a program up, in words: a group, a device, or the pool.
 HOLDS = {"pool" if row["fields"][-1] == "kind" else row["fields"][-1]: row["holds"] for row in table("entries") if "holds" in row}
@@ -11,12 +13,12 @@ HOLDS = {"pool" if row["fields"][-1] == "kind" else row["fields"][-1]: row["hold
 SERVICE = 64
 
 
-def held_by(hold: Hold) -> str:
+def held_by(hold: told.Hold) -> str:
     """What holds a program up, in words."""
     return HOLDS[hold.by].format(number=getattr(hold, hold.by))
 
 
-def calls_of_orders(run: Run, slot: int, orders: Iterable[int]) -> Iterator[int]:
+def calls_of_orders(run: told.Run, slot: int, orders: Iterable[int]) -> Iterator[int]:
     """The calls at which the program of a slot obeyed these orders of its own, whose numbers rise from 1 on; only of those that it obeyed."""
     obeyed, rest = 0, iter(orders)
     order = next(rest, None)
@@ -30,27 +32,27 @@ def calls_of_orders(run: Run, slot: int, orders: Iterable[int]) -> Iterator[int]
             obeyed += entry.orders
 
 
-def call_of_order(run: Run, slot: int, order: int) -> int:
+def call_of_order(run: told.Run, slot: int, order: int) -> int:
     """The call at which the program of a slot obeyed this order of its own; 0 for order 0. It has to have obeyed that many."""
     return next(calls_of_orders(run, slot, [order]), 0) if order else 0
 
 
-def in_flight(run: Run, calls: int) -> List[Transfer]:
+def in_flight(run: told.Run, calls: int) -> List[told.Transfer]:
     """The transfers that began with one of the first calls, and that nothing ended before this call."""
     return [each for each in run.transfers if each.began <= calls and (each.ended is None or each.ended >= calls)]
 
 
-def word_asked(ask: Optional[Ask]) -> Optional[int]:
+def word_asked(ask: Optional[told.Ask]) -> Optional[int]:
     """The word that a question asks the installation's service to answer, or None if it asks nothing of it."""
     return ask.nest[1] if ask and ask.nest[:1] == [SERVICE] and len(ask.nest) > 1 else None
 
 
-def asks_of(run: Run, slot: int) -> Dict[int, Ask]:
+def asks_of(run: told.Run, slot: int) -> Dict[int, told.Ask]:
     """What the program of a slot asked, by the number of its order. The device that it took from the pool is an answer."""
     return {ask.order: ask for ask in run.asks if ask.slot == slot}
 
 
-def lone_answers(run: Run, slot: int, pool: Dict[int, str]) -> Dict[int, int]:
+def lone_answers(run: told.Run, slot: int, pool: Dict[int, str]) -> Dict[int, int]:
     """What the same orders would be answered if the program ran alone and had been answered so up to there, with the kinds of the pool's
     devices by their numbers: 0, or the least device of the pool that the program hasn't got.
     """

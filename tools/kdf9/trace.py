@@ -1,11 +1,13 @@
 """The orders of one program as it ran under Director: the call of each, what happened since the one before, and the transfers at that time."""
+from __future__ import annotations
+
 from bisect import bisect_left
 from collections import Counter
 from typing import Iterator, List, NamedTuple, Optional
 
+from kdf9 import told
 from kdf9.records import line_of_entry
 from kdf9.timeline import call_of_order, calls_of_orders, held_by, in_flight
-from kdf9.told import Entry, Run
 from kdf9.words import count
 
 # The lines of the schedule that have entries, and how many of them are shown between two orders.
@@ -31,13 +33,13 @@ class Moment(NamedTuple):
     call: int
     flying: List[int]
     between: List[str]
-    own: List[Entry]
+    own: List[told.Entry]
 
 
 class Trace:
     """The orders of the program of a slot from `first` to `last`, and what came after the last that it obeyed."""
 
-    def __init__(self, run: Run, slot: int, first: int, last: int) -> None:
+    def __init__(self, run: told.Run, slot: int, first: int, last: int) -> None:
         self._run, self._slot = run, slot
         self._calls = [entry.call for entry in run.entries]
         self.obeyed = run.program(slot).orders
@@ -53,7 +55,7 @@ class Trace:
             yield Moment(order, call, flying, self._between(order, before, call), own)
             before = call
 
-    def _entries(self, first: int, end: int) -> List[Entry]:
+    def _entries(self, first: int, end: int) -> List[told.Entry]:
         """The entries with at least this number of calls before them, and fewer than the other."""
         return self._run.entries[bisect_left(self._calls, first):bisect_left(self._calls, end)]
 
@@ -78,7 +80,7 @@ class Trace:
         return said + ([f"{count(idle, 'call')} idle"] if idle else []) + scheduled[:MOST_SCHEDULED] + more + freed
 
 
-def said_of_order(own: List[Entry], word: Optional[int] = None) -> List[str]:
+def said_of_order(own: List[told.Entry], word: Optional[int] = None) -> List[str]:
     """What an order did besides what it changed, in words, by its entries. If it asked the installation's service, that was to answer this word."""
     service = "" if word is None else f" by the installation's service, to the word {word:016o}"
     return [DOES[entry.entry].format(**vars(entry)) + (service if entry.entry == "ANSWER" else "") for entry in own]
