@@ -9,7 +9,7 @@ from typing import Dict, Iterator, List, NamedTuple, Optional, Tuple
 from kdf9.words import whole
 
 # The syllables of a word, and those of the jump in word 0.
-WORD, JUMP = 6, 3
+WORD, SIZE_OF_JUMP = 6, 3
 COMMENT = re.compile(r"\([^)]*\)?")
 DECLARATION = re.compile(r"Y([A-Z]?)(\d+)\Z")
 OPENING = re.compile(r"(?:PROGRAM|P(\d+))(?:V(\d+))?\Z")
@@ -77,9 +77,9 @@ class Layout:
 
     def __init__(self, listing) -> None:
         self.image = b"".join(int(word, 8).to_bytes(WORD, "big") for word in listing.words)
-        self.rows: List[Row] = [Row("jump", 0, JUMP, None)]
+        self.rows: List[Row] = [Row("jump", 0, SIZE_OF_JUMP, None)]
         self.names: List[Names] = []
-        self._place, self._part = JUMP, 0
+        self._place, self._part = SIZE_OF_JUMP, 0
         self._parts: Dict[int, int] = {}
         self._groups: Dict[str, int] = {}
         self._references = {(each.part, each.reference): WORD * each.at[0] + each.at[1] for each in listing.references}

@@ -6,6 +6,7 @@ comes of a job is the same. `facts` has the library made then. Threads may call 
 import functools
 import json
 import os
+import signal
 from typing import Any, Callable, Dict, Optional, Sequence, Union
 
 from kdf9.program import ENCODING, Answer, BadInput, ask, how_ended
@@ -17,6 +18,9 @@ NO_ROOM, NO_MEMORY = 6, 7
 
 # The bytes of the room that is tried first for a text.
 FIRST_ROOM = 1 << 16
+
+# What is said before the library is made.
+MADE_NOW = "facts come from the machine as a library, which is made now, this once; that takes about a minute where the program was built here"
 
 Text = Union[str, bytes]
 
@@ -111,10 +115,7 @@ def machine() -> Callable[[Sequence[str], bytes], Answer]:
 @functools.lru_cache(maxsize=None)
 def teller() -> Callable[[Sequence[str], bytes], Answer]:
     """What tells facts: the library, which is made if it isn't there."""
-    try:
-        return loaded(library_file(), FACTS)
-    except NoLibrary:
-        return loaded(made_library(), FACTS)
+    return loaded(made_library(), FACTS)
 
 
 def library_file() -> str:
@@ -130,15 +131,22 @@ def library_file() -> str:
 
 
 def made_library() -> str:
-    """The file of the library, which is made first."""
+    """The file of the library, which is made if it isn't there."""
     from building import engine, progress  # pylint: disable=import-outside-toplevel
 
     try:
-        if not engine.is_current(engine.COMPILED):
-            progress.say("facts come from the machine as a library, which is made now; that takes a minute or some, this once")
+        return library_file()
+    except NoLibrary:
+        progress.say(MADE_NOW)
+    kept = signal.getsignal(signal.SIGINT)
+    if kept is signal.SIG_DFL:
+        signal.signal(signal.SIGINT, signal.default_int_handler)
+    try:
         return str(engine.shared())
     except engine.NoEngine as why:
         raise NoLibrary(f"kdf9: facts need the library: {why}") from why
+    finally:
+        signal.signal(signal.SIGINT, kept)
 
 
 def loaded(file: str, name: str = RUN) -> Callable[[Sequence[str], bytes], Answer]:

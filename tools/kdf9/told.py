@@ -43,7 +43,7 @@ def program(run: Any, slot: int) -> Any:
 
 
 # What classes have besides their fields.
-MORE = {"Fault": {"subject": property(subject)}, "Run": {"program": program}}
+BESIDES = {"Fault": {"subject": property(subject)}, "Run": {"program": program}}
 
 
 class Classes:
@@ -71,7 +71,7 @@ class Classes:
                     others.append((member, Optional[kind], field(default=None)))
                 if read:
                     readers[member] = read
-        made = make_dataclass(name, required + others, frozen=True, namespace={**MORE.get(name, {}), "__module__": __name__})
+        made = make_dataclass(name, required + others, frozen=True, namespace={**BESIDES.get(name, {}), "__module__": __name__})
         made.__doc__ = schema.get("description", made.__doc__)
 
         def read_all(told: Dict[str, Any]) -> Any:
