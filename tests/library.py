@@ -1,6 +1,5 @@
 """Tries the machine as a library: `./kdf9 lib`, the programs of examples/embed, and calls that a program wouldn't make."""
 import ctypes
-import dataclasses
 import json
 import os
 import pathlib
@@ -54,14 +53,6 @@ FACTS = [
     (["run"], b"x" * (LONGEST + 1), LARGE, {"kind": "fault", "of": "text", "name": "Large", "limit": LONGEST}),
     (["walk"], PLAIN, USAGE, {"kind": "usage"}),
 ]
-
-# The classes of facts by the definitions of docs/schema/facts.json, and the members of those that only say what they are.
-CLASSES = {
-    "run": [told.Run], "entry": [told.Entry], "calls of a program": [told.Calls, told.Spent], "program": [told.Program], "lack": [told.Lack],
-    "use of a device": [told.Device], "transfer": [told.Transfer], "hold": [told.Hold], "ask": [told.Ask], "loan": [told.Loan], "statement": [told.Statement],
-    "listing": [told.Listing],
-}
-SAYS_WHAT = {"run": {"format", "kind"}, "listing": {"format", "kind"}}
 
 # How Node is started: the first version whose memories have addresses of 64 bits by themselves is 24.
 OPTION, WITHOUT_OPTION = "--experimental-wasm-memory64", 24
@@ -239,23 +230,12 @@ def programs_tell_facts(made: Library) -> Cases:
 
 
 def facts_have_types(_: Library) -> Cases:
-    """The classes of facts have the fields of the schema, and facts of every example and case become such."""
-    schema = json.loads(document("schema/facts.json"))["definitions"]
-    for name, (kind, *more) in CLASSES.items():
-        due = {*schema[name]["properties"]} - SAYS_WHAT.get(name, set())
-        yield f"the fields of {kind.__name__}", None if fields_of(kind) == due else f"{fields_of(kind) ^ due} differ"
-        for inner in more:
-            members = {*schema[name]["properties"]["calls"]["properties"]}
-            yield f"the fields of {inner.__name__}", None if fields_of(inner) == members else f"{fields_of(inner) ^ members} differ"
-    faults = {member for name, one in schema.items() if name.startswith("fault of") for member in one["properties"]} - {"format", "kind"}
-    yield "the fields of Fault", None if fields_of(told.Fault) == faults else f"{fields_of(told.Fault) ^ faults} differ"
+    """Facts of every example and case become those with types, and the types are those of the schema."""
+    types = told.Transfer.__annotations__
+    due = {"slot": int, "ended": Optional[int], "at": Optional[Tuple[int, int]], "statement": Optional[told.Statement]}
+    yield "the types of a transfer", None if {name: types.get(name) for name in due} == due and told.Run.__annotations__["transfers"] == List[told.Transfer] else f"{types}"
     for path in [path for folder in ("examples", "tests/cases") for path in sorted((ROOT / folder).glob("*.job"))]:
         yield f"the facts of {path.stem} with types", None if is_typed(path.read_bytes()) else "have others"
-
-
-def fields_of(kind: type) -> set:
-    """The names of the fields of a class."""
-    return {field.name for field in dataclasses.fields(kind)}
 
 
 def is_typed(job: bytes) -> bool:
