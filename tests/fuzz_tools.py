@@ -23,7 +23,6 @@ from toolkit import ROOT, Run
 
 sys.path.insert(0, str(ROOT / "tools"))
 from kdf9 import command, program, report  # noqa: E402
-from kdf9.deck import OTHER_DECK  # noqa: E402
 from kdf9.tools import TOOLS  # noqa: E402
 from random_jobs import Text, text_of  # noqa: E402
 from web import output  # noqa: E402
@@ -38,8 +37,8 @@ READS_REPORTS = ("picture", "json")
 ORDERS = [["0", "1", "3"], ["0", "7", "9"], ["2", "1", "2"], ["1"]]
 DELAYS = [[], ["--after", "0"], ["--after", "7"], ["--every", "2", "--after", "3"], ["2=5"], ["--after", "20000000", "--every", "1"]]
 
-# What no tool may say: the last is that it reads a deck in another way than the program.
-SLIPS = ("Traceback", "slip of the tool", OTHER_DECK)
+# What no tool may say.
+SLIPS = ("Traceback", "slip of the tool")
 
 # The tools that read a text.
 READERS = [name for name in TOOLS if name not in ("page", "clean", "package", "lib")]

@@ -1,5 +1,6 @@
 """Tries the machine as a library: `./kdf9 lib`, the programs of examples/embed, and calls that a program wouldn't make."""
 import ctypes
+import json
 import os
 import pathlib
 import re
@@ -15,14 +16,14 @@ from toolkit import ENVIRONMENT, ROOT, Run, document, example_report
 
 sys.path.insert(0, str(ROOT / "tools"))
 import kdf9  # noqa: E402
-from kdf9 import library  # noqa: E402
+from kdf9 import library, told  # noqa: E402
 from kdf9.program import Answer  # noqa: E402
 
 Cases = Iterator[Tuple[str, Optional[str]]]
 
 EMBED = ROOT / "examples" / "embed"
 FILES = ["kdf9.h", "kdf9.mjs", "kdf9.wasm", "libkdf9.a", "libkdf9.so"]
-CALLS = ["kdf9_run", "kdf9_version"]
+CALLS = ["kdf9_facts", "kdf9_run", "kdf9_version"]
 
 # The job of the README, and a job whose deck has a fault.
 PLAIN, FAULTY = "adds-5-and-7", "missing-reference"
@@ -41,6 +42,17 @@ NO_COMMANDS = [b"", b"\n", b"walk\n", b"run\nrun\n", b"run \n", b"RUN\n", b"alon
 
 # What is no job, and the line that names its fault.
 NO_JOBS = [(b"", "JOB Header 1\n"), (b"\n", "JOB Header 1\n"), (b"\x00" * 1000, "JOB Header 1\n"), (bytes(range(256)) * 16, "JOB Header 1\n"), (b"KDF9 JOB 1", "JOB BadLine 2\n")]
+
+# Words and a job, the status, and some of what is told.
+FACTS = [
+    (["run"], PLAIN, 0, {"format": "kdf9-facts 1", "kind": "run", "made": 7, "time": 0}),
+    (["asm", "0"], PLAIN, 0, {"kind": "listing", "slot": 0, "start": [1, 3]}),
+    (["run"], FAULTY, 3, {"kind": "fault", "of": "deck", "name": "ReferenceMissing", "line": 7, "column": 3, "text": "J2"}),
+    (["run"], b"", JOB, {"kind": "fault", "of": "job", "name": "Header", "line": 1, "text": None}),
+    (["run"], bytes(range(256)) * 16, JOB, {"kind": "fault", "name": "Header", "line": 1}),
+    (["run"], b"x" * (LONGEST + 1), LARGE, {"kind": "fault", "of": "text", "name": "Large", "limit": LONGEST}),
+    (["walk"], PLAIN, USAGE, {"kind": "usage"}),
+]
 
 # How Node is started: the first version whose memories have addresses of 64 bits by themselves is 24.
 OPTION, WITHOUT_OPTION = "--experimental-wasm-memory64", 24
@@ -64,15 +76,16 @@ class Library:
         self.folder = folder
         self.calls = ctypes.CDLL(str(folder / "libkdf9.so"))
         piece = [ctypes.c_void_p, ctypes.c_uint64]
-        self.calls.kdf9_run.argtypes = [*piece, *piece, *piece, ctypes.POINTER(ctypes.c_uint64)]
-        self.calls.kdf9_run.restype = ctypes.c_uint32
+        for call in (self.calls.kdf9_run, self.calls.kdf9_facts):
+            call.argtypes = [*piece, *piece, *piece, ctypes.POINTER(ctypes.c_uint64)]
+            call.restype = ctypes.c_uint32
 
-    def run(self, words: Optional[bytes], job: Optional[bytes], room: int) -> Tuple[int, int, bytes]:
+    def run(self, words: Optional[bytes], job: Optional[bytes], room: int, name: str = library.RUN) -> Tuple[int, int, bytes]:
         """The status, the size and the room after a call, with what stands behind the room. No words, no job or no room is a null pointer."""
         given = ctypes.create_string_buffer(b"\xa5" * room + BEHIND, room + len(BEHIND))
         size = ctypes.c_uint64(12345)
         handed = [part for piece in (words, job) for part in (piece, len(piece or b""))]
-        status = self.calls.kdf9_run(*handed, given if room else None, room, ctypes.byref(size))
+        status = self.calls[name](*handed, given if room else None, room, ctypes.byref(size))
         return status, size.value, given.raw
 
 
@@ -174,6 +187,68 @@ def rooms_are_kept_to(made: Library) -> Cases:
         yield f"a room of {room} bytes", None if good else f"{status} {size} {after[:100]!r}"
 
 
+def facts_are_told(made: Library) -> Cases:
+    """Facts of jobs, decks, faults, and of what is none of them: the status, and some members of what is told."""
+    tell = library.loaded(str(made.folder / "libkdf9.so"), library.FACTS)
+    for words, job, status, due in FACTS:
+        answer = tell(words, job_of(job) if isinstance(job, str) else job)
+        told = json.loads(answer.text)
+        given = {name: told.get(name) for name in due}
+        yield f"facts of {words} over {job[:20]!r}", None if (answer.status, given) == (status, due) else f"{answer.status} {given}"
+
+
+def rooms_of_facts_are_kept_to(made: Library) -> Cases:
+    """Rooms around the size of facts: they are written whole, or not at all, and nothing is written behind them."""
+    job = job_of(PLAIN)
+    status, wanted, _ = made.run(b"run\n", job, 0, library.FACTS)
+    yield "no room for facts", None if status == NO_ROOM and wanted else f"{status} {wanted}"
+    for room in (1, wanted - 1, wanted, wanted + 1, 1 << 16):
+        status, size, after = made.run(b"run\n", job, room, library.FACTS)
+        untouched = b"\xa5" * room + BEHIND
+        good = after[size:] == untouched[size:] and after[:1] == b"{" if room >= wanted else after == untouched
+        yield f"a room of {room} bytes for facts", None if good and (status, size) == (0 if room >= wanted else NO_ROOM, wanted) else f"{status} {size} {after[:100]!r}"
+    for words, text in ((None, None), (b"", b""), (b"\xff\n", job)):
+        status, size, after = made.run(words, text, 4096, library.FACTS)
+        yield f"facts of the words {words!r}", None if status == USAGE and json.loads(after[:size])["kind"] == "usage" else f"{status} {after[:100]!r}"
+
+
+def programs_tell_facts(made: Library) -> Cases:
+    """The programs for C, Python and Node that tell facts."""
+    folder = made.folder
+    with tempfile.TemporaryDirectory() as place:
+        built = done(["cc", "-std=c99", "-Wall", "-Wextra", "-Werror", "-I", folder, EMBED / "facts.c", folder / "libkdf9.a", "-o", pathlib.Path(place, "facts")])
+        yield "facts.c is compiled", None if built == Run(0, "", "") else f"{built}"
+        run = done([pathlib.Path(place, "facts")], job_of(PLAIN))
+        yield "facts.c", None if run.status == 0 and json.loads(run.out) == library.facts(job_of(PLAIN)) else f"{run}"
+    env = {**ENVIRONMENT, "PYTHONPATH": str(ROOT / "tools"), "KDF9_LIBRARY": str(folder / "libkdf9.so")}
+    run = done([sys.executable, EMBED / "facts.py"], job_of(PLAIN), env=env)
+    yield "facts.py", None if run == Run(0, "slot 0 of 7 calls: 7 running, 0 ready, 0 held up\n", "") else f"{run}"
+    if shutil.which("node"):
+        version = int(done(["node", "--version"]).out.lstrip("v").split(".")[0])
+        run = done(["node", *([OPTION] if version < WITHOUT_OPTION else []), EMBED / "facts.mjs", folder], job_of("adds-cards-while-a-tape-is-copied"))
+        yield "facts.mjs", None if run.status == 0 and run.out.count("device ") == run.out.count("\n") > 0 else f"{run}"
+
+
+def facts_have_types(_: Library) -> Cases:
+    """Facts of every example and case become those with types, and the types are those of the schema."""
+    types = told.Transfer.__annotations__
+    due = {"slot": int, "ended": Optional[int], "at": Optional[Tuple[int, int]], "statement": Optional[told.Statement]}
+    yield "the types of a transfer", None if {name: types.get(name) for name in due} == due and told.Run.__annotations__["transfers"] == List[told.Transfer] else f"{types}"
+    for path in [path for folder in ("examples", "tests/cases") for path in sorted((ROOT / folder).glob("*.job"))]:
+        yield f"the facts of {path.stem} with types", None if is_typed(path.read_bytes()) else "have others"
+
+
+def is_typed(job: bytes) -> bool:
+    """Whether the facts of a job, or of its fault, are those that JSON has, by some numbers of the run and of the first deck."""
+    plain = library.facts(job)
+    try:
+        run, deck = kdf9.facts(job), kdf9.listing(job, 0)
+    except kdf9.Refused as why:
+        return plain["kind"] == "fault" and (why.name, why.line, why.sentence) == (plain["name"], plain.get("line", 0), plain.get("sentence", ""))
+    told_too = [[vars(entry)[name] for name in one] for entry, one in zip(run.entries, plain["entries"])]
+    return (run.made, told_too) == (plain["made"], [[*one.values()] for one in plain["entries"]]) and len(deck.words) >= 0
+
+
 def threads_may_call_at_once(made: Library) -> Cases:
     """Several threads, each with little stack, run jobs at once."""
     job, due = job_of("adds-cards-while-a-tape-is-copied"), example_report("adds-cards-while-a-tape-is-copied").encode("ascii")
@@ -225,14 +300,14 @@ def program_stands_in(_: Library) -> Cases:
 
 def document_is_true(_: Library) -> Cases:
     """The programs that docs/LIBRARY.md shows are those of examples/embed."""
-    shown = {language: text for language, text in re.findall(r"^```(\w+)\n(.*?)^```$", document("LIBRARY.md"), re.MULTILINE | re.DOTALL)}
-    for language, name in (("c", "run.c"), ("python", "run.py"), ("js", "run.mjs")):
-        yield f"{name} in docs/LIBRARY.md", None if shown.get(language) == (EMBED / name).read_text(encoding="utf-8") else "is another"
+    shown = re.findall(r"^```(?:c|python|js)\n(.*?)^```$", document("LIBRARY.md"), re.MULTILINE | re.DOTALL)
+    for name in ("run.c", "facts.c", "run.py", "facts.py", "run.mjs", "facts.mjs"):
+        yield f"{name} in docs/LIBRARY.md", None if (EMBED / name).read_text(encoding="utf-8") in shown else "is another"
 
 
 SUITES = (
     files_are_written, programs_of_c_run, programs_of_python_run, programs_of_node_run, answers_are_those_of_the_program, odd_calls_are_answered, rooms_are_kept_to,
-    threads_may_call_at_once, exceptions_have_fields, program_stands_in, document_is_true,
+    facts_are_told, rooms_of_facts_are_kept_to, programs_tell_facts, facts_have_types, threads_may_call_at_once, exceptions_have_fields, program_stands_in, document_is_true,
 )
 
 

@@ -99,7 +99,8 @@ def unpacked_runs(work: pathlib.Path, tar: pathlib.Path, path: str) -> Cases:
     started = run(["./kdf9", "run"], own, job, PATH=path)
     yield "the first job where it is unpacked", None if started == Run(0, example_report(FIRST), "") else f"{started}"
     cases = {
-        "explain examples/adds-to-nothing.job": (0, "", "(docs/MACHINE.md)"), "explain --help": (0, "kdf9 explain JOB", ""), "--help": (0, "  kdf9 run < JOB", ""),
+        "explain examples/adds-to-nothing.job": (0, "", "(docs/MACHINE.md)"), "explain --help": (0, "kdf9 explain JOB", ""),
+        f"listing examples/{FIRST}.job": (0, "(to the main part)", ""), f"steps examples/{FIRST}.job 0 2 3 --run": (0, "SET", ""), "--help": (0, "  kdf9 run < JOB", ""),
         "--version": (0, "program: from a package", ""), "clean": (1, "", "this comes from a package"), "package": (1, "", "this comes from a package itself"),
         "run x.job": (1, "USAGE", "kdf9 run < x.job"), "listing": (2, "", "usage: kdf9 listing JOB"), "walk --help": (2, "", "kdf9 --help lists them"),
     }

@@ -14,7 +14,7 @@ from kdf9.job import read_lines, read_slots
 from kdf9.journal import Chart, calls_of
 from kdf9.report import read_report
 from kdf9.said import waiting_calls
-from kdf9.timeline import HOLDS, in_flight, lent, timed
+from journals import HOLDS, in_flight, lent, timed
 
 SHARED, FAILS = "examples/two-programs-share-a-punch", "examples/waits-until-the-other-fails"
 QUICKER = "tests/cases/waits-while-another-is-quicker"

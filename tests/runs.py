@@ -171,6 +171,9 @@ def transfers_go_by_their_lengths():
     rewinds = "PROGRAM V2; V0 = Q0/32/40; V1 = PA; V2 = Q0/40/1; V1; SET 4; OUT; V0; =Q1; =C1; MWQ1; INTQ1; MRWDQ1; INTQ1; V2; =Q2; C1; =C2; MFSKQ2; INTQ2; ZERO; OUT; FINISH;"
     tape = f"KDF9 JOB 1\nSLOT 0\nSTORE 64\nDECK\n{rewinds}\nENDDECK\nDEVICE 3 MT A\nSCHEDULE\nORDERS 9000\nENDJOB\n"
     found = times_of_transfers(kdf9(["schedule", "-", "--speeds", "kdf9"], tape).out)
+    short = tape.replace("MWQ1; INTQ1; MRWDQ1;", "MFRQ1; INTQ1; MRWDQ1;").replace("DEVICE 3 MT A\n", "DEVICE 3 MT A\n+ABCDEFGHIJKLMNOPQRS\n")
+    shorter = times_of_transfers(kdf9(["schedule", "-", "--speeds", "kdf9"], short).out)
+    yield "a block has fewer words than its area", None if shorter == ([833 + 33 * 3, 833, 833], "ENDED") else f"{shorter}"
     yield "an order without an area has no words", None if found == ([833 + 33 * 9, 833, 833], "ENDED") else f"{found}"
     none = kdf9(["schedule", "-", "--speed", "5=1+1"], punches("DEVICE 3 TP\n"))
     yield "a speed of no device", None if refused(none) and none.err == "-: the job has no device 5\n" else f"{none}"

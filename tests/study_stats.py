@@ -6,7 +6,7 @@ import random
 from typing import Iterator, Optional, Tuple
 
 import random_jobs
-from kdf9.facts import Facts, facts_of
+from kdf9.spent import Facts, facts_of
 from kdf9.measures import as_csv, as_json, as_table, measures_of
 from kdf9.program import ask
 from kdf9.report import read_report

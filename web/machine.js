@@ -101,8 +101,8 @@ function linesOf(words) {
   return new TextEncoder().encode(words.map((word) => `${word}\n`).join(""));
 }
 
-/** The answer to the words of a command for a job, with a text of at most `room` bytes. */
-function answerWithin(module, words, job, room) {
+/** The answer of a call to the words of a command for a job, with a text of at most `room` bytes. */
+function answerWithin(call, module, words, job, room) {
   const machine = {};
   const { exports } = new WebAssembly.Instance(module, { env: imports(machine) });
   machine.memory = exports.memory;
@@ -120,11 +120,17 @@ function answerWithin(module, words, job, room) {
   const text = place(room), wanted = place(8);
   const slices = [...handIn(linesOf(words)), ...handIn(job)];
   const began = performance.now();
-  const status = exports.kdf9_run(...slices, BigInt(text), BigInt(room), BigInt(wanted));
+  const status = exports[call](...slices, BigInt(text), BigInt(room), BigInt(wanted));
   const milliseconds = performance.now() - began;
   const size = Number(new DataView(machine.memory.buffer).getBigUint64(wanted, true));
   const written = new Uint8Array(machine.memory.buffer).slice(text, text + (size <= room ? size : 0));
   return { status, text: written, size, milliseconds, memory: machine.memory.buffer.byteLength };
+}
+
+/** The answer of a call, with room for its whole text, unless that is too long. */
+function whole(call, module, words, job) {
+  const given = answerWithin(call, module, words, job, SMALLEST_ROOM);
+  return given.status === TEXT_TOO_LONG && given.size <= LARGEST_ROOM ? answerWithin(call, module, words, job, given.size) : given;
 }
 
 /** The proved code, from the bytes of its module. */
@@ -137,6 +143,14 @@ export function compiled(bytes) {
  * milliseconds that it took, and the bytes of memory. A text of more than 256 MiB is left out, with status 6.
  */
 export function answer(module, words, job) {
-  const given = answerWithin(module, words, job, SMALLEST_ROOM);
-  return given.status === TEXT_TOO_LONG && given.size <= LARGEST_ROOM ? answerWithin(module, words, job, given.size) : given;
+  return whole("kdf9_run", module, words, job);
+}
+
+/**
+ * What the proved code tells of a job, which is bytes: the facts that the words of a command ask for, with the fields of docs/schema/facts.json, or null if they
+ * have more than 256 MiB or there was no memory; and the number of the status, the bytes of the facts, the milliseconds and the bytes of memory.
+ */
+export function facts(module, words, job) {
+  const { text, ...rest } = whole("kdf9_facts", module, words, job);
+  return { facts: text.length ? JSON.parse(new TextDecoder().decode(text)) : null, ...rest };
 }

@@ -4,16 +4,18 @@ The kit's own way to make WebAssembly accepts nothing that reaches the heap. So 
 that keeps the LLVM bitcode. The kit's own clang and linker then make WebAssembly of that. The native library is what the kit itself compiles, with the kit's heap.
 """
 import contextlib
+import fcntl
 import hashlib
 import os
 import pathlib
 import re
 import shutil
 import subprocess
+import sys
 import tempfile
 
-from building.progress import Stages
-from building.rooms import CRATES, ROOT, crates_below, read_list
+from building.progress import Stages, say
+from building.rooms import CRATES, PROGRAM, ROOT, crates_below, read_list
 
 CRATE = "kdf_engine"
 OUT = CRATES / "kdf9" / "out" / "engine"
@@ -26,7 +28,7 @@ MODULE, COMPILED, ARCHIVE, SHARED = OUT / "engine.wasm", OUT / "libkdf_engine.a"
 KEPT = OUT / "incremental"
 
 # The calls that are exported.
-CALLS = ["kdf9_run", "kdf9_version"]
+CALLS = ["kdf9_facts", "kdf9_run", "kdf9_version"]
 
 TARGET = ["--target=wasm64-unknown-unknown", "-mcpu=lime1", "--no-default-config"]
 
@@ -75,16 +77,23 @@ def libraries():
 
 def sums():
     """One checksum of all the files from which the machine is made."""
-    files = [pathlib.Path(__file__), *(file for name in [*libraries(), CRATE] for file in sorted((CRATES / name / "src").rglob("*.rt")))]
     whole = hashlib.sha256()
-    for file in files:
+    for file in sources():
         whole.update(file.read_bytes())
     return whole.hexdigest()
 
 
+def sources():
+    """The files from which the machine is made."""
+    return [pathlib.Path(__file__), *(file for name in [*libraries(), CRATE] for file in sorted((CRATES / name / "src").rglob("*.rt")))]
+
+
 def is_current(made=MODULE):
-    """Whether this file is there, and was made from the sources as they are now. A package has only the module."""
-    return made.is_file() and SUMS.is_file() and SUMS.read_text(encoding="ascii") == sums()
+    """Whether this file is there, and was made from the sources as they are now. If none of them is newer, none has changed. A package has only some of the files."""
+    if not (made.is_file() and SUMS.is_file()):
+        return False
+    at = SUMS.stat().st_mtime
+    return all(file.stat().st_mtime < at for file in sources()) or SUMS.read_text(encoding="ascii") == sums()
 
 
 def engine():
@@ -95,12 +104,22 @@ def engine():
 
 def library():
     """The two native libraries: one to link with, and one to load. What isn't current is made first."""
-    bring_up_to_date(COMPILED)
-    if not (ARCHIVE.is_file() and SHARED.is_file()):
+    shared()
+    if not ARCHIVE.is_file():
         with a_room() as room:
             room.link()
-            room.keep(ARCHIVE, SHARED)
+            room.keep(ARCHIVE)
     return ARCHIVE, SHARED
+
+
+def shared():
+    """The native library to load, which is made first if it isn't current."""
+    bring_up_to_date(COMPILED)
+    if not SHARED.is_file():
+        with a_room() as room:
+            room.link_shared()
+            room.keep(SHARED)
+    return SHARED
 
 
 def bring_up_to_date(wanted):
@@ -108,9 +127,9 @@ def bring_up_to_date(wanted):
     if is_current(wanted):
         return
     with a_room() as room:
-        missing = [name for name, folder in libraries().items() if not (folder / f"{name}.rlib").exists()]
-        if missing:
-            raise NoEngine(f"the library {missing[0]} isn't built here, since the program was built elsewhere; cd crates/kdf9 && rt run -- make 0 builds all")
+        if is_current(wanted):
+            return
+        build_missing()
         now = sums()
         room.show.begins(PROVING)
         room.prove()
@@ -121,18 +140,34 @@ def bring_up_to_date(wanted):
                 old.unlink()
         room.keep(MODULE, COMPILED)
         room.show.ends()
-    SUMS.write_text(now, encoding="ascii")
+        SUMS.write_text(now, encoding="ascii")
+
+
+def build_missing():
+    """Proves the libraries of the machine that the program doesn't use, if they aren't built. Those that it uses are built with it."""
+    missing = [name for name, folder in libraries().items() if not (folder / f"{name}.rlib").exists()]
+    own = next((name for name in missing if name in crates_below(PROGRAM)), None)
+    if own:
+        raise NoEngine(f"the library {own} isn't built here, since the program was built elsewhere; cd crates/kdf9 && rt run -- make 0 builds all")
+    if missing and subprocess.run([sys.executable, ROOT / "tools" / "build", "--library"], stdin=subprocess.DEVNULL, check=False).returncode:
+        raise NoEngine(f"the machine for other programs isn't made, since {missing[0]} isn't built")
 
 
 @contextlib.contextmanager
 def a_room():
-    """A room to make the machine in, which goes when it is done."""
+    """A room to make the machine in, which goes when it is done. There is one at a time."""
     found = kit()
     if found is None:
         raise NoEngine("the machine for other programs isn't made yet, and there is no rt on this machine to make it with")
     OUT.mkdir(parents=True, exist_ok=True)
-    with tempfile.TemporaryDirectory(prefix="kdf9-engine-") as folder, open(LOG, "w", encoding="utf-8") as log:
-        yield Room(found, pathlib.Path(folder), log)
+    with open(OUT / "lock", "w", encoding="ascii") as lock:
+        try:
+            fcntl.flock(lock, fcntl.LOCK_EX | fcntl.LOCK_NB)
+        except BlockingIOError:
+            say("another start is making the machine for other programs; this one waits for it")
+            fcntl.flock(lock, fcntl.LOCK_EX)
+        with tempfile.TemporaryDirectory(prefix="kdf9-engine-") as folder, open(LOG, "w", encoding="utf-8") as log:
+            yield Room(found, pathlib.Path(folder), log)
 
 
 class Room:
@@ -234,14 +269,21 @@ class Room:
         (self.folder / "wasm64.ll").write_text("\n".join(lines), encoding="utf-8")
 
     def link(self):
-        """Links what was compiled with the kit's heap. All names are hidden but those of the calls."""
+        """Links what was compiled with the kit's heap, for programs. All names are hidden but those of the calls."""
         hides = next((found for found in map(shutil.which, HIDES) if found), None)
         if hides is None:
             raise NoEngine("the library isn't made, since there is no objcopy on this machine; binutils and LLVM have one")
-        kit_libraries = self.kit / "toolchain/lib"
-        elf = [self.linker, "-flavor", "gnu", "-m", "elf_x86_64"]
-        roots = [word for name in CALLS for word in ("-u", name)]
-        self.run(*elf, "-r", *roots, COMPILED, self.kit / "c/liblibc_c.a", kit_libraries / "libgcc.a", "-o", "whole.o", cwd=self.folder)
+        self.run(*self.links(), "-r", "-o", "whole.o", cwd=self.folder)
         self.run(hides, *(f"--keep-global-symbol={name}" for name in CALLS), "whole.o", "kdf9.o", cwd=self.folder)
         self.run(self.kit / "toolchain/bin/llvm-ar", "rcs", ARCHIVE.name, "kdf9.o", cwd=self.folder)
-        self.run(*elf, "-shared", "-soname", SHARED.name, "kdf9.o", kit_libraries / "libc.so.6", "-o", SHARED.name, cwd=self.folder)
+
+    def link_shared(self):
+        """Links it as a library to load, of which only the calls are seen."""
+        (self.folder / "calls").write_text(f"{{ global: {'; '.join(CALLS)}; local: *; }};\n", encoding="ascii")
+        shared = ["-shared", "-soname", SHARED.name, "--version-script=calls", self.kit / "toolchain/lib/libc.so.6"]
+        self.run(*self.links(), *shared, "-o", SHARED.name, cwd=self.folder)
+
+    def links(self):
+        """The linker, and what it links."""
+        roots = [word for name in CALLS for word in ("-u", name)]
+        return [self.linker, "-flavor", "gnu", "-m", "elf_x86_64", *roots, COMPILED, self.kit / "c/liblibc_c.a", self.kit / "toolchain/lib/libgcc.a"]

@@ -17,7 +17,7 @@ extern "C" {
 /* The version of the calls below. It rises where one of them, or what it means, changes. */
 #define KDF9_VERSION 1
 
-/* What kdf9_run answers: the status with which the program kdf9 ends. */
+/* What kdf9_run and kdf9_facts answer: the status with which the program kdf9 ends. */
 enum kdf9_status {
     KDF9_DONE = 0,       /* the text is that of the command */
     KDF9_USAGE = 1,      /* the words are no command; the text is a line that says which there are */
@@ -39,6 +39,15 @@ enum kdf9_status {
    Each length is in bytes. The result is one of kdf9_status. */
 uint32_t kdf9_run(const char *words, uint64_t words_length, const char *job, uint64_t job_length, char *room, uint64_t room_length,
                   uint64_t *size);
+
+/* Tells what there is to know of a job: the facts that a command asks for, as JSON.
+
+   words, job, room, size: as for kdf9_run. The words "run\n" ask for the facts of the run of a job.
+
+   The result is the status with which the program answers the words. With KDF9_NO_ROOM and KDF9_NO_MEMORY nothing is written, as by
+   kdf9_run. With any other, the text is JSON: where a line or a deck has a fault, the facts of the fault. docs/FORMATS.md says what it has. */
+uint32_t kdf9_facts(const char *words, uint64_t words_length, const char *job, uint64_t job_length, char *room, uint64_t room_length,
+                    uint64_t *size);
 
 /* KDF9_VERSION of the library that is linked. */
 uint32_t kdf9_version(void);

@@ -1,18 +1,16 @@
 """A deck next to its image: its statements, what each of them became, and the names of words.
 
-The image, which the program lists, says how many syllables each statement became; nothing else is known of orders here.
+The machine tells where each statement is, and how many syllables it became (kdf9/told.py); nothing else is known of orders here.
 """
 import bisect
 import re
-from typing import NamedTuple, Optional
+from typing import Dict, Iterator, List, NamedTuple, Optional, Tuple
 
-from kdf9.program import BadInput
 from kdf9.words import whole
 
-WORD = 6
-OTHER_DECK = "the listing isn't that of the deck"
+# The syllables of a word, and those of the jump in word 0.
+WORD, SIZE_OF_JUMP = 6, 3
 COMMENT = re.compile(r"\([^)]*\)?")
-STATEMENT = re.compile(r"\*(?:[* \n]*\*)?|[^*; \n][^;]*")
 DECLARATION = re.compile(r"Y([A-Z]?)(\d+)\Z")
 OPENING = re.compile(r"(?:PROGRAM|P(\d+))(?:V(\d+))?\Z")
 CONSTANT = re.compile(r"V(\d+)=")
@@ -26,12 +24,10 @@ USES_Q = re.compile(r"[QCIM](\d+)")
 
 
 class Statement(NamedTuple):
-    """A statement: the offsets in its deck of its first significant byte and after its last, what is written there with single
-    spaces, and its text without comments and spaces.
-    """
+    """A statement: its line and column in the job, what is written there with single spaces, and its text without comments and spaces."""
 
-    start: int
-    end: int
+    line: int
+    column: int
     written: str
     text: str
 
@@ -55,100 +51,56 @@ class Names(NamedTuple):
     address: int
     count: int
 
-    def name(self, number):
+    def name(self, number: int) -> str:
         """The name of the store of this number."""
         return f"{self.before}{number}{self.after}"
 
 
-def without_comments(deck):
+def without_comments(deck: str) -> str:
     """The deck with its comments replaced by spaces, so that offsets stay the same."""
     return COMMENT.sub(lambda comment: " " * len(comment[0]), deck)
 
 
-def statements(deck):
-    """The statements of a deck, in sequence; the text after the last `;` is one too. A statement that begins with `*` and goes on is two, and a
-    row of `*` counts as one.
-    """
-    for found in STATEMENT.finditer(without_comments(deck)):
-        text, start = found[0], found.start()
-        if text[0] == "*":
-            yield Statement(start, found.end(), "*", "*")
-        elif " " not in text and "\n" not in text:
-            yield Statement(start, start + len(text), text, text)
-        else:
-            words = text.split()
-            yield Statement(start, start + len(text.rstrip()), " ".join(words), "".join(words))
+def written(text: str) -> str:
+    """What is written in a statement, of its text up to the next `;`: with single spaces, and without comments. A `*` is a statement by itself."""
+    return "*" if text[:1] == "*" else " ".join(without_comments(text).split())
 
 
-def statement_at(deck, offset):
-    """The statement that has this byte of the deck, or None."""
-    for statement in statements(deck):
-        if statement.end > offset:
-            return statement if statement.start <= offset else None
-    return None
-
-
-class Listing(NamedTuple):
-    """A listing: the syllables of the image, and the lines of the references."""
-
-    image: bytes
-    references: list
-
-
-def read_listing(text):
-    """The listing that the program wrote for a slot that the job has."""
-    lines = text.split("\n")
-    words = [int(line.rsplit(" ", 1)[1], 8).to_bytes(WORD, "big") for line in lines if line.startswith("WORD ")]
-    return Listing(b"".join(words), [line for line in lines if line.startswith("REF ")])
-
-
-def size_of_order(syllable):
-    """How many syllables an order has, by its first."""
-    return 1 if syllable < 0x40 else 2 if syllable < 0x80 else 3
-
-
-def places_of_orders(row):
-    """The places at which the orders of a row begin: those that fill a word have one syllable each."""
-    if row.kind == "filling":
-        return range(row.place, row.place + row.size)
-    return [row.place] if row.kind in ("order", "jump") else []
+def statement_at(line: int, column: int, text: str) -> Statement:
+    """The statement at a line and a column of the job, of its text up to the next `;`."""
+    words = written(text)
+    return Statement(line, column, words, words.replace(" ", ""))
 
 
 class Layout:
-    """A deck next to its listing, in which each statement has its row and each store its name."""
+    """A deck next to its image, in which each statement has its row and each store its name. It is made of the facts of the deck (`told.Listing`)."""
 
-    def __init__(self, deck, listing):
-        self.image = listing.image
-        self.rows = [Row("jump", 0, size_of_order(self.image[0]), None)]
-        self.names = []
-        self._place = self.rows[0].size
-        self._part = None
-        self._parts, self._groups = {}, {}
-        self._listed = listing.references
-        self._references = iter(self._listed)
-        self._open_references = []
-        for statement in statements(deck):
-            self._add(statement)
-            if statement.text == "FINISH":
-                break
+    def __init__(self, listing) -> None:
+        self.image = b"".join(int(word, 8).to_bytes(WORD, "big") for word in listing.words)
+        self.rows: List[Row] = [Row("jump", 0, SIZE_OF_JUMP, None)]
+        self.names: List[Names] = []
+        self._place, self._part = SIZE_OF_JUMP, 0
+        self._parts: Dict[int, int] = {}
+        self._groups: Dict[str, int] = {}
+        self._references = {(each.part, each.reference): WORD * each.at[0] + each.at[1] for each in listing.references}
+        for each in listing.statements:
+            self._add(statement_at(each.line, each.column, each.text), WORD * each.at[0] + each.at[1], each.syllables)
         self._name_groups()
-        if next(self._references, None) or self._place != len(self.image):
-            raise BadInput(OTHER_DECK)
         self._orders = {place: row for row in self.rows if row.size for place in places_of_orders(row)}
         self._addresses = [names.address for names in self.names]
 
-    def row_at(self, place):
+    def row_at(self, place: int) -> Optional[Row]:
         """The row of the order that begins at this place, or None."""
         return self._orders.get(place)
 
-    def name_of(self, address):
+    def name_of(self, address: int) -> str:
         """The name of the word at this address: that of the deck, or else by the address alone."""
         at = bisect.bisect_right(self._addresses, address) - 1
         if at >= 0 and address < self.names[at].address + self.names[at].count:
             return self.names[at].name(address - self.names[at].address)
         return f"E{address}"
 
-    def order_before(self, place):
+    def order_before(self, place: int) -> Optional[Statement]:
         """The statement of the order that goes on at this place, which is no order's: that before it, with what fills its word."""
         last, end = None, 0
         for row in self.rows:
@@ -160,11 +112,11 @@ class Layout:
                 break
         return last if end == place else None
 
-    def constant_at(self, address):
+    def constant_at(self, address: int) -> Optional[Statement]:
         """The statement of the constant at this address, or None."""
         return next((row.statement for row in self.rows if row.kind == "constant" and row.place == WORD * address), None)
 
-    def unset_q_stores(self):
+    def unset_q_stores(self) -> List[Tuple[int, Statement]]:
         """The Q-stores other than Q0 that statements use and none sets, each with the first statement that uses it."""
         used, set_ones = {}, {0}
         for row in self.rows:
@@ -174,7 +126,7 @@ class Layout:
                     used.setdefault(q, row.statement)
         return [(q, statement) for q, statement in used.items() if q not in set_ones]
 
-    def address_of(self, name):
+    def address_of(self, name: str) -> Optional[int]:
         """The address of the word of this name, or None where no store has it."""
         found = re.fullmatch(r"(V|Y[A-Z]?|E)(\d+)(P\d+)?", name)
         if not found:
@@ -186,7 +138,7 @@ class Layout:
         ours = [names for names in self.names if (names.before, names.after) == (before, after) and number < names.count]
         return ours[0].address + number if ours else None
 
-    def place_of(self, name):
+    def place_of(self, name: str) -> Optional[int]:
         """The place that a name is of, or None where there is no such reference or part. A reference without a part is one of the main part."""
         found = PLACE.fullmatch(name)
         if not found or not name:
@@ -194,77 +146,63 @@ class Layout:
         word, syllable, reference, part = (number and int(number) for number in found.groups())
         if word is not None:
             return WORD * word + syllable
-        return self._parts.get(part) if reference is None else self._place_of_reference(part or 0, reference)
+        return self._parts.get(part) if reference is None else self._references.get((part or 0, reference))
 
-    def _place_of_reference(self, part, reference):
-        """The place of a reference, which the listing has; or None."""
-        head = f"REF {part} {reference} "
-        places = [line[len(head):].split(" ") for line in self._listed if line.startswith(head)]
-        return WORD * int(places[0][0]) + int(places[0][1]) if places else None
-
-    def _add(self, statement):
+    def _add(self, statement: Statement, place: int, size: int) -> None:
+        """Adds a statement that stands at this place, and became so many syllables, and what fills the word before it."""
         text = statement.text
-        if text.isdigit():
-            self._open_references.append(len(self.rows))
-            self.rows.append(Row("reference", self._place, 0, statement))
-        elif text == "*":
-            self._add_star(statement)
-        elif text == "FINISH":
-            self._place_references()
-            self._fill()
-            self._put("heading", 0, statement)
-        elif OPENING.match(text):
-            self._open(OPENING.match(text), statement)
+        opening, declaration = OPENING.match(text), None if self._parts else DECLARATION.match(text)
+        if declaration:
+            self._groups[declaration[1]] = whole(declaration[2]) + 1
+            self._put("heading", self._place, 0, statement)
+        elif text.isdigit():
+            self._put("reference", self._references[self._part, whole(text)], 0, statement)
         elif CONSTANT.match(text):
-            address = self.names[-1].address + whole(CONSTANT.match(text)[1])
-            self.rows.append(Row("constant", WORD * address, WORD, statement))
-        elif self._part is None:
-            self._declare(DECLARATION.match(text), statement)
+            self._put("constant", WORD * (self.names[-1].address + whole(CONSTANT.match(text)[1])), WORD, statement)
+        elif text == "*":
+            self._add_star(statement, place)
         else:
-            self._place_references()
-            first = self.image[self._place] if self._place < len(self.image) else 0
-            self._put("order", size_of_order(first), statement)
+            self._fill(-(-place // WORD) * WORD if text == "FINISH" else place)
+            self._put("order" if size else "heading", self._place, size, statement)
+            self._place += size
+        if opening:
+            self._open(opening)
 
-    def _place_references(self):
-        """The references since the last order mean this place, also if a `*` came between. The listing says where each reference is, and has to agree."""
-        for at in self._open_references:
-            row = self.rows[at] = self.rows[at]._replace(place=self._place)
-            if next(self._references, None) != f"REF {self._part} {whole(row.statement.text)} {row.place // WORD} {row.place % WORD}":
-                raise BadInput(OTHER_DECK)
-        self._open_references = []
-
-    def _add_star(self, statement):
-        """A `*` after a `*` is left out: it fills nothing, and a deck may have millions."""
+    def _add_star(self, statement: Statement, place: int) -> None:
+        """A `*` fills a word. One after a `*` is left out: it fills nothing."""
         last = self.rows[-1].statement
         if last is None or last.text != "*":
-            self._put("heading", 0, statement)
-            self._fill()
+            self._put("heading", self._place, 0, statement)
+            self._fill(place)
 
-    def _declare(self, declaration, statement):
-        self._groups[declaration[1]] = whole(declaration[2]) + 1
-        self._put("heading", 0, statement)
+    def _put(self, kind: str, place: int, size: int, statement: Optional[Statement]) -> None:
+        self.rows.append(Row(kind, place, size, statement))
 
-    def _put(self, kind, size, statement):
-        self.rows.append(Row(kind, self._place, size, statement))
-        self._place += size
+    def _fill(self, place: int) -> None:
+        """What fills a word up to this place."""
+        if place > self._place:
+            self._put("filling", self._place, place - self._place, None)
+        self._place = place
 
-    def _fill(self):
-        rest = -self._place % WORD
-        if rest:
-            self._put("filling", rest, None)
-
-    def _open(self, opening, statement):
-        self._place_references()
-        self._fill()
-        self._put("heading", 0, statement)
-        self._part = whole(opening[1] or "")
-        if opening[2]:
-            count = whole(opening[2]) + 1
+    def _open(self, opening: "re.Match[str]") -> None:
+        """Opens a part: its V-stores come first."""
+        self._part, count = whole(opening[1] or ""), whole(opening[2]) + 1 if opening[2] else 0
+        if count:
             self.names.append(Names("V", f"P{self._part}" if self._part else "", self._place // WORD, count))
-            self._place += WORD * count
+        self._place += WORD * count
         self._parts[self._part] = self._place
 
-    def _name_groups(self):
-        for letter in sorted(self._groups):
-            self.names.append(Names(f"Y{letter}", "", self._place // WORD, self._groups[letter]))
-            self._place += WORD * self._groups[letter]
+    def _name_groups(self) -> None:
+        """Names the Y-stores, which come after the last word, in the order of their letters."""
+        address = -(-self._place // WORD)
+        for letter, count in sorted(self._groups.items()):
+            self.names.append(Names(f"Y{letter}", "", address, count))
+            address += count
+
+
+def places_of_orders(row: Row) -> Iterator[int]:
+    """The places at which the orders of a row begin: those that fill a word have one syllable each."""
+    if row.kind == "filling":
+        yield from range(row.place, row.place + row.size)
+    elif row.kind in ("order", "jump"):
+        yield row.place

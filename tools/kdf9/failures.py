@@ -6,8 +6,8 @@ from kdf9.changes import number_of
 from kdf9.deck import Layout, Row
 from kdf9.job import Slot
 from kdf9.report import Section
-from kdf9.service import SERVICE
 from kdf9.tables import kinds, table
+from kdf9.timeline import SERVICE
 from kdf9.words import count, listed, whole
 
 KINDS = {kind: f"a {row['name']}" for kind, row in kinds().items()}

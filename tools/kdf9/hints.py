@@ -5,12 +5,21 @@ import re
 from kdf9 import deck as decks
 from kdf9 import fault as faults
 from kdf9 import named, saved
-from kdf9.job import lone_job
 from kdf9.names import distance_is_one, has_form, hint_of_name, hint_of_range
-from kdf9.program import ENCODING, ask
+from kdf9.program import ENCODING
 from kdf9.tables import hint, kinds, table
 from kdf9.tables import lines as lines_of_jobs
-from kdf9.words import capitals, count, listed
+from kdf9.words import capitals, count, listed, shown
+
+# The least and the greatest value of each number in a line, by the word with which the line begins; and all such words but that of the first line.
+RANGES = {word: row["numbers"] for word, row in lines_of_jobs().items() if "numbers" in row}
+KEYWORDS = {*lines_of_jobs()}
+
+# What stands for a kind of device directly after the line POOL.
+POOL = "POOL"
+
+# A byte of a medium that isn't a character. The last of the table is End Message.
+NO_CHARACTER = re.compile(f"[^{re.escape(table('job')['characters'])}]")
 
 # The words of a group. A store is whole groups.
 GROUP = table("job")["most"]["words_of_group"]
@@ -28,45 +37,45 @@ def begins_statement(text):
     return any(has_form(text[:piece.end()]) for piece in itertools.islice(PIECE.finditer(text), FEW_PIECES))
 
 
-def lost_semicolon(fault, statement):
+def lost_semicolon(fault, slot):
     """Where a `;` is missing, if the text before a gap is a statement by itself and so is what begins after the gap; otherwise None."""
-    text = decks.without_comments(fault.slot.deck)[statement.start:statement.end]
+    text = decks.without_comments(fault.text)
     pieces = list(itertools.islice(PIECE.finditer(text), PIECES))
     for piece in reversed(pieces[:-1]):
         if has_form(text[:piece.end()]) and begins_statement(text[piece.end():]):
-            line, column = fault.slot.place(statement.start + piece.end())
+            line, column = slot.place(fault.offset + piece.end())
             return hint("semicolon_lost", place=f"{line}:{column}", text=" ".join(text[:piece.end()].split()))
     return None
 
 
-def hint_of_statement(fault):
+def hint_of_statement(fault, slot):
     """A hint for a statement that has no form."""
-    statement = decks.statement_at(fault.slot.deck, fault.offset)
-    text = statement.text
+    text = fault.subject.replace(" ", "")
     for left_out, nearest in table("names")["left_out"]:
         if re.fullmatch(left_out, text):
             return hint("left_out", nearest=nearest)
     if text != capitals(text) and has_form(capitals(text)):
-        return hint("capitals", text=faults.brief(capitals(statement.written)))
-    return lost_semicolon(fault, statement) or (hint_of_name(text) if fault.name == "UnknownOrder" else None)
+        return hint("capitals", text=faults.brief(capitals(fault.subject)))
+    return lost_semicolon(fault, slot) or (hint_of_name(text) if fault.name == "UnknownOrder" else None)
 
 
-def hint_of_deck(fault):
-    """A hint for a fault of a deck, or None."""
+def hint_of_deck(fault, slot):
+    """A hint for a fault of the deck of a slot, or None."""
+    text = fault.subject.replace(" ", "")
     if fault.name == "BadByte":
-        return {13: faults.BYTE_13, 9: hint("tab")}.get(ord(fault.slot.deck[fault.offset])) or hint_of_letter(fault.slot.deck, fault.offset)
+        return {13: faults.BYTE_13, 9: hint("tab")}.get(ord(fault.text)) or hint_of_letter(slot.deck, fault.offset)
     if fault.name == "Floating":
         return hint("floating")
     if fault.name in ("UnknownOrder", "ConstantRange"):
-        return hint_of_statement(fault)
+        return hint_of_statement(fault, slot)
     if fault.name == "BadNumber":
-        return hint_of_range(decks.statement_at(fault.slot.deck, fault.offset).text, fault.name)
+        return hint_of_range(text, fault.name)
     if fault.name == "NoSemicolon":
-        line, column = fault.slot.place(len(decks.without_comments(fault.slot.deck).rstrip()))
+        line, column = slot.place(len(decks.without_comments(slot.deck).rstrip()))
         return hint("semicolon_missing", place=f"{line}:{column}")
     if fault.name in named.HINTS:
-        return named.hint_of_missing(fault.name, fault.slot, decks.statement_at(fault.slot.deck, fault.offset))
-    return hint_of_size(fault.slot) if fault.name == "TooLarge" else None
+        return named.HINTS[fault.name](named.Named(slot), named.Found(fault.offset, text))
+    return hint_of_size(fault, slot) if fault.name == "TooLarge" else None
 
 
 def hint_of_letter(deck, offset):
@@ -80,14 +89,12 @@ def hint_of_letter(deck, offset):
     return hint("no_letters") if ord(deck[offset]) > 127 else None
 
 
-def hint_of_size(slot):
+def hint_of_size(fault, slot):
     """How many words the image of a deck has that is too large for its store, and which store is the least for it, if any is large enough."""
-    most = faults.RANGES["STORE"][0][1]
-    listing = ask(["asm", str(slot.number)], lone_job(slot._replace(store=most), 0))
-    if listing.status:
-        return hint("image_too_large", most=most) if slot.store < most else None
-    words = len(decks.read_listing(listing.text).image) // decks.WORD
-    return hint("image_size", words=count(words, "word"), store=-(-words // GROUP) * GROUP)
+    if fault.words is not None:
+        return hint("image_size", words=count(fault.words, "word"), store=fault.store)
+    most = RANGES["STORE"][0][1]
+    return hint("image_too_large", most=most) if slot.store < most else None
 
 
 def hint_of_job(fault, lines):
@@ -98,16 +105,16 @@ def hint_of_job(fault, lines):
     if "\r" in line:
         return faults.BYTE_13
     if fault.name == "BadMedium":
-        return hint_of_medium(line, faults.device_above(lines, fault.line), fault.column)
+        return hint_of_medium(line, device_above(lines, fault.line), fault.column)
     as_capitals = capitals(line)
-    if line != as_capitals and not faults.KEYWORDS.isdisjoint(as_capitals.split()[:1]):
-        return hint("capitals", text=faults.brief(faults.shown(as_capitals)))
+    if line != as_capitals and not KEYWORDS.isdisjoint(as_capitals.split()[:1]):
+        return hint("capitals", text=faults.brief(shown(as_capitals)))
     if line != " ".join(line.split()):
         return hint("one_space")
     if re.search(r" 0[0-9]", line) and fault.name == "BadNumber":
         return hint("leading_zeros")
     if fault.name == "BadNumber":
-        return hint_of_number(line)
+        return hint_of_number(line, fault.column)
     if fault.name == "BadLine":
         before = lines[:fault.line - 1]
         return hint_of_service(line, before) or hint_of_pool(line, before) or hint_of_line(line, expected_at(lines, fault.line))
@@ -140,7 +147,7 @@ def hint_of_snapshot(fault, lines):
     if fault.name == "NoEnd":
         return hint("no_end")
     due = saved.due_in(lines, fault.line)
-    return hint("snapshot_line", line=faults.brief_at(faults.shown(due), fault.column)) if due else None
+    return hint("snapshot_line", line=faults.brief_at(shown(due), fault.column)) if due else None
 
 
 def hint_of_service(line, before):
@@ -185,16 +192,16 @@ def expected_at(lines, line):
     if word in job["follows"]:
         return job["follows"][word]
     has_device = word == "DEVICE" or before[:1] in ("+", "=")
-    own = faults.signs_of(faults.device_above(lines, line - 1)) if has_device else ["SERVICE"] if before == "ENDDECK" else []
+    own = signs_of(device_above(lines, line - 1)) if has_device else ["SERVICE"] if before == "ENDDECK" else []
     return own + job["follows_service"]
 
 
-def hint_of_number(line):
-    """The range of the first number of a line that is out of range."""
-    word, index = line.split(" ")[0], faults.word_of_bad_number(line)
+def hint_of_number(line, column):
+    """The range of the number at a column of a line, which is out of range."""
+    index = line.count(" ", 0, column)
     if index == 0:
         return None
-    least, most = faults.RANGES[word][index - 1]
+    least, most = RANGES[line.split(" ")[0]][index - 1]
     return hint("range", least=least, most=most)
 
 
@@ -209,10 +216,21 @@ def is_in_pool(lines):
     return "POOL" in after and "SCHEDULE" not in after and not is_in_deck(lines)
 
 
+def device_above(lines, line):
+    """The kind of the device whose medium a line belongs to, or POOL directly after that line."""
+    above = next(lines[at] for at in range(line - 1, -1, -1) if lines[at].startswith("DEVICE ") or lines[at] == POOL)
+    return above.split(" ")[2] if above != POOL else above
+
+
+def signs_of(kind):
+    """The signs with which a line of a medium can begin for a device of this kind: none if it begins empty."""
+    return kinds()[kind]["signs"] if kind != POOL else []
+
+
 def hint_of_medium(line, kind, column):
     """A hint for a line of a medium that is wrong at this column."""
-    if not faults.signs_of(kind):
-        return hint("pool_empty") if kind == faults.POOL else hint("kind_empty", kind=kind)
+    if not signs_of(kind):
+        return hint("pool_empty") if kind == POOL else hint("kind_empty", kind=kind)
     wrong, row = line[column - 1:column], kinds()[kind]
     if wrong.isascii() and wrong.islower():
         return hint("lowercase")
@@ -220,6 +238,6 @@ def hint_of_medium(line, kind, column):
         return hint("mark")
     if len(line) - 1 < row.get("least", 0):
         return hint("empty_block", text=row["text"])
-    if len(line) > faults.longest_of(kind, line) + 1 and not faults.NO_CHARACTER.search(line, 1):
+    if len(line) > row.get("longest", len(line)) + 1 and not NO_CHARACTER.search(line, 1):
         return hint("too_long", text=row["text"], most=row["longest"], characters=len(line) - 1)
-    return hint("no_character", character=faults.shown(wrong)) if wrong.isprintable() and wrong.isascii() and wrong else None
+    return hint("no_character", character=shown(wrong)) if wrong.isprintable() and wrong.isascii() and wrong else None

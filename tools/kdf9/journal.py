@@ -36,15 +36,6 @@ def exchanged(order, p, q):
     return tuple({p: q, q: p}.get(slot, slot) for slot in order)
 
 
-def priorities(entries):
-    """The slots after these entries of a journal, the highest priority first."""
-    order = SLOTS
-    for kind, *numbers in entries:
-        if kind == "SWAP":
-            order = exchanged(order, *numbers)
-    return order
-
-
 def in_order(order, there):
     """Slots by their priority, the highest first, in words; only those that are there."""
     return ", ".join(str(slot) for slot in order if slot in there)
@@ -259,14 +250,6 @@ def idle_stretches(entries):
             idle.append((total, entry[1]))
         total += calls_of(entry)
     return total, idle
-
-
-def turns(entries):
-    """How many calls were the turn of each slot; that of none is None, where every live program was held up."""
-    calls = Counter()
-    for entry in entries:
-        calls[None if entry[0] == "IDLE" else entry[1]] += calls_of(entry)
-    return calls
 
 
 def groups(lane):

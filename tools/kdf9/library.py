@@ -1,20 +1,26 @@
-"""The machine for Python programs: `import kdf9; kdf9.run(job)`.
+"""The machine for Python programs: `import kdf9; kdf9.run(job)` and `kdf9.facts(job)`.
 
-It calls libkdf9.so, which `./kdf9 lib` makes, within this process. Where there is none, or it is older than the sources, it starts the program instead: what
-comes of a job is the same. Threads may call it at once.
+It calls libkdf9.so, which `./kdf9 lib` makes, within this process. Where there is none, or it is older than the sources, `run` starts the program instead: what
+comes of a job is the same. `facts` has the library made then. Threads may call it at once.
 """
 import functools
+import json
 import os
-from typing import Callable, Optional, Sequence, Union
+import signal
+from typing import Any, Callable, Dict, Optional, Sequence, Union
 
 from kdf9.program import ENCODING, Answer, BadInput, ask, how_ended
 
-# The version of the calls that this module makes, and the status of a text that the room is too small for, and of want of memory.
+# The version of the calls that this module makes, the calls, and the status of a text that the room is too small for, and of want of memory.
 VERSION = 1
+RUN, FACTS = "kdf9_run", "kdf9_facts"
 NO_ROOM, NO_MEMORY = 6, 7
 
 # The bytes of the room that is tried first for a text.
 FIRST_ROOM = 1 << 16
+
+# What is said before the library is made.
+MADE_NOW = "facts come from the machine as a library, which is made now, this once; that takes about a minute where the program was built here"
 
 Text = Union[str, bytes]
 
@@ -23,32 +29,26 @@ class Refused(ValueError):
     """The program refuses a job, or these words. Its text is the line that the program writes.
 
     `status` is the number of the program's status, and `text` that line. Where a line of the text or a deck is at fault, `name` is the name of the fault, `line`
-    and `column` say where it is, from 1, and `subject` is the text there. The fault of a deck also has its `slot`, and `offset` in the deck, from 0.
+    and `column` say where it is, from 1, `subject` is the text there, and `sentence` says what is wrong. The fault of a deck also has its `slot`, and `offset` in
+    the deck, from 0. Where the library isn't made, only what the line has is known.
     """
 
-    def __init__(self, answer: Answer, job: str) -> None:
+    def __init__(self, answer: Answer, fault: Any = None) -> None:
+        """With what the machine tells of the fault (`kdf9.told.Fault`), if it is known."""
         super().__init__(answer.text.strip())
         self.status, self.text = answer
-        self.name: Optional[str] = None
-        self.line: Optional[int] = None
-        self.column: Optional[int] = None
-        self.subject: Optional[str] = None
-        self.slot: Optional[int] = None
-        self.offset: Optional[int] = None
-        if answer.text.split(" ")[0] in ("JOB", "SNAPSHOT", "DECK"):
-            self._find(answer, job)
-
-    def _find(self, answer: Answer, job: str) -> None:
-        """Finds the place of the fault in the job."""
-        from kdf9 import fault, job as jobs  # pylint: disable=import-outside-toplevel
-
-        found = fault.fault_of(answer, jobs.read_lines(job))
-        self.name, self.line, self.column, self.subject = found.name, found.line, found.column, found.subject
-        if found.slot is not None:
-            self.slot, self.offset = found.slot.number, found.offset
+        kind, *words = answer.text.split()
+        is_known, is_of_deck = kind in ("JOB", "SNAPSHOT", "DECK"), kind == "DECK"
+        self.name: Optional[str] = words[is_of_deck] if is_known else None
+        self.line: Optional[int] = fault.line if fault else int(words[1]) if is_known and not is_of_deck else None
+        self.column: Optional[int] = fault and fault.column
+        self.subject: Optional[str] = fault and fault.subject
+        self.sentence: Optional[str] = fault and fault.sentence
+        self.slot: Optional[int] = int(words[0]) if is_of_deck else None
+        self.offset: Optional[int] = int(words[2]) if is_of_deck else None
 
 
-class NoLibrary(Exception):
+class NoLibrary(BadInput):
     """Why the library can't be used."""
 
 
@@ -57,14 +57,40 @@ def run(job: Text, *words: str) -> str:
 
     Raises Refused where the job has a fault or the words are no command, and MemoryError where there is no memory.
     """
-    answer = answer_to(words or ("run",), job)
+    words = words or ("run",)
+    answer = answer_to(words, job)
     if answer.status == NO_MEMORY:
         raise MemoryError("the machine got no memory")
     if answer.status and not answer.text:
         raise BadInput(how_ended(answer))
     if answer.status:
-        raise Refused(answer, as_bytes(job).decode(ENCODING))
+        raise Refused(answer, fault_of(answer, as_bytes(job).decode(ENCODING), words[0]))
     return answer.text
+
+
+def fault_of(answer: Answer, job: str, command: str) -> Any:
+    """What the machine tells of the fault that a command answered, if it is one and the library is there."""
+    try:
+        library_file()
+    except NoLibrary:
+        return None
+    from kdf9 import fault, job as jobs  # pylint: disable=import-outside-toplevel
+
+    return fault.fault_of(answer, jobs.read_lines(job), command) if answer.text.split(" ")[0] in ("JOB", "SNAPSHOT", "DECK") else None
+
+
+def facts(job: Text, words: Sequence[str] = ("run",)) -> Dict[str, Any]:
+    """What there is to know of a job: the facts that the words of a command ask for, with the fields of docs/schema/facts.json. A job that is a `str` is taken
+    in UTF-8.
+
+    Where a line or a deck has a fault, the facts are those of the fault, of the kind `fault`. Raises NoLibrary where there is no library and none can be made,
+    and MemoryError where there is no memory.
+    """
+    answer = teller()(words, as_bytes(job))
+    if answer.status == NO_MEMORY:
+        raise MemoryError("the machine got no memory")
+    told: Dict[str, Any] = json.loads(answer.text)
+    return told
 
 
 def answer_to(words: Sequence[str], job: Text) -> Answer:
@@ -86,6 +112,12 @@ def machine() -> Callable[[Sequence[str], bytes], Answer]:
         return lambda words, job: ask(list(words), job.decode(ENCODING))
 
 
+@functools.lru_cache(maxsize=None)
+def teller() -> Callable[[Sequence[str], bytes], Answer]:
+    """What tells facts: the library, which is made if it isn't there."""
+    return loaded(made_library(), FACTS)
+
+
 def library_file() -> str:
     """The file of the library: the one that the variable KDF9_LIBRARY names, or else the one that `./kdf9 lib` keeps."""
     named = os.environ.get("KDF9_LIBRARY")
@@ -93,27 +125,47 @@ def library_file() -> str:
         return named
     from building import engine  # pylint: disable=import-outside-toplevel
 
-    if not (engine.SHARED.is_file() and engine.is_current()):
+    if not engine.is_current(engine.SHARED):
         raise NoLibrary("it isn't made from these sources")
     return str(engine.SHARED)
 
 
-def loaded(file: str) -> Callable[[Sequence[str], bytes], Answer]:
-    """What answers by the library of this file."""
+def made_library() -> str:
+    """The file of the library, which is made if it isn't there."""
+    from building import engine, progress  # pylint: disable=import-outside-toplevel
+
+    try:
+        return library_file()
+    except NoLibrary:
+        progress.say(MADE_NOW)
+    kept = signal.getsignal(signal.SIGINT)
+    if kept is signal.SIG_DFL:
+        signal.signal(signal.SIGINT, signal.default_int_handler)
+    try:
+        return str(engine.shared())
+    except engine.NoEngine as why:
+        raise NoLibrary(f"kdf9: facts need the library: {why}") from why
+    finally:
+        signal.signal(signal.SIGINT, kept)
+
+
+def loaded(file: str, name: str = RUN) -> Callable[[Sequence[str], bytes], Answer]:
+    """What answers by a call of the library of this file."""
     import ctypes  # pylint: disable=import-outside-toplevel
 
     calls = ctypes.CDLL(file)
-    if calls.kdf9_version() != VERSION:
-        raise OSError(f"{file} has version {calls.kdf9_version()} of its calls, and this is for version {VERSION}")
+    if calls.kdf9_version() != VERSION or not hasattr(calls, name):
+        raise OSError(f"{file} has version {calls.kdf9_version()} of its calls, and this is for version {VERSION} with {name}")
     piece = [ctypes.c_char_p, ctypes.c_uint64]
-    calls.kdf9_run.argtypes = [*piece, *piece, *piece, ctypes.POINTER(ctypes.c_uint64)]
-    calls.kdf9_run.restype = ctypes.c_uint32
+    call = getattr(calls, name)
+    call.argtypes = [*piece, *piece, *piece, ctypes.POINTER(ctypes.c_uint64)]
+    call.restype = ctypes.c_uint32
 
     def answer(words: Sequence[str], job: bytes) -> Answer:
         asked, size, most = lines_of(words), ctypes.c_uint64(), FIRST_ROOM
         while True:
             room = ctypes.create_string_buffer(most)
-            status = calls.kdf9_run(asked, len(asked), job, len(job), room, most, ctypes.byref(size))
+            status = call(asked, len(asked), job, len(job), room, most, ctypes.byref(size))
             if status != NO_ROOM:
                 return Answer(status, ctypes.string_at(room, size.value).decode(ENCODING))
             most = size.value

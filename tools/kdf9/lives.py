@@ -1,13 +1,10 @@
 """Why a program is still live when the run stops: it is held up for good, it is in a loop, or it never had a turn."""
 import re
-from typing import NamedTuple
 
-from kdf9 import report
 from kdf9.deck import WORD
-from kdf9.job import read_slots
-from kdf9.program import answer_to
-from kdf9.schedule import cut, job_with, read_schedule, start_of
-from kdf9.timeline import HOLDS, call_of_order, calls_of, in_flight, lent
+from kdf9.runs import Run
+from kdf9.schedule import start_of
+from kdf9.timeline import held_by, in_flight, word_asked
 from kdf9.words import count, listed, whole
 
 GROUP = 32
@@ -21,55 +18,34 @@ LONGEST_LOOP = 40
 COUNTERS = re.compile(r"(?:J.*C|DC|=C)(\d+)")
 
 
-class Hold(NamedTuple):
-    """What held a program up last: BUSY, LOV or WAIT, and the number of the device or group, or the kind of a device of the pool."""
+class Stopped(Run):
+    """A run that has stopped, with its report, and the numbers of its lines where these aren't 1, 2 and so on."""
 
-    kind: str
-    number: object
-
-
-class Stopped:
-    """A run that has stopped: its job, its report, what it was like after any call, and the numbers of its lines where these aren't 1, 2 and so on."""
-
-    def __init__(self, lines, run, numbers=None):
-        self.lines, self.report = lines, run
-        self.numbers = numbers or range(1, len(lines) + 1)
-        self.slots, self._schedule = read_slots(lines), read_schedule(lines)
-        self.flying, self.lent = in_flight(run.entries), lent(run.entries)
+    def __init__(self, lines, report, numbers=None):
+        super().__init__(lines)
+        self.report, self.numbers = report, numbers or range(1, len(lines) + 1)
+        self.flying = {each.device: each for each in sorted(in_flight(self.facts, self.facts.made + 1), key=lambda each: each.device)}
         self.pool = next(iter(self.slots.values())).pool_kinds()
-
-    def after_order(self, number, order):
-        """The section of the program of this slot after this order of its own."""
-        schedule = cut(self._schedule, call_of_order(self.report.entries, number, order))
-        return report.read_section(answer_to(["run"], job_with(self.slots, schedule)), number)
 
     def hold_of(self, number):
         """What a program was held up by last, if it hasn't obeyed an order since and the transfer that held it up goes on; or None."""
-        for kind, *rest in reversed(self.report.entries):
-            if kind in TURNS and rest[0] == number:
-                over = kind == "RAN" or kind == "BUSY" and rest[1] not in self.flying or kind == "LOV" and not self.flights_of(number)
-                return None if over else Hold(kind, rest[1])
-        return None
+        last = next((hold for hold in reversed(self.facts.holds) if hold.slot == number), None)
+        is_over = last is None or last.resumed is not None or last.by != "pool" and self.facts.program(number).hold is None
+        return None if is_over else last
 
     def is_held_for_good(self, number, waiting=()):
         """Whether a program that is live waits for a transfer that nothing ends, or for the pool, of which nobody who has a device can go on:
         those with the numbers `waiting` wait for this one.
         """
-        hold = self.hold_of(number)
-        if hold is None or self.report.sections[number].state != ["LIVE"]:
+        lacks = self.facts.program(number).lacks
+        if lacks is None or lacks.what == "calls":
             return False
-        if hold.kind != "WAIT":
-            return True
-        holders = self.holders_of(hold.number).values()
+        holders = [holder.slot for holder in lacks.holders or ()]
         return all(slot in (number, *waiting) or self.is_held_for_good(slot, (number, *waiting)) for slot in holders)
 
-    def holders_of(self, kind):
-        """The slots that hold the pool's devices of this kind at the end, by device; None for one without a holder."""
-        return {device: self.lent.get(device, (None, 0))[0] for device in sorted(self.pool) if self.pool[device] == kind}
-
     def flights_of(self, number):
-        """The devices with a transfer of this program in flight, with the call that each began with."""
-        return {device: call for device, (slot, call) in sorted(self.flying.items()) if slot == number}
+        """The transfers of this program in flight."""
+        return [each for each in self.flying.values() if each.slot == number]
 
 
 def story(stopped, case):
@@ -105,47 +81,46 @@ def slots(numbers):
 
 def story_of_hold(stopped, case, hold):
     """What a program waits for, and why that doesn't come."""
-    number = case.section.number
-    flights = {hold.number: stopped.flying[hold.number][1]} if hold.kind == "BUSY" and hold.number in stopped.flying else {}
-    if hold.kind == "LOV":
-        flights = stopped.flights_of(number)
-        first = GROUP * hold.number
+    if hold.by == "group":
+        first = GROUP * hold.group
         words = f"words {first} to {first + GROUP - 1}"
-        own = " hold this order, and" if hold.number in groups_of_order(case) else ""
-        yield f"it needs group {hold.number}: {words}{own} are locked out by a transfer"
-    yield from story_of_flights(flights)
-    if hold.kind == "WAIT":
-        yield from story_of_wait(stopped, number, hold.number)
+        own = " hold this order, and" if hold.group in groups_of_order(case) else ""
+        yield f"it needs group {hold.group}: {words}{own} are locked out by a transfer"
+    if hold.by == "pool":
+        yield from story_of_wait(stopped, case.section.number, hold.pool)
+    else:
+        yield from story_of_flights([stopped.facts.transfers[hold.transfer]])
 
 
 def story_of_flights(flights):
-    """Which transfers have no end, by their devices, each with the call that it began with."""
-    for device, call in flights.items():
-        yield f"the transfer of device {device} began at call {call}, and the schedule has no END {device} after it"
+    """Which transfers have no end."""
+    for each in flights:
+        yield f"the transfer of device {each.device} began at call {each.began}, and the schedule has no END {each.device} after it"
 
 
 def story_of_turns(stopped, number):
     """Who had the turns after the last order of a program that nothing holds up, if others had."""
-    others, calls = set(), 0
-    for entry in reversed(stopped.report.entries):
-        if entry[0] in TURNS and entry[1] == number:
+    others, last = set(), 0
+    for entry in reversed(stopped.facts.entries):
+        last = entry.call + (entry.orders or 1)
+        if entry.slot == number and entry.entry in TURNS:
             break
-        if entry[0] == "RAN":
-            others.add(entry[1])
-        calls += calls_of(entry)
+        if entry.entry == "RAN":
+            others.add(entry.slot)
     if others:
         ran = [f"slot {other}" for other in sorted(others)]
-        yield f"it had no turn in the last {count(calls, 'call')}, in which {listed(ran)} ran"
+        yield f"it had no turn in the last {count(stopped.facts.made - last, 'call')}, in which {listed(ran)} ran"
 
 
 def story_of_wait(stopped, number, kind):
     """Who has the pool's devices of a kind that a program waits for, and why they don't give them back."""
-    for device, holder in stopped.holders_of(kind).items():
-        if holder is None:
+    lent = {loan.device: loan for loan in stopped.facts.loans if loan.given is None}
+    for device in sorted(device for device, each in stopped.pool.items() if each == kind):
+        if device not in lent:
             yield f"device {device} of the pool is free again, but slot {number} has had no turn since"
         else:
-            taker = "it" if holder == number else f"slot {holder}"
-            yield f"{taker} took device {device} of the pool at call {stopped.lent[device][1]}, {why_kept(stopped, holder, number)}"
+            taker = "it" if lent[device].slot == number else f"slot {lent[device].slot}"
+            yield f"{taker} took device {device} of the pool at call {lent[device].taken}, {why_kept(stopped, lent[device].slot, number)}"
 
 
 def why_kept(stopped, holder, number):
@@ -155,8 +130,16 @@ def why_kept(stopped, holder, number):
     if not stopped.is_held_for_good(holder):
         return "and has neither given it back nor ended"
     hold = stopped.hold_of(holder)
-    why = "nobody will give anything back" if hold.kind == "WAIT" else "the schedule doesn't end its transfer"
-    return f"and is itself held up by {HOLDS[hold.kind].format(number=hold.number)}: {why}"
+    why = "nobody will give anything back" if hold.by == "pool" else "the schedule doesn't end its transfer"
+    return f"and is itself held up by {held_by(hold)}: {why}"
+
+
+def last_asked(stopped, number):
+    """What a program asked the installation's service last, and what that answered, in words; nothing if it asked nothing of it."""
+    ask = next((ask for ask in reversed(stopped.facts.asks) if ask.slot == number and word_asked(ask) is not None), None)
+    if ask and stopped.slots[number].served:
+        yield (f"ANSWER {number} {ask.answer}: its order {ask.order} asked the installation's service, which answered {ask.answer:016o} to the word "
+               f"{word_asked(ask):016o}")
 
 
 def groups_of_order(case):
@@ -177,7 +160,7 @@ def devices_that_are_none(stopped):
             continue
         device = int(rest.split(" ")[0])
         seen.add(device)
-        meant = [other for other in sorted(stopped.flying) if set(str(other)) & set(str(device))] or sorted(stopped.flying)
+        meant = [other for other in stopped.flying if set(str(other)) & set(str(device))] or list(stopped.flying)
         did = f"; did you mean {word} {meant[0]}?" if meant else ""
         yield f"line {stopped.numbers[at]}, {stopped.lines[at]}: {nobody} has device {device}{did}"
 

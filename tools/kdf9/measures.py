@@ -4,7 +4,7 @@ import io
 import json
 from typing import Dict, Iterator, List, NamedTuple, Tuple, Union
 
-from kdf9.facts import DeviceFacts, Facts, ProgramFacts
+from kdf9.spent import DeviceFacts, Facts, ProgramFacts
 
 Value = Union[int, float, str]
 

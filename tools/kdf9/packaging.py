@@ -15,10 +15,10 @@ from typing import Dict, Iterator, Optional, Tuple
 
 from building import engine
 from building.record import read_record, sum_of
-from kdf9 import about, manual
+from kdf9 import about, library, manual
 from kdf9.program import ROOT, BadInput
 
-PROGRAM, MODULE = pathlib.Path("crates", "kdf9", "out", "kdf9"), engine.MODULE.relative_to(ROOT)
+PROGRAM, MODULE, SHARED = pathlib.Path("crates", "kdf9", "out", "kdf9"), engine.MODULE.relative_to(ROOT), engine.SHARED.relative_to(ROOT)
 HTML = "kdf9.html"
 
 # The folders and files of the repository that a package has, and the tools that only a clone needs.
@@ -79,6 +79,7 @@ def stage(folder: pathlib.Path) -> bool:
     shutil.copy(ROOT / PROGRAM, folder / PROGRAM)
     lines = {"commit": about.commit(), "machine": platform.machine(), "program": words_of_program()}
     (folder / "packaged").write_text("".join(f"{what} {said}\n" for what, said in lines.items()), encoding="utf-8")
+    stage_library(folder)
     has_page = engine.is_current()
     if has_page:
         stage_page(folder)
@@ -86,13 +87,17 @@ def stage(folder: pathlib.Path) -> bool:
     return has_page
 
 
-def stage_page(folder: pathlib.Path) -> None:
-    """Adds the machine as WebAssembly, as one that is current there, and the page."""
-    (folder / MODULE).parent.mkdir()
-    shutil.copy(engine.MODULE, folder / MODULE)
-    (folder / MODULE).chmod(0o644)
+def stage_library(folder: pathlib.Path) -> None:
+    """Adds the machine as a library, which the tools need, as one that is current there."""
+    (folder / SHARED).parent.mkdir()
+    shutil.copyfile(library.made_library(), folder / SHARED)
     keeps = "from building import engine; engine.SUMS.write_text(engine.sums(), encoding='ascii')"
     subprocess.run([sys.executable, "-B", "-c", keeps], cwd=folder / "tools", check=True)
+
+
+def stage_page(folder: pathlib.Path) -> None:
+    """Adds the machine as WebAssembly, and the page."""
+    shutil.copyfile(engine.MODULE, folder / MODULE)
     with open(folder / HTML, "wb") as page:
         subprocess.run([folder / "kdf9", "page"], stdin=subprocess.DEVNULL, stdout=page, check=True)
 

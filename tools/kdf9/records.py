@@ -1,142 +1,59 @@
 """A report as JSON and back. Each of the two is the other's inverse: what has no inverse is refused, with its place."""
 import json
-import re
+from typing import Any, Dict, Iterator, List
 
-from kdf9.job import read_lines
+from kdf9.changes import number_of
+from kdf9.job import join_lines, read_lines
 from kdf9.program import ENCODING, BadInput
+from kdf9.report import HEADERS, Device, Report, Section, read
 from kdf9.tables import table
 
-HEADERS = re.compile(r"KDF9 (REPORT 1|ALONE [0-3])\Z")
-OCTAL = re.compile(r"[0-7]{16}\Z")
+Record = Dict[str, Any]
 
-# The fields after the first word of an entry, by name; a kind is a name, and the others are numbers.
-ENTRIES = {row["entry"]: row["fields"] for row in table("entries")}
-NAMES = ("kind",)
+# The fields after the first word of an entry, by name.
+FIELDS = {row["entry"]: row["fields"] for row in table("entries")}
 
 # The lists of devices of a section, and the first word of their lines.
 DEVICES = (("devices", "DEVICE"), ("stints", "POOL"))
 
 
-def number_of(octal):
-    """The number, with its sign, of a word in octal digits."""
-    word = int(octal, 8)
-    return word - 2**48 if word >> 47 else word
-
-
-def record_of_word(octal):
-    """A word, octal and decimal."""
-    if not OCTAL.match(octal):
-        raise ValueError
-    return {"octal": octal, "number": number_of(octal)}
-
-
-def record_of_entry(line):
-    """An entry of a journal."""
-    word, *rest = line.split(" ")
-    names = ENTRIES[word]
-    if len(names) != len(rest):
-        raise ValueError
-    return {"entry": word, **{name: value if name in NAMES else int(value) for name, value in zip(names, rest)}}
-
-
-def line_of_entry(record):
+def line_of_entry(record: Record) -> str:
     """The line of an entry."""
-    return " ".join([record["entry"], *(str(record[name]) for name in ENTRIES[record["entry"]])])
+    return " ".join([record["entry"], *(str(record[name]) for name in FIELDS[record["entry"]])])
 
 
-class Reader:
-    """The lines of a report, one after the other, and the index of the last that was read or looked for."""
-
-    def __init__(self, lines):
-        self.lines, self.at, self.last = lines, 1, 1
-
-    def next_is(self, *words):
-        """Whether the next line begins with one of these words."""
-        return self.at < len(self.lines) and self.lines[self.at].partition(" ")[0] in words
-
-    def take(self, word):
-        """The rest of the next line, which has to begin with this word."""
-        self.last = self.at
-        first, _, rest = self.lines[self.at].partition(" ")
-        if first != word:
-            raise ValueError
-        self.at += 1
-        return rest
-
-    def all(self, word):
-        """The rest of each of the next lines that begin with this word."""
-        while self.next_is(word):
-            yield self.take(word)
+def record_of_word(word: int) -> Record:
+    """A word, octal and decimal."""
+    return {"octal": f"{word:016o}", "number": number_of(word)}
 
 
-def record_of_report(reader):
-    """The report, or the text of a lone program."""
-    record = {"text": reader.lines[0], "journal": [], "slots": []}
-    while reader.next_is(*ENTRIES):
-        reader.last = reader.at
-        record["journal"].append(record_of_entry(reader.lines[reader.at]))
-        reader.at += 1
-    while reader.next_is("SLOT"):
-        record["slots"].append(record_of_section(reader))
-    reader.take("ENDREPORT")
-    if reader.at < len(reader.lines):
-        reader.last = reader.at
-        raise ValueError
-    return record
+def record_of_device(device: Device) -> Record:
+    """A device with its blocks."""
+    held, _, place, _, flag = device.state.split(" ")
+    blocks = [{"text": text, "marked": is_marked} for text, is_marked in zip(device.blocks, device.marks)]
+    return {"device": device.number, "kind": device.kind, "claimed": held == "HELD", "place": int(place), "flag": int(flag), "blocks": blocks}
 
 
-def record_of_section(reader):
+def record_of_section(section: Section) -> Record:
     """The section of a program."""
-    section = {"slot": int(reader.take("SLOT")), "state": reader.take("STATE"), "orders": int(reader.take("ORDERS"))}
-    section["at"] = list(map(int, reader.take("AT").split(" ")))
-    section["v"], section["tr"] = map(int, reader.take("FLAGS").split(" "))
-    section["nest"] = [record_of_word(word) for word in counted(reader.take("NEST"))]
-    section["links"] = counted(reader.take("LINKS"))
-    section["q"] = [record_of_q(*map(int, rest.split(" "))) for rest in reader.all("Q")]
-    section["words"] = [record_of_store(*rest.split(" ")) for rest in reader.all("WORD")]
-    section["spools"] = [record_of_spool(*rest.split(" ", 1)) for rest in reader.all("SPOOL")]
-    for name, word in DEVICES:
-        section[name] = []
-        while reader.next_is(word):
-            section[name].append(record_of_device(reader, word))
-    return section
+    spools = [spool.split(" ", 1) for spool in section.spools]
+    return {
+        "slot": section.number, "state": " ".join(section.state), "orders": section.orders, "at": list(section.at), "v": section.flags[0], "tr": section.flags[1],
+        "nest": [record_of_word(word) for word in section.nest], "links": section.links,
+        "q": [{"q": q, "counter": parts[0], "increment": parts[1], "modifier": parts[2]} for q, parts in section.q_stores.items()],
+        "words": [{"address": address, **record_of_word(word)} for address, word in section.words.items()],
+        "spools": [{"stream": int(stream), "text": text} for stream, text in spools],
+        "devices": [record_of_device(device) for device in section.devices], "stints": [record_of_device(device) for device in section.stints],
+    }
 
 
-def counted(rest):
-    """The words after their number."""
-    number, *words = rest.split(" ")
-    if int(number) != len(words):
-        raise ValueError
-    return words
+def record_of_report(report: Report) -> Record:
+    """A report, or the text of a lone program."""
+    journal = [{"entry": word, **dict(zip(FIELDS[word], rest))} for word, *rest in report.entries]
+    return {"text": report.header, "journal": journal, "slots": [record_of_section(section) for section in report.sections.values()]}
 
 
-def record_of_q(q, counter, increment, modifier):
-    """A Q-store."""
-    return {"q": q, "counter": counter, "increment": increment, "modifier": modifier}
-
-
-def record_of_store(address, octal):
-    """A word of the store."""
-    return {"address": int(address), **record_of_word(octal)}
-
-
-def record_of_spool(stream, text):
-    """A text that was spooled."""
-    return {"stream": int(stream), "text": text}
-
-
-def record_of_device(reader, word):
-    """A device with its blocks, in lines of which the first begins with this word."""
-    number, kind, held, _, place, _, flag = reader.take(word).split(" ")
-    device = {"device": int(number), "kind": kind, "claimed": {"HELD": True, "FREE": False}[held], "place": int(place), "flag": int(flag), "blocks": []}
-    while reader.next_is("BLOCK", "LAST"):
-        word, _, text = reader.lines[reader.at].partition(" ")
-        device["blocks"].append({"text": text, "marked": word == "LAST"})
-        reader.at += 1
-    return device
-
-
-def lines_of_report(record):
+def lines_of_report(record: Record) -> Iterator[str]:
     """The lines of a report."""
     yield record["text"]
     yield from map(line_of_entry, record["journal"])
@@ -145,7 +62,7 @@ def lines_of_report(record):
     yield "ENDREPORT"
 
 
-def lines_of_section(section):
+def lines_of_section(section: Record) -> Iterator[str]:
     """The lines of a section."""
     yield from (f"SLOT {section['slot']}", f"STATE {section['state']}", f"ORDERS {section['orders']}")
     yield from (f"AT {' '.join(map(str, section['at']))}", f"FLAGS {section['v']} {section['tr']}")
@@ -164,7 +81,7 @@ def lines_of_section(section):
             yield from (f"{'LAST' if block['marked'] else 'BLOCK'} {block['text']}" for block in device["blocks"])
 
 
-def parts_of_json(record):
+def parts_of_json(record: Record) -> Iterator[str]:
     """The JSON of a record, piece by piece, with an entry or a section on each line."""
     encode = json.JSONEncoder().encode
     yield f'{{"text": {encode(record["text"])},\n"journal": ['
@@ -174,28 +91,16 @@ def parts_of_json(record):
         yield separator
 
 
-def read_report(text, name):
-    """The record of a report of which `name` says whose text it is."""
-    reader = Reader(read_lines(text))
-    if not HEADERS.match("".join(reader.lines[:1])):
-        raise BadInput(f"{name}:1: this isn't a report: its first line isn't KDF9 REPORT 1 or KDF9 ALONE K")
-    try:
-        record = record_of_report(reader)
-        fault = first_difference(reader.lines, lines_of_report(record))
-    except (IndexError, KeyError, TypeError, ValueError):
-        fault = reader.last
-    if fault is None:
-        return record
-    line = reader.lines[fault] if fault < len(reader.lines) else "the report ends here"
-    raise BadInput(f"{name}:{fault + 1}: this line isn't allowed here: {line[:60]}")
+def read_record(text: str, name: str) -> Record:
+    """The record of a report of which `name` says whose text it is. Each of its lines has to be as the record leads to it."""
+    record = record_of_report(read(text, name, HEADERS))
+    for at, (line, due) in enumerate(zip(read_lines(text), lines_of_report(record)), 1):
+        if line != due:
+            raise BadInput(f"{name}:{at}: this line isn't allowed here: {line[:60]}")
+    return record
 
 
-def first_difference(lines, others):
-    """The index of the first line that differs, or None."""
-    return next((at for at, (line, other) in enumerate(zip(lines, others)) if line != other), None)
-
-
-def read_json(text, name):
+def read_json(text: str, name: str) -> List[str]:
     """The lines of the report that a JSON text is, of which `name` says whose it is."""
     try:
         record = json.loads(text)
@@ -204,9 +109,11 @@ def read_json(text, name):
         raise BadInput(f"{place}: this isn't JSON") from why
     try:
         lines = list(lines_of_report(record))
-        same = all("\n" not in line and line.encode(ENCODING) for line in lines) and record_of_report(Reader(lines)) == record
+        same = all("\n" not in line and line.encode(ENCODING) for line in lines) and record_of_report(read(join_lines(lines), name, HEADERS)) == record
+    except BadInput:
+        same = False
     except (AttributeError, IndexError, KeyError, TypeError, ValueError) as why:
         raise BadInput(f"{name}: this JSON isn't a report: {f'{why} is missing or unknown' if isinstance(why, KeyError) else 'a part has the wrong form'}") from why
-    if not same or not HEADERS.match(lines[0]):
+    if not same:
         raise BadInput(f"{name}: this JSON isn't a report: a part has a value that a report can't have")
     return lines

@@ -15,22 +15,24 @@ LONGEST_ENTRY = 40
 
 SLOTS = ["0", "1", "2", "3"]
 
-# The first line of a report.
+# The first line of a report; and those of a report and of the text of a program that ran alone.
 HEADER = "KDF9 REPORT 1"
+HEADERS = (HEADER, *(f"KDF9 ALONE {slot}" for slot in SLOTS))
 
 # The first word of what the program writes instead of a report, and the status that goes with it.
 STATUSES = {"USAGE": 1, "JOB": 2, "DECK": 3, "LARGE": 4, "SNAPSHOT": 8}
 
 
 class Device(NamedTuple):
-    """A device of a section, or what a program did with one of the pool from taking it on: the number and kind, the words of the state, and
-    the blocks.
+    """A device of a section, or what a program did with one of the pool from taking it on: the number and kind, the words of the state,
+    the blocks, and of each whether it has the Last Block Mark.
     """
 
     number: int
     kind: str
     state: str
     blocks: list
+    marks: list
 
 
 class Section:
@@ -88,12 +90,14 @@ def add_q_store(section, rest):
 
 def read_device(rest):
     number, kind, state = rest.split(" ", 2)
-    return Device(int(number), kind, state, [])
+    return Device(int(number), kind, state, [], [])
 
 
-def add_block(section, rest):
+def add_block(section, rest, is_marked):
     """Takes a block of the device in the last line of one; those of the pool come last."""
-    (section.stints or section.devices)[-1].blocks.append(rest)
+    device = (section.stints or section.devices)[-1]
+    device.blocks.append(rest)
+    device.marks.append(is_marked)
 
 
 READERS = {
@@ -108,8 +112,8 @@ READERS = {
     "SPOOL": lambda section, rest: section.spools.append(rest),
     "DEVICE": lambda section, rest: section.devices.append(read_device(rest)),
     "POOL": lambda section, rest: section.stints.append(read_device(rest)),
-    "BLOCK": add_block,
-    "LAST": add_block,
+    "BLOCK": lambda section, rest: add_block(section, rest, False),
+    "LAST": lambda section, rest: add_block(section, rest, True),
 }
 
 
@@ -120,20 +124,21 @@ def status_of_fault(text):
 
 
 class Report(NamedTuple):
-    """A report: the entries of its journal, each with its words and with numbers for those that are, and its sections by slot."""
+    """A report: its first line, the entries of its journal, each with its words and with numbers for those that are, and its sections by slot."""
 
+    header: str
     entries: list
     sections: dict
 
 
 def read_report(text, name):
     """The report that this text is. If it isn't one, the message begins with `name`."""
-    return read(text, name, HEADER)
+    return read(text, name, [HEADER])
 
 
 def read_alone(text, number):
     """The section of the text of a program of this slot that ran alone."""
-    return read(text, "the program's text", f"KDF9 ALONE {number}").sections[number]
+    return read(text, "the program's text", HEADERS).sections[number]
 
 
 def read_section(text, number):
@@ -144,13 +149,13 @@ def read_section(text, number):
     return read_sections(read_lines(section), 0, "the report")[number]
 
 
-def read(text, name, header):
-    """The report, or a text of its form, which begins with the line `header`."""
+def read(text, name, headers):
+    """The report, or a text of its form, which begins with one of these lines."""
     lines = read_lines(text)
-    if lines[:1] != [header]:
-        raise BadInput(f"{name}:1: this isn't a report: its first line isn't {header}")
+    if lines[:1] == [] or lines[0] not in headers:
+        raise BadInput(f"{name}:1: this isn't a report: its first line isn't {headers[0]}" + (" or KDF9 ALONE K" if len(headers) > 1 else ""))
     sections_from = next((at for at, line in enumerate(lines) if line.startswith(("SLOT ", "ENDREPORT"))), len(lines))
-    return Report(read_entries(lines[1:sections_from], name), read_sections(lines, sections_from, name))
+    return Report(lines[0], read_entries(lines[1:sections_from], name), read_sections(lines, sections_from, name))
 
 
 def read_entries(lines, name):
@@ -179,11 +184,12 @@ def read_sections(lines, start, name):
     """The sections from this line on, up to the last line of the report."""
     sections = {}
     section = None
-    for at in range(start, len(lines)):
-        line = lines[at]
+    for at, line in enumerate(lines[start:], start):
         word, _, rest = line.partition(" ")
         try:
-            if line == "ENDREPORT" and at == len(lines) - 1:
+            if line == "ENDREPORT" and at < len(lines) - 1:
+                raise BadInput(f"{name}:{at + 2}: nothing may come after ENDREPORT")
+            if line == "ENDREPORT":
                 return checked(sections, at + 1, name)
             if word == "SLOT":
                 section = sections[SLOTS.index(rest)] = Section(SLOTS.index(rest))

@@ -8,7 +8,7 @@ from concurrent.futures import ThreadPoolExecutor
 from typing import NamedTuple
 
 from kdf9.deck import WORD
-from kdf9.report import HEADER, read_report
+from kdf9.report import HEADER
 from kdf9.timeline import calls_of_orders
 
 # How many orders are searched for a place that doesn't begin a word, and for how many of them the run is cut before it is looked at what was found.
@@ -38,22 +38,21 @@ def stops_at(run, number, place, most):
 
 def watched(run, number, word, most):
     """The first stops at the beginning of a word."""
-    text = run.watch(number, word)
-    end = text.index(f"\n{HEADER}\n")
-    orders = [int(line[len("STOP "):]) for line in text[:end].split("\n", most + 1)[1:most + 1]]
-    entries = read_report(text[end + 1:], "the report").entries
-    return Search(list(map(Stop, orders, calls_of_orders(entries, number, orders))))
+    text = run.text(run.schedule, words=["watch", str(number), str(word)])
+    stops = text[:text.index(f"\n{HEADER}\n")].split("\n", most + 1)[1:most + 1]
+    orders = [int(line[len("STOP "):]) for line in stops]
+    return Search(list(map(Stop, orders, calls_of_orders(run.facts, number, orders))))
 
 
 def searched(run, number, place, most):
     """The first stops at a place that may be any, among the first orders."""
-    entries, orders, found = run.entries(), range(1, MOST_SEARCHED + 1), []
-    stops = list(map(Stop, orders, calls_of_orders(entries, number, orders)))
+    orders, found = range(1, MOST_SEARCHED + 1), []
+    stops = list(map(Stop, orders, calls_of_orders(run.facts, number, orders)))
     with ThreadPoolExecutor(os.cpu_count()) as pool:
         for first in range(0, len(stops), AT_ONCE):
             part = stops[first:first + AT_ONCE]
-            places = pool.map(lambda stop: run.place_after(number, stop.call), part)
+            places = pool.map(lambda stop: run.after(number, stop.call, shown=False).place, part)
             found += [stop for stop, there in zip(part, places) if there == place]
             if len(found) >= most:
                 return Search(found[:most])
-    return Search(found, any(calls_of_orders(entries, number, [MOST_SEARCHED + 1])))
+    return Search(found, run.facts.program(number).orders > MOST_SEARCHED)

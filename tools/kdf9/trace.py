@@ -1,8 +1,13 @@
 """The orders of one program as it ran under Director: the call of each, what happened since the one before, and the transfers at that time."""
-from collections import Counter
-from typing import NamedTuple
+from __future__ import annotations
 
-from kdf9.timeline import HOLDS, timed
+from bisect import bisect_left
+from collections import Counter
+from typing import Iterator, List, NamedTuple, Optional
+
+from kdf9 import told
+from kdf9.records import line_of_entry
+from kdf9.timeline import call_of_order, calls_of_orders, held_by, in_flight
 from kdf9.words import count
 
 # The lines of the schedule that have entries, and how many of them are shown between two orders.
@@ -11,92 +16,71 @@ MOST_SCHEDULED = 8
 
 # What an order did besides what it changed, in words, by its entry.
 DOES = {
-    "ANSWER": "answered {}", "START": "a transfer of device {} begins", "TAKE": "takes device {} from the pool",
-    "GIVE": "gives device {} back to the pool",
+    "ANSWER": "answered {answer}", "START": "a transfer of device {device} begins", "TAKE": "takes device {device} from the pool",
+    "GIVE": "gives device {device} back to the pool",
 }
 
 # What becomes of a program, and of the pool, that another may have waited for.
-FREES = {"GIVE": "slot {} gave back device {}", "ENDED": "slot {} ended", "FAIL": "slot {} failed"}
+FREES = {"GIVE": "slot {slot} gave back device {device}", "ENDED": "slot {slot} ended", "FAIL": "slot {slot} failed"}
 
 
 class Moment(NamedTuple):
-    """An order of a program: its number, the call it was obeyed with, the devices that had a transfer then, the entries since the order
-    before, each with the number of calls before it, and those of the order itself.
+    """An order of a program: its number, the call it was obeyed with, the devices that had a transfer then, what happened since the order
+    before, and the entries of the order itself.
     """
 
     order: int
     call: int
-    flying: list
-    between: list
-    own: list
+    flying: List[int]
+    between: List[str]
+    own: List[told.Entry]
 
 
 class Trace:
-    """The orders of the program of a slot from `first` to `last`, read off a journal, and what came after the last that it obeyed."""
+    """The orders of the program of a slot from `first` to `last`, and what came after the last that it obeyed."""
 
-    def __init__(self, entries, slot, first, last):
-        self._slot, self._orders = slot, range(first, last + 1)
-        self._flying, self._obeyed = set(), 0
-        self.moments, self.rest, self.call_before = [], [], 0
-        for calls, entry in timed(entries):
-            self._take(calls, entry)
+    def __init__(self, run: told.Run, slot: int, first: int, last: int) -> None:
+        self._run, self._slot = run, slot
+        self._calls = [entry.call for entry in run.entries]
+        self.obeyed = run.program(slot).orders
+        self.call_before = call_of_order(run, slot, first - 1)
+        self.moments = list(self._moments(first, last))
+        self.rest = self._between(self.obeyed + 1, call_of_order(run, slot, self.obeyed), run.made + 1)
 
-    @property
-    def obeyed(self):
-        """How many orders the program obeyed in the whole run."""
-        return self._obeyed
+    def _moments(self, first: int, last: int) -> Iterator[Moment]:
+        before = self.call_before
+        for order, call in enumerate(calls_of_orders(self._run, self._slot, range(first, last + 1)), first):
+            flying = sorted(transfer.device for transfer in in_flight(self._run, call) if transfer.began < call)
+            own = [entry for entry in self._entries(call, call + 1) if entry.entry in DOES and entry.slot == self._slot]
+            yield Moment(order, call, flying, self._between(order, before, call), own)
+            before = call
 
-    def _take(self, calls, entry):
-        kind, *numbers = entry
-        if kind == "RAN" and numbers[0] == self._slot:
-            self._ran(calls, numbers[1])
-        elif kind in (*DOES, "FAIL", "ENDED") and numbers[0] == self._slot:
-            if self.moments and self.moments[-1].order == self._obeyed:
-                self.moments[-1].own.append(entry)
-        elif kind not in ("START", "ANSWER"):
-            self.rest.append((calls, entry))
-        if kind == "START":
-            self._flying.add(numbers[1])
-        elif kind == "END":
-            self._flying.discard(numbers[0])
+    def _entries(self, first: int, end: int) -> List[told.Entry]:
+        """The entries with at least this number of calls before them, and fewer than the other."""
+        return self._run.entries[bisect_left(self._calls, first):bisect_left(self._calls, end)]
 
-    def _ran(self, calls, orders):
-        """Takes this number of orders; those that aren't asked for are only counted."""
-        first = max(self._orders.start, self._obeyed + 1)
-        for order in range(first, min(self._orders.stop, self._obeyed + orders + 1)):
-            between = self.rest if order == self._obeyed + 1 else []
-            self.moments.append(Moment(order, calls + order - self._obeyed, sorted(self._flying), between, []))
-        if self._obeyed < self._orders.start - 1 <= self._obeyed + orders:
-            self.call_before = calls + self._orders.start - 1 - self._obeyed
-        self._obeyed += orders
-        self.rest = []
+    def _between(self, order: int, first: int, end: int) -> List[str]:
+        """What happened before this order of the program, from one call to another, in words."""
+        held = [hold for hold in self._run.holds if (hold.slot, hold.order) == (self._slot, order)]
+        wait = next((hold.call for hold in held if hold.by == "pool"), None)
+        ran, idle, scheduled, freed = Counter(), 0, [], []
+        for entry in self._entries(first, end):
+            is_own = entry.slot == self._slot and entry.entry not in SCHEDULED
+            if entry.entry == "RAN" and not is_own:
+                ran[entry.slot] += entry.orders
+            elif entry.entry == "IDLE":
+                idle += entry.calls
+            elif entry.entry in SCHEDULED:
+                scheduled.append(f"{line_of_entry(vars(entry))} after call {entry.call}")
+            elif entry.entry in FREES and not is_own and wait is not None and entry.call > wait:
+                freed.append(f"{FREES[entry.entry].format(**vars(entry))} at call {entry.call}")
+        said = [f"held up from call {hold.call + 1} by {held_by(hold)}" for hold in held]
+        said += [f"slot {number} obeyed {count(orders, 'order')}" for number, orders in sorted(ran.items())]
+        more = [f"{len(scheduled) - MOST_SCHEDULED} more lines of the schedule"] if len(scheduled) > MOST_SCHEDULED else []
+        return said + ([f"{count(idle, 'call')} idle"] if idle else []) + scheduled[:MOST_SCHEDULED] + more + freed
 
 
-def said_of_order(own, word=None):
+def said_of_order(own: List[told.Entry], word: Optional[int] = None) -> List[str]:
     """What an order did besides what it changed, in words, by its entries. If it asked the installation's service, that was to answer this word."""
     service = "" if word is None else f" by the installation's service, to the word {word:016o}"
-    return [DOES[kind].format(numbers[1]) + (service if kind == "ANSWER" else "") for kind, *numbers in own if kind in DOES]
-
-
-def freed_by(between, slot):
-    """After what the pool may have had a device for the program of a slot that waited for one, in words."""
-    waits = [at for at, (_, (kind, number, *_)) in enumerate(between) if kind == "WAIT" and number == slot]
-    after = between[waits[0]:] if waits else []
-    return [f"{FREES[kind].format(*numbers)} at call {calls}" for calls, (kind, *numbers) in after if kind in FREES]
-
-
-def said_of(between, slot):
-    """What happened between two orders of the program of a slot, in words."""
-    holds, ran, scheduled, idle = [], Counter(), [], 0
-    for calls, (kind, *numbers) in between:
-        if kind in HOLDS and numbers[0] == slot:
-            holds.append(f"held up from call {calls + 1} by {HOLDS[kind].format(number=numbers[1])}")
-        elif kind == "RAN":
-            ran[numbers[0]] += numbers[1]
-        elif kind == "IDLE":
-            idle += numbers[0]
-        elif kind in SCHEDULED:
-            scheduled.append(f"{' '.join(map(str, [kind, *numbers]))} after call {calls}")
-    others = [f"slot {number} obeyed {count(orders, 'order')}" for number, orders in sorted(ran.items())]
-    more = [f"{len(scheduled) - MOST_SCHEDULED} more lines of the schedule"] if len(scheduled) > MOST_SCHEDULED else []
-    return holds + others + ([f"{count(idle, 'call')} idle"] if idle else []) + scheduled[:MOST_SCHEDULED] + more + freed_by(between, slot)
+    return [DOES[entry.entry].format(**vars(entry)) + (service if entry.entry == "ANSWER" else "") for entry in own]

@@ -28,3 +28,8 @@ def listed(words, last="and"):
     """A list of words as a sentence has it."""
     *others, end = words
     return f"{', '.join(others)} {last} {end}" if others else end
+
+
+def shown(text):
+    """The text as a terminal can show it, in as many columns; a `?` replaces whatever it can't show."""
+    return "".join(character if " " <= character <= "~" else "?" for character in text)

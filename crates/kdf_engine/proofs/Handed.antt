@@ -10,7 +10,7 @@ use Rattle.kdf_engine.specs.Service.{exchanged}
 use Rattle.kdf_engine.proofs.Called.{answers_called}
 use Rattle.kdf_engine.proofs.Due.{one_due}
 
-either : (a b : ℕ) → (a ≤ b) ⊎ (b < a)
+pub either : (a b : ℕ) → (a ≤ b) ⊎ (b < a)
 either zero b = inl (omega arith)
 either (suc a) zero = inr (omega arith)
 either (suc a) (suc b) = elim (either a b) [ inl l ↦ inl (omega (l, arith)) | inr l ↦ inr (omega (l, arith)) ]

@@ -2,3 +2,4 @@ pub mod Called
 pub mod More
 pub mod Due
 pub mod Handed
+pub mod Told

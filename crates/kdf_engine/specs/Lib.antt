@@ -1,3 +1,4 @@
 pub mod Words
 pub mod Service
 pub mod Answered
+pub mod Told

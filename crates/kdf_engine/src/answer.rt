@@ -15,7 +15,7 @@ use kdf_top::{Status, run_with};
 use std::alloc::{AllocError, Global};
 
 /// How many numbers a half of a word tells apart.
-const HALF: u64 = 1 << 24;
+pub const HALF: u64 = 1 << 24;
 
 /// What a call answers: its status, and how many bytes the whole text has that is due.
 pub struct Answer {
@@ -44,7 +44,7 @@ fn answer_words(alloc: Global, words: &[String], job: &[u8], room: &mut [u8]) ->
 }
 
 /// The answer where there was no memory.
-fn no_memory() -> Answer
+pub fn no_memory() -> Answer
     ensures status { result.status ≡ Status.Memory }
     ensures size { result.size ≡ 0 }
 {
@@ -55,7 +55,7 @@ fn no_memory() -> Answer
 }
 
 /// Hands out a text where it fits the room: the answer is then this status.
-fn hand_out(status: Status, text: &[u8], room: &mut [u8]) -> Answer
+pub fn hand_out(status: Status, text: &[u8], room: &mut [u8]) -> Answer
     ensures size { result.size ≡ length text.now }
     ensures fits { length text.now ≤ length room.old → result.status ≡ status }
     ensures text { length text.now ≤ length room.old → take (length text.now) room.new ≡ text.now }

@@ -5,10 +5,13 @@ ghost use Rattle.kdf_top.specs.Answers.{Answers, IsCalledFor, IsDoneBy, IsDueFor
 ghost use Rattle.kdf_top.specs.Codes.{code_of};
 ghost use Rattle.kdf_top.specs.Commands.{command, is_command};
 ghost use Rattle.kdf_top.specs.declared.status.Status.{Status as Given};
+ghost use Rattle.kdf_top.specs.declared.command.Command.TheVariants.{Run};
 ghost use Rattle.kdf_engine.specs.Service.{exchanged};
+ghost use Rattle.kdf_engine.specs.Told.{AreFacts};
 ghost use Rattle.kdf_engine.specs.Words.{words_in};
 
 use crate::answer::{Answer, answer_lines};
+use crate::facts::tell_lines;
 use kdf_top::Status;
 use std::alloc::Global;
 
@@ -51,6 +54,45 @@ pub extern "C" fn kdf9_run(
         status,
         size: wanted,
     } = answer_lines(alloc, words, job, text);
+    *size = wanted as u64;
+    u32::from(status.code())
+}
+
+/// Tells the facts that the words of a command ask for, which stand one to a line, over a job: the result is the number of the status with which the
+/// program answers the words.
+///
+/// The facts go to the front of `text`, and their length to `size`. Those that `text` has no room for aren't written: the answer is then 6, and `size`
+/// says how much room they want.
+#[unsafe(no_mangle)]
+pub extern "C" fn kdf9_facts(
+    alloc: Global,
+    words: &[u8],
+    job: &[u8],
+    text: &mut [u8],
+    size: &mut u64,
+) -> u32
+    // The answer to `run` is the one that the job calls for, unless the room is too small, or there was no memory.
+    ensures answer { command (words_in words.now) ≡ Some Run → (given : Given) × (result ≡ code_of given)
+        × Answers (IsCalledFor exchanged (words_in words.now) job.now) given ⊥ (length text.old < size.new) }
+    ensures read { result ≢ code_of Status.ReadFault }
+
+    // The facts are told and handed out whole, or not at all.
+    ensures facts { result ≢ code_of Status.Memory → (told : List ℕ)
+        × AreFacts (words_in words.now) job.now told × (size.new ≡ length told)
+        × (result ≢ code_of Status.WriteFault → take size.new text.new ≡ told) }
+
+    // A room that is too small is told what is wanted.
+    ensures short { result ≡ code_of Status.WriteFault → length text.old < size.new }
+
+    // Nothing else is written.
+    ensures short_writes { result ≡ code_of Status.WriteFault → text.new ≡ text.old }
+    ensures memory { result ≡ code_of Status.Memory → (size.new ≡ 0) × (text.new ≡ text.old) }
+    ensures beyond { drop size.new text.new ≡ drop size.new text.old }
+{
+    let Answer {
+        status,
+        size: wanted,
+    } = tell_lines(alloc, words, job, text);
     *size = wanted as u64;
     u32::from(status.code())
 }

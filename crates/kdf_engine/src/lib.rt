@@ -3,7 +3,8 @@
 
 mod answer;
 mod calls;
+mod facts;
 mod sink;
 mod words;
 
-pub use calls::{kdf9_run, kdf9_version};
+pub use calls::{kdf9_facts, kdf9_run, kdf9_version};

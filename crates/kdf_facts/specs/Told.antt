@@ -3,8 +3,12 @@ use Rattle.std.specs.Prelude.{◌≡◌, ℕ, ◌≤◌, List, length, Option, S
 use Rattle.kdf_job.specs.Job.{Job}
 use Rattle.kdf_job.specs.Reading.{job, job_fault}
 use Rattle.kdf_job.specs.declared.fault.JobFault.{JobFault}
+use Rattle.kdf_top.specs.Answers.{called_by}
 use Rattle.kdf_top.specs.Commands.{job_limit}
 use Rattle.kdf_top.specs.Deck.{deck_fault}
+use Rattle.kdf_top.specs.declared.command.Command.TheVariants.{Run}
+use Rattle.kdf_top.specs.declared.status.Status.{Status}
+use Rattle.kdf_top.specs.declared.status.Status.TheVariants as status
 use Rattle.kdf_usercode.specs.Faults.{Found}
 use Rattle.kdf_facts.specs.Faults.{deck_front, job_front}
 use Rattle.kdf_facts.specs.Run.{Begins, IsRunTold}
@@ -25,3 +29,14 @@ TellsFault bytes text =
 -- and where it has none, what is to be told of the job
 abbrev pub OfJob : (Job → List ℕ → Type 0) → List ℕ → List ℕ → Type 0
 OfJob Tells bytes text = length bytes ≤ job_limit → job_fault bytes ≡ None → Tells (job bytes) text
+
+-- what the program answers where it runs a job of these bytes
+abbrev pub called_over : List ℕ → Status
+called_over bytes = called_by (Some Run) bytes
+
+-- an answer with which facts are told: nothing failed
+abbrev pub IsAnswer : Status → Type 0
+IsAnswer status.ReadFault = ⊥
+IsAnswer status.WriteFault = ⊥
+IsAnswer status.Memory = ⊥
+IsAnswer _ = Unit {0}

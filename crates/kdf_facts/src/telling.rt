@@ -1,25 +1,29 @@
 //! The facts that the words of a command ask for.
 ghost use Rattle.std.specs.Prelude.{◌≡◌, ◌≤◌, Some, IfOk, length, map, string_bytes};
-ghost use Rattle.kdf_facts.specs.Run.{IsRunTold};
-ghost use Rattle.kdf_facts.specs.Told.{OfJob, TellsDeck, TellsFault, TellsJob};
+ghost use Rattle.kdf_facts.specs.Faults.{job_front};
+ghost use Rattle.kdf_facts.specs.Run.{Begins, IsRunTold};
+ghost use Rattle.kdf_facts.specs.Told.{IsAnswer, OfJob, TellsDeck, TellsFault, TellsJob, called_over};
 ghost use Rattle.kdf_facts.specs.declared.telling.Wanted.TheVariants as asked;
 ghost use Rattle.kdf_job.specs.Shows.{shown_job};
 ghost use Rattle.kdf_job.specs.WellFormed.{IsJob};
 ghost use Rattle.kdf_job.specs.declared.job.TheConstants.{TEXT_LIMIT};
 ghost use Rattle.kdf_service.specs.Rules.{IsService};
+ghost use Rattle.kdf_top.specs.Answers.{status_of_decks};
 ghost use Rattle.kdf_top.specs.Commands.{command};
+ghost use Rattle.kdf_top.specs.Deck.{deck_fault};
 ghost use Rattle.kdf_top.specs.Loaded.{HasImages};
 ghost use Rattle.kdf_top.specs.declared.command.Command.TheVariants.{Run};
+ghost use Rattle.kdf_top.specs.declared.status.Status.TheVariants as status;
 
 use crate::deck_lines::deck_line;
 use crate::fault::{DeckFound, deck_fault, job_fault};
 use crate::layout::lay_out;
 use crate::listing::{absent, listing};
 use crate::run::{Loaded, run_facts};
-use kdf_job::{Job, JobError, read_job};
+use kdf_job::{Job, JobError, JobFault, read_job};
 use kdf_place::Image;
 use kdf_service::Service;
-use kdf_top::{Command, DecksError, assemble_decks, command_of};
+use kdf_top::{Command, DecksError, Status, assemble_decks, command_of};
 use std::alloc::{AllocError, Global};
 use std::fmt::Write;
 
@@ -35,37 +39,42 @@ enum Wanted {
     Listing(u8),
 }
 
-/// The facts that the words of a command ask for, over the text of a job: those of its run for `run`, those of the deck of a slot for `asm K`, or those
-/// of its first fault.
+/// The facts that the words of a command ask for, over the text of a job, with what the program answers to them: the facts of its run for `run`, those
+/// of the deck of a slot for `asm K`, or those of its first fault.
 pub fn facts<F: Fn(u64) -> u64>(
     alloc: Global,
     words: &[String],
     bytes: &[u8],
     service: &Service<F>,
-) -> Result<Vec<u8>, AllocError>
+) -> Result<(Status, Vec<u8>), AllocError>
     requires service { IsService (F.pre service.now) (F.post service.now) }
-    ensures run { command (map string_bytes words.now) ≡ Some Run → IfOk result (λ text.
-        OfJob (TellsJob (F.post service.now)) bytes.now text.items) }
-    ensures deck { command (map string_bytes words.now) ≡ Some Run → IfOk result (λ text.
-        OfJob TellsDeck bytes.now text.items) }
-    ensures fault { command (map string_bytes words.now) ≡ Some Run → IfOk result (λ text.
-        TellsFault bytes.now text.items) }
+    ensures called { command (map string_bytes words.now) ≡ Some Run → IfOk result (λ r.
+        r.0 ≡ called_over bytes.now) }
+    ensures answer { IfOk result (λ r. IsAnswer r.0) }
+    ensures run { command (map string_bytes words.now) ≡ Some Run → IfOk result (λ r.
+        OfJob (TellsJob (F.post service.now)) bytes.now r.1.items) }
+    ensures deck { command (map string_bytes words.now) ≡ Some Run → IfOk result (λ r.
+        OfJob TellsDeck bytes.now r.1.items) }
+    ensures fault { command (map string_bytes words.now) ≡ Some Run → IfOk result (λ r.
+        TellsFault bytes.now r.1.items) }
 {
-    let told = match command_of(alloc, words)? {
+    let (status, told) = match command_of(alloc, words)? {
         Some(Command::Run) => within(alloc, Wanted::Run, bytes, service)?,
         Some(Command::Asm(p)) => within(alloc, Wanted::Listing(p), bytes, service)?,
         _ => usage(alloc)?,
     };
-    Ok(told.into_bytes())
+    Ok((status, told.into_bytes()))
 }
 
 /// What words are told that ask for no facts.
-fn usage(alloc: Global) -> Result<String, AllocError> {
+fn usage(alloc: Global) -> Result<(Status, String), AllocError>
+    ensures { IfOk result (λ r. IsAnswer r.0) }
+{
     let mut out = String::new(alloc);
     out.push_str(
         "{\"format\":\"kdf9-facts 1\",\"kind\":\"usage\",\"sentence\":\"facts are told of run and of asm K\"}\n",
     )?;
-    Ok(out)
+    Ok((Status::Usage, out))
 }
 
 /// The facts of a job, or of a text that is too large for one.
@@ -74,19 +83,21 @@ fn within<F: Fn(u64) -> u64>(
     wanted: Wanted,
     bytes: &[u8],
     service: &Service<F>,
-) -> Result<String, AllocError>
+) -> Result<(Status, String), AllocError>
     requires service { IsService (F.pre service.now) (F.post service.now) }
-    ensures run { wanted ≡ asked.Run → IfOk result (λ text.
-        OfJob (TellsJob (F.post service.now)) bytes.now (string_bytes text)) }
-    ensures deck { IfOk result (λ text. OfJob TellsDeck bytes.now (string_bytes text)) }
-    ensures fault { IfOk result (λ text. TellsFault bytes.now (string_bytes text)) }
+    ensures called { IfOk result (λ r. r.0 ≡ called_over bytes.now) }
+    ensures answer { IfOk result (λ r. IsAnswer r.0) }
+    ensures run { wanted ≡ asked.Run → IfOk result (λ r.
+        OfJob (TellsJob (F.post service.now)) bytes.now (string_bytes r.1)) }
+    ensures deck { IfOk result (λ r. OfJob TellsDeck bytes.now (string_bytes r.1)) }
+    ensures fault { IfOk result (λ r. TellsFault bytes.now (string_bytes r.1)) }
 {
     if bytes.len() > JOB_LIMIT {
-        return large(alloc);
+        return Ok((Status::Large, large(alloc)?));
     }
     match read_job(alloc, bytes) {
         Ok(job) => of_job(alloc, wanted, bytes, &job, service),
-        Err(JobError::Fault(fault, line)) => job_fault(alloc, bytes, fault, line),
+        Err(JobError::Fault(fault, line)) => of_fault(alloc, bytes, fault, line),
         Err(JobError::Memory) => Err(AllocError),
     }
 }
@@ -101,6 +112,21 @@ fn large(alloc: Global) -> Result<String, AllocError> {
     Ok(out)
 }
 
+/// The facts of a fault in a line of a job.
+fn of_fault(
+    alloc: Global,
+    bytes: &[u8],
+    fault: JobFault,
+    line: u32,
+) -> Result<(Status, String), AllocError>
+    requires { length bytes.now ≤ TEXT_LIMIT }
+    ensures status { IfOk result (λ r. r.0 ≡ status.Job fault line) }
+    ensures text { IfOk result (λ r. Begins (job_front fault line) (string_bytes r.1)) }
+{
+    let told = job_fault(alloc, bytes, fault, line)?;
+    Ok((Status::Job { fault, line }, told))
+}
+
 /// The facts of a job that was read, or of the first fault of its decks.
 fn of_job<F: Fn(u64) -> u64>(
     alloc: Global,
@@ -108,19 +134,24 @@ fn of_job<F: Fn(u64) -> u64>(
     bytes: &[u8],
     job: &Job,
     service: &Service<F>,
-) -> Result<String, AllocError>
+) -> Result<(Status, String), AllocError>
     requires service { IsService (F.pre service.now) (F.post service.now) }
     requires few { length bytes.now ≤ TEXT_LIMIT }
     requires job { IsJob (shown_job job.now) }
-    ensures run { wanted ≡ asked.Run → IfOk result (λ text.
-        TellsJob (F.post service.now) (shown_job job.now) (string_bytes text)) }
-    ensures deck { IfOk result (λ text. TellsDeck (shown_job job.now) (string_bytes text)) }
+    ensures status { IfOk result (λ r. r.0 ≡ status_of_decks (deck_fault (shown_job job.now).slots)) }
+    ensures run { wanted ≡ asked.Run → IfOk result (λ r.
+        TellsJob (F.post service.now) (shown_job job.now) (string_bytes r.1)) }
+    ensures deck { IfOk result (λ r. TellsDeck (shown_job job.now) (string_bytes r.1)) }
 {
     match assemble_decks(alloc, &job.slots) {
-        Ok(images) => of_images(alloc, wanted, bytes, job, &images, service),
+        Ok(images) => {
+            let told = of_images(alloc, wanted, bytes, job, &images, service)?;
+            Ok((Status::Done, told))
+        }
         Err(DecksError::Fault(slot, fault, place)) => {
             let found = DeckFound { slot, fault, place };
-            deck_fault(alloc, bytes, deck_of(job, slot), found)
+            let told = deck_fault(alloc, bytes, deck_of(job, slot), found)?;
+            Ok((Status::Deck { slot, fault, place }, told))
         }
         Err(DecksError::Memory) => Err(AllocError),
     }

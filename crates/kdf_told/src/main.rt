@@ -29,6 +29,6 @@ fn tell(rt: &HostRuntime) -> io::Result<()> {
     rt.stdin().read_to_end(&mut bytes)?;
     // It exchanges the two half words.
     let service = Service::new(|word: u64| (word & HALF_WORD) << 24 | word >> 24);
-    let text = facts(rt.alloc(), &words, &bytes, &service)?;
+    let (_status, text) = facts(rt.alloc(), &words, &bytes, &service)?;
     rt.stdout().write_all(&text)
 }

@@ -1,0 +1,27 @@
+/* Writes what there is to know of the run of the job in standard input, as JSON. The room is as large as it has to be. */
+#include "kdf9.h"
+
+#include <stdio.h>
+#include <stdlib.h>
+
+static char job[4194304 + 1];
+
+int main(void)
+{
+    size_t length = fread(job, 1, sizeof job, stdin);
+    char *text = NULL;
+    uint64_t size = 0, room = 0;
+    uint32_t status;
+
+    /* A room that is too small is told what is wanted. */
+    while ((status = kdf9_facts("run\n", 4, job, length, text, room, &size)) == KDF9_NO_ROOM) {
+        free(text);
+        text = malloc(room = size);
+        if (text == NULL)
+            return KDF9_NO_MEMORY;
+    }
+    if (status != KDF9_NO_MEMORY)
+        fwrite(text, 1, size, stdout);
+    free(text);
+    return (int)status;
+}

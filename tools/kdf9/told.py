@@ -1,0 +1,153 @@
+"""What there is to know of a job and of its run: `kdf9.facts(job)` tells it as a Run, and `kdf9.listing(job, slot)` as a Listing.
+
+The machine itself tells all of it. The classes are dataclasses with types: Run, Listing and Fault, and what they have in them. They are made of
+docs/schema/facts.json, which says what each field means, when the first of them is needed. A field that doesn't apply is None. The faults of all kinds are one
+class, with a `subject`: what stands at the fault, as a terminal can show it.
+"""
+from __future__ import annotations
+
+import functools
+import json
+import re
+from typing import Any, Callable, Dict, List, Optional, Tuple
+
+from kdf9 import library
+from kdf9.deck import written
+from kdf9.library import Refused, Text
+from kdf9.program import ENCODING, ROOT, Answer
+from kdf9.report import STATUSES
+from kdf9.words import shown
+
+# The names of classes, by the definitions and members that they are of, where these aren't called so themselves.
+NAMES = {"use of a device": "Device", "calls of a program": "Calls", "calls": "Spent", "holders": "Holder", "statements": "Line", "references": "Reference"}
+TYPES = {"integer": int, "string": str, "boolean": bool}
+
+# A row of `*`, of which the second and the others do nothing.
+STARS = re.compile(rb"\*[* \n]*\*")
+
+Reader = Callable[[Any], Any]
+
+
+def subject(fault: Any) -> str:
+    """What stands at a fault, as a terminal can show it."""
+    if fault.text is None:
+        return f"the {'text' if fault.of == 'snapshot' else 'job'} ends here"
+    if fault.of == "deck":
+        return f"byte {ord(fault.text)}" if fault.name == "BadByte" else written(fault.text)
+    return shown(fault.text)
+
+
+def program(run: Any, slot: int) -> Any:
+    """How the program of a slot is at the end."""
+    return next(each for each in run.programs if each.slot == slot)
+
+
+# What classes have besides their fields.
+BESIDES = {"Fault": {"subject": property(subject)}, "Run": {"program": program}}
+
+
+class Classes:
+    """The classes by their names, and what makes facts of each kind of what JSON has."""
+
+    def __init__(self) -> None:
+        self.schema = json.loads((ROOT / "docs" / "schema" / "facts.json").read_text(encoding="utf-8"))["definitions"]
+        self.known: Dict[str, Tuple[type, Reader]] = {}
+        faults = [self.schema[f"fault of a {what}"]["properties"] for what in ("job", "deck", "text")]
+        fault = {"properties": {member: one for fault in faults for member, one in fault.items()}, "required": []}
+        kinds = {"run": self.schema["run"], "listing": self.schema["listing"], "fault": fault}
+        self.readers = {kind: self.class_of(kind.capitalize(), schema)[1] for kind, schema in kinds.items()}
+
+    def class_of(self, name: str, schema: Dict[str, Any]) -> Tuple[type, Reader]:
+        """The class of this name for the objects of a schema, and what makes it of such an object."""
+        from dataclasses import field, make_dataclass  # pylint: disable=import-outside-toplevel
+
+        required, others, readers = [], [], {}
+        for member, one in schema["properties"].items():
+            if member != "format" and (member != "kind" or "const" not in one):
+                kind, read = self.typed(member, one)
+                if member in schema["required"]:
+                    required.append((member, kind))
+                else:
+                    others.append((member, Optional[kind], field(default=None)))
+                if read:
+                    readers[member] = read
+        made = make_dataclass(name, required + others, frozen=True, namespace={**BESIDES.get(name, {}), "__module__": __name__})
+        made.__doc__ = schema.get("description", made.__doc__)
+
+        def read_all(told: Dict[str, Any]) -> Any:
+            return made(**{**told, **{member: read(told[member]) for member, read in readers.items() if told.get(member) is not None}})
+
+        self.known[name] = made, read_all if readers else lambda told: made(**told)
+        return self.known[name]
+
+    def typed(self, member: str, schema: Dict[str, Any]) -> Tuple[Any, Optional[Reader]]:
+        """The type of a member with this schema, and what makes it of a value, if that doesn't stay as it is."""
+        if "$ref" in schema:
+            member = schema["$ref"].rpartition("/")[2]
+            schema = self.schema[member]
+        name, types = NAMES.get(member, member.capitalize()), schema.get("type", "string")
+        if "object" in types:
+            kind, read = self.known.get(name) or self.class_of(name, schema)
+        elif "array" in types:
+            inner, each = self.typed(member, schema["items"])
+            is_pair = schema.get("minItems") == schema.get("maxItems") == 2
+            kind, read = (Tuple[inner, inner], tuple) if is_pair else (List[inner], each and (lambda told: [each(one) for one in told]))
+        else:
+            kind, read = next(TYPES[name] for name in TYPES if name in types), None
+        return (Optional[kind] if "null" in types else kind), read
+
+
+classes = functools.lru_cache(maxsize=None)(Classes)
+
+
+def __getattr__(name: str) -> type:
+    """The class of this name."""
+    if name.startswith("_") or name not in classes().known:
+        raise AttributeError(f"module {__name__!r} has no attribute {name!r}")
+    return classes().known[name][0]
+
+
+def alone(stars: "re.Match[bytes]") -> bytes:
+    """A row of `*` with all but the first as spaces: the text of each goes up to the next `;`, so a long row would have a text without end."""
+    return b"*" + stars[0][1:].replace(b"*", b" ")
+
+
+def told_of(job: Text, *words: str) -> Any:
+    """What the machine tells of a job by these words, which are `run`, or `asm` and a slot: a Run or a Listing, or a Fault."""
+    told = library.facts(STARS.sub(alone, library.as_bytes(job)) if words[0] == "asm" else job, words)
+    del told["format"]
+    return classes().readers[told.pop("kind")](told)
+
+
+def is_fault(told: Any) -> bool:
+    """Whether facts are those of a fault."""
+    return hasattr(told, "sentence")
+
+
+def told_in(text: str, *words: str) -> Any:
+    """The same of a text that has a character for each byte of a job."""
+    return told_of(text.encode(ENCODING), *words)
+
+
+def listing_in(text: str, slot: int) -> Any:
+    """The facts of the deck of a slot of a job without a fault, in such a text."""
+    return told_in(text, "asm", str(slot))
+
+
+def sound(job: Text, *words: str) -> Any:
+    """What the machine tells of a job by these words. Raises Refused where the job has a fault."""
+    told = told_of(job, *words)
+    if is_fault(told):
+        line = {"job": f"JOB {told.name} {told.line}", "deck": f"DECK {told.slot} {told.name} {told.offset}", "text": f"LARGE {told.limit}"}[told.of]
+        raise Refused(Answer(STATUSES[line.split(" ")[0]], line + "\n"), told)
+    return told
+
+
+def facts(job: Text) -> Run:
+    """The facts of the run of a job. Raises Refused where the job has a fault."""
+    return sound(job, "run")
+
+
+def listing(job: Text, slot: int) -> Listing:
+    """The facts of the deck of a slot. Raises Refused where the job has a fault."""
+    return sound(job, "asm", str(slot))
