@@ -1,9 +1,10 @@
 //! What a call tells that asks for facts.
-ghost use Rattle.std.specs.Prelude.{◌≡◌, Some, IfOk, map, string_bytes};
+ghost use Rattle.std.specs.Prelude.{◌≡◌, Some, true, false, IfOk, map, string_bytes};
 ghost use Rattle.kdf_facts.specs.Told.{IsAnswer};
 ghost use Rattle.kdf_top.specs.Answers.{IsCalledFor};
-ghost use Rattle.kdf_top.specs.Commands.{command};
+ghost use Rattle.kdf_top.specs.Commands.{command, is_command};
 ghost use Rattle.kdf_top.specs.declared.command.Command.TheVariants.{Run};
+ghost use Rattle.kdf_top.specs.declared.status.Status.TheVariants as status;
 ghost use Rattle.kdf_engine.specs.Service.{exchanged};
 ghost use Rattle.kdf_engine.specs.Told.{AreFacts, IsTold};
 ghost use Rattle.kdf_engine.specs.Words.{words_in};
@@ -43,7 +44,9 @@ fn tell_words(alloc: Global, words: &[String], job: &[u8], room: &mut [u8]) -> A
 fn facts_due(alloc: Global, words: &[String], job: &[u8]) -> Result<(Status, Vec<u8>), AllocError>
     ensures called { command (map string_bytes words.now) ≡ Some Run → IfOk result (λ r.
         IsCalledFor exchanged (map string_bytes words.now) job.now r.0) }
-    ensures answer { IfOk result (λ r. IsAnswer r.0) }
+    ensures answer { is_command (map string_bytes words.now) ≡ true → IfOk result (λ r. IsAnswer r.0) }
+    ensures usage { is_command (map string_bytes words.now) ≡ false → IfOk result (λ r.
+        r.0 ≡ status.Usage) }
     ensures facts { IfOk result (λ r. AreFacts (map string_bytes words.now) job.now r.1.items) }
 {
     // It exchanges the two halves of a word, as that of the program does.
