@@ -12,7 +12,7 @@ use crate::layout::statement_of;
 use crate::places::{Spot, before, from, line_of, spot_after};
 use crate::sentences::{number_of_job, of_deck, of_job, of_snapshot};
 use kdf_fault::Numbered;
-use kdf_job::{JobFault, TEXT_LIMIT};
+use kdf_job::{Job, JobFault, TEXT_LIMIT};
 use kdf_place::assemble;
 use kdf_snapshot::SnapshotFault;
 use kdf_usercode::{Deck, DeckError, DeckFault, read_deck};
@@ -31,6 +31,26 @@ pub struct DeckFound {
     pub slot: u8,
     pub fault: DeckFault,
     pub place: u32,
+}
+
+/// The facts of a text of more bytes than are read.
+pub fn large(alloc: Global, limit: usize) -> Result<String, AllocError> {
+    let mut out = String::new(alloc);
+    write!(
+        out,
+        "{{\"format\":\"kdf9-facts 1\",\"kind\":\"fault\",\"of\":\"text\",\"name\":\"Large\",\"limit\":{limit}}}\n"
+    )?;
+    Ok(out)
+}
+
+/// The text of the deck of a slot.
+pub fn deck_of(job: &Job, p: u8) -> &[u8] {
+    for slot in job.slots.iter() {
+        if slot.p == p {
+            return &slot.deck;
+        }
+    }
+    &[]
 }
 
 /// The facts of a fault in a line of a job.

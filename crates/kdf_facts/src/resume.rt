@@ -6,10 +6,9 @@ ghost use Rattle.kdf_job.specs.WellFormed.{IsJob};
 ghost use Rattle.kdf_job.specs.declared.job.TheConstants.{TEXT_LIMIT};
 ghost use Rattle.kdf_service.specs.Rules.{IsService};
 
-use crate::fault::{DeckFound, deck_fault, job_fault, snapshot_fault};
+use crate::fault::{DeckFound, deck_fault, deck_of, job_fault, large, snapshot_fault};
 use crate::nowhere::Nowhere;
 use crate::run::{Loaded, run_facts};
-use crate::telling::{deck_of, large};
 use kdf_io::MemorySource;
 use kdf_job::{Job, TEXT_LIMIT, line_count, read_job_front, read_more};
 use kdf_service::Service;
@@ -59,7 +58,7 @@ fn status_of<F: Fn(u64) -> u64>(
 {
     let text = Vec::from_slice(alloc, bytes)?;
     let mut source = MemorySource::new(text, bytes.len().max(1), Vec::new(alloc));
-    let mut sink = Nowhere;
+    let mut sink = Nowhere::new();
     let outcome = run_with(alloc, words, &mut source, &mut sink, service);
     let status = outcome.status;
     outcome.close();
@@ -97,11 +96,20 @@ fn whole_job(alloc: Global, bytes: &[u8]) -> Result<Job, AllocError>
     requires { length bytes.now ≤ TEXT_LIMIT }
     ensures { IfOk result (λ job. IsJob (shown_job job)) }
 {
-    let Ok((mut job, end)) = read_job_front(alloc, bytes) else {
-        return Err(AllocError);
-    };
-    let lines = line_count(&bytes[..end]);
-    add_events(alloc, &mut job, &bytes[end..], lines)?;
+    match read_job_front(alloc, bytes) {
+        Ok((job, end)) => with_events(alloc, job, &bytes[end..], line_count(&bytes[..end])),
+        Err(_) => Err(AllocError),
+    }
+}
+
+/// The job with the events after a snapshot that follows its lines, of which there are so many.
+fn with_events(alloc: Global, job: Job, after: &[u8], lines: u32) -> Result<Job, AllocError>
+    requires few { length after.now ≤ TEXT_LIMIT }
+    requires job { IsJob (shown_job job) }
+    ensures { IfOk result (λ whole. IsJob (shown_job whole)) }
+{
+    let mut job = job;
+    add_events(alloc, &mut job, after, lines)?;
     Ok(job)
 }
 

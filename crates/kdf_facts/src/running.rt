@@ -3,6 +3,7 @@ ghost use Rattle.std.specs.Prelude.{◌≡◌, [], IfOk, length};
 ghost use Rattle.kdf_job.specs.Shows.{shown_job};
 ghost use Rattle.kdf_job.specs.WellFormed.{IsJob};
 ghost use Rattle.kdf_theory.specs.Served.{IsJournalFor};
+ghost use Rattle.kdf_theory.specs.Shown.{ShowsSeen};
 ghost use Rattle.kdf_service.specs.Rules.{IsService};
 ghost use Rattle.kdf_top.specs.Loaded.{HasImages, slots_of};
 
@@ -37,6 +38,7 @@ pub fn run_job<F: Fn(u64) -> u64>(
     ensures slots { IfOk result (λ m. m.slots ≡ slots_of (shown_job job.now)) }
     ensures journal { IfOk result (λ m. IsJournalFor (F.post service.now) m.slots (shown_job job.now).events
         m.journal) }
+    ensures seen { IfOk result ShowsSeen }
 {
     let mut machine = load_machine(alloc, job, images)?;
     match follow(&mut machine, &job.events, service) {

@@ -18,7 +18,7 @@ ghost use Rattle.kdf_top.specs.declared.status.Status.TheVariants as status;
 use crate::alone::alone_facts;
 use crate::check::check_facts;
 use crate::deck_lines::deck_line;
-use crate::fault::{DeckFound, deck_fault, job_fault};
+use crate::fault::{DeckFound, deck_fault, deck_of, job_fault, large};
 use crate::layout::lay_out;
 use crate::listing::{absent, listing};
 use crate::resume::resume_facts;
@@ -30,7 +30,6 @@ use kdf_place::Image;
 use kdf_service::Service;
 use kdf_top::{Command, DecksError, Status, assemble_decks, command_of};
 use std::alloc::{AllocError, Global};
-use std::fmt::Write;
 
 /// A job has so many bytes at most.
 const JOB_LIMIT: usize = 4_194_304;
@@ -157,6 +156,7 @@ fn of_front<F: Fn(u64) -> u64>(
 }
 
 /// The facts of a job, or of a text that is too large for one.
+#[tactic(auto, using(crate::proofs::Called::called_large, crate::proofs::Called::called_fault, crate::proofs::Called::called_decks))]
 fn within<F: Fn(u64) -> u64>(
     alloc: Global,
     wanted: Wanted,
@@ -179,16 +179,6 @@ fn within<F: Fn(u64) -> u64>(
         Err(JobError::Fault(fault, line)) => of_fault(alloc, bytes, fault, line),
         Err(JobError::Memory) => Err(AllocError),
     }
-}
-
-/// The facts of a text of more bytes than are read.
-pub fn large(alloc: Global, limit: usize) -> Result<String, AllocError> {
-    let mut out = String::new(alloc);
-    write!(
-        out,
-        "{{\"format\":\"kdf9-facts 1\",\"kind\":\"fault\",\"of\":\"text\",\"name\":\"Large\",\"limit\":{limit}}}\n"
-    )?;
-    Ok(out)
 }
 
 /// The facts of a fault in a line of a job.
@@ -278,16 +268,6 @@ fn of_images<F: Fn(u64) -> u64>(
         Wanted::Alone(p) => alone_facts(alloc, bytes, job, images, p),
         Wanted::Snapshot => snapshot_facts(alloc, loaded, service),
     }
-}
-
-/// The text of the deck of a slot.
-pub fn deck_of(job: &Job, p: u8) -> &[u8] {
-    for slot in job.slots.iter() {
-        if slot.p == p {
-            return &slot.deck;
-        }
-    }
-    &[]
 }
 
 /// The facts of the deck of a slot.
