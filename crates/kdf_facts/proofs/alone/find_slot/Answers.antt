@@ -2,8 +2,8 @@ use Rattle.std.proofs.Common.{◌≡◌, ◌<◌, get_or, length, rules}
 use Rattle.kdf_top.proofs.Found.{found_here}
 use Rattle.kdf_facts.proofs.alone.find_slot.Goals as goal
 
-pub returns-then-slot-p-clause-some : goal.returns-then-slot-p-clause-some
-returns-then-slot-p-clause-some c =
+pub returns-then-slot-p : goal.returns-then-slot-p
+returns-then-slot-p c =
     let slots = c.args.slots.now in
     let images = c.args.images.now in
     let k = c.loop-i.i in
@@ -13,4 +13,4 @@ returns-then-slot-p-clause-some c =
     let is : get_or slots k slot ≡ slot = search rules in
     let its : get_or images k image ≡ image = search rules in
     let same : slot.p ≡ c.args.p = search rules in
-    found_here slots images c.requires.images c.args.p k slot slot image image lt is its c.loop-i.invariant c.requires.slots same
+    record { some = found_here slots images c.requires.images c.args.p k slot slot image image lt is its c.loop-i.invariant c.requires.slots same }
