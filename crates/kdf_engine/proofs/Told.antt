@@ -4,6 +4,7 @@ use Rattle.kdf_facts.specs.Run.{IsRunTold}
 use Rattle.kdf_facts.specs.Told.{IsAnswer, OfJob, TellsDeck, TellsFault, TellsJob, called_over}
 use Rattle.kdf_journal.specs.declared.entry.Entry.{Entry}
 use Rattle.kdf_job.specs.Job.{Job}
+use Rattle.kdf_job.specs.Reading.{job}
 use Rattle.kdf_top.specs.Answers.{IsCalledBy, IsCalledFor}
 use Rattle.kdf_top.specs.Commands.{command, is_command}
 use Rattle.kdf_top.specs.declared.command.Command.{Command}
@@ -19,16 +20,16 @@ use Rattle.kdf_engine.proofs.More.{journal_more}
 -- ---- nothing failed
 pub other_answer : (is_command : Bool) (given bad : Status) → (is_command ≡ true → IsAnswer given) → (is_command ≡ false → given ≡ status.Usage)
     → (IsAnswer bad → ⊥) → status.Usage ≢ bad → given ≢ bad
-other_answer true given bad answer usage no other e = no (subst IsAnswer e (answer refl))
-other_answer false given bad answer usage no other e = other (sym (usage refl) ∙ e)
+other_answer true given bad answer usage none other e = none (subst IsAnswer e (answer refl))
+other_answer false given bad answer usage none other e = other (sym (usage refl) ∙ e)
 
 -- ---- what is told with a service is told with another that gives these answers, too
 module _ (answers more : ℕ → ℕ → Type 0) (part : (n a : ℕ) → answers n a → more n a) where
   run_more : (j : Job) (text : List ℕ) → IsRunTold answers j text → IsRunTold more j text
   run_more j text is = (is.0, journal_more answers more part _ _ is.0 is.1, is.2)
 
-  pub tells_more : (job text : List ℕ) → OfJob (TellsJob answers) job text → OfJob (TellsJob more) job text
-  tells_more job text is = λ few faultless assembles. run_more _ text (is few faultless assembles)
+  pub tells_more : (bytes text : List ℕ) → OfJob (TellsJob answers) bytes text → OfJob (TellsJob more) bytes text
+  tells_more bytes text is = λ few faultless assembles. run_more (job bytes) text (is few faultless assembles)
 
 -- what is called for over a job is called for by the words that run it
 pub called_by_run : (words : List (List ℕ)) (job : List ℕ) (given : Status) → command words ≡ Some Run → given ≡ called_over job
