@@ -13,7 +13,7 @@ from schema import Schema
 from toolkit import ROOT, document, job_of_deck
 
 sys.path.insert(0, str(ROOT / "tools"))
-from kdf9.report import read_report  # noqa: E402
+from kdf9.report import read_alone, read_report  # noqa: E402
 from kdf9.timeline import calls_of  # noqa: E402
 
 TOLD = os.environ.get("KDF_TOLD", ROOT / "crates" / "kdf_told" / "out" / "kdf_told")
@@ -29,6 +29,9 @@ MEMBERS = {
     "MOVE": ["device", "words"], "END": ["device"], "CLOCK": ["time"], "SWAP": ["slot", "other"],
 }
 HOLDS = {"LOV": "group", "BUSY": "device", "WAIT": "pool"}
+
+# Examples that are saved and resumed, and whose reports are checked.
+AFTER_JOBS = ["adds-5-and-7", "adds-cards-while-a-tape-is-copied"]
 
 # Decks with a fault, and what is told of it besides its name: the line and the column in the job, the text there, and of TooLarge the words and the store.
 FAULTS = [
@@ -138,6 +141,15 @@ def faults_of_programs(facts, report):
         state = [one["state"], one["failure"]] if one["failure"] else [one["state"]]
         if (state, one["orders"], tuple(one["at"])) != (section.state, section.orders, tuple(section.at)):
             yield f"slot {one['slot']}: its end isn't that of its section"
+        yield from faults_of_registers(f"slot {one['slot']}", one, section)
+
+
+def faults_of_registers(name, one, section):
+    """What is wrong with the registers of a program, by its section."""
+    q_stores = {q: tuple(parts) for q, parts in enumerate(one["q"]) if any(parts)}
+    links = [f"{word}/{syllable}" for word, syllable in one["links"]]
+    if (one["nest"], links, q_stores, (one["v"], one["tr"])) != (section.nest, section.links, section.q_stores, tuple(map(bool, section.flags))):
+        yield f"{name}: its registers aren't those of its section"
 
 
 def faults_of_listing(facts, text):
@@ -157,19 +169,71 @@ def faults_of_listing(facts, text):
             yield f"{one['text']}: {one['syllables']} syllables at {one['at']}, where {size} stand"
 
 
+def faults_of_watch(facts, text):
+    """What is wrong with the facts of a watch, by its stops."""
+    head, *lines = text.split("\n")
+    stops = [int(line.split(" ")[1]) for line in lines if line.startswith("STOP ")]
+    if (head, stops) != (f"KDF9 WATCH {facts['slot']} {facts['address']}", facts["stops"]):
+        yield "the stops aren't those of the watch"
+
+
+def faults_of_check(facts, text):
+    """What is wrong with the facts of a check, by its verdict."""
+    if text.split("\n")[1] != (f"NO {facts['entry']}" if facts["answer"] == "NO" else "YES"):
+        yield f"the verdict isn't that of {text!r}"
+
+
+def faults_of_alone(facts, text):
+    """What is wrong with the facts of a program by itself, by its section."""
+    one, number = facts["program"], facts["slot"]
+    if one is None:
+        if f"SLOT {number}\n" in text:
+            yield "there is a program"
+        return
+    section = read_alone(text, number)
+    state = [one["state"], one["failure"]] if one["failure"] else [one["state"]]
+    if (state, one["orders"], tuple(one["at"])) != (section.state, section.orders, tuple(section.at)):
+        yield "its end isn't that of its section"
+    yield from faults_of_registers("alone", one, section)
+
+
+def faults_of_snapshot(facts, text):
+    """What is wrong with the facts of a snapshot, by its text: the job, the words of the stores, and the run."""
+    lines = text.split("\n")
+    words = [tuple(each) for each in facts["words"]]
+    due = [(int(slot), int(address), word) for slot, address, word in (line.split(" ")[1:] for line in lines if re.match(r"STORE \d+ \d+ ", line))]
+    if lines[facts["lines"]] != "JOURNAL":
+        yield f"line {facts['lines'] + 1} isn't JOURNAL"
+    if words != due:
+        yield "the words aren't those of the snapshot"
+    if list(map(entry_line, facts["run"]["entries"])) != lines[facts["lines"] + 1:lines.index("SEAL", facts["lines"])]:
+        yield "the entries aren't those of the snapshot"
+
+
 def faults_of_fault(facts, text):
     """What is wrong with the facts of a fault, by the line that tells it."""
     kind, *rest = text.split()
-    due = [facts["name"], str(facts["line"])] if kind == "JOB" else [str(facts.get("slot")), facts["name"], str(facts.get("offset"))]
-    if kind not in ("JOB", "DECK") or rest != due:
+    if kind == "LARGE":
+        if rest != [str(facts["limit"])]:
+            yield f"the limit isn't that of {text.strip()}"
+        return
+    due = [facts["name"], str(facts["line"])] if kind in ("JOB", "SNAPSHOT") else [str(facts.get("slot")), facts["name"], str(facts.get("offset"))]
+    if kind not in ("JOB", "SNAPSHOT", "DECK") or rest != due:
         yield f"{facts['name']} for {text.strip()}"
-    pattern = rf"^\| `{facts['name']}` \| (.*?) \|$" if kind == "JOB" else rf"^### {facts['number']} {facts['name']}\n\n(.*?)\n\n"
-    found = re.search(pattern, document("JOB.md" if kind == "JOB" else "USERCODE.md"), re.MULTILINE | re.DOTALL)
+    pattern = rf"^\| `{facts['name']}` \| (.*?) \|$" if kind in ("JOB", "SNAPSHOT") else rf"^### {facts['number']} {facts['name']}\n\n(.*?)\n\n"
+    found = re.search(pattern, document("JOB.md" if kind in ("JOB", "SNAPSHOT") else "USERCODE.md"), re.MULTILINE | re.DOTALL)
     if not found or " ".join(found[1].split()) != facts["sentence"]:
         yield f"{facts['name']}: the sentence isn't that of the documents"
 
 
-CHECKS = {"run": faults_of_run, "listing": faults_of_listing, "fault": faults_of_fault}
+CHECKS = {
+    "run": faults_of_run, "listing": faults_of_listing, "fault": faults_of_fault, "watch": faults_of_watch, "check": faults_of_check, "alone": faults_of_alone,
+    "snapshot": faults_of_snapshot,
+}
+
+# How facts are asked for: of each example and case in the first ways, and of the examples in the others too, since the program runs the job for each.
+WAYS = [["run"], *(["asm", str(slot)] for slot in range(4))]
+MORE_WAYS = [["watch", "0", "2"], *(["alone", str(slot)] for slot in (0, 1)), ["save"]]
 
 
 def cases():
@@ -178,8 +242,21 @@ def cases():
         for path in sorted((ROOT / folder).glob("*.job")):
             text = path.read_text(encoding="latin-1")
             if len(text) <= MOST_BYTES:
-                for words in (["run"], *(["asm", str(slot)] for slot in range(4))):
+                for words in WAYS + (MORE_WAYS if folder == "examples" else []):
                     yield f"{path.stem}: {' '.join(words)}", words, text
+    yield from cases_after_jobs()
+
+
+def cases_after_jobs():
+    """Snapshots that are resumed and reports that are checked: as they are, with another word in an entry, with one line left out, and with the front alone."""
+    for name in AFTER_JOBS:
+        job = (ROOT / "examples" / f"{name}.job").read_text(encoding="latin-1")
+        saved, report = answer(["save"], job), job + answer(["run"], job)
+        for words, text in ((["resume"], saved + "ORDERS 3\nENDJOB\n"), (["check"], report)):
+            at = text.index("RAN ", len(job))
+            line = text[at:text.index("\n", at) + 1]
+            for what, changed in (("as it is", text), ("a word more", text[:at] + "RAN 3 1\n" + text[at:]), ("a line less", text[:at] + text[at + len(line):]), ("the job", job)):
+                yield f"{name}: {words[0]}, {what}", words, changed
 
 
 def faults_of_case(case):

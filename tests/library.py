@@ -46,7 +46,7 @@ NO_JOBS = [(b"", "JOB Header 1\n"), (b"\n", "JOB Header 1\n"), (b"\x00" * 1000, 
 # Words and a job, the status, and some of what is told.
 FACTS = [
     (["run"], PLAIN, 0, {"format": "kdf9-facts 1", "kind": "run", "made": 7, "time": 0}),
-    (["asm", "0"], PLAIN, 0, {"kind": "listing", "slot": 0, "start": [1, 3]}),
+    (["asm", "0"], PLAIN, 0, {"kind": "listing", "slot": 0, "start": [1, 0]}),
     (["run"], FAULTY, 3, {"kind": "fault", "of": "deck", "name": "ReferenceMissing", "line": 7, "column": 3, "text": "J2"}),
     (["run"], b"", JOB, {"kind": "fault", "of": "job", "name": "Header", "line": 1, "text": None}),
     (["run"], bytes(range(256)) * 16, JOB, {"kind": "fault", "name": "Header", "line": 1}),

@@ -1,11 +1,12 @@
 -- Facts are handed out whole, or their size is told.
-use Rattle.std.proofs.Common.{◌≡◌, ◌≢◌, ℕ, ◌<◌, ◌≤◌, inl, inr, List, length, take, drop, Some, refl, sym, ap, subst}
+use Rattle.std.proofs.Common.{◌≡◌, ◌≢◌, ℕ, ◌<◌, ◌≤◌, inl, inr, List, length, take, drop, Bool, true, false, Some, refl, sym, ap, subst, ◌∙◌}
 use Rattle.kdf_facts.specs.Run.{IsRunTold}
 use Rattle.kdf_facts.specs.Told.{IsAnswer, OfJob, TellsDeck, TellsFault, TellsJob, called_over}
 use Rattle.kdf_journal.specs.declared.entry.Entry.{Entry}
 use Rattle.kdf_job.specs.Job.{Job}
+use Rattle.kdf_job.specs.Reading.{job}
 use Rattle.kdf_top.specs.Answers.{IsCalledBy, IsCalledFor}
-use Rattle.kdf_top.specs.Commands.{command}
+use Rattle.kdf_top.specs.Commands.{command, is_command}
 use Rattle.kdf_top.specs.declared.command.Command.{Command}
 use Rattle.kdf_top.specs.declared.command.Command.TheVariants.{Run}
 use Rattle.kdf_top.specs.declared.status.Status.{Status}
@@ -17,22 +18,18 @@ use Rattle.kdf_engine.proofs.Handed.{either}
 use Rattle.kdf_engine.proofs.More.{journal_more}
 
 -- ---- nothing failed
-pub answer_read : (given : Status) → IsAnswer given → given ≢ status.ReadFault
-answer_read given is e = subst IsAnswer e is
-
-pub answer_write : (given : Status) → IsAnswer given → given ≢ status.WriteFault
-answer_write given is e = subst IsAnswer e is
-
-pub answer_memory : (given : Status) → IsAnswer given → given ≢ status.Memory
-answer_memory given is e = subst IsAnswer e is
+pub other_answer : (is_command : Bool) (given bad : Status) → (is_command ≡ true → IsAnswer given) → (is_command ≡ false → given ≡ status.Usage)
+    → (IsAnswer bad → ⊥) → status.Usage ≢ bad → given ≢ bad
+other_answer true given bad answer usage none other e = none (subst IsAnswer e (answer refl))
+other_answer false given bad answer usage none other e = other (sym (usage refl) ∙ e)
 
 -- ---- what is told with a service is told with another that gives these answers, too
 module _ (answers more : ℕ → ℕ → Type 0) (part : (n a : ℕ) → answers n a → more n a) where
   run_more : (j : Job) (text : List ℕ) → IsRunTold answers j text → IsRunTold more j text
   run_more j text is = (is.0, journal_more answers more part _ _ is.0 is.1, is.2)
 
-  pub tells_more : (job text : List ℕ) → OfJob (TellsJob answers) job text → OfJob (TellsJob more) job text
-  tells_more job text is = λ few faultless assembles. run_more _ text (is few faultless assembles)
+  pub tells_more : (bytes text : List ℕ) → OfJob (TellsJob answers) bytes text → OfJob (TellsJob more) bytes text
+  tells_more bytes text is = λ few faultless assembles. run_more (job bytes) text (is few faultless assembles)
 
 -- what is called for over a job is called for by the words that run it
 pub called_by_run : (words : List (List ℕ)) (job : List ℕ) (given : Status) → command words ≡ Some Run → given ≡ called_over job
@@ -41,12 +38,14 @@ called_by_run words job given run is = subst (λ c. IsCalledBy exchanged c job g
 
 module _ (words : List (List ℕ)) (job before after text : List ℕ) where
   -- where they fit
-  told_out : (given : Status) → (command words ≡ Some Run → IsCalledFor exchanged words job given) → given ≢ status.ReadFault
+  told_out : (given : Status) → (command words ≡ Some Run → IsCalledFor exchanged words job given)
+      → (is_command words ≡ true → given ≢ status.Usage) → given ≢ status.ReadFault
       → given ≢ status.WriteFault → given ≢ status.Memory → AreFacts words job text
       → take (length text) after ≡ text → drop (length text) after ≡ drop (length text) before
       → IsTold words job before after given (length text)
-  told_out given called read write memory are front beyond = record {
+  told_out given called usage read write memory are front beyond = record {
     answer = λ run. answers_called (IsCalledFor exchanged words job) given _ _ (called run) read write;
+    usage = usage;
     read = read;
     facts = λ h. (text, are, refl, λ k. front);
     short = λ is. absurd (write is);
@@ -60,6 +59,7 @@ module _ (words : List (List ℕ)) (job before after text : List ℕ) where
       → IsTold words job before after status.WriteFault (length text)
   told_short are short same = record {
     answer = λ run. short;
+    usage = λ is e. absurd (cc);
     read = λ e. absurd (cc);
     facts = λ h. (text, are, refl, λ k. absurd (k refl));
     short = λ e. short;
@@ -72,6 +72,7 @@ module _ (words : List (List ℕ)) (job before after text : List ℕ) where
 pub no_facts : (words : List (List ℕ)) (job room : List ℕ) → IsTold words job room room status.Memory 0
 no_facts words job room = record {
   answer = λ run. tt {0};
+  usage = λ is e. absurd (cc);
   read = λ e. absurd (cc);
   facts = λ h. absurd (h refl);
   short = λ e. absurd (cc);
@@ -82,13 +83,16 @@ no_facts words job room = record {
 
 -- in either case
 pub told : (words : List (List ℕ)) (job before after text : List ℕ) (called given : Status) (size : ℕ)
-    → (command words ≡ Some Run → IsCalledFor exchanged words job called) → IsAnswer called → AreFacts words job text
+    → (command words ≡ Some Run → IsCalledFor exchanged words job called) → (is_command words ≡ true → IsAnswer called)
+    → (is_command words ≡ false → called ≡ status.Usage) → AreFacts words job text
     → size ≡ length text → (length text ≤ length before → given ≡ called) → (length text ≤ length before → take (length text) after ≡ text)
     → (length before < length text → given ≡ status.WriteFault) → (length before < length text → after ≡ before)
     → drop (length text) after ≡ drop (length text) before → IsTold words job before after given size
-told words job before after text called given size asked answer are sized fits front short same beyond =
+told words job before after text called given size asked answer usage are sized fits front short same beyond =
+    let never : (bad : Status) → (IsAnswer bad → ⊥) → status.Usage ≢ bad → called ≢ bad = λ bad. other_answer (is_command words) called bad answer usage in
     subst (IsTold words job before after given) (sym sized) (elim (either (length text) (length before)) [
       | inl most ↦ subst (λ s. IsTold words job before after s (length text)) (sym (fits most))
-          (told_out words job before after text called asked (answer_read called answer) (answer_write called answer) (answer_memory called answer) are (front most) beyond)
+          (told_out words job before after text called asked (λ is e. subst IsAnswer e (answer is)) (never status.ReadFault (λ x. x) (λ e. absurd (cc)))
+          (never status.WriteFault (λ x. x) (λ e. absurd (cc))) (never status.Memory (λ x. x) (λ e. absurd (cc))) are (front most) beyond)
       | inr less ↦ subst (λ s. IsTold words job before after s (length text)) (sym (short less)) (told_short words job before after text are less (same less))
     ])

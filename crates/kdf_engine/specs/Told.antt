@@ -1,8 +1,8 @@
 -- What a call comes to that asks for facts: its answer, and what is handed out.
-use Rattle.std.specs.Prelude.{◌≡◌, ◌≢◌, ℕ, ◌<◌, List, length, take, drop, Some}
+use Rattle.std.specs.Prelude.{◌≡◌, ◌≢◌, ℕ, ◌<◌, List, true, length, take, drop, Some}
 use Rattle.kdf_facts.specs.Told.{OfJob, TellsDeck, TellsFault, TellsJob}
 use Rattle.kdf_top.specs.Answers.{Answers, IsCalledFor}
-use Rattle.kdf_top.specs.Commands.{command}
+use Rattle.kdf_top.specs.Commands.{command, is_command}
 use Rattle.kdf_top.specs.declared.command.Command.TheVariants.{Run}
 use Rattle.kdf_top.specs.declared.status.Status.{Status}
 use Rattle.kdf_top.specs.declared.status.Status.TheVariants as status
@@ -27,6 +27,7 @@ AreHandedOut words job text given size =
 -- holds `after`
 pub record IsTold (words : List (List ℕ)) (job before after : List ℕ) (given : Status) (size : ℕ) : Type 0 where
   pub answer : command words ≡ Some Run → Answers (IsCalledFor exchanged words job) given ⊥ (length before < size)
+  pub usage : is_command words ≡ true → given ≢ status.Usage
   pub read : given ≢ status.ReadFault
   pub facts : given ≢ status.Memory → AreHandedOut words job after given size
   pub short : given ≡ status.WriteFault → length before < size

@@ -74,6 +74,7 @@ pub extern "C" fn kdf9_facts(
     // The answer to `run` is the one that the job calls for, unless the room is too small, or there was no memory.
     ensures answer { command (words_in words.now) ≡ Some Run → (given : Given) × (result ≡ code_of given)
         × Answers (IsCalledFor exchanged (words_in words.now) job.now) given ⊥ (length text.old < size.new) }
+    ensures usage { is_command (words_in words.now) ≡ true → result ≢ code_of Status.Usage }
     ensures read { result ≢ code_of Status.ReadFault }
 
     // The facts are told and handed out whole, or not at all.

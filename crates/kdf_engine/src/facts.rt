@@ -1,11 +1,12 @@
 //! What a call tells that asks for facts.
-ghost use Rattle.std.specs.Prelude.{◌≡◌, Some, IfOk, map, string_bytes};
-ghost use Rattle.kdf_facts.specs.Told.{IsAnswer};
+ghost use Rattle.std.specs.Prelude.{◌≡◌, Some, true, false, IfOk, map, string_bytes};
+ghost use Rattle.kdf_facts.specs.Told.{IsAnswer, OfJob, TellsDeck, TellsFault, TellsJob};
 ghost use Rattle.kdf_top.specs.Answers.{IsCalledFor};
-ghost use Rattle.kdf_top.specs.Commands.{command};
+ghost use Rattle.kdf_top.specs.Commands.{command, is_command};
 ghost use Rattle.kdf_top.specs.declared.command.Command.TheVariants.{Run};
+ghost use Rattle.kdf_top.specs.declared.status.Status.TheVariants as status;
 ghost use Rattle.kdf_engine.specs.Service.{exchanged};
-ghost use Rattle.kdf_engine.specs.Told.{AreFacts, IsTold};
+ghost use Rattle.kdf_engine.specs.Told.{IsTold};
 ghost use Rattle.kdf_engine.specs.Words.{words_in};
 
 use crate::answer::{Answer, HALF, hand_out, no_memory};
@@ -43,8 +44,15 @@ fn tell_words(alloc: Global, words: &[String], job: &[u8], room: &mut [u8]) -> A
 fn facts_due(alloc: Global, words: &[String], job: &[u8]) -> Result<(Status, Vec<u8>), AllocError>
     ensures called { command (map string_bytes words.now) ≡ Some Run → IfOk result (λ r.
         IsCalledFor exchanged (map string_bytes words.now) job.now r.0) }
-    ensures answer { IfOk result (λ r. IsAnswer r.0) }
-    ensures facts { IfOk result (λ r. AreFacts (map string_bytes words.now) job.now r.1.items) }
+    ensures answer { is_command (map string_bytes words.now) ≡ true → IfOk result (λ r. IsAnswer r.0) }
+    ensures usage { is_command (map string_bytes words.now) ≡ false → IfOk result (λ r.
+        r.0 ≡ status.Usage) }
+    ensures run { command (map string_bytes words.now) ≡ Some Run → IfOk result (λ r.
+        OfJob (TellsJob exchanged) job.now r.1.items) }
+    ensures deck { command (map string_bytes words.now) ≡ Some Run → IfOk result (λ r.
+        OfJob TellsDeck job.now r.1.items) }
+    ensures fault { command (map string_bytes words.now) ≡ Some Run → IfOk result (λ r.
+        TellsFault job.now r.1.items) }
 {
     // It exchanges the two halves of a word, as that of the program does.
     let service = Service::new(

@@ -34,8 +34,9 @@ OfJob Tells bytes text = length bytes ≤ job_limit → job_fault bytes ≡ None
 abbrev pub called_over : List ℕ → Status
 called_over bytes = called_by (Some Run) bytes
 
--- an answer with which facts are told: nothing failed
+-- an answer to a command where nothing failed
 abbrev pub IsAnswer : Status → Type 0
+IsAnswer status.Usage = ⊥
 IsAnswer status.ReadFault = ⊥
 IsAnswer status.WriteFault = ⊥
 IsAnswer status.Memory = ⊥

@@ -10,10 +10,11 @@ use crate::fault_columns::{column_of, kind_above};
 use crate::json::{count_of, write_text};
 use crate::layout::statement_of;
 use crate::places::{Spot, before, from, line_of, spot_after};
-use crate::sentences::{number_of_job, of_deck, of_job};
+use crate::sentences::{number_of_job, of_deck, of_job, of_snapshot};
 use kdf_fault::Numbered;
-use kdf_job::{JobFault, TEXT_LIMIT};
+use kdf_job::{Job, JobFault, TEXT_LIMIT};
 use kdf_place::assemble;
+use kdf_snapshot::SnapshotFault;
 use kdf_usercode::{Deck, DeckError, DeckFault, read_deck};
 use std::alloc::{AllocError, Global};
 use std::fmt::Write;
@@ -30,6 +31,26 @@ pub struct DeckFound {
     pub slot: u8,
     pub fault: DeckFault,
     pub place: u32,
+}
+
+/// The facts of a text of more bytes than are read.
+pub fn large(alloc: Global, limit: usize) -> Result<String, AllocError> {
+    let mut out = String::new(alloc);
+    write!(
+        out,
+        "{{\"format\":\"kdf9-facts 1\",\"kind\":\"fault\",\"of\":\"text\",\"name\":\"Large\",\"limit\":{limit}}}\n"
+    )?;
+    Ok(out)
+}
+
+/// The text of the deck of a slot.
+pub fn deck_of(job: &Job, p: u8) -> &[u8] {
+    for slot in job.slots.iter() {
+        if slot.p == p {
+            return &slot.deck;
+        }
+    }
+    &[]
 }
 
 /// The facts of a fault in a line of a job.
@@ -86,6 +107,31 @@ fn job_rest(alloc: Global, bytes: &[u8], fault: JobFault, line: u32) -> Result<S
         None => out.push_str("\"column\":1,\"text\":null")?,
     }
     write_sentence(&mut out, of_job(fault))?;
+    out.push_str("}\n")?;
+    Ok(out)
+}
+
+/// The facts of a fault in a line of a snapshot.
+pub fn snapshot_fault(
+    alloc: Global,
+    bytes: &[u8],
+    fault: SnapshotFault,
+    line: u32,
+) -> Result<String, AllocError>
+    requires { length bytes.now ≤ TEXT_LIMIT }
+{
+    let mut out = String::new(alloc);
+    let name = fault.name();
+    let number = fault.number();
+    write!(
+        out,
+        "{{\"format\":\"kdf9-facts 1\",\"kind\":\"fault\",\"of\":\"snapshot\",\"name\":\"{name}\",\"number\":{number},\"line\":{line},\"column\":1,\"text\":"
+    )?;
+    match line_of(bytes, line) {
+        Some(text) => write_text(&mut out, text)?,
+        None => out.push_str("null")?,
+    }
+    write_sentence(&mut out, of_snapshot(fault))?;
     out.push_str("}\n")?;
     Ok(out)
 }

@@ -44,6 +44,11 @@ pub fn write_comma(out: &mut String, i: usize) -> Result<(), AllocError> {
     out.push_str(if i == 0 { "\n" } else { ",\n" })
 }
 
+/// Writes a comma before an item of a list in one line, unless it is the first.
+pub fn write_items(out: &mut String, i: usize) -> Result<(), AllocError> {
+    out.push_str(if i == 0 { "" } else { "," })
+}
+
 /// A length as a number of 32 bits. No list of facts has more items than there are events and calls.
 pub fn count_of(length: usize) -> u32 {
     if length < 4_294_967_295 {

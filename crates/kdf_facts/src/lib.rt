@@ -2,6 +2,8 @@
 //! transfers and what became of each call.
 #![tactic(auto)]
 
+mod alone;
+mod check;
 mod deck_lines;
 mod devices;
 mod endings;
@@ -12,13 +14,18 @@ mod holds;
 mod json;
 mod layout;
 mod listing;
+mod nowhere;
 mod places;
 mod programs;
+mod registers;
+mod resume;
 mod retrace;
 mod run;
 mod running;
 mod sentences;
+mod snapshot;
 mod story;
 mod telling;
+mod watch;
 
 pub use telling::facts;

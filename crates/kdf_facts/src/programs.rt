@@ -4,6 +4,7 @@ use crate::endings::Ending;
 use crate::flights::write_order;
 use crate::json::{write_comma, write_number};
 use crate::layout::Layout;
+use crate::registers::write_registers;
 use kdf_director::Machine;
 use kdf_processor::{Life, Registers};
 use std::alloc::AllocError;
@@ -38,15 +39,17 @@ pub fn write_programs(
         let p = deck.p;
         write!(out, "{{\"slot\":{p}")?;
         if let Some(registers) = machine.seen(p) {
-            write_registers(out, registers, &deck.layout)?;
+            write_place(out, registers, &deck.layout)?;
             write_waiting(out, registers.state, ending.waiting(p), ending)?;
+            write_registers(out, registers)?;
         }
         out.push_str("}")?;
     }
     Ok(())
 }
 
-fn write_registers(
+/// Writes how many orders a program obeyed, whether it is live, and its next order.
+fn write_place(
     out: &mut String,
     registers: &Registers,
     layout: &Layout<'_>,
@@ -58,7 +61,7 @@ fn write_registers(
 }
 
 /// Writes whether a program is live, and how it failed.
-fn write_life(out: &mut String, life: Life) -> Result<(), AllocError> {
+pub fn write_life(out: &mut String, life: Life) -> Result<(), AllocError> {
     match life {
         Life::Live => out.push_str(",\"state\":\"LIVE\",\"failure\":null"),
         Life::Ended => out.push_str(",\"state\":\"ENDED\",\"failure\":null"),

@@ -4,6 +4,7 @@ ghost use Rattle.std.specs.Prelude.{◌≡◌};
 ghost use Rattle.kdf_facts.specs.Faults.{number_of_job};
 
 use kdf_job::JobFault;
+use kdf_snapshot::SnapshotFault;
 use kdf_usercode::DeckFault;
 
 /// The number of a fault of a job, counted from 1, in the order in which a line has them.
@@ -54,6 +55,28 @@ pub fn of_job(fault: JobFault) -> &'static str {
 
 const BAD_MEDIUM: &str =
     "a byte isn't a character, the line is too long for its kind, a block of a tape is empty, `=` follows a device that isn't a tape, the device is a punch or a printer, or the line is in the pool";
+
+/// What a fault of a snapshot says.
+pub fn of_snapshot(fault: SnapshotFault) -> &'static str {
+    match fault {
+        SnapshotFault::NoJournal => "the line after the front job isn't `JOURNAL`",
+        SnapshotFault::BadEntry => BAD_ENTRY,
+        SnapshotFault::NoEnd => {
+            "no line after `SEAL` is `ENDSNAPSHOT`; the line is the one after the last"
+        }
+        SnapshotFault::JournalDiffers => JOURNAL_DIFFERS,
+        SnapshotFault::SealDiffers => SEAL_DIFFERS,
+    }
+}
+
+const BAD_ENTRY: &str =
+    "this line, between `JOURNAL` and `SEAL`, isn't an entry as a journal has it. If `SEAL` is missing, the end of the text counts as one more line";
+
+const JOURNAL_DIFFERS: &str =
+    "this is the first entry that isn't that of the front job's journal. If entries are missing at the end, it is the line `SEAL`";
+
+const SEAL_DIFFERS: &str =
+    "this is the first line after `SEAL` that isn't that of the front job's snapshot. If lines are missing at the end, it is the line `ENDSNAPSHOT`";
 
 /// What a fault of a deck says.
 pub fn of_deck(fault: DeckFault) -> &'static str {
