@@ -137,7 +137,8 @@ def made_library() -> str:
     try:
         return library_file()
     except NoLibrary:
-        progress.say(MADE_NOW)
+        if not engine.hindrance():
+            progress.say(MADE_NOW)
     kept = signal.getsignal(signal.SIGINT)
     if kept is signal.SIG_DFL:
         signal.signal(signal.SIGINT, signal.default_int_handler)
