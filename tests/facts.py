@@ -13,8 +13,8 @@ from schema import Schema
 from toolkit import ROOT, document, job_of_deck
 
 sys.path.insert(0, str(ROOT / "tools"))
+from kdf9.journal import calls_of  # noqa: E402
 from kdf9.report import read_alone, read_report  # noqa: E402
-from kdf9.timeline import calls_of  # noqa: E402
 
 TOLD = os.environ.get("KDF_TOLD", ROOT / "crates" / "kdf_told" / "out" / "kdf_told")
 SCHEMA = Schema(json.loads((ROOT / "docs" / "schema" / "facts.json").read_text(encoding="utf-8")))

@@ -30,6 +30,9 @@ PYTHON = "/usr/bin/python3"
 # What a package of another kind of machine says.
 FOREIGN = re.compile(r"kdf9: this package is for vax, and this machine is \w+: .*\n")
 
+# What a tool says where there is neither the library nor rt.
+WITHOUT_LIBRARY = "kdf9: facts need the library: the machine for other programs isn't made yet, and there is no rt on this machine to make it with\n"
+
 # Makes a root of what a package has in it and of the system's own commands, and runs a script in that. The system's programs are in /bin, so /usr is the package's own.
 ENTER = """
 set -e
@@ -108,6 +111,9 @@ def unpacked_runs(work: pathlib.Path, tar: pathlib.Path, path: str) -> Cases:
         told = run(["./kdf9", *words.split()], own, PATH=path)
         good = told.status == status and out in told.out and err in told.err and "./kdf9" not in told.out + told.err
         yield f"{words} where it is unpacked", None if good else f"{told}"
+    (own / "crates/kdf9/out/engine/libkdf9.so").rename(work / "libkdf9.so")
+    told = run(["./kdf9", "listing", f"examples/{FIRST}.job"], own, PATH=path, KDF9_LIBRARY="")
+    yield "listing without the library", None if told == Run(1, "", WITHOUT_LIBRARY) else f"{told}"
     page = run(["./kdf9", "page"], own, PATH=path)
     has_page = (own / "kdf9.html").is_file()
     good = page.out == (own / "kdf9.html").read_text(encoding="utf-8") if has_page else page.status == 1 and page.err.count("\n") == 1

@@ -59,14 +59,15 @@ CHECKED = re.compile(rb"so far: (\d+) of (\d+) functions checked")
 END_OF_LOG, PAUSE = 4096, 0.2
 
 
+NO_RT = "the machine for other programs isn't made yet, and there is no rt on this machine to make it with"
+
+
 class NoEngine(Exception):
     """Why the machine can't be made."""
 
 
 def kit():
-    """The folder of the kit, or None if there is no kit."""
-    if not shutil.which("rt"):
-        return None
+    """The folder of the kit."""
     return pathlib.Path(subprocess.run(["rt", "doc"], capture_output=True, text=True, check=True).stdout.strip()).parent
 
 
@@ -77,23 +78,16 @@ def libraries():
 
 def sums():
     """One checksum of all the files from which the machine is made."""
+    files = [pathlib.Path(__file__), *(file for name in [*libraries(), CRATE] for file in sorted((CRATES / name / "src").rglob("*.rt")))]
     whole = hashlib.sha256()
-    for file in sources():
+    for file in files:
         whole.update(file.read_bytes())
     return whole.hexdigest()
 
 
-def sources():
-    """The files from which the machine is made."""
-    return [pathlib.Path(__file__), *(file for name in [*libraries(), CRATE] for file in sorted((CRATES / name / "src").rglob("*.rt")))]
-
-
 def is_current(made=MODULE):
-    """Whether this file is there, and was made from the sources as they are now. If none of them is newer, none has changed. A package has only some of the files."""
-    if not (made.is_file() and SUMS.is_file()):
-        return False
-    at = SUMS.stat().st_mtime
-    return all(file.stat().st_mtime < at for file in sources()) or SUMS.read_text(encoding="ascii") == sums()
+    """Whether this file is there, and was made from the sources as they are now. A package has only some of the files."""
+    return made.is_file() and SUMS.is_file() and SUMS.read_text(encoding="ascii") == sums()
 
 
 def engine():
@@ -143,12 +137,24 @@ def bring_up_to_date(wanted):
         SUMS.write_text(now, encoding="ascii")
 
 
+def hindrance():
+    """Why the machine can't be made here, or None. The libraries that the program uses are built with it; the others are built when they are needed."""
+    if not shutil.which("rt"):
+        return NO_RT
+    own = next((name for name in unbuilt() if name in crates_below(PROGRAM)), None)
+    return own and f"the library {own} isn't built here, since the program was built elsewhere; cd crates/kdf9 && rt run -- make 0 builds all"
+
+
+def unbuilt():
+    """The libraries on which the machine is built that aren't built yet."""
+    return [name for name, folder in libraries().items() if not (folder / f"{name}.rlib").exists()]
+
+
 def build_missing():
-    """Proves the libraries of the machine that the program doesn't use, if they aren't built. Those that it uses are built with it."""
-    missing = [name for name, folder in libraries().items() if not (folder / f"{name}.rlib").exists()]
-    own = next((name for name in missing if name in crates_below(PROGRAM)), None)
-    if own:
-        raise NoEngine(f"the library {own} isn't built here, since the program was built elsewhere; cd crates/kdf9 && rt run -- make 0 builds all")
+    """Proves and builds the libraries that aren't built yet."""
+    why, missing = hindrance(), unbuilt()
+    if why:
+        raise NoEngine(why)
     if missing and subprocess.run([sys.executable, ROOT / "tools" / "build", "--library"], stdin=subprocess.DEVNULL, check=False).returncode:
         raise NoEngine(f"the machine for other programs isn't made, since {missing[0]} isn't built")
 
@@ -156,9 +162,9 @@ def build_missing():
 @contextlib.contextmanager
 def a_room():
     """A room to make the machine in, which goes when it is done. There is one at a time."""
+    if not shutil.which("rt"):
+        raise NoEngine(NO_RT)
     found = kit()
-    if found is None:
-        raise NoEngine("the machine for other programs isn't made yet, and there is no rt on this machine to make it with")
     OUT.mkdir(parents=True, exist_ok=True)
     with open(OUT / "lock", "w", encoding="ascii") as lock:
         try:

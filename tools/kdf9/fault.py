@@ -38,7 +38,7 @@ def fault_of(answer: Answer, lines: List[str], command: str = saved.RUN) -> told
     is_further = kind == "JOB" and command == saved.RESUME and int(words[1]) > front
     job = saved.joined(lines) if is_further else saved.Joined(lines[:front], range(1, front + 1))
     fault = told.told_in("\n".join(job.lines), "run")
-    return told.Fault(**{**vars(fault), "line": [*job.numbers, len(lines) + 1][fault.line - 1]})
+    return type(fault)(**{**vars(fault), "line": [*job.numbers, len(lines) + 1][fault.line - 1]})
 
 
 def fault_of_snapshot(name: str, line: int, lines: List[str]) -> told.Fault:

@@ -17,7 +17,7 @@ RUN, FACTS = "kdf9_run", "kdf9_facts"
 NO_ROOM, NO_MEMORY = 6, 7
 
 # The bytes of the room that is tried first for a text.
-FIRST_ROOM = 1 << 16
+FIRST_ROOM = 1 << 18
 
 # What is said before the library is made.
 MADE_NOW = "facts come from the machine as a library, which is made now, this once; that takes about a minute where the program was built here"
@@ -137,7 +137,8 @@ def made_library() -> str:
     try:
         return library_file()
     except NoLibrary:
-        progress.say(MADE_NOW)
+        if not engine.hindrance():
+            progress.say(MADE_NOW)
     kept = signal.getsignal(signal.SIGINT)
     if kept is signal.SIG_DFL:
         signal.signal(signal.SIGINT, signal.default_int_handler)

@@ -47,15 +47,21 @@ BESIDES = {"Fault": {"subject": property(subject)}, "Run": {"program": program}}
 
 
 class Classes:
-    """The classes by their names, and what makes facts of each kind of what JSON has."""
+    """The classes by their names."""
 
     def __init__(self) -> None:
         self.schema = json.loads((ROOT / "docs" / "schema" / "facts.json").read_text(encoding="utf-8"))["definitions"]
         self.known: Dict[str, Tuple[type, Reader]] = {}
         faults = [self.schema[f"fault of a {what}"]["properties"] for what in ("job", "deck", "text")]
         fault = {"properties": {member: one for fault in faults for member, one in fault.items()}, "required": []}
-        kinds = {"run": self.schema["run"], "listing": self.schema["listing"], "fault": fault}
-        self.readers = {kind: self.class_of(kind.capitalize(), schema)[1] for kind, schema in kinds.items()}
+        self.kinds = {"Run": self.schema["run"], "Listing": self.schema["listing"], "Fault": fault}
+
+    def of(self, name: str) -> Tuple[type, Reader]:
+        """The class of this name, and what makes it of an object. It is made when it is first needed."""
+        for kind in [name] if name in self.kinds else self.kinds:
+            if kind not in self.known:
+                self.class_of(kind, self.kinds[kind])
+        return self.known[name]
 
     def class_of(self, name: str, schema: Dict[str, Any]) -> Tuple[type, Reader]:
         """The class of this name for the objects of a schema, and what makes it of such an object."""
@@ -102,9 +108,10 @@ classes = functools.lru_cache(maxsize=None)(Classes)
 
 def __getattr__(name: str) -> type:
     """The class of this name."""
-    if name.startswith("_") or name not in classes().known:
-        raise AttributeError(f"module {__name__!r} has no attribute {name!r}")
-    return classes().known[name][0]
+    try:
+        return classes().of(name)[0]
+    except KeyError:
+        raise AttributeError(f"module {__name__!r} has no attribute {name!r}") from None
 
 
 def alone(stars: "re.Match[bytes]") -> bytes:
@@ -116,7 +123,7 @@ def told_of(job: Text, *words: str) -> Any:
     """What the machine tells of a job by these words, which are `run`, or `asm` and a slot: a Run or a Listing, or a Fault."""
     told = library.facts(STARS.sub(alone, library.as_bytes(job)) if words[0] == "asm" else job, words)
     del told["format"]
-    return classes().readers[told.pop("kind")](told)
+    return classes().of(told.pop("kind").capitalize())[1](told)
 
 
 def is_fault(told: Any) -> bool:
