@@ -22,7 +22,7 @@ class Tool(NamedTuple):
     @property
     def usage(self) -> str:
         """How the tool is used, in one line."""
-        return f"{NAME} {self.name} {self.arguments}"
+        return f"{NAME} {self.name} {self.arguments}".rstrip()
 
     @property
     def shown_example(self) -> str:
@@ -95,6 +95,16 @@ TOOLS = {tool.name: tool for tool in (
         "replay", "JOB > FILE",
         "Writes the same page with a job in it, which opens at the run of that job.",
         "./kdf9 replay examples/reads-tape.job > kdf9.html",
+    ),
+    Tool(
+        "lsp", "[--faults FILE ..]",
+        "Serves editors: faults as they are typed, help, names and form of decks and jobs; or, with --faults, writes the faults of files.",
+        "./kdf9 lsp --faults examples/missing-reference.job",
+    ),
+    Tool(
+        "dap", "",
+        "Serves editors that debug a job: breakpoints, steps forward and back, watched words.",
+        "printf 'Content-Length: 51\\r\\n\\r\\n{\"seq\":1,\"type\":\"request\",\"command\":\"initialize\"}' | ./kdf9 dap",
     ),
     Tool(
         "lib", "FOLDER",
