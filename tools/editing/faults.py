@@ -27,6 +27,12 @@ LONGEST_HINTED = 100_000
 # How many other numbers are offered for one that a deck doesn't have.
 MOST_OFFERED = 4
 
+# The statements with which a hint begins.
+IN_HINT = re.compile(r"((?:[A-Z0-9+*=-]+;? )+)(?=[a-z])")
+
+# A line that no deck has, but a job.
+OF_JOB = re.compile(r"^(?:SERVICE|DEVICE \d+ .*|SHOW \d+ \d+|SLOT \d|POOL|SCHEDULE)$", re.MULTILINE)
+
 # A piece of a statement, after which a `;` may be missing.
 PIECE = re.compile(r"[^ \n]+")
 MOST_PIECES = 16
@@ -126,14 +132,16 @@ def fixes_of(text: Text, fault: Fault) -> List[Fix]:
     except (BadInput, IndexError, KeyError, TypeError, ValueError):
         offered = []
     good = [fix for fix in offered if mends(text, fault, fix)]
-    return list({fix.title: fix for fix in good}.values())
+    return list({fix.title: fix for fix in reversed(good)}.values())[::-1]
 
 
 def mends(text: Text, fault: Fault, fix: Fix) -> bool:
     """Whether a fault is gone after the edits of a fix."""
     whole_text = edited(text.text, fix.edits, 0, len(text.text))
-    after = faults_of(Text(whole_text, text.is_job))
-    return all((each.name, each.start) != (fault.name, fault.start) and each.start >= fault.start for each in after)
+    after = [(each.name, each.start) for each in faults_of(Text(whole_text, text.is_job))]
+    others = [(each.name, each.start) for each in faults_of(text) if each != fault]
+    moved = fault.start + sum(len(new) - (end - start) for start, end, new in fix.edits if start <= fault.start)
+    return not {(fault.name, fault.start), (fault.name, moved)} & {*after} and all(each in others or each[1] >= fault.start for each in after)
 
 
 def offered_in_deck(text: Text, fault: Fault) -> Iterator[Fix]:
@@ -184,7 +192,8 @@ def of_statement(deck: str, facts: dict, statement: Optional[Statement]) -> Offe
     if re.match(r"\d+:", statement.text):
         yield "Write ; for :", [(statement.start + text.index(":"), statement.start + text.index(":") + 1, ";")]
     if facts["name"] == "UnknownOrder":
-        for other in list(meant(statement.text))[:3]:
+        elsewhere = [IN_HINT.match(said) for names, said in table("names")["elsewhere"] if re.fullmatch(names, statement.text)]
+        for other in [found[1].rstrip("; ") for found in elsewhere if found] + list(meant(statement.text))[:3]:
             yield f"Write {other}", [(statement.start, statement.end, other)]
     pieces = list(PIECE.finditer(without_comments(deck)[statement.start:statement.end]))[:MOST_PIECES]
     for piece in reversed(pieces[:-1]):
@@ -300,6 +309,10 @@ def offered_in_job(text: Text, fault: Fault) -> Iterator[Fix]:
     number = fault.facts["line"] - 1
     if number >= len(read_lines(text.text)):
         before = "" if text.text.endswith("\n") or not text.text else "\n"
+        deck = text.decks[-1] if text.decks else None
+        below = OF_JOB.search(text.text, deck.start) if deck and deck.end == len(text.text) else None
+        if below:
+            yield Fix("Write ENDDECK", [(below.start(), below.start(), "ENDDECK\n")])
         for word in ("ENDDECK", "ENDJOB"):
             yield Fix(f"Write {word}", [(len(text.text), len(text.text), f"{before}{word}\n")])
         yield from ([Fix(f"Write {HEADER}", [(0, 0, f"{HEADER}\n")])] if fault.name == "Header" else [])

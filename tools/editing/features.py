@@ -1,8 +1,9 @@
 """What an editor asks of a place in a text besides what is said of it: where a name is defined and used, what it may be called, what may be written, and outlines."""
+import functools
 import re
 from typing import Dict, Iterator, List, NamedTuple, Optional, Tuple
 
-from kdf9.deck import CONSTANT, COMMENT
+from kdf9.deck import COMMENT, CONSTANT, Statement
 from kdf9.tables import lines as rows_of_lines
 from kdf9.tables import table
 
@@ -245,12 +246,24 @@ def symbol_of(text: Text, name: str, kind: int, whole: Tuple[int, int], own: Tup
 def tokens(text: Text, start: int, end: int) -> List[int]:
     """The tokens between two places, as the protocol has them: five numbers each, relative to the token before."""
     found, line, character = [], 0, 0
+    numbers, is_plain, at = {kind: number for number, kind in enumerate(TOKENS)}, text.text.isascii(), text.line_of(start)
+    starts = [*text.starts, len(text.text) + 1]
     for first, last, kind in sorted(tokens_of(text, start, end)):
-        for begins, ends in parts_by_line(text, first, last):
-            at, until = text.position(begins), text.position(ends)
-            found += [at["line"] - line, at["character"] - (character if at["line"] == line else 0), until["character"] - at["character"], TOKENS.index(kind), 0]
-            line, character = at["line"], at["character"]
+        while starts[at + 1] <= first:
+            at += 1
+        parts = [(first, last)] if last < starts[at + 1] else parts_by_line(text, first, last)
+        for begins, ends in parts:
+            on = at if begins < starts[at + 1] else text.line_of(begins)
+            column, size = (begins - starts[on], ends - begins) if is_plain else columns(text, begins, ends)
+            found += (on - line, column - character if on == line else column, size, numbers[kind], 0)
+            line, character = on, column
     return found
+
+
+def columns(text: Text, start: int, end: int) -> Tuple[int, int]:
+    """Where a part of a line begins, and how long it is, as the editor counts."""
+    first, last = text.position(start)["character"], text.position(end)["character"]
+    return first, last - first
 
 
 def parts_by_line(text: Text, first: int, last: int) -> Iterator[Tuple[int, int]]:
@@ -271,27 +284,35 @@ def tokens_of(text: Text, start: int, end: int) -> Iterator[Tuple[int, int, str]
         for found in COMMENT.finditer(names.deck):
             if start <= deck.start + found.end() and deck.start + found.start() <= end:
                 yield deck.start + found.start(), deck.start + found.end(), "comment"
-        for statement in names.statements:
-            if deck.start + statement.end >= start and deck.start + statement.start <= end:
-                yield from tokens_of_statement(names, statement, deck.start)
+        for statement in names.between(start - deck.start, end - deck.start):
+            yield from tokens_of_statement(names, statement, deck.start)
     if text.is_job:
         yield from tokens_of_lines(text, start, end)
 
 
-def tokens_of_statement(names: Names, statement: object, by: int) -> Iterator[Tuple[int, int, str]]:
-    """The tokens of a statement: its numbers, and what stands between them."""
-    kind = class_of(statement.text)
-    constant = CONSTANT.match(statement.text)
+@functools.lru_cache(maxsize=1 << 14)
+def parts_of(text: str) -> Tuple[Tuple[int, int, str], ...]:
+    """The tokens of a statement of this text: its numbers, and what stands between them."""
+    kind, constant = class_of(text), CONSTANT.match(text)
     if kind is None and not constant:
+        return ()
+    if constant and text[constant.end():].startswith("P"):
+        return (0, constant.end(), "variable"), (constant.end(), len(text), "string")
+    if kind == REFERENCE:
+        return ((0, len(text), "label"),)
+    name = "variable" if constant else KINDS.get(kind, "function")
+    return tuple((each.start(), each.end(), "number" if each[0].isdecimal() else name) for each in re.finditer(r"\d+|[^\d/]+", text))
+
+
+def tokens_of_statement(names: Names, statement: Statement, by: int) -> Iterator[Tuple[int, int, str]]:
+    """The tokens of a statement of a deck that begins here. Where spaces or comments stand in one, each of its characters is one."""
+    parts = parts_of(statement.text)
+    if statement.end - statement.start == len(statement.text):
+        start = by + statement.start
+        for first, last, what in parts:
+            yield start + first, start + last, what
         return
     places = places_of(names.deck, statement)
-    name = "variable" if constant else KINDS.get(kind, "function")
-    if constant and statement.text[constant.end():].startswith("P"):
-        parts = [(0, constant.end(), "variable"), (constant.end(), len(statement.text), "string")]
-    elif kind == REFERENCE:
-        parts = [(0, len(statement.text), "label")]
-    else:
-        parts = [(each.start(), each.end(), "number" if each[0].isdecimal() else name) for each in re.finditer(r"\d+|[^\d/]+", statement.text)]
     for first, last, what in parts:
         if places[last - 1] - places[first] == last - 1 - first:
             yield by + places[first], by + places[last - 1] + 1, what

@@ -3,6 +3,7 @@
 Headings, references and declarations begin in the first column, and other statements two columns further; a statement that goes on in a further line begins four columns in.
 A comment keeps its column where there is room, and its text always.
 """
+import functools
 import re
 from typing import Iterator, List, NamedTuple, Tuple
 
@@ -11,7 +12,8 @@ from kdf9.deck import DECLARATION, OPENING
 INDENT, FURTHER = 2, 4
 
 # The parts of a deck's text: a comment, the end of a statement or of a line, a gap, or what else there is.
-PIECE = re.compile(r"\([^)]*\)?|;|\n|[^\S\n]+|[^\s;()]+|\)")
+PIECE = re.compile(r"\([^)]*\)?|;|\n|[ \t]+|[^ \t\n;()]+|\)")
+GAP = re.compile(r"(\([^)]*\)?)|[ \t\n]+")
 
 # Where a space stands in a statement, as the documents write it.
 SPACES = [
@@ -28,6 +30,7 @@ class Piece(NamedTuple):
     column: int
 
 
+@functools.lru_cache(maxsize=1 << 14)
 def spaced(statement: str) -> str:
     """A statement without spaces as the documents write it."""
     for where, with_space in SPACES:
@@ -39,7 +42,7 @@ def spaced(statement: str) -> str:
 
 def bare(deck: str) -> str:
     """A deck without its spaces and newlines, but with those of its comments."""
-    return "".join(piece for piece in PIECE.findall(deck) if piece.strip())
+    return GAP.sub(r"\1", deck)
 
 
 def formatted(deck: str) -> str:
@@ -63,7 +66,7 @@ def lines_of(deck: str) -> Iterator[Tuple[List[Piece], bool]]:
             yield line, goes_on
             line, column, goes_on = [], 0, is_open
             continue
-        if text.strip():
+        if text[0] not in " \t":
             line.append(Piece(text[0] == "(", text, column))
             is_open = is_open if text[0] == "(" else text != ";"
         column += len(text)

@@ -20,7 +20,7 @@ JUMP = re.compile(r"JS?(\d+)?(P\d+)?")
 STORE = re.compile(r"(?:=|SETA)?(?:(V\d+)(P\d+)?|(Y[A-Z]?\d+))(?:M\d+Q?)?\Z")
 IN_CONSTANT = re.compile(r"A(?:(V\d+)(P\d+)?|(Y[A-Z]?\d+))(?=/|\Z)")
 
-LETTER_OF_Y = re.compile(r"(?<=Y)[A-Z](?=\d)")
+LETTER_OF_Y = re.compile(r"\A(=?|SETA)Y[A-Z](?=\d)")
 
 # The group of orders, or another class, by the form of a statement.
 CLASSES = {form: name for name, found in classes().items() for form in found}
@@ -69,7 +69,7 @@ def part_name(number: object) -> str:
 @functools.lru_cache(maxsize=1 << 14)
 def form_of(text: str) -> str:
     """The form of a statement: with a 0 for each of its numbers. A store of any Y has the form of one of Y."""
-    return re.sub(r"\d+", "0", LETTER_OF_Y.sub("", text))
+    return re.sub(r"\d+", "0", LETTER_OF_Y.sub(r"\1Y", text))
 
 
 def class_of(text: str) -> Optional[str]:
@@ -107,6 +107,11 @@ class Names:
         """The index of the statement at a place, or that ends there; None if there is none."""
         at = bisect_right(self._starts, offset) - 1
         return at if at >= 0 and offset <= self.statements[at].end else None
+
+    def between(self, start: int, end: int) -> List[Statement]:
+        """The statements that have a place between two."""
+        first = max(0, bisect_right(self._starts, start) - 1)
+        return self.statements[first:bisect_right(self._starts, end)]
 
     def part_at(self, index: int) -> Optional[Part]:
         """The part in which the statement of this index stands; None above the first."""
