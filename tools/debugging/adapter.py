@@ -1,7 +1,7 @@
 """The debug adapter: what an editor asks of a run of a job. Programs are threads, and time is the number of calls that were made.
 
-A breakpoint at the beginning of a word is found by the command watch, however long the run is. For other statements, and for words that are watched, the run is cut
-after one call after another; after MOST_SEARCHED calls the run stops, and goes on from there.
+A breakpoint at the beginning of a word, or on the straight way from there, is found by the command watch, however long the run is. For other statements, and for words
+that are watched, the run is cut after one call after another; after MOST_SEARCHED calls the run stops, and goes on from there.
 """
 import re
 from typing import BinaryIO, Callable, Dict, Iterator, List, NamedTuple, Optional, Tuple
@@ -16,7 +16,7 @@ from kdf9.program import BadInput, read_text
 from kdf9.report import Section
 from kdf9.words import whole
 
-MOST_SEARCHED = 4000
+MOST_SEARCHED = 500
 
 # How many lines of the journal are written at once.
 MOST_LINES = 500
@@ -156,7 +156,7 @@ class Adapter:
                 told.append({"verified": False, "line": asked["line"], "message": "no order of a deck is here or below"})
             else:
                 self._breakpoints.append(found)
-                note = {} if found.place % WORD == 0 else {"message": f"this doesn't begin a word, so it is looked for {MOST_SEARCHED} calls at a time"}
+                note = {"message": f"a jump leads here, and it doesn't begin a word: it is looked for {MOST_SEARCHED} calls at a time"} if self._is_unknown(found) else {}
                 told.append({"verified": True, **self._shown_place(found), "source": self._shown_source(), **note})
         return {"breakpoints": told}
 
@@ -284,22 +284,25 @@ class Adapter:
             self._stop(bound)
 
     def _known_hits(self) -> Iterator[Hit]:
-        """Where the run stops at breakpoints that begin a word, and where programs fail."""
+        """Where the run stops at breakpoints of which that is known without a search, and where programs fail."""
         for each in self._breakpoints:
-            if each.place % WORD == 0:
-                yield from (Hit(call, each.slot, "breakpoint") for call in self._history.arrivals(each.slot, each.place // WORD))
+            yield from (Hit(call, each.slot, "breakpoint") for call in self._history.arrivals_at(each.slot, each.place) or [])
         if self._stops_on_failure:
             yield from (Hit(call, slot, "exception", f"slot {slot} failed: {kind}") for call, slot, kind in self._history.failures())
 
+    def _is_unknown(self, place: Place) -> bool:
+        """Whether only a search tells when a program comes to a place."""
+        return self._history.programs[place.slot].way_to(place.place) is None
+
     def _is_searched(self) -> bool:
         """Whether there is something for which the run is cut after each call."""
-        return bool(self._watched) or any(each.place % WORD for each in self._breakpoints)
+        return bool(self._watched) or any(map(self._is_unknown, self._breakpoints))
 
     def _searched(self, calls: range) -> Iterator[Hit]:
         """Where the run stops between the first of these calls and the last, at other breakpoints and watched words."""
         if not self._is_searched() or not calls:
             return
-        others = [each for each in self._breakpoints if each.place % WORD]
+        others = [each for each in self._breakpoints if self._is_unknown(each)]
         before = None
         for call, sections in self._history.states(calls):
             if before is not None:

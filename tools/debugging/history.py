@@ -3,7 +3,7 @@ import functools
 import os
 from bisect import bisect_left, bisect_right
 from concurrent.futures import ThreadPoolExecutor
-from typing import Dict, Iterator, List, NamedTuple, Optional, Tuple
+from typing import Dict, Iterator, List, NamedTuple, Optional, Set, Tuple
 
 from editing.facts import facts_of
 from editing.image import Image
@@ -16,6 +16,7 @@ from kdf9.program import ENCODING, BadInput, how_ended
 from kdf9.report import HEADER, Section, read_report
 from kdf9.schedule import cut_before_next, job_with, read_schedule
 from kdf9.timeline import timed
+from kdf9.words import whole
 
 # How many cuts are made at once, and how many states are kept.
 AT_ONCE, KEPT = 50, 256
@@ -49,6 +50,8 @@ class Program:
         self.orders = [Place(slot.number, WORD * row["at"][0] + row["at"][1], row["line"], row["column"], " ".join(row["text"].split())) for row in rows if row["syllables"]]
         self._by_place = {order.place: order for order in self.orders}
         self._places = [order.place for order in self.orders]
+        self._sizes = [row["syllables"] for row in rows if row["syllables"]]
+        self._entries = self._entries_of(listing)
         head = next(row for row in rows if row["text"].startswith("PROGRAM"))
         self._first = Place(slot.number, 0, head["line"], head["column"], "(to the main part)")
 
@@ -60,6 +63,27 @@ class Program:
         if place == 0 or at < 0:
             return self._first
         return self.orders[at]._replace(place=place, text="(no statement)")
+
+    def _entries_of(self, listing: dict) -> Optional[Set[int]]:
+        """The places to which the program may jump: its references, and where a part returns to. It is None if links are made otherwise."""
+        texts = [order.text.replace(" ", "") for order in self.orders]
+        if "=LINK" in texts:
+            return None
+        further = {3 * whole(text[4:]) for text in texts if text.startswith("EXIT")}
+        calls = [order.place for order, text in zip(self.orders, texts) if text.startswith("JS")]
+        return {WORD * word + syllable for word, syllable in (row["at"] for row in listing["references"])} | {place + more for place in calls for more in further}
+
+    def way_to(self, place: int) -> Optional[Tuple[int, int]]:
+        """A place that begins a word and from which the program always comes to this one, with the number of orders between; or None."""
+        at = bisect_left(self._places, place)
+        for back, index in enumerate(range(at, -1, -1)):
+            here = self._places[index]
+            if here % WORD == 0:
+                return here, back
+            before = self._places[index - 1] + self._sizes[index - 1] if index else -1
+            if self._entries is None or here in self._entries or before != here or self.orders[index - 1].text[0] == "J" or self.orders[index - 1].text.startswith("EXIT"):
+                return None
+        return None
 
     def orders_at(self, calls: int) -> int:
         """How many orders the program has obeyed after this number of calls."""
@@ -131,6 +155,17 @@ class History:
         orders = [int(line[len("STOP "):]) for line in text[:end].split("\n")[1:]]
         found = [self.programs[slot].call_of(order) for order in orders]
         return ([0] if word == 0 else []) + [call for call in found if call]
+
+    def arrivals_at(self, slot: int, place: int) -> Optional[List[int]]:
+        """The calls after which the next order of a slot's program is at this place; None where only a search can tell."""
+        program = self.programs[slot]
+        way = program.way_to(place)
+        if way is None:
+            return None
+        start, back = way
+        found = [program.call_of(program.orders_at(call) + back) for call in self.arrivals(slot, start // WORD)]
+        # A program that fails or ends on the way doesn't come there; no other can.
+        return [call for call in found if call is not None and (call != found[-1] or self.sections(call)[slot].place == place)]
 
     def failures(self) -> List[Tuple[int, int, str]]:
         """The calls with which programs failed, each with the slot and the kind."""
