@@ -46,12 +46,14 @@ _kdf9() {
         report) places=() options='--help' with_word='' ;;
         page) places=() options='--help' with_word='' ;;
         replay) places=(job) options='--help' with_word='' ;;
+        lsp) places=() options='--help --faults' with_word='--faults' ;;
+        dap) places=() options='--help' with_word='' ;;
         lib) places=(folder) options='--help' with_word='' ;;
         clean) places=() options='--help --show' with_word='' ;;
         package) places=(folder) options='--help' with_word='' ;;
     esac
     if [ "$COMP_CWORD" = 1 ]; then
-        _kdf9_place 'run alone asm make save resume check watch explain steps listing schedule same explore stats study picture json report page replay lib clean package --help --version'
+        _kdf9_place 'run alone asm make save resume check watch explain steps listing schedule same explore stats study picture json report page replay lsp dap lib clean package --help --version'
         return
     fi
     for ((at = 2; at < COMP_CWORD; at++)); do

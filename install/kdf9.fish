@@ -25,7 +25,7 @@ function __kdf9_at
     for word in (commandline -opc)[3..-1]
         if test $is_of_option = yes
             set is_of_option no
-        else if contains -- $word --at --watch --after --every --speed --speeds --calls --runs --out --part
+        else if contains -- $word --at --watch --after --every --speed --speeds --calls --runs --out --part --faults
             set is_of_option yes
         else if not string match -q -- '-?*' $word
             set places (math $places + 1)
@@ -56,6 +56,8 @@ complete -c kdf9 -n __kdf9_first -a json -d 'Writes a report as JSON.'
 complete -c kdf9 -n __kdf9_first -a report -d 'Writes the report that a JSON text is.'
 complete -c kdf9 -n __kdf9_first -a page -d 'Writes the machine, an editor and the examples as one page for a browser.'
 complete -c kdf9 -n __kdf9_first -a replay -d 'Writes the same page with a job in it, which opens at the run of that job.'
+complete -c kdf9 -n __kdf9_first -a lsp -d 'Serves editors: faults as they are typed, help, names and form of decks and jobs; or, with --faults, writes the faults of files.'
+complete -c kdf9 -n __kdf9_first -a dap -d 'Serves editors that debug a job: breakpoints, steps forward and back, watched words.'
 complete -c kdf9 -n __kdf9_first -a lib -d 'Writes the machine as a library for programs in C, Python and JavaScript, and says how to use it.'
 complete -c kdf9 -n __kdf9_first -a clean -d 'Gives back the disk that only makes the next proof shorter; the program and the page stay.'
 complete -c kdf9 -n __kdf9_first -a package -d 'Makes packages of the program, the tools and the documents, as a .tar.gz and a .deb.'
@@ -116,6 +118,9 @@ complete -c kdf9 -n '__kdf9_is report' -l help -d 'says this, and ends'
 complete -c kdf9 -n '__kdf9_is page' -l help -d 'says this, and ends'
 complete -c kdf9 -n '__kdf9_at replay 0' -k -a '(__fish_complete_suffix .job)'
 complete -c kdf9 -n '__kdf9_is replay' -l help -d 'says this, and ends'
+complete -c kdf9 -n '__kdf9_is lsp' -l help -d 'says this, and ends'
+complete -c kdf9 -n '__kdf9_is lsp' -l faults -x -d 'writes the faults of these jobs and decks, and serves nobody; - is standard input'
+complete -c kdf9 -n '__kdf9_is dap' -l help -d 'says this, and ends'
 complete -c kdf9 -n '__kdf9_at lib 0' -k -a '(__fish_complete_directories)'
 complete -c kdf9 -n '__kdf9_is lib' -l help -d 'says this, and ends'
 complete -c kdf9 -n '__kdf9_is clean' -l help -d 'says this, and ends'

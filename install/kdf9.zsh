@@ -32,6 +32,8 @@ _kdf9() {
         'report:Writes the report that a JSON text is.'
         'page:Writes the machine, an editor and the examples as one page for a browser.'
         'replay:Writes the same page with a job in it, which opens at the run of that job.'
+        'lsp:Serves editors: faults as they are typed, help, names and form of decks and jobs; or, with --faults, writes the faults of files.'
+        'dap:Serves editors that debug a job: breakpoints, steps forward and back, watched words.'
         'lib:Writes the machine as a library for programs in C, Python and JavaScript, and says how to use it.'
         'clean:Gives back the disk that only makes the next proof shorter; the program and the page stay.'
         'package:Makes packages of the program, the tools and the documents, as a .tar.gz and a .deb.'
@@ -64,6 +66,8 @@ _kdf9() {
                 report) _arguments '--help[says this, and ends]' ;;
                 page) _arguments '--help[says this, and ends]' ;;
                 replay) _arguments '1:job:_files -g "*.job"' '--help[says this, and ends]' ;;
+                lsp) _arguments '--help[says this, and ends]' '--faults[writes the faults of these jobs and decks, and serves nobody; - is standard input]:FILE: ' ;;
+                dap) _arguments '--help[says this, and ends]' ;;
                 lib) _arguments '1:folder:_files -/' '--help[says this, and ends]' ;;
                 clean) _arguments '--help[says this, and ends]' '--show[only says what would be given back]' ;;
                 package) _arguments '1:folder:_files -/' '--help[says this, and ends]' ;;

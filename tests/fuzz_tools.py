@@ -41,8 +41,8 @@ DELAYS = [[], ["--after", "0"], ["--after", "7"], ["--every", "2", "--after", "3
 # What no tool may say: the last is that it reads a deck in another way than the program.
 SLIPS = ("Traceback", "slip of the tool", OTHER_DECK)
 
-# The tools that read a text.
-READERS = [name for name in TOOLS if name not in ("page", "clean", "package", "lib")]
+# The tools that read a text; those that serve an editor are tried by tests/editors.
+READERS = [name for name in TOOLS if name not in ("page", "clean", "package", "lib", "lsp", "dap")]
 
 # The page has no machine here: making it takes minutes.
 output.engine = lambda: b""
