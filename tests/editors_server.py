@@ -314,8 +314,8 @@ def busy(client: LanguageClient, work: Callable[[], object]) -> float:
 
 
 def seconds_of(process: int) -> float:
-    """How many seconds of a processor a process has taken."""
-    ticks = pathlib.Path(f"/proc/{process}/stat").read_text(encoding="ascii").rpartition(")")[2].split()[11:13]
+    """How many seconds of a processor a process has taken, with those that it has started and that have ended."""
+    ticks = pathlib.Path(f"/proc/{process}/stat").read_text(encoding="ascii").rpartition(")")[2].split()[11:15]
     return sum(map(int, ticks)) / os.sysconf("SC_CLK_TCK")
 
 

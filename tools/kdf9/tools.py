@@ -22,7 +22,7 @@ class Tool(NamedTuple):
     @property
     def usage(self) -> str:
         """How the tool is used, in one line."""
-        return f"{NAME} {self.name} {self.arguments}".rstrip()
+        return f"{NAME} {self.name} {self.arguments}"
 
     @property
     def shown_example(self) -> str:
@@ -102,7 +102,7 @@ TOOLS = {tool.name: tool for tool in (
         "./kdf9 lsp --faults examples/missing-reference.job",
     ),
     Tool(
-        "dap", "",
+        "dap", "< MESSAGES",
         "Serves editors that debug a job: breakpoints, steps forward and back, watched words.",
         "printf 'Content-Length: 51\\r\\n\\r\\n{\"seq\":1,\"type\":\"request\",\"command\":\"initialize\"}' | ./kdf9 dap",
     ),
