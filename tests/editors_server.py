@@ -5,7 +5,7 @@ import pathlib
 import random
 import subprocess
 import time
-from typing import Callable, Iterator, List, Optional, Tuple
+from typing import Callable, Iterator, Optional, Tuple
 
 from editors_client import DECK, LanguageClient, command_in, in_folder, jobs
 from editors_inside import LEFT_OUT

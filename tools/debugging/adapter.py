@@ -17,6 +17,7 @@ from kdf9.report import Section
 from kdf9.words import whole
 
 MOST_SEARCHED = 500
+NOTE_OF_SEARCH = f"a jump may lead here, and it doesn't begin a word: it is looked for {MOST_SEARCHED} calls at a time"
 
 # How many lines of the journal are written at once.
 MOST_LINES = 500
@@ -156,7 +157,7 @@ class Adapter:
                 told.append({"verified": False, "line": asked["line"], "message": "no order of a deck is here or below"})
             else:
                 self._breakpoints.append(found)
-                note = {"message": f"a jump leads here, and it doesn't begin a word: it is looked for {MOST_SEARCHED} calls at a time"} if self._is_unknown(found) else {}
+                note = {"message": NOTE_OF_SEARCH} if self._is_unknown(found) else {}
                 told.append({"verified": True, **self._shown_place(found), "source": self._shown_source(), **note})
         return {"breakpoints": told}
 
@@ -352,7 +353,10 @@ class Adapter:
         section, program = self._sections()[slot], self._history.programs[slot]
         links = [WORD * int(word) + int(syllable) for word, syllable in (link.split("/") for link in section.links)]
         frames = [
-            {"id": SLOTS * depth + slot + 1, "name": self._said_of_place(program, place, depth), "source": self._shown_source(), **self._shown_place(program.place(place))}
+            {
+                "id": SLOTS * depth + slot + 1, "name": self._said_of_place(program, place, depth), "source": self._shown_source(),
+                **self._shown_place(program.place(place)),
+            }
             for depth, place in enumerate([section.place, *links])
         ]
         first, levels = arguments.get("startFrame", 0), arguments.get("levels") or len(frames)

@@ -1,6 +1,7 @@
 """A run of a job that can be looked at after any call: the run is cut there, which changes nothing before the cut."""
 import functools
 import os
+import re
 from bisect import bisect_left, bisect_right
 from concurrent.futures import ThreadPoolExecutor
 from typing import Dict, Iterator, List, NamedTuple, Optional, Set, Tuple
@@ -9,7 +10,7 @@ from editing.facts import facts_of
 from editing.image import Image
 from editing.naming import Names
 from kdf9 import library
-from kdf9.deck import WORD
+from kdf9.deck import COMMENT, WORD
 from kdf9.job import read_lines, read_slots
 from kdf9.journal import calls_of
 from kdf9.program import ENCODING, BadInput, how_ended
@@ -17,6 +18,9 @@ from kdf9.report import HEADER, Section, read_report
 from kdf9.schedule import cut_before_next, job_with, read_schedule
 from kdf9.timeline import timed
 from kdf9.words import whole
+
+# The orders that may go elsewhere than to the next.
+JUMPS = re.compile("J|EXIT")
 
 # How many cuts are made at once, and how many states are kept.
 AT_ONCE, KEPT = 50, 256
@@ -47,7 +51,10 @@ class Program:
         self.slot, self.stretches = slot, stretches
         self.names, self.image = Names(slot.deck), Image(slot.deck, slot.store)
         rows = listing["statements"]
-        self.orders = [Place(slot.number, WORD * row["at"][0] + row["at"][1], row["line"], row["column"], " ".join(row["text"].split())) for row in rows if row["syllables"]]
+        self.orders = [
+            Place(slot.number, WORD * row["at"][0] + row["at"][1], row["line"], row["column"], " ".join(COMMENT.sub(" ", row["text"]).split()))
+            for row in rows if row["syllables"]
+        ]
         self._by_place = {order.place: order for order in self.orders}
         self._places = [order.place for order in self.orders]
         self._sizes = [row["syllables"] for row in rows if row["syllables"]]
@@ -81,7 +88,7 @@ class Program:
             if here % WORD == 0:
                 return here, back
             before = self._places[index - 1] + self._sizes[index - 1] if index else -1
-            if self._entries is None or here in self._entries or before != here or self.orders[index - 1].text[0] == "J" or self.orders[index - 1].text.startswith("EXIT"):
+            if self._entries is None or here in self._entries or before != here or JUMPS.match(self.orders[index - 1].text.replace(" ", "")):
                 return None
         return None
 

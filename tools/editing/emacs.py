@@ -16,8 +16,10 @@ def tables() -> str:
     lines = [(line, "keyword") for word, line in lines_of_job(EMACS).items()] + [("[+].*", "string"), ("[=].*", "string")]
     names = sorted({form.replace("0", "") for form in forms()} - {"", "*"})
     return "".join([
-        ";;; kdf9-tables.el --- Statements of Usercode and lines of a job  -*- lexical-binding: t; -*-\n\n;;; Commentary:\n\n;; Made by tools/editors from the tables.\n\n;;; Code:\n\n",
-        rows_of("kdf9-statements", "Patterns of statements, each with its face.", statements), rows_of("kdf9-lines", "Patterns of lines of a job, each with its face.", lines),
+        ";;; kdf9-tables.el --- Statements of Usercode and lines of a job  -*- lexical-binding: t; -*-\n\n;;; Commentary:\n\n",
+        ";; Made by tools/editors from the tables.\n\n;;; Code:\n\n",
+        rows_of("kdf9-statements", "Patterns of statements, each with its face.", statements),
+        rows_of("kdf9-lines", "Patterns of lines of a job, each with its face.", lines),
         f"(defconst kdf9-header {quoted(table('job')['header'])}\n  \"The first line of a job.\")\n\n",
         f"(defconst kdf9-names '({' '.join(map(quoted, names))})\n  \"The letters and signs of statements.\")\n\n",
         "(provide 'kdf9-tables)\n;;; kdf9-tables.el ends here\n",

@@ -1,4 +1,6 @@
-"""What an editor asks of a place in a text besides what is said of it: where a name is defined and used, what it may be called, what may be written, and outlines."""
+"""What an editor asks of a place in a text besides what is said of it: where a name is defined and used, what it may be called, and what may be written there; and
+the outline and the tokens of a text.
+"""
 import functools
 import re
 from typing import Dict, Iterator, List, NamedTuple, Optional, Tuple
@@ -183,7 +185,8 @@ def lines_offered(text: Text, offset: int) -> Iterator[dict]:
     start = text.starts[text.line_of(offset)]
     for word, row in rows_of_lines().items():
         yield {
-            "label": row["form"], "kind": OF_LINE, "filterText": row["form"], "textEdit": {"range": text.span(start, offset), "newText": word + " " * (" " in row["form"])},
+            "label": row["form"], "kind": OF_LINE, "filterText": row["form"],
+            "textEdit": {"range": text.span(start, offset), "newText": word + " " * (" " in row["form"])},
         }
 
 

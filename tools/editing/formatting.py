@@ -1,6 +1,6 @@
 """A deck in even form, with the same image: spaces and the beginnings of lines change, and nothing else.
 
-Headings, references and declarations begin in the first column, and other statements two columns further; a statement that goes on in a further line begins four columns in.
+Headings, references and declarations begin in the first column, and other statements two columns further; what goes on in a further line begins four columns in.
 A comment keeps its column where there is room, and its text always.
 """
 import functools

@@ -2,7 +2,7 @@
 import functools
 from typing import Dict, List, Optional
 
-from kdf9.deck import OPENING
+from kdf9.deck import COMMENT, OPENING
 from kdf9.words import whole
 
 from editing.facts import facts_of
@@ -47,7 +47,7 @@ class Image:
         found = {}
         for row in self.facts.get("statements", []):
             if row["text"][:1] == "P" and row["syllables"] == 0:
-                opening = OPENING.match("".join(row["text"].partition("(")[0].split()))
+                opening = OPENING.match("".join(COMMENT.sub("", row["text"]).split()))
                 if opening:
                     found.setdefault(whole(opening[1] or ""), row)
         return found

@@ -266,7 +266,8 @@ class Server:
         for fix in fixes:
             edits = [{"range": text.span(start, end), "newText": new} for start, end, new in fix.edits]
             yield {
-                "title": fix.title, "kind": "quickfix", "diagnostics": [self._diagnostic(text, fault)], "isPreferred": fix == fixes[0], "edit": {"changes": {uri: edits}},
+                "title": fix.title, "kind": "quickfix", "diagnostics": [self._diagnostic(text, fault)], "isPreferred": fix == fixes[0],
+                "edit": {"changes": {uri: edits}},
             }
 
 

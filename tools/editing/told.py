@@ -54,7 +54,8 @@ def glossary() -> Dict[str, str]:
 @functools.lru_cache(maxsize=1)
 def lines_of_job() -> Dict[str, str]:
     """What docs/JOB.md says of each line of a job, by the word with which it begins."""
-    rows = re.findall(r"^\| `([A-Z0-9]+)\b[^|]*\| ([^|]*) \| ?(.*?) ?\|$", document("JOB.md").partition("### The media")[0].partition("## The text of a job")[2], re.MULTILINE)
+    table_of_lines = document("JOB.md").partition("### The media")[0].partition("## The text of a job")[2]
+    rows = re.findall(r"^\| `([A-Z0-9]+)\b[^|]*\| ([^|]*) \| ?(.*?) ?\|$", table_of_lines, re.MULTILINE)
     return {word: f"comes {comes}" + (f": {what}" if what else "") for word, comes, what in reversed(rows)}
 
 
@@ -155,8 +156,9 @@ def said_of_number(text: str) -> List[str]:
 
 def said_of_word(word: int, is_q: bool) -> List[str]:
     """A word in octal and decimal, as characters, and as a Q-store."""
-    counter, increment, modifier = word >> 32, word >> 16 & 65535, word & 65535
-    parts = f"{counter}/{increment}/{modifier}" + (": " + "; ".join(f"{name} {value}" for name, value in zip(("counter", "increment", "modifier"), (counter, increment, modifier))) if is_q else "")
+    values = word >> 32, word >> 16 & 65535, word & 65535
+    named = "; ".join(f"{name} {value}" for name, value in zip(("counter", "increment", "modifier"), values))
+    parts = "/".join(map(str, values)) + (f": {named}" if is_q else "")
     characters = "".join(table("job")["characters"][word >> shift & 63] for shift in range(42, -6, -6))
     return [f"octal `{word:016o}`, decimal {number_of(word)}, as a Q-store {parts}, as characters `{characters.replace('`', chr(39))}`"]
 

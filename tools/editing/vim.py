@@ -31,7 +31,8 @@ def usercode() -> str:
 
 def job() -> str:
     """The syntax of a job, whose decks have the other one."""
-    lines = [*HEAD, "syn include @usercode syntax/usercode.vim", "unlet! b:current_syntax", 'syn match kdf9jobFault "\\v^.+$"', 'syn match kdf9jobNumber "\\v\\d+" contained']
+    lines = [*HEAD, "syn include @usercode syntax/usercode.vim", "unlet! b:current_syntax"]
+    lines += ['syn match kdf9jobFault "\\v^.+$"', 'syn match kdf9jobNumber "\\v\\d+" contained']
     lines.append(f'syn match kdf9jobHeader "\\v%^{table("job")["header"]}$"')
     for word, line in lines_of_job(VIM).items():
         if "DECK" not in word:
