@@ -4,8 +4,8 @@ import re
 import subprocess
 from typing import Dict, Iterator, List, Optional, Tuple
 
-from editors_client import files, in_folder, placed
-from toolkit import ENVIRONMENT, ROOT
+from editors_client import files, in_folder, placed, tool
+from toolkit import ENVIRONMENT, ROOT, document
 
 from editing.textmate import NAMES  # noqa: E402
 from kdf9.tables import forms, table  # noqa: E402
@@ -134,4 +134,16 @@ def forms_have_scopes() -> Cases:
     yield "floating orders are told apart", f"{known}" if known else None
 
 
-SUITES = (grammars_are_made, statements_have_their_scopes, forms_have_scopes)
+def document_is_true() -> Cases:
+    """What docs/EDITORS.md shows is made again, and the files that it names are there."""
+    text = document("EDITORS.md")
+    for command, due in re.findall(r"^```\n\$ \./kdf9 (.*)\n((?:.*\n)*?)```$", text, re.MULTILINE):
+        words = command.split()
+        done = subprocess.run([*tool(words[0]), *words[1:]], cwd=ROOT, env=ENVIRONMENT, capture_output=True, text=True, check=False)
+        yield f"docs/EDITORS.md: {command}", None if done.stdout == due and not done.returncode else f"{done}"
+    named = [f"docs/{name}" for name in re.findall(r"\]\((\S+\.svg)\)", text)] + re.findall(r"\b(?:editors|tests|tools)/[\w./]+\w", text)
+    missing = [name for name in named if not (ROOT / name).exists()]
+    yield f"the {len(named)} files of docs/EDITORS.md", f"{missing}" if missing or len(named) < 9 else None
+
+
+SUITES = (grammars_are_made, document_is_true, statements_have_their_scopes, forms_have_scopes)
