@@ -10,12 +10,16 @@
 ;;; Code:
 
 (require 'compile)
-(require 'kdf9-tables (expand-file-name "kdf9-tables" (file-name-directory (or load-file-name buffer-file-name))))
+(eval-and-compile
+  (defconst kdf9-folder
+    (file-name-directory (or load-file-name (bound-and-true-p byte-compile-current-file) buffer-file-name))
+    "The folder of this file and of `kdf9-tables'."))
+(require 'kdf9-tables (expand-file-name "kdf9-tables" kdf9-folder))
 
 (defgroup kdf9 nil "Decks of Usercode and jobs of kdf9." :group 'languages)
 
 (defcustom kdf9-command
-  (let ((here (expand-file-name "../../kdf9" (file-name-directory (or load-file-name buffer-file-name)))))
+  (let ((here (expand-file-name "../../kdf9" kdf9-folder)))
     (if (file-executable-p here) here "kdf9"))
   "The command that checks and serves decks and jobs."
   :type 'string :group 'kdf9)
@@ -84,7 +88,7 @@ The first group of the match is the statement."
       (and (re-search-backward "^\\(?:END\\)?DECK$" nil t) (looking-at "DECK$")))))
 
 (defun kdf9--in-job (matcher in-deck)
-  "A matcher that matches as MATCHER does, in decks only or, without IN-DECK, outside of them only."
+  "A matcher as MATCHER, but only in decks; or, without IN-DECK, outside of them."
   (lambda (limit)
     (let (found)
       (while (and (not found) (< (point) limit) (funcall matcher limit))
