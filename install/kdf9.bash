@@ -1,4 +1,4 @@
-# Completes the commands, the tools and the options of kdf9, and jobs, slots and folders. Written by tools/manual.
+# Completes the commands, the tools and the options of kdf9, and jobs, slots, statements and folders. Written by tools/manual.
 _kdf9_jobs() {
     compgen -d -- "$1"
     compgen -f -X '!*.job' -- "$1" || compgen -f -- "$1"
@@ -10,12 +10,31 @@ _kdf9_slots() {
     echo ${slots:-0 1 2 3}
 }
 
+# The statements of the deck of a slot in a file with a job.
+_kdf9_labels() {
+    local slot=
+    case $2 in [0-3]) slot=$2 ;; esac
+    [ ! -f "$1" ] || awk -v "slot=$slot" '
+    /^SLOT / { n = $2 }
+    d && /^ENDDECK$/ { exit }
+    d { t = t $0 }
+    /^DECK$/ && (slot == "" || n == slot) { d = 1 }
+    END {
+        gsub(/\([^)]*\)/, "", t); gsub(/ /, "", t); m = split(t, s, ";")
+        for (i = 1; i <= m; i++)
+            if (s[i] ~ /^PROGRAM/) o = 1
+            else if (s[i] ~ /^P[0-9]+(V[0-9]+)?$/) { p = s[i]; sub(/V.*/, "", p); print p }
+            else if (o && s[i] ~ /^[0-9]+$/) print s[i] p
+    }' "$1"
+}
+
 # What stands in a place: a job, a slot, a folder, or one of some words.
 _kdf9_place() {
     local word=${COMP_WORDS[COMP_CWORD]}
     case $1 in
         job) compopt -o filenames 2> /dev/null; mapfile -t COMPREPLY < <(_kdf9_jobs "$word") ;;
         folder) compopt -o filenames 2> /dev/null; mapfile -t COMPREPLY < <(compgen -d -- "$word") ;;
+        label) mapfile -t COMPREPLY < <(compgen -W "$(_kdf9_labels "${COMP_WORDS[2]}" "${COMP_WORDS[3]}")" -- "$word") ;;
         slot) mapfile -t COMPREPLY < <(compgen -W "$(_kdf9_slots "${COMP_WORDS[2]}")" -- "$word") ;;
         *) mapfile -t COMPREPLY < <(compgen -W "$1" -- "$word") ;;
     esac
@@ -46,12 +65,14 @@ _kdf9() {
         report) places=() options='--help' with_word='' ;;
         page) places=() options='--help' with_word='' ;;
         replay) places=(job) options='--help' with_word='' ;;
+        lsp) places=() options='--help --faults' with_word='--faults' ;;
+        dap) places=() options='--help' with_word='' ;;
         lib) places=(folder) options='--help' with_word='' ;;
         clean) places=() options='--help --show' with_word='' ;;
         package) places=(folder) options='--help' with_word='' ;;
     esac
     if [ "$COMP_CWORD" = 1 ]; then
-        _kdf9_place 'run alone asm make save resume check watch explain steps listing schedule same explore stats study picture json report page replay lib clean package --help --version'
+        _kdf9_place 'run alone asm make save resume check watch explain steps listing schedule same explore stats study picture json report page replay lsp dap lib clean package --help --version'
         return
     fi
     for ((at = 2; at < COMP_CWORD; at++)); do
@@ -59,7 +80,7 @@ _kdf9() {
         [[ ${COMP_WORDS[at]} = -?* ]] || ((place++))
     done
     if [ "$at" -gt "$COMP_CWORD" ]; then
-        case ${COMP_WORDS[COMP_CWORD - 1]} in '<' | '>') _kdf9_place job ;; esac
+        case ${COMP_WORDS[COMP_CWORD - 1]} in '<' | '>') _kdf9_place job ;; --at) _kdf9_place label ;; esac
     elif [[ ${COMP_WORDS[COMP_CWORD]} = -* ]]; then
         _kdf9_place "$options"
     else

@@ -1,10 +1,28 @@
-# Completes the commands, the tools and the options of kdf9, and jobs, slots and folders. Written by tools/manual.
+# Completes the commands, the tools and the options of kdf9, and jobs, slots, statements and folders. Written by tools/manual.
 function __kdf9_slots
     set -l words (commandline -opc)
     set -l slots
     test -f "$words[3]"; and set slots (sed -n 's/^SLOT \([0-3]\)$/\1/p' "$words[3]")
     test (count $slots) -gt 0; or set slots 0 1 2 3
     printf '%s\n' $slots
+end
+
+function __kdf9_labels
+    set -l words (commandline -opc)
+    set -l slot
+    string match -qr -- '^[0-3]$' "$words[4]"; and set slot $words[4]
+    test -f "$words[3]"; and awk -v "slot=$slot" '
+    /^SLOT / { n = $2 }
+    d && /^ENDDECK$/ { exit }
+    d { t = t $0 }
+    /^DECK$/ && (slot == "" || n == slot) { d = 1 }
+    END {
+        gsub(/\([^)]*\)/, "", t); gsub(/ /, "", t); m = split(t, s, ";")
+        for (i = 1; i <= m; i++)
+            if (s[i] ~ /^PROGRAM/) o = 1
+            else if (s[i] ~ /^P[0-9]+(V[0-9]+)?$/) { p = s[i]; sub(/V.*/, "", p); print p }
+            else if (o && s[i] ~ /^[0-9]+$/) print s[i] p
+    }' "$words[3]"
 end
 
 # Whether no name stands there yet, and whether the name that does is this one.
@@ -25,7 +43,7 @@ function __kdf9_at
     for word in (commandline -opc)[3..-1]
         if test $is_of_option = yes
             set is_of_option no
-        else if contains -- $word --at --watch --after --every --speed --speeds --calls --runs --out --part
+        else if contains -- $word --at --watch --after --every --speed --speeds --calls --runs --out --part --faults
             set is_of_option yes
         else if not string match -q -- '-?*' $word
             set places (math $places + 1)
@@ -56,6 +74,8 @@ complete -c kdf9 -n __kdf9_first -a json -d 'Writes a report as JSON.'
 complete -c kdf9 -n __kdf9_first -a report -d 'Writes the report that a JSON text is.'
 complete -c kdf9 -n __kdf9_first -a page -d 'Writes the machine, an editor and the examples as one page for a browser.'
 complete -c kdf9 -n __kdf9_first -a replay -d 'Writes the same page with a job in it, which opens at the run of that job.'
+complete -c kdf9 -n __kdf9_first -a lsp -d 'Serves editors: faults as they are typed, help, names and form of decks and jobs; or, with --faults, writes the faults of files.'
+complete -c kdf9 -n __kdf9_first -a dap -d 'Serves editors that debug a job: breakpoints, steps forward and back, watched words.'
 complete -c kdf9 -n __kdf9_first -a lib -d 'Writes the machine as a library for programs in C, Python and JavaScript, and says how to use it.'
 complete -c kdf9 -n __kdf9_first -a clean -d 'Gives back the disk that only makes the next proof shorter; the program and the page stay.'
 complete -c kdf9 -n __kdf9_first -a package -d 'Makes packages of the program, the tools and the documents, as a .tar.gz and a .deb.'
@@ -80,7 +100,7 @@ complete -c kdf9 -n '__kdf9_at steps 0' -k -a '(__fish_complete_suffix .job)'
 complete -c kdf9 -n '__kdf9_at steps 1' -k -a '(__kdf9_slots)'
 complete -c kdf9 -n '__kdf9_is steps' -l help -d 'says this, and ends'
 complete -c kdf9 -n '__kdf9_is steps' -l run -d 'shows the program as it ran under Director, and not by itself'
-complete -c kdf9 -n '__kdf9_is steps' -l at -x -d 'shows each time that the program came to this: a reference such as 1 or 3P2, a part such as P2, or a word and a syllable such as 12/3'
+complete -c kdf9 -n '__kdf9_is steps' -l at -x -a '(__kdf9_labels)' -d 'shows each time that the program came to this: a reference such as 1 or 3P2, a part such as P2, or a word and a syllable such as 12/3'
 complete -c kdf9 -n '__kdf9_is steps' -l watch -x -d 'shows this word each time, by its name in the deck or as En; more than one may be watched'
 complete -c kdf9 -n '__kdf9_at listing 0' -k -a '(__fish_complete_suffix .job)'
 complete -c kdf9 -n '__kdf9_at listing 1' -k -a '(__kdf9_slots)'
@@ -116,6 +136,9 @@ complete -c kdf9 -n '__kdf9_is report' -l help -d 'says this, and ends'
 complete -c kdf9 -n '__kdf9_is page' -l help -d 'says this, and ends'
 complete -c kdf9 -n '__kdf9_at replay 0' -k -a '(__fish_complete_suffix .job)'
 complete -c kdf9 -n '__kdf9_is replay' -l help -d 'says this, and ends'
+complete -c kdf9 -n '__kdf9_is lsp' -l help -d 'says this, and ends'
+complete -c kdf9 -n '__kdf9_is lsp' -l faults -x -d 'writes the faults of these jobs and decks, and serves nobody; - is standard input'
+complete -c kdf9 -n '__kdf9_is dap' -l help -d 'says this, and ends'
 complete -c kdf9 -n '__kdf9_at lib 0' -k -a '(__fish_complete_directories)'
 complete -c kdf9 -n '__kdf9_is lib' -l help -d 'says this, and ends'
 complete -c kdf9 -n '__kdf9_is clean' -l help -d 'says this, and ends'

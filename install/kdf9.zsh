@@ -1,10 +1,27 @@
 #compdef kdf9
-# Completes the commands, the tools and the options of kdf9, and jobs, slots and folders. Written by tools/manual.
+# Completes the commands, the tools and the options of kdf9, and jobs, slots, statements and folders. Written by tools/manual.
 _kdf9_slots() {
     local -a slots
     [[ ! -f $words[2] ]] || slots=(${(f)"$(sed -n 's/^SLOT \([0-3]\)$/\1/p' $words[2])"})
     (( $#slots )) || slots=(0 1 2 3)
     compadd -a slots
+}
+
+_kdf9_labels() {
+    local slot= word=$words[3]
+    [[ $word != [0-3] ]] || slot=$word
+    [[ ! -f $words[2] ]] || compadd -- ${(f)"$(awk -v "slot=$slot" '
+    /^SLOT / { n = $2 }
+    d && /^ENDDECK$/ { exit }
+    d { t = t $0 }
+    /^DECK$/ && (slot == "" || n == slot) { d = 1 }
+    END {
+        gsub(/\([^)]*\)/, "", t); gsub(/ /, "", t); m = split(t, s, ";")
+        for (i = 1; i <= m; i++)
+            if (s[i] ~ /^PROGRAM/) o = 1
+            else if (s[i] ~ /^P[0-9]+(V[0-9]+)?$/) { p = s[i]; sub(/V.*/, "", p); print p }
+            else if (o && s[i] ~ /^[0-9]+$/) print s[i] p
+    }' $words[2])"}
 }
 
 _kdf9() {
@@ -32,6 +49,8 @@ _kdf9() {
         'report:Writes the report that a JSON text is.'
         'page:Writes the machine, an editor and the examples as one page for a browser.'
         'replay:Writes the same page with a job in it, which opens at the run of that job.'
+        'lsp:Serves editors: faults as they are typed, help, names and form of decks and jobs; or, with --faults, writes the faults of files.'
+        'dap:Serves editors that debug a job: breakpoints, steps forward and back, watched words.'
         'lib:Writes the machine as a library for programs in C, Python and JavaScript, and says how to use it.'
         'clean:Gives back the disk that only makes the next proof shorter; the program and the page stay.'
         'package:Makes packages of the program, the tools and the documents, as a .tar.gz and a .deb.'
@@ -52,7 +71,7 @@ _kdf9() {
                 check) _arguments '--help[says how it is used, and ends]' ;;
                 watch) _arguments '1:slot:_kdf9_slots' '2:: ' '--help[says how it is used, and ends]' ;;
                 explain) _arguments '1:job:_files -g "*.job"' '2:word:(run resume check)' '--help[says this, and ends]' '--strict[ends with status 1 if a program failed or can’t go on, or if a report isn’t that of its job]' ;;
-                steps) _arguments '1:job:_files -g "*.job"' '2:slot:_kdf9_slots' '3:: ' '4:: ' '--help[says this, and ends]' '--run[shows the program as it ran under Director, and not by itself]' '--at[shows each time that the program came to this, a reference such as 1 or 3P2, a part such as P2, or a word and a syllable such as 12/3]:STATEMENT: ' '--watch[shows this word each time, by its name in the deck or as En; more than one may be watched]:WORD: ' ;;
+                steps) _arguments '1:job:_files -g "*.job"' '2:slot:_kdf9_slots' '3:: ' '4:: ' '--help[says this, and ends]' '--run[shows the program as it ran under Director, and not by itself]' '--at[shows each time that the program came to this, a reference such as 1 or 3P2, a part such as P2, or a word and a syllable such as 12/3]:STATEMENT:_kdf9_labels' '--watch[shows this word each time, by its name in the deck or as En; more than one may be watched]:WORD: ' ;;
                 listing) _arguments '1:job:_files -g "*.job"' '2:slot:_kdf9_slots' '--help[says this, and ends]' ;;
                 schedule) _arguments '1:job:_files -g "*.job"' '2:: ' '--help[says this, and ends]' '--after[each transfer ends N steps after it began; 20 if it is left out]:N: ' '--every[a step is N calls, after which one word of the transfer moves; if it is left out, a step is a call]:N: ' '--speed[each transfer of this device ends A calls after it began, and B more for each word that it moves; it can be given for several devices]:DEVICE=A+B: ' '--speeds[a speed for each device by its kind, kdf9 is what the KDF9’s devices did, at 6 microseconds an order]:NAME: ' ;;
                 same) _arguments '1:job:_files -g "*.job"' '2:job:_files -g "*.job"' '--help[says this, and ends]' ;;
@@ -64,6 +83,8 @@ _kdf9() {
                 report) _arguments '--help[says this, and ends]' ;;
                 page) _arguments '--help[says this, and ends]' ;;
                 replay) _arguments '1:job:_files -g "*.job"' '--help[says this, and ends]' ;;
+                lsp) _arguments '--help[says this, and ends]' '--faults[writes the faults of these jobs and decks, and serves nobody; - is standard input]:FILE: ' ;;
+                dap) _arguments '--help[says this, and ends]' ;;
                 lib) _arguments '1:folder:_files -/' '--help[says this, and ends]' ;;
                 clean) _arguments '--help[says this, and ends]' '--show[only says what would be given back]' ;;
                 package) _arguments '1:folder:_files -/' '--help[says this, and ends]' ;;

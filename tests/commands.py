@@ -20,7 +20,10 @@ Cases = Iterator[Tuple[str, Optional[str]]]
 
 # The tools that read a report or JSON from standard input, and those that read nothing; the others read the file that their first argument names.
 READS_INPUT, READS_NOTHING = ("picture", "json", "report"), ("page", "clean", "package", "lib")
-READS_FILE = tuple(name for name in TOOLS if name not in (*READS_INPUT, *READS_NOTHING))
+
+# The tools that serve an editor: tests/editors tries what they read.
+SERVES = ("lsp", "dap")
+READS_FILE = tuple(name for name in TOOLS if name not in (*READS_INPUT, *READS_NOTHING, *SERVES))
 
 # These need the machine for other programs, which tests/page and tests/library make.
 NEEDS_ENGINE = ("page", "replay", "lib")
@@ -44,7 +47,7 @@ WRONG_WORDS = [
     (["study"], "required: PLAN"), (["study", "-", "--part", "3/2"], "--part: has to be I/N"), (["study", "-", "--out"], "--out"),
     (["same"], "required: JOB"), (["same", "-", "-"], "can't both be standard input"), (["same", "-", "a", "b"], "b"),
     (["picture", "--svg"], "--svg"), (["json", "-"], "-"), (["report", "-"], "-"), (["page", "x"], "x"), (["replay"], "required: JOB"),
-    (["clean", "x"], "x"),
+    (["clean", "x"], "x"), (["lsp", "x"], "x"), (["lsp", "--faults"], "--faults"), (["dap", "x"], "x"),
     (["lib"], "required: FOLDER"), (["lib", "a", "b"], "b"),
 ]
 
@@ -110,7 +113,7 @@ def tools_are_listed() -> Cases:
     built = re.findall(r"building the program: (\d+) crates|is proved: 1 of (\d+) ", document("TOOLS.md"))
     yield "the crates of docs/TOOLS.md", None if {int(one or other) for one, other in built} == {len(read_crates())} else f"are {built}"
     there = {path.name for path in (ROOT / "tools").iterdir() if path.is_file() and os.access(path, os.X_OK)}
-    yield "the files of the tools", None if there == {*TOOLS, "about", "build", "kit_line", "manual"} else f"{there}"
+    yield "the files of the tools", None if there == {*TOOLS, "about", "build", "editors", "kit_line", "manual"} else f"{there}"
 
 
 def wrong_words_are_refused() -> Cases:

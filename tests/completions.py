@@ -19,6 +19,7 @@ TYPED = [
     ("kdf9 steps examples/adds-5-and-7.job \t", "steps examples/adds-5-and-7.job 0"), ("kdf9 listing --h\t", "listing --help"),
     ("kdf9 explain x re\t", "explain x resume"), ("kdf9 same x examples/asks-the\t", "same x examples/asks-the-service.job"),
     ("kdf9 schedule --after 7 examples/adds-cards-w\t", "schedule --after 7 examples/adds-cards-while-a-tape-is-copied.job"), ("kdf9 explain x --st\t", "explain x --strict"),
+    ("kdf9 steps examples/two-parts.job --at P\t", "steps examples/two-parts.job --at P3"),
 ]
 
 # What stands before the cursor, and all that fish offers there.
@@ -26,6 +27,7 @@ OFFERED = [
     ("kdf9 s", ["same", "save", "schedule", "stats", "steps", "study"]), ("./kdf9 expla", ["explain"]), ("kdf9 alone ", ["0", "1", "2", "3"]), ("kdf9 --v", ["--version"]),
     ("kdf9 listing examples/adds-cards-while-a-tape-is-copied.job ", ["0", "1"]), ("kdf9 explain x re", ["resume"]), ("kdf9 steps x 0 --w", ["--watch"]),
     ("kdf9 steps x --at 1 ", ["0", "1", "2", "3"]), ("kdf9 explain x run --s", ["--strict"]), ("kdf9 make ", []),
+    ("kdf9 steps examples/lists-parts-stores-and-references.job --at ", ["7", "9", "P3", "2P3", "4P3"]), ("kdf9 steps examples/adds-cards-while-a-tape-is-copied.job 1 --at ", ["1", "2"]),
 ]
 
 # For so many seconds an answer is waited for.

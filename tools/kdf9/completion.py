@@ -5,10 +5,27 @@ from typing import Dict, List
 from kdf9.about import OPTIONS
 from kdf9.entries import FOLDER, JOB, SLOT, Entry, entries
 
-HEAD = "Completes the commands, the tools and the options of kdf9, and jobs, slots and folders. Written by tools/manual."
+HEAD = "Completes the commands, the tools and the options of kdf9, and jobs, slots, statements and folders. Written by tools/manual."
+
+# How the word after an option is written that is a reference or a part of a deck.
+LABEL = "STATEMENT"
 
 # The slots of a job, or all four where no file with a job is named.
 SLOTS_OF_FILE = "sed -n 's/^SLOT \\([0-3]\\)$/\\1/p'"
+
+# The references and parts of the deck of a slot, or of the first one, as steps names them. A file with a job comes after it.
+LABELS_OF_FILE = """awk -v "slot=$slot" '
+    /^SLOT / { n = $2 }
+    d && /^ENDDECK$/ { exit }
+    d { t = t $0 }
+    /^DECK$/ && (slot == "" || n == slot) { d = 1 }
+    END {
+        gsub(/\\([^)]*\\)/, "", t); gsub(/ /, "", t); m = split(t, s, ";")
+        for (i = 1; i <= m; i++)
+            if (s[i] ~ /^PROGRAM/) o = 1
+            else if (s[i] ~ /^P[0-9]+(V[0-9]+)?$/) { p = s[i]; sub(/V.*/, "", p); print p }
+            else if (o && s[i] ~ /^[0-9]+$/) print s[i] p
+    }'"""
 
 BASH = """_kdf9_jobs() {
     compgen -d -- "$1"
@@ -21,12 +38,20 @@ _kdf9_slots() {
     echo ${slots:-0 1 2 3}
 }
 
+# The statements of the deck of a slot in a file with a job.
+_kdf9_labels() {
+    local slot=
+    case $2 in [0-3]) slot=$2 ;; esac
+    [ ! -f "$1" ] || LABELS "$1"
+}
+
 # What stands in a place: a job, a slot, a folder, or one of some words.
 _kdf9_place() {
     local word=${COMP_WORDS[COMP_CWORD]}
     case $1 in
         job) compopt -o filenames 2> /dev/null; mapfile -t COMPREPLY < <(_kdf9_jobs "$word") ;;
         folder) compopt -o filenames 2> /dev/null; mapfile -t COMPREPLY < <(compgen -d -- "$word") ;;
+        label) mapfile -t COMPREPLY < <(compgen -W "$(_kdf9_labels "${COMP_WORDS[2]}" "${COMP_WORDS[3]}")" -- "$word") ;;
         slot) mapfile -t COMPREPLY < <(compgen -W "$(_kdf9_slots "${COMP_WORDS[2]}")" -- "$word") ;;
         *) mapfile -t COMPREPLY < <(compgen -W "$1" -- "$word") ;;
     esac
@@ -47,7 +72,7 @@ NAMES
         [[ ${COMP_WORDS[at]} = -?* ]] || ((place++))
     done
     if [ "$at" -gt "$COMP_CWORD" ]; then
-        case ${COMP_WORDS[COMP_CWORD - 1]} in '<' | '>') _kdf9_place job ;; esac
+        case ${COMP_WORDS[COMP_CWORD - 1]} in '<' | '>') _kdf9_place job ;; WITH_LABEL) _kdf9_place label ;; esac
     elif [[ ${COMP_WORDS[COMP_CWORD]} = -* ]]; then
         _kdf9_place "$options"
     else
@@ -63,6 +88,12 @@ ZSH = """_kdf9_slots() {
     [[ ! -f $words[2] ]] || slots=(${(f)"$(SLOTS $words[2])"})
     (( $#slots )) || slots=(0 1 2 3)
     compadd -a slots
+}
+
+_kdf9_labels() {
+    local slot= word=$words[3]
+    [[ $word != [0-3] ]] || slot=$word
+    [[ ! -f $words[2] ]] || compadd -- ${(f)"$(LABELS $words[2])"}
 }
 
 _kdf9() {
@@ -90,6 +121,13 @@ FISH = """function __kdf9_slots
     test -f "$words[3]"; and set slots (SLOTS "$words[3]")
     test (count $slots) -gt 0; or set slots 0 1 2 3
     printf '%s\\n' $slots
+end
+
+function __kdf9_labels
+    set -l words (commandline -opc)
+    set -l slot
+    string match -qr -- '^[0-3]$' "$words[4]"; and set slot $words[4]
+    test -f "$words[3]"; and LABELS "$words[3]"
 end
 
 # Whether no name stands there yet, and whether the name that does is this one.
@@ -132,7 +170,13 @@ def bash() -> str:
         options = " ".join(option.written.split()[0] for option in it.options)
         lines.append(f"        {it.tool.name}) places=({places}) options='{options}' with_word='{with_word}' ;;")
     names = " ".join([*(it.tool.name for it in entries()), *OPTIONS])
-    return f"# {HEAD}\n" + filled(BASH, {"NAMES": "\n".join(lines), "FIRST": names})
+    return f"# {HEAD}\n" + filled(BASH, {"NAMES": "\n".join(lines), "FIRST": names, "WITH_LABEL": " | ".join(options_with_label())})
+
+
+def options_with_label() -> List[str]:
+    """The options after which a reference or a part stands."""
+    written = [option.written.split() for it in entries() for option in it.options if option.has_word]
+    return [name for name, *words in written if words[:1] == [LABEL]]
 
 
 def zsh() -> str:
@@ -149,7 +193,7 @@ def line_of_zsh(entry: Entry) -> str:
     for option in entry.options:
         name, _, word = option.written.partition(" ")
         does = option.does.translate({ord("["): "(", ord("]"): ")", ord(":"): ","})
-        parts.append(f"{name}[{does}]" + (f":{word}: " if word else ""))
+        parts.append(f"{name}[{does}]" + (f":{word}:{'_kdf9_labels' if word == LABEL else ' '}" if word else ""))
     return f"                {entry.tool.name}) _arguments {' '.join(map(quoted, parts))} ;;"
 
 
@@ -172,7 +216,8 @@ def lines_of_fish(entry: Entry) -> List[str]:
             lines.append(f"complete -c kdf9 -n '__kdf9_at {name} {at}' -k -a {quoted(done.get(place, place))}")
     for option in entry.options:
         long = option.written.split()[0][2:]
-        lines.append(f"complete -c kdf9 -n '__kdf9_is {name}' -l {long}{' -x' if option.has_word else ''} -d {quoted(option.does)}")
+        labels = " -a '(__kdf9_labels)'" if option.written.endswith(f" {LABEL}") else ""
+        lines.append(f"complete -c kdf9 -n '__kdf9_is {name}' -l {long}{' -x' if option.has_word else ''}{labels} -d {quoted(option.does)}")
     return lines
 
 
@@ -183,6 +228,6 @@ def quoted(text: str) -> str:
 
 def filled(text: str, parts: Dict[str, str]) -> str:
     """A script with these parts in their places."""
-    for name, part in {"SLOTS": SLOTS_OF_FILE, **parts}.items():
+    for name, part in {"SLOTS": SLOTS_OF_FILE, "LABELS": LABELS_OF_FILE, **parts}.items():
         text = text.replace(name, part)
     return text

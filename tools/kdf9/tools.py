@@ -97,6 +97,16 @@ TOOLS = {tool.name: tool for tool in (
         "./kdf9 replay examples/reads-tape.job > kdf9.html",
     ),
     Tool(
+        "lsp", "[--faults FILE ..]",
+        "Serves editors: faults as they are typed, help, names and form of decks and jobs; or, with --faults, writes the faults of files.",
+        "./kdf9 lsp --faults examples/missing-reference.job",
+    ),
+    Tool(
+        "dap", "< MESSAGES",
+        "Serves editors that debug a job: breakpoints, steps forward and back, watched words.",
+        "printf 'Content-Length: 51\\r\\n\\r\\n{\"seq\":1,\"type\":\"request\",\"command\":\"initialize\"}' | ./kdf9 dap",
+    ),
+    Tool(
         "lib", "FOLDER",
         "Writes the machine as a library for programs in C, Python and JavaScript, and says how to use it.",
         "./kdf9 lib kdf9-library",
