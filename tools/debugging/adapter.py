@@ -11,7 +11,7 @@ from editing.naming import V_STORE, Y_STORE, Symbol
 from editing.wire import Incoming, Nonsense, Outgoing
 from kdf9.changes import number_of
 from kdf9.deck import WORD
-from kdf9.journal import calls_of, priorities
+from kdf9.journal import SLOTS, calls_of, exchanged
 from kdf9.program import BadInput, read_text
 from kdf9.report import Section
 from kdf9.words import whole
@@ -407,11 +407,14 @@ class Adapter:
 
     def _machine(self, slot: int) -> Iterator[Tuple[str, str]]:
         section = self._sections()[slot]
-        before = [entry for at, entry in self._history.entries if at <= self._calls]
+        order = SLOTS
+        for at, (kind, *numbers) in self._history.entries:
+            if at <= self._calls and kind == "SWAP":
+                order = exchanged(order, *numbers)
         yield "calls", f"{self._calls} of {self._history.calls}"
         yield "orders", str(section.orders)
         yield "state", " ".join(section.state)
-        yield "priorities", ", ".join(str(each) for each in priorities(before) if each in self._history.programs)
+        yield "priorities", ", ".join(str(each) for each in order if each in self._history.programs)
 
     def _address(self, slot: int, name: str) -> Optional[int]:
         """The address of a word of this name, or None."""

@@ -4,7 +4,7 @@ import os
 import re
 from bisect import bisect_left, bisect_right
 from concurrent.futures import ThreadPoolExecutor
-from typing import Dict, Iterator, List, NamedTuple, Optional, Set, Tuple
+from typing import Dict, Iterable, Iterator, List, NamedTuple, Optional, Set, Tuple
 
 from editing.facts import facts_of
 from editing.image import Image
@@ -16,7 +16,6 @@ from kdf9.journal import calls_of
 from kdf9.program import ENCODING, BadInput, how_ended
 from kdf9.report import HEADER, Section, read_report
 from kdf9.schedule import cut_before_next, job_with, read_schedule
-from kdf9.timeline import timed
 from kdf9.words import whole
 
 # The orders that may go elsewhere than to the next.
@@ -108,6 +107,14 @@ class Program:
         if at < 0 or order > self.stretches[at].orders + self.stretches[at].number:
             return None
         return self.stretches[at].calls + order - self.stretches[at].orders
+
+
+def timed(entries: Iterable[tuple]) -> Iterator[Tuple[int, tuple]]:
+    """Each entry of a journal with the number of calls before it. An entry of an order that was counted just before has that order's call."""
+    calls = 0
+    for entry in entries:
+        yield calls, entry
+        calls += calls_of(entry)
 
 
 class History:

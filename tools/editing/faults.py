@@ -5,7 +5,7 @@ from typing import Iterator, List, NamedTuple, Optional, Tuple
 
 from kdf9 import fault as found_faults
 from kdf9 import hints
-from kdf9.deck import OPENING, Statement, statement_at, without_comments
+from kdf9.deck import OPENING, without_comments
 from kdf9.job import HEADER, Slot, read_lines
 from kdf9.names import meant
 from kdf9.program import BadInput
@@ -18,6 +18,7 @@ from editing.features import edited
 from editing.image import image_of, line_of_deck, names_of
 from editing.naming import REFERENCE, V_STORE
 from editing.texts import Deck, Text
+from editing.statements import Statement, statement_at
 
 Edit = Tuple[int, int, str]
 

@@ -7,10 +7,11 @@ import re
 from bisect import bisect_right
 from typing import Dict, Iterator, List, NamedTuple, Optional, Tuple
 
-from kdf9.deck import CONSTANT, DECLARATION, OPENING, Statement, statements
+from kdf9.deck import CONSTANT, DECLARATION, OPENING
 from kdf9.words import whole
 
 from editing.grammar import classes
+from editing.statements import Statement, statements
 
 # The kinds of names.
 REFERENCE, PART, V_STORE, Y_STORE = "reference", "part", "V-store", "Y-store"
