@@ -13,8 +13,8 @@ from kdf9.program import ENCODING, Answer, BadInput, ask, how_ended
 VERSION = 1
 NO_ROOM, NO_MEMORY = 6, 7
 
-# The bytes of the room that is tried first for a text.
-FIRST_ROOM = 1 << 16
+# The bytes of the room that is tried first for a text, and the most that are.
+FIRST_ROOM, MOST_ROOM = 1 << 16, 1 << 22
 
 Text = Union[str, bytes]
 
@@ -109,14 +109,18 @@ def loaded(file: str) -> Callable[[Sequence[str], bytes], Answer]:
     calls.kdf9_run.argtypes = [*piece, *piece, *piece, ctypes.POINTER(ctypes.c_uint64)]
     calls.kdf9_run.restype = ctypes.c_uint32
 
+    # The texts of a tool that runs many jobs are much alike: what was room enough for one is tried first for the next.
+    rooms = [FIRST_ROOM]
+
     def answer(words: Sequence[str], job: bytes) -> Answer:
-        asked, size, most = lines_of(words), ctypes.c_uint64(), FIRST_ROOM
+        asked, size, most = lines_of(words), ctypes.c_uint64(), rooms[0]
         while True:
             room = ctypes.create_string_buffer(most)
             status = calls.kdf9_run(asked, len(asked), job, len(job), room, most, ctypes.byref(size))
             if status != NO_ROOM:
                 return Answer(status, ctypes.string_at(room, size.value).decode(ENCODING))
             most = size.value
+            rooms[0] = min(MOST_ROOM, max(rooms[0], most + most // 4))
 
     return answer
 
