@@ -7,8 +7,9 @@ from typing import Callable, Dict, List, NamedTuple, Sequence, Tuple
 
 from kdf9.delays import Delays, Transfer
 from kdf9.job import read_lines
+from kdf9.lengths import words_of_next
 from kdf9.program import BadInput
-from kdf9.report import length_of_journal, read_entries
+from kdf9.report import length_of_journal, read_entries, read_section
 from kdf9.schedule import MOST_LINES, Event, Schedule
 from plans.foresight import Foresight, Guess
 from plans.recall import Memory
@@ -39,6 +40,14 @@ class Settled(NamedTuple):
     entries: List[tuple]
 
 
+class Settling(NamedTuple):
+    """A run whose transfers all end when they are to end, with its schedule up to some call, and whether all programs are over before that."""
+
+    run: Settled
+    schedule: Schedule
+    is_over: bool
+
+
 class Begun(NamedTuple):
     """That a transfer began: the calls when it had, its device, the slot of its program, the number of the order, and that of the answers before it."""
 
@@ -61,30 +70,41 @@ class Search:
         self._ends: Dict[Tuple[int, int], int] = {}
         self._events, self._right, self._most, self._window = len(self._kept), 0, MOST_LINES, WINDOW
 
+    def found(self) -> Schedule:
+        """The schedule that ends all transfers of the run when they are to end."""
+        self._settle()
+        return self._with(self._found, self._total)
+
     def settled(self) -> Settled:
-        """The job with the schedule that ends all transfers of its run when they are to end."""
+        """The job with that schedule. Where all programs are over before its end, the rest of a schedule changes nothing."""
+        last, whole = self._settle(), self._with(self._found, self._total)
+        if whole == last.schedule:
+            return last.run
+        text = self._job.text(whole)
+        return last.run._replace(job=text) if last.is_over else run_of(text, self._run)
+
+    def _settle(self) -> Settling:
+        """Finds all transfers; the last run."""
         while True:
             guess = self._guess()
             until = self._total if guess.calls >= self._total else min(self._total, guess.calls + self._window)
-            run = self._run_of(self._with(self._found + guess.transfers, until))
+            schedule = self._with(self._found + guess.transfers, until)
+            run = run_of(self._job.text(schedule), self._run)
             made = self._scene.note.calls + sum(map(length, run.entries[self._scene.note.index:]))
-            self._look(run.entries, guess, until)
-            self._scene = self._scene.follow(run.entries, self._right, self._words())
+            if not self._look(run.entries, guess, until) or until < self._total:
+                self._scene = self._scene.follow(run.entries, self._right, self._words())
             if self._right >= made and (made < until or until == self._total):
-                whole = self._job.text(self._with(self._found, self._total))
-                return run._replace(job=whole) if whole == run.job or made < until else self._run_of(self._with(self._found, self._total))
-
-    def _run_of(self, schedule: Schedule) -> Settled:
-        """The run of the job with this schedule."""
-        return run_of(self._job.text(schedule), self._run)
+                return Settling(run, schedule, made < until)
 
     def _guess(self) -> Guess:
         """The transfers that may come next, no more than the schedule has room for."""
         room = MOST_LINES // self._delays.most_lines() - len(self._found)
         return Foresight(self._scene, self._ends, self._delays, self._swaps).guess(self._total, max(0, min(self._most, room)))
 
-    def _look(self, entries: Sequence[tuple], guess: Guess, until: int) -> None:
-        """Keeps the transfers that began in a run that ended the guessed ones too, as far as it is right, and the calls up to which it is."""
+    def _look(self, entries: Sequence[tuple], guess: Guess, until: int) -> bool:
+        """Keeps the transfers that began in a run that ended the guessed ones too, as far as it is right, and the calls up to which it is. Returns whether all that
+        was guessed is right, so that there is nothing to learn.
+        """
         begun = self._begun(entries)
         there, guessed = {(each.calls, each.device) for each in begun}, {(each.calls, each.device): each for each in guess.transfers}
         right, hits, before = min([until] + [self._delays.first(each) for place, each in guessed.items() if place not in there]), 0, len(self._found)
@@ -100,6 +120,7 @@ class Search:
         self._most = MOST_LINES if is_good else max(FEWEST, 2 * hits)
         self._window = WINDOW if len(self._found) > before else 2 * self._window
         self._right = right
+        return is_good and hits == len(self._found) - before
 
     def _begun(self, entries: Sequence[tuple]) -> List[Begun]:
         """The transfers that began since the last scene."""
@@ -144,6 +165,11 @@ class Search:
         kept = [event for event in self._kept if event.calls < calls]
         events = kept + [event for transfer in transfers for event in self._delays.events(transfer, calls)]
         return Schedule(calls, sorted(events, key=at))
+
+
+def words_of(report: str, slot: int) -> int:
+    """The words of the transfer that the next order of the program of a slot begins, after a run that shows its whole store."""
+    return words_of_next(read_section(report, slot))
 
 
 def run_of(text: str, run: Callable[[str], str]) -> Settled:
