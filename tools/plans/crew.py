@@ -10,6 +10,7 @@ from kdf9.measures import measures_of, said
 from kdf9.program import BadInput
 from kdf9.report import read_sections
 from plans.plan import Plan, Run, Source, checksum
+from plans.rows import There
 from plans.tally import Tally
 from plans.variant import Variants
 
@@ -89,9 +90,9 @@ def work(plan: Plan, maker: Maker, todo: Sequence[int], taken, others: list, end
         os._exit(1)
 
 
-def numbers_left(plan: Plan, there: Dict[int, object], which: int, parts: int) -> "array[int]":
+def numbers_left(plan: Plan, there: There, which: int, parts: int) -> "array[int]":
     """The numbers of the runs of a part that have no rows yet."""
-    return array("q", (number for number in range(which, len(plan) + 1, parts) if number not in there))
+    return array("q", (number for number in range(which, len(plan) + 1, parts) if not there.has(number)))
 
 
 def in_batches(numbers: Sequence[int], most: int) -> Iterator[List[int]]:

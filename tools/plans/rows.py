@@ -1,19 +1,18 @@
 """The rows of a study, in a folder. Each is a line of JSON that is added as soon as its run is through, so a study that was stopped goes on behind them."""
 import contextlib
 import csv
+import itertools
 import json
 import os
 import pathlib
 import re
-from typing import BinaryIO, Dict, Iterable, Iterator, List, Tuple
+from array import array
+from typing import BinaryIO, Dict, Iterable, Iterator, List
 
 from kdf9.program import BadInput
 
 PLAN, ROWS, TABLE, ALL = "plan.json", "rows*.jsonl", "rows.csv", "rows.jsonl"
 RUN = re.compile(rb'\{"run": (\d+)')
-
-# Where the row of a run is: the number of the file, and its offset there.
-Place = Tuple[int, int]
 
 
 def name_of_part(which: int, parts: int) -> str:
@@ -67,28 +66,43 @@ class Rows:
 
 
 class There:
-    """The rows that some folders have, by the numbers of their runs; each run counts once. The last line of a file that another start writes may be a half one."""
+    """The rows that some folders have, by the numbers of their runs; each run counts once. The last line of a file that another start writes may be a half one.
+    Only where each row is is kept, in some bytes a run.
+    """
 
     def __init__(self, folders: Iterable[pathlib.Path]) -> None:
-        self._files = [path for folder in folders for path in sorted(folder.glob(ROWS))]
-        self.places: Dict[int, Place] = {}
-        for number, path in enumerate(self._files):
+        self._names = [path for folder in folders for path in sorted(folder.glob(ROWS))]
+        self._file, self._offset = array("i"), array("q")
+        for number, path in enumerate(self._names):
             offset = 0
             with open(path, "rb") as rows:
                 for line in rows:
                     found = RUN.match(line)
                     if found and line.endswith(b"\n"):
-                        self.places.setdefault(int(found[1]), (number, offset))
+                        self._take(int(found[1]), number, offset)
                     offset += len(line)
+
+    def _take(self, run: int, file: int, offset: int) -> None:
+        """Takes the row of a run, if it is the first."""
+        more = run + 1 - len(self._file)
+        if more > 0:
+            self._file.extend(itertools.repeat(-1, more))
+            self._offset.extend(itertools.repeat(0, more))
+        if self._file[run] < 0:
+            self._file[run], self._offset[run] = file, offset
+
+    def has(self, run: int) -> bool:
+        """Whether there is a row of the run of this number."""
+        return run < len(self._file) and self._file[run] >= 0
 
     def rows(self) -> Iterator[dict]:
         """The rows by their numbers."""
         with contextlib.ExitStack() as stack:
-            files = [stack.enter_context(open(path, "rb")) for path in self._files]
-            for number in sorted(self.places):
-                file, offset = self.places[number]
-                files[file].seek(offset)
-                yield json.loads(files[file].readline())
+            files = [stack.enter_context(open(path, "rb")) for path in self._names]
+            for run, file in enumerate(self._file):
+                if file >= 0:
+                    files[file].seek(self._offset[run])
+                    yield json.loads(files[file].readline())
 
     def write(self, text) -> None:
         """Writes the rows as CSV to a file of text."""
