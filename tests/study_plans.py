@@ -105,7 +105,7 @@ def schedules_are_right(number: int, seed: int) -> Iterator[Case]:
             text = small_jobs.job(at).replace("ORDERS 1\n", "ORDERS 3000\n")
         else:
             kinds = " ".join(chance.sample(["TR", "TP", "CR", "LP", "MT"], chance.randint(1, 4)))
-            text = join_lines(workload.lines_of({"seed": at, "degree": chance.randint(1, 4), "kinds": kinds, "shared": chance.choice(["", "TP"]), "calls": 30000}))
+            text = join_lines(workload.lines_of({"seed": at, "degree": chance.randint(1, 4), "kinds": kinds, "shared": chance.choice(["", "TP"]), "schedule": 30000}))
         if not ask(["asm", "0"], text).status:
             yield f"the schedule of job {at}", why_wrong(text, values)
 
@@ -114,7 +114,7 @@ def why_wrong(text: str, values: dict) -> Optional[str]:
     """What is wrong with the schedules that are found for two runs of a job, of which the second knows the first."""
     lines = read_lines(text)
     variants, due = Variants(Source(lines, False, {}, {})), {}
-    for run, more in ((1, {}), (2, {"calls": read_schedule(lines).calls or 1}), (1, {})):
+    for run, more in ((1, {}), (2, {"schedule": read_schedule(lines).calls or 1}), (1, {})):
         settled = variants.settled(Run(run, {**values, **more}))
         report = answer_to(["run"], settled.job)
         if read_lines(report) != settled.report:
@@ -182,7 +182,7 @@ def stopped_studies_go_on() -> Iterator[Case]:
         folder = pathlib.Path(name)
         plan = written(folder, "plan.json", CHANCE)
         whole = kdf9(["study", str(plan)], "").out
-        stopped = sum(stop_in_the_middle(plan, folder / "stopped") for _ in range(STOPS))
+        stopped = sum(stop_in_the_middle(plan, folder / "stopped", at % 2 + 1) for at in range(STOPS))
         yield "stops in the middle", None if stopped == STOPS else f"only {stopped} of {STOPS} came before the end"
         with open(folder / "stopped" / "rows.jsonl", "ab") as file:
             file.write(b'{"run": 1')
@@ -191,7 +191,7 @@ def stopped_studies_go_on() -> Iterator[Case]:
         numbers = sorted(json.loads(line)["run"] for line in lines)
         good = (folder / "stopped" / "rows.csv").read_text(encoding="ascii") == whole and numbers == list(range(1, 81))
         yield "a study that was stopped", None if good else f"{numbers}"
-        words = f"ulimit -f 2; exec {ROOT / 'kdf9'} study {plan} --out {folder / 'full'}"
+        words = f"ulimit -f 8; exec {ROOT / 'kdf9'} study {plan} --out {folder / 'full'}"
         run = subprocess.run(["bash", "-c", words], cwd=ROOT, env=ENVIRONMENT, capture_output=True, check=False)
         kept = (folder / "full" / "rows.jsonl").read_bytes()
         good = run.returncode == 1 and run.stderr.count(b"\n") == 1 and kept.endswith(b"}\n") and 0 < kept.count(b"\n") < 80
@@ -200,24 +200,30 @@ def stopped_studies_go_on() -> Iterator[Case]:
         yield "a study that goes on after that", None if (folder / "full" / "rows.csv").read_text(encoding="ascii") == whole else "has other rows"
 
 
-def stop_in_the_middle(plan: pathlib.Path, folder: pathlib.Path) -> bool:
-    """Starts a study on one processor, and stops its first process as soon as it has one more row; whether it was stopped before its end."""
+def stop_in_the_middle(plan: pathlib.Path, folder: pathlib.Path, processors: int) -> bool:
+    """Starts a study on so many processors, and stops its first process as soon as it has one more row; whether it was stopped before its end, and the others of it
+    ended by themselves.
+    """
     file = folder / "rows.jsonl"
     size = file.stat().st_size if file.exists() else 0
     words = [ROOT / "kdf9", "study", str(plan), "--out", str(folder)]
-    process = subprocess.Popen(words, cwd=ROOT, env=ENVIRONMENT, stdout=subprocess.DEVNULL, start_new_session=True, preexec_fn=on_one_processor)
+    some = sorted(os.sched_getaffinity(0))[:processors]
+    process = subprocess.Popen(words, cwd=ROOT, env=ENVIRONMENT, stdout=subprocess.DEVNULL, start_new_session=True, preexec_fn=lambda: os.sched_setaffinity(0, some))
     while process.poll() is None and (not file.exists() or file.stat().st_size <= size):
         time.sleep(0.0005)
     was_running = process.poll() is None
     if was_running:
         os.kill(process.pid, signal.SIGKILL)
     process.wait()
-    return was_running
-
-
-def on_one_processor() -> None:
-    """Leaves this process one of its processors."""
-    os.sched_setaffinity(0, [min(os.sched_getaffinity(0))])
+    until = time.monotonic() + PATIENCE
+    while time.monotonic() < until:
+        try:
+            os.killpg(process.pid, 0)
+        except ProcessLookupError:
+            return was_running
+        time.sleep(0.01)
+    os.killpg(process.pid, signal.SIGKILL)
+    return False
 
 
 def workloads_are_made() -> Iterator[Case]:
@@ -279,8 +285,9 @@ def dask_agrees() -> Iterator[Case]:
             for process in started:
                 process.kill()
                 process.wait()
-        run = by(there, ["study", str(plan), "--dask", "tcp:/nowhere"])
-        yield "no scheduler", None if run.returncode == 1 and run.stderr.count(b"\n") == 1 and b"no scheduler of Dask answers" in run.stderr else f"{run}"
+        for nowhere, part in (("tcp:/nowhere", b"this is no address"), (f"tcp://127.0.0.1:{free_port()}", b"no scheduler of Dask answers")):
+            run = by(there, ["study", str(plan), "--dask", nowhere])
+            yield f"no scheduler at {nowhere[:10]}", None if run.returncode == 1 and run.stderr.count(b"\n") == 1 and part in run.stderr else f"{run}"
 
 
 def free_port() -> int:

@@ -4,7 +4,7 @@ import multiprocessing
 import multiprocessing.connection
 import os
 from array import array
-from typing import Dict, Iterator, List, Sequence
+from typing import Callable, Dict, Iterator, List, Sequence
 
 from kdf9.measures import measures_of, said
 from kdf9.program import BadInput
@@ -41,24 +41,24 @@ def processors() -> int:
     return len(os.sched_getaffinity(0)) if hasattr(os, "sched_getaffinity") else os.cpu_count() or 1
 
 
-def rows_of(plan: Plan, todo: Sequence[int]) -> Iterator[dict]:
-    """The rows of the runs of these numbers, as they come."""
+def rows_of(plan: Plan, todo: Sequence[int], let_go: Callable[[], None]) -> Iterator[dict]:
+    """The rows of the runs of these numbers, as they come. `let_go` gives up what is this process's own, in another that has inherited it."""
     gc.enable()
     maker, workers = Maker(plan.source, plan.measures), min(processors(), len(todo))
     if workers > 1 and "fork" in multiprocessing.get_all_start_methods():
-        yield from shared(plan, maker, todo, workers)
+        yield from shared(plan, maker, todo, workers, let_go)
     else:
         yield from (maker.row(plan.run(number)) for number in todo)
 
 
-def shared(plan: Plan, maker: Maker, todo: Sequence[int], number: int) -> Iterator[dict]:
+def shared(plan: Plan, maker: Maker, todo: Sequence[int], number: int, let_go: Callable[[], None]) -> Iterator[dict]:
     """The rows of these runs, made by so many processes. If this one is stopped, the others end with their next row: nobody reads it any more."""
     context = multiprocessing.get_context("fork")
     taken, ends, workers = context.Value("q", 0), [], []
     for _ in range(number):
         mine, other = context.Pipe(duplex=False)
         ends.append(mine)
-        workers.append(context.Process(target=work, args=(plan, maker, todo, taken, list(ends), other), daemon=True))
+        workers.append(context.Process(target=work, args=(plan, maker, todo, taken, [let_go, *(end.close for end in ends)], other), daemon=True))
         workers[-1].start()
         other.close()
     left = len(todo)
@@ -75,10 +75,10 @@ def shared(plan: Plan, maker: Maker, todo: Sequence[int], number: int) -> Iterat
         raise BadInput(STOPPED)
 
 
-def work(plan: Plan, maker: Maker, todo: Sequence[int], taken, others: list, end) -> None:
+def work(plan: Plan, maker: Maker, todo: Sequence[int], taken, lets_go: Sequence[Callable[[], None]], end) -> None:
     """Makes rows in a process of its own, and hands them over, until all runs are taken."""
-    for other in others:
-        other.close()
+    for let_go in lets_go:
+        let_go()
     try:
         while True:
             with taken.get_lock():

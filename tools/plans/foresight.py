@@ -115,7 +115,8 @@ class Foresight:
                 return
         now.does(program, stretch.what, number)
         if kind == "START":
-            transfer = Transfer(now.calls, number, stretch.words if self._delays.goes_by_words(number) else 0)
+            words = stretch.words or program.memory.usual.get(stretch.what, 0) if self._delays.goes_by_words(number) else 0
+            transfer = Transfer(now.calls, number, words)
             self._guessed.append(transfer)
             heapq.heappush(self._due, (self._delays.end(transfer), number))
 

@@ -24,8 +24,8 @@ OF_PLOT = ("across", "up", "lines", "title")
 
 # The parameters by the form of their names, what is told of them where a name is wrong, and the least and the greatest of those whose values are whole numbers.
 AFTER, POOL, INPUT = re.compile(r"after( (?:\d|1[0-5]))?"), re.compile(r"pool (TP|LP)"), re.compile(r"input (?:\d|1[0-5])")
-ALLOWED = "programs, priorities, after, after D with the number of a device, speeds, faster, pool TP, pool LP, calls, tick and input D"
-NUMBERS = {"seed": (0, 10**9), "degree": (1, workload.PROGRAMS), "computing": (0, 99), "rounds": (1, 100), "calls": (1, MOST_CALLS), "tick": (1, MOST_CALLS)}
+ALLOWED = "programs, priorities, after, after D with the number of a device, speeds, faster, pool TP, pool LP, schedule, tick and input D"
+NUMBERS = {"seed": (0, 10**9), "degree": (1, workload.PROGRAMS), "computing": (0, 99), "rounds": (1, 100), "schedule": (1, MOST_CALLS), "tick": (1, MOST_CALLS)}
 
 # What a value of another parameter has to be: what is said of it, and whether it is so.
 LEAST_FASTER, MOST_FASTER = 0.001, 1000
@@ -176,7 +176,7 @@ class Plan:
         elif parameter == "faster":
             if isinstance(value, bool) or not isinstance(value, (int, float)) or not LEAST_FASTER <= value <= MOST_FASTER:
                 self._refuse(parameter, f"has {value!r}; a value is a number from {LEAST_FASTER} to {MOST_FASTER}")
-        elif parameter in ("calls", "tick") or self.source.workload and parameter in workload.USUAL:
+        elif parameter in ("schedule", "tick") or self.source.workload and parameter in workload.USUAL:
             self._check_workload(parameter, value)
         elif AFTER.fullmatch(parameter):
             self._check_number(parameter, value, 0, MOST_CALLS)

@@ -45,13 +45,14 @@ class Stretch:
 
 class Memory:
     """The stretches of a program that were seen, by where it was at their beginning. `words` has the words of its transfers by the number of the answers that it was
-    given before, and of the order: a program that was answered the same begins the same transfer.
+    given before, and of the order: a program that was answered the same begins the same transfer. `usual` has those of its last transfer on each device.
     """
 
     def __init__(self) -> None:
         self._seen: Dict[Key, Stretch] = {}
         self._answers: Dict[Tuple[int, int], int] = {}
         self.words: Dict[Tuple[int, int], int] = {}
+        self.usual: Dict[What, int] = {}
 
     def answers(self, before: int, answer: int) -> int:
         """The number of the answers that a program was given, which are those of the number `before`, 0 for none, and one more. Equal answers have equal numbers."""

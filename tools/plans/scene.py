@@ -163,8 +163,8 @@ class Scene:
                 stretch.needs[before] = names if not old else (old & names or names)
             if kind == "ANSWER":
                 stretch.answered(entry[2], flying)
-            elif kind == "START":
-                stretch.words = words.get((self.calls, entry[2]), 0)
+            elif kind == "START" and (self.calls, entry[2]) in words:
+                stretch.words = program.memory.usual[what] = words[self.calls, entry[2]]
         if kind in ASKS:
             program.answers = program.memory.answers(program.answers, entry[2])
         self.does(program, what, entry[2] if len(entry) > 2 and kind != "FAIL" else 0)

@@ -86,7 +86,7 @@ def pool_of(pool: List[str], own: set, values: Dict[str, Value]) -> List[str]:
 
 def own_schedule(schedule: Schedule, values: Dict[str, Value]) -> Schedule:
     """The schedule of a job with the priorities, the number of calls and the clock that the values say."""
-    calls = int(values.get("calls", schedule.calls))
+    calls = int(values.get("schedule", schedule.calls))
     events = [event for event in schedule.events if event.calls < calls or calls == schedule.calls]
     if "tick" in values:
         tick = int(values["tick"])

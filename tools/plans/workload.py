@@ -18,7 +18,7 @@ MEDIUM = {"TR": "+" + "ABCDEFGH" * 64, "CR": "+" + "ABCDEFGH" * 10, "MT": "+" + 
 SHARED = ("TP", "LP")
 
 # The parameters of a workload with their values where a plan has none.
-USUAL: Dict[str, object] = {"seed": 1, "degree": 2, "computing": 50, "kinds": "TR LP", "shared": "", "rounds": 20, "calls": 200000}
+USUAL: Dict[str, object] = {"seed": 1, "degree": 2, "computing": 50, "kinds": "TR LP", "shared": "", "rounds": 20, "schedule": 200000}
 
 
 class Chance:
@@ -51,7 +51,7 @@ def lines_of(values: Dict[str, object]) -> List[str]:
     for slot in range(int(str(of["degree"]))):
         lines += program(slot, Chance(of["seed"], slot), kinds, shared, int(str(of["computing"])), int(str(of["rounds"])))
     pool = [f"DEVICE {15 - at} {kind}" for at, kind in enumerate(shared)]
-    return [*lines, *(["POOL", *pool] if pool else []), "SCHEDULE", f"ORDERS {of['calls']}", "ENDJOB"]
+    return [*lines, *(["POOL", *pool] if pool else []), "SCHEDULE", f"ORDERS {of['schedule']}", "ENDJOB"]
 
 
 def program(slot: int, chance: Chance, kinds: Sequence[str], shared: Sequence[str], computing: int, rounds: int) -> List[str]:
