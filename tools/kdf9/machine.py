@@ -4,7 +4,7 @@ import os
 from typing import Callable, Sequence
 
 from kdf9 import library
-from kdf9.program import ENCODING, Answer, ask, text_of
+from kdf9.program import ENCODING, Answer, ask, text_without_fault
 
 
 @functools.lru_cache(maxsize=None)
@@ -18,4 +18,4 @@ def machine() -> Callable[[Sequence[str], str], Answer]:
 
 def answer_to(words: Sequence[str], job: str) -> str:
     """The text that the machine answers to a job in which it found no fault; BadInput says how it ended otherwise."""
-    return text_of(machine()(words, job))
+    return text_without_fault(machine()(words, job))

@@ -31,7 +31,7 @@ def rows_of(address: str, plan: Plan, todo: Sequence[int]) -> Iterator[dict]:
         raise BadInput(f"{address}: this is no address of a scheduler of Dask; one is such as tcp://127.0.0.1:8786")
     distributed = imported("distributed", "--dask", "python3-distributed")
     try:
-        client = distributed.Client(address, timeout=PATIENCE, set_as_default=False)
+        client = distributed.Client(address, timeout=PATIENCE)
     except (OSError, ValueError) as why:
         raise BadInput(f"{address}: no scheduler of Dask answers here: {' '.join(str(why).split())[:100]}") from why
     try:
