@@ -31,7 +31,7 @@ PLAN = {"job": JOB, "values": {"programs": ["0", "01", "012"], "after": [20, 50]
 CHANCE = {
     "workload": {"kinds": "TR LP MT", "shared": "TP", "rounds": 12}, "measures": ["calls", "share running", "throughput"],
     "values": {"seed": [1, 2, 3, 4, 5], "degree": [1, 2, 3, 4], "computing": [20, 70], "speeds": "kdf9", "faster": [8, 20.5]},
-    "plots": [{"across": "degree", "up": "share running", "lines": "computing", "title": "A plot"}, {"across": "faster", "up": "throughput"}],
+    "plots": [{"across": "degree", "up": "share running", "lines": "computing", "title": "A plot"}, {"across": "faster", "up": "throughput", "only": {"degree": 2}}],
 }
 
 # How often a study is stopped, and how many jobs with schedules are looked at.
@@ -50,7 +50,7 @@ WRONG = [
     ({"values": {"speeds": ["fast"]}}, "speeds has 'fast'; a value is kdf9"), ({"values": {"faster": 0}}, "faster has 0; a value is a number from 0.001 to 1000"),
     ({"values": {"seed": [1]}}, "seed isn't a parameter"), ({"values": {"input 8": ["convoy.job"]}}, "convoy.job: No such file"), ({"workload": {}}, "no job stands beside it"),
     ({"plots": [{"across": "programs"}]}, "plots has to be a list of plots"), ({"plots": [{"across": "seed", "up": "idle"}]}, "a plot with across 'seed'"),
-    ({"plots": [{"across": "after", "up": "busy"}]}, "a plot of 'busy', which isn't one of the measures"), ({"values": {"tick": 0}}, "tick has 0; a value is a number from 1 to 20000000"),
+    ({"plots": [{"across": "after", "up": "idle", "only": {"after": 7}}]}, "a plot only of {'after': 7}"), ({"plots": [{"across": "after", "up": "busy"}]}, "a plot of 'busy', which isn't one of the measures"), ({"values": {"tick": 0}}, "tick has 0; a value is a number from 1 to 20000000"),
 ]
 
 # The same of a plan with a workload.

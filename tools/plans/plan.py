@@ -18,9 +18,13 @@ from kdf9.words import listed
 from plans import workload
 
 Value = Union[int, float, str]
+
+# A plot: what goes across and up, the parameter of its lines, the values that its rows have to have, and its title.
+Plot = Dict[str, Any]
+
 MOST_CALLS, MOST_RUNS = 20000000, 10000000
 KEYS = ("job", "workload", "values", "measures", "plots")
-OF_PLOT = ("across", "up", "lines", "title")
+OF_PLOT = ("across", "up", "lines", "only", "title")
 
 # The parameters by the form of their names, what is told of them where a name is wrong, and the least and the greatest of those whose values are whole numbers.
 AFTER, POOL, INPUT = re.compile(r"after( (?:\d|1[0-5]))?"), re.compile(r"pool (TP|LP)"), re.compile(r"input (?:\d|1[0-5])")
@@ -88,7 +92,7 @@ class Plan:
         self.measures: List[str] = record.get("measures", [])
         if not isinstance(self.measures, list) or not all(isinstance(measure, str) for measure in self.measures):
             self._refuse("measures", "has to be a list of names of measures")
-        self.plots: List[Dict[str, str]] = self._plots(record.get("plots", []))
+        self.plots: List[Plot] = self._plots(record.get("plots", []))
         if len(self) > MOST_RUNS:
             self._refuse("values", f"makes {len(self)} runs, and {MOST_RUNS} are the most")
 
@@ -249,7 +253,7 @@ class Plan:
         elif INPUT.fullmatch(parameter) and int(parameter[6:]) not in own:
             self._refuse(parameter, f"names device {parameter[6:]}, which no slot of the job has")
 
-    def _plots(self, plots: object) -> List[Dict[str, str]]:
+    def _plots(self, plots: object) -> List[Plot]:
         """The plots that the plan asks for."""
         if not isinstance(plots, list) or not all(isinstance(plot, dict) and {"across", "up"} <= set(plot) <= set(OF_PLOT) for plot in plots):
             self._refuse("plots", f"has to be a list of plots, each with {listed(OF_PLOT[:2])}, and with {listed(OF_PLOT[2:])} if they are wanted")
@@ -259,6 +263,9 @@ class Plan:
                     self._refuse("plots", f"has a plot with {key} {plot[key]!r}, which isn't a parameter with several values")
             if not isinstance(plot["up"], str) or self.measures and plot["up"] not in self.measures:
                 self._refuse("plots", f"has a plot of {plot['up']!r}, which isn't one of the measures")
+            only = plot.get("only", {})
+            if not isinstance(only, dict) or not all(value in self.parameters.get(name, []) for name, value in only.items()):
+                self._refuse("plots", f"has a plot only of {only!r}; it has to have parameters, and for each one of its values")
         return plots
 
     def _refuse(self, key: str, why: str) -> NoReturn:

@@ -8,12 +8,15 @@ from typing import Dict, Iterator, List, NamedTuple, Optional, Tuple
 
 from kdf9.program import BadInput
 from plans.package import imported
-from plans.plan import Plan, Value
+from plans.plan import Plan, Plot, Value
 from plans.rows import There
 
 # What makes the same SVG of the same rows: the salt of its names, and no date. Texts stay texts.
 SETTINGS = {"svg.hashsalt": "kdf9", "svg.fonttype": "none", "font.size": 11, "axes.spines.top": False, "axes.spines.right": False}
 SIZE = (7.0, 3.8)
+
+# Up to how many places across are named one by one.
+MOST_TICKS = 12
 
 
 class Point(NamedTuple):
@@ -28,12 +31,13 @@ class Point(NamedTuple):
 Lines = Dict[Optional[Value], List[Point]]
 
 
-def lines_of(plan: Plan, plot: Dict[str, str], there: There) -> Lines:
+def lines_of(plan: Plan, plot: Plot, there: There) -> Lines:
     """The points of a plot by the value of the parameter that its lines have; a plot without it has one line."""
     values: Dict[Tuple[Optional[Value], Value], List[float]] = {}
+    only = plot.get("only", {}).items()
     for row in there.rows():
         value = row.get(plot["up"], "")
-        if isinstance(value, (int, float)):
+        if isinstance(value, (int, float)) and all(row[name] == wanted for name, wanted in only):
             values.setdefault((row[plot["lines"]] if "lines" in plot else None, row[plot["across"]]), []).append(value)
     if not values:
         raise BadInput(f"no row has a number for {plot['up']!r}, so there is nothing to plot")
@@ -58,7 +62,7 @@ def write_plots(plan: Plan, there: There, folder: str) -> Iterator[pathlib.Path]
         yield path
 
 
-def draw(matplotlib, plot: Dict[str, str], lines: Lines, path: pathlib.Path) -> None:
+def draw(matplotlib, plot: Plot, lines: Lines, path: pathlib.Path) -> None:
     """Draws a plot. Numbers across are to scale; other values stand side by side."""
     from matplotlib import pyplot  # pylint: disable=import-outside-toplevel,import-error
 
@@ -71,6 +75,10 @@ def draw(matplotlib, plot: Dict[str, str], lines: Lines, path: pathlib.Path) -> 
                 axes.fill_between(across, [each.least for each in points], [each.most for each in points], color=line.get_color(), alpha=0.15, linewidth=0)
         axes.set(xlabel=plot["across"], ylabel=plot["up"], title=plot.get("title", ""))
         axes.set_ylim(bottom=0)
+        axes.ticklabel_format(axis="y", style="plain", useOffset=False)
+        places = list(dict.fromkeys(each.across for points in lines.values() for each in points))
+        if len(places) <= MOST_TICKS:
+            axes.set_xticks(places, places)
         if any(name is not None for name in lines):
             axes.legend(frameon=False)
         figure.tight_layout()
