@@ -7,7 +7,8 @@ import os
 import pathlib
 import re
 from array import array
-from typing import BinaryIO, Dict, Iterable, Iterator, List
+from io import FileIO
+from typing import Dict, Iterable, Iterator, List
 
 from kdf9.program import BadInput
 
@@ -31,7 +32,7 @@ class Rows:
             new.write_text(text_of_plan(plan), encoding="ascii")
             new.replace(self._folder / PLAN)
         self.file = self._folder / name
-        self._rows = open(self.file, "ab")  # pylint: disable=consider-using-with
+        self._rows = open(self.file, "ab", buffering=0)  # pylint: disable=consider-using-with
         keep_for_this(self._rows, self.file)
         drop_half_row(self._rows)
 
@@ -41,14 +42,12 @@ class Rows:
 
     def add(self, row: dict) -> None:
         """Adds a row. Where the disk is full, no half row stays."""
-        size = os.fstat(self._rows.fileno()).st_size
+        size, left = os.fstat(self._rows.fileno()).st_size, json.dumps(row).encode("ascii") + b"\n"
         try:
-            self._rows.write(json.dumps(row).encode("ascii") + b"\n")
-            self._rows.flush()
+            while left:
+                left = left[self._rows.write(left):]
         except OSError as why:
             os.truncate(self.file, size)
-            with contextlib.suppress(OSError):
-                self._rows.close()
             raise OSError(why.errno, why.strerror, str(self.file)) from why
 
     def there(self) -> "There":
@@ -140,7 +139,7 @@ def joined(folders: List[str], plan: str) -> There:
     return There(paths)
 
 
-def keep_for_this(rows: BinaryIO, path: pathlib.Path) -> None:
+def keep_for_this(rows: FileIO, path: pathlib.Path) -> None:
     """Keeps a file for this start alone, where the system can do that."""
     try:
         import fcntl  # pylint: disable=import-outside-toplevel
@@ -152,7 +151,7 @@ def keep_for_this(rows: BinaryIO, path: pathlib.Path) -> None:
         raise BadInput(f"{path}: another start of the same study is writing this file; wait for it, or name a part by --part") from why
 
 
-def drop_half_row(rows: BinaryIO) -> None:
+def drop_half_row(rows: FileIO) -> None:
     """Cuts off what comes after the last whole row, which was being written when a study was stopped."""
     size = os.fstat(rows.fileno()).st_size
     with open(rows.name, "rb") as text:

@@ -1,6 +1,6 @@
 """The counts of a run for a row of a study: the facts of kdf9.facts, counted in one pass over the journal, without the columns of a picture."""
 from collections import Counter
-from typing import Dict, List, Optional, Sequence, Set, Tuple
+from typing import Dict, Optional, Sequence, Set, Tuple
 
 from kdf9.facts import DeviceFacts, Facts, ProgramFacts
 from kdf9.journal import RAN, READY
