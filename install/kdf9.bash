@@ -59,7 +59,7 @@ _kdf9() {
         same) places=(job job) options='--help' with_word='' ;;
         explore) places=(job) options='--help --calls --runs --swap --mode --out' with_word='--calls --runs --out' ;;
         stats) places=(job job) options='--help --json --csv' with_word='' ;;
-        study) places=('') options='--help --out --part' with_word='--out --part' ;;
+        study) places=('') options='--help --out --plot --part --join --dask --job' with_word='--out --part --join --dask --job' ;;
         picture) places=() options='--help --text' with_word='' ;;
         json) places=() options='--help' with_word='' ;;
         report) places=() options='--help' with_word='' ;;

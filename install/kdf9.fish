@@ -43,7 +43,7 @@ function __kdf9_at
     for word in (commandline -opc)[3..-1]
         if test $is_of_option = yes
             set is_of_option no
-        else if contains -- $word --at --watch --after --every --speed --speeds --calls --runs --out --part --faults
+        else if contains -- $word --at --watch --after --every --speed --speeds --calls --runs --out --part --join --dask --job --faults
             set is_of_option yes
         else if not string match -q -- '-?*' $word
             set places (math $places + 1)
@@ -109,7 +109,7 @@ complete -c kdf9 -n '__kdf9_at schedule 0' -k -a '(__fish_complete_suffix .job)'
 complete -c kdf9 -n '__kdf9_is schedule' -l help -d 'says this, and ends'
 complete -c kdf9 -n '__kdf9_is schedule' -l after -x -d 'each transfer ends N steps after it began; 20 if it is left out'
 complete -c kdf9 -n '__kdf9_is schedule' -l every -x -d 'a step is N calls, after which one word of the transfer moves; if it is left out, a step is a call'
-complete -c kdf9 -n '__kdf9_is schedule' -l speed -x -d 'each transfer of this device ends A calls after it began, and B more for each word that it moves; it can be given for several devices'
+complete -c kdf9 -n '__kdf9_is schedule' -l speed -x -d 'each transfer of this device ends A calls after it began, and B more for each word of its area; it can be given for several devices'
 complete -c kdf9 -n '__kdf9_is schedule' -l speeds -x -d 'a speed for each device by its kind: kdf9 is what the KDF9’s devices did, at 6 microseconds an order'
 complete -c kdf9 -n '__kdf9_at same 0' -k -a '(__fish_complete_suffix .job)'
 complete -c kdf9 -n '__kdf9_at same 1' -k -a '(__fish_complete_suffix .job)'
@@ -128,7 +128,11 @@ complete -c kdf9 -n '__kdf9_is stats' -l json -d 'writes JSON'
 complete -c kdf9 -n '__kdf9_is stats' -l csv -d 'writes CSV, with a line for each measure'
 complete -c kdf9 -n '__kdf9_is study' -l help -d 'says this, and ends'
 complete -c kdf9 -n '__kdf9_is study' -l out -x -d 'keeps the rows; it has to be new, or to have rows of the same plan. Without it the rows are only written'
-complete -c kdf9 -n '__kdf9_is study' -l part -x -d 'does only each N-th run, the I-th of them first'
+complete -c kdf9 -n '__kdf9_is study' -l plot -d 'draws the plots of the plan into the folder, by matplotlib'
+complete -c kdf9 -n '__kdf9_is study' -l part -x -d 'does only each N-th run, from the I-th on, for one of several machines'
+complete -c kdf9 -n '__kdf9_is study' -l join -x -d 'makes no run, but takes the rows of the parts in this folder; it can be given for several folders'
+complete -c kdf9 -n '__kdf9_is study' -l dask -x -d 'makes the runs on the workers of the scheduler of Dask at this address'
+complete -c kdf9 -n '__kdf9_is study' -l job -x -d 'makes no study, but writes the job of run N'
 complete -c kdf9 -n '__kdf9_is picture' -l help -d 'says this, and ends'
 complete -c kdf9 -n '__kdf9_is picture' -l text -d 'draws it in characters, for a terminal'
 complete -c kdf9 -n '__kdf9_is json' -l help -d 'says this, and ends'

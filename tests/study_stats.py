@@ -8,9 +8,10 @@ from typing import Iterator, Optional, Tuple
 import random_jobs
 from kdf9.spent import Facts, facts_of
 from kdf9.measures import as_csv, as_json, as_table, measures_of
-from kdf9.program import ask
+from kdf9.machine import machine
 from kdf9.report import read_report
 from plain_counts import Counts, held_by, waited_for
+from plans.tally import Tally
 
 Case = Tuple[str, Optional[str]]
 
@@ -20,7 +21,7 @@ def cases(number: int, seed: int) -> Iterator[Case]:
     left = number
     while left:
         text = random_jobs.job(random.Random(seed))
-        answer = ask(["run"], text)
+        answer = machine()(["run"], text)
         if not answer.status:
             yield f"stats of job {seed}", why_wrong(answer.text)
             left -= 1
@@ -29,7 +30,10 @@ def cases(number: int, seed: int) -> Iterator[Case]:
 
 def why_wrong(report: str) -> Optional[str]:
     """What is wrong with the facts of a report, or with how they are told; or None."""
-    facts, counts = facts_of(read_report(report, "the report"), "the report"), Counts(report)
+    read = read_report(report, "the report")
+    facts, counts = facts_of(read, "the report"), Counts(report)
+    if Tally(read.entries, read.sections).facts() != facts:
+        return f"a study counts {Tally(read.entries, read.sections).facts()} and stats {facts}"
     return why_other(facts, counts) or why_no_sum(facts) or why_told_otherwise(facts)
 
 

@@ -1,8 +1,7 @@
 """How long transfers take: a number of steps, or by their lengths."""
-import itertools
 import re
 from argparse import ArgumentTypeError
-from typing import Dict, Iterator, List, NamedTuple, Optional, Tuple
+from typing import Dict, Iterator, NamedTuple, Optional, Tuple
 
 from kdf9 import command
 from kdf9.schedule import Event
@@ -10,9 +9,6 @@ from kdf9.tables import lines, table
 
 MOST_CALLS = lines()["ORDERS"]["numbers"][0][1]
 LAST_DEVICE = lines()["DEVICE"]["numbers"][0][1]
-
-# How many of the last transfers are compared with earlier ones to guess which come next.
-LIKENESS = 3
 
 OF_DEVICE = "has to be the number of a device, = and a number, such as 4=30, and {} isn't"
 SPEED_OF_DEVICE = "has to be the number of a device, =, a number of calls, + and a number of calls for each word, such as 4=800+33, and {} isn't"
@@ -109,21 +105,3 @@ class Delays:
     def first(self, transfer: Transfer) -> int:
         """The number of calls before the first event of a transfer."""
         return transfer.calls + self._of(transfer)[1] if self._has_moves(transfer) and self._of(transfer)[0] else self.end(transfer)
-
-
-class Likely:
-    """Guesses which transfers come next: those that came the last time after the same ones."""
-
-    def __init__(self) -> None:
-        self._steps: List[tuple] = []
-        self._after: Dict[tuple, int] = {}
-
-    def add(self, step: tuple) -> None:
-        """One more transfer began: how many calls after the last one, its device, and its words."""
-        self._steps.append(step)
-        self._after[tuple(self._steps[-LIKENESS - 1:-1])] = len(self._steps) - 1
-
-    def next_steps(self) -> Iterator[tuple]:
-        """The steps of the transfers that come next, over and over; none if nothing like the last ones came before."""
-        at = self._after.get(tuple(self._steps[-LIKENESS:]))
-        return iter(()) if at is None else itertools.cycle(self._steps[at:])

@@ -16,8 +16,8 @@ VERSION = 1
 RUN, FACTS = "kdf9_run", "kdf9_facts"
 NO_ROOM, NO_MEMORY = 6, 7
 
-# The bytes of the room that is tried first for a text.
-FIRST_ROOM = 1 << 18
+# The bytes of the room that is tried first for a text, and the most that are.
+FIRST_ROOM, MOST_ROOM = 1 << 16, 1 << 22
 
 # What is said before the library is made.
 MADE_NOW = "facts come from the machine as a library, which is made now, this once; that takes about a minute where the program was built here"
@@ -162,14 +162,18 @@ def loaded(file: str, name: str = RUN) -> Callable[[Sequence[str], bytes], Answe
     call.argtypes = [*piece, *piece, *piece, ctypes.POINTER(ctypes.c_uint64)]
     call.restype = ctypes.c_uint32
 
+    # The texts of a tool that runs many jobs are much alike: what was room enough for one is tried first for the next.
+    rooms = [FIRST_ROOM]
+
     def answer(words: Sequence[str], job: bytes) -> Answer:
-        asked, size, most = lines_of(words), ctypes.c_uint64(), FIRST_ROOM
+        asked, size, most = lines_of(words), ctypes.c_uint64(), rooms[0]
         while True:
             room = ctypes.create_string_buffer(most)
             status = call(asked, len(asked), job, len(job), room, most, ctypes.byref(size))
             if status != NO_ROOM:
                 return Answer(status, ctypes.string_at(room, size.value).decode(ENCODING))
             most = size.value
+            rooms[0] = min(MOST_ROOM, max(rooms[0], most + most // 4))
 
     return answer
 

@@ -46,7 +46,11 @@ def ask(words, job):
 
 def answer_to(words, job):
     """The text that the program answers to a job in which it found no fault."""
-    answer = ask(words, job)
+    return text_without_fault(ask(words, job))
+
+
+def text_without_fault(answer):
+    """The text of an answer to a job in which no fault was found."""
     if answer.status == LARGE:
         raise BadInput(f"with what this tool adds to it, the job has more than {answer.text.split()[1]} bytes")
     if answer.status:

@@ -67,7 +67,7 @@ TOOLS = {tool.name: tool for tool in (
         "./kdf9 stats examples/computes-while-it-reads.job",
     ),
     Tool(
-        "study", "PLAN [--out FOLDER] [--part I/N]",
+        "study", "PLAN [--out FOLDER] [--plot] [--part I/N] [--join FOLDER] [--dask ADDRESS] [--job N]",
         "Runs a job with all combinations of some values, and keeps a row of measures for each run.",
         "./kdf9 study examples/study/degree.json",
     ),

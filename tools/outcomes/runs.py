@@ -1,10 +1,11 @@
-"""Runs of a job under schedules that are tried: the only place that starts the program for them, on all processors if there are many."""
+"""Runs of a job under schedules that are tried: the only place that asks the machine for them, on all processors if there are many."""
 import multiprocessing
 import os
 from typing import Dict, Iterable, List, Optional, Sequence, Tuple
 
 from kdf9.job import join_lines, parts_of, read_slots
-from kdf9.program import BadInput, answer_to
+from kdf9.machine import answer_to
+from kdf9.program import BadInput
 from kdf9.schedule import Event, Schedule, lines_of_schedule, read_schedule, start_of
 from outcomes.moments import Path
 
