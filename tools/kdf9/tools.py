@@ -72,6 +72,11 @@ TOOLS = {tool.name: tool for tool in (
         "./kdf9 study examples/study/degree.json",
     ),
     Tool(
+        "mark", "COURSE [HAND-INS] [--csv] [--json] [--html] [--try] [--seeds N] [--hand-out FOLDER]",
+        "Marks what a class handed in for the exercises of a course, tries a course itself, or writes what students get.",
+        "./kdf9 mark courses/machine --try",
+    ),
+    Tool(
         "picture", "[--text] < REPORT",
         "Draws the journal of a report, as SVG or, with --text, for a terminal.",
         "./kdf9 picture --text < examples/two-programs-share-a-punch.report",
