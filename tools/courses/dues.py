@@ -188,7 +188,7 @@ def missed_overflow(due: Due, seen: Seen, slot: int):
 
 def missed_device(due: Due, seen: Seen, slot: int):
     """Compares the blocks of a device, whichever slot has it."""
-    for section in machine.report(seen.report).sections.values():
+    for section in machine.sections(seen.report):
         for device in section.devices:
             if device.number == int(due.subject):
                 return missed_blocks(f"device {due.subject}", device.blocks, due.value)

@@ -14,11 +14,11 @@ from kdf9 import library, program
 from kdf9.facts import facts_of
 from kdf9.job import lone_job, Slot
 from kdf9.measures import measures_of, said
-from kdf9.report import Report, Section, read_report, read_section
-from kdf9.tables import lines
+from kdf9.report import Section, read_report, read_section
+from kdf9.tables import lines, table
 from outcomes import runs
 
-LARGEST_STORE = lines()["STORE"]["numbers"][0][1]
+LARGEST_STORE, MOST_SLOTS = lines()["STORE"]["numbers"][0][1], table("job")["most"]["slots"]
 
 
 def answer_here() -> None:
@@ -82,10 +82,9 @@ def section(text: str, slot: int) -> Section:
     return read_section(text, slot)
 
 
-@functools.lru_cache(maxsize=4)
-def report(text: str) -> Report:
-    """The report that a text is."""
-    return read_report(text, "the report")
+def sections(text: str) -> List[Section]:
+    """The sections of a report, of which nothing else is read."""
+    return [section(text, slot) for slot in range(MOST_SLOTS) if f"\nSLOT {slot}\n" in text]
 
 
 def processors(most: int) -> int:

@@ -1,9 +1,8 @@
 """What is said of a hand-in that isn't right: where a program stopped and why, as `./kdf9 explain` says it, in a line."""
 import re
-from typing import Dict, List, Optional
+from typing import Dict, List
 
 from courses import machine
-from courses.exercise import Exercise
 from courses.runs import Missed
 from courses.taken import Taken
 from kdf9.job import read_lines, read_slots
@@ -11,9 +10,10 @@ from kdf9.program import BadInput
 from kdf9.schedule import start_of
 from kdf9.words import whole
 
-# A line with a sentence, where documents have more, and a place of the job in it; and how many sentences are told.
+# A line with a sentence, where documents have more, lines that say what is known, and a place of the job; and how many sentences are told.
 SENTENCE = re.compile(r"  [^ ]")
 REFERENCE = re.compile(r" \(docs/[A-Z]+\.md[^)]*\)")
+LEFT_OUT = re.compile(r"  (?:slot \d (?:failed at|was live) |priorities at )")
 PLACE = re.compile(r"\bat (?:-:)?(\d+):\d+")
 MOST_SENTENCES = 2
 
@@ -22,8 +22,7 @@ def said_of_fault(job: str, taken: Taken) -> str:
     """What is wrong with a deck or a schedule that the machine refused: where, the name of the fault, what the documents say, and a hint."""
     head, *others = machine.explained(job)
     line, column, what = machine.parts_of_line(head)
-    sentences = [told(text, job, taken) for text in others if SENTENCE.match(text)]
-    return f"{place(job, taken, line)}, column {column}: {what}. {'; '.join(sentences)}".rstrip(". ")
+    return joined([f"{place(job, taken, line)}, column {column}: {what}", *(told(text, job, taken) for text in others if SENTENCE.match(text))])
 
 
 def said_of_stop(missed: Missed, taken: Taken) -> str:
@@ -34,14 +33,15 @@ def said_of_stop(missed: Missed, taken: Taken) -> str:
             blocks.append([])
         if blocks:
             blocks[-1].append(text)
-    mine = next((block for block in blocks if any(text.startswith(f"  slot {missed.stopped} ") for text in block)), None)
-    if mine is None:
-        return ""
-    sentences = [told(text, missed.job, taken) for text in mine if SENTENCE.match(text) and not text.startswith(f"  slot {missed.stopped} ")]
-    head = re.match(r"-:\d+:\d+: ", mine[0])
-    where = f"{place(missed.job, taken, whole(mine[0].split(':')[1]))}: " if head else ""
-    what = mine[0].split(": ", 2 if head else 1)[-1] if not head else mine[0][len(head[0]):].replace("LIVE: ", "")
-    return f"{where}{what}: {'; '.join(sentences[:MOST_SENTENCES])}".rstrip(": ")
+    mine = next((block for block in blocks if any(text.startswith(f"  slot {missed.stopped} ") for text in block)), [""])
+    head = re.match(r"-:(\d+):\d+: \w+(.*)", mine[0])
+    sentences = [told(text, missed.job, taken) for text in mine if SENTENCE.match(text) and not LEFT_OUT.match(text)][:MOST_SENTENCES]
+    return joined([f"{place(missed.job, taken, whole(head[1]))}{head[2]}", *sentences] if head else sentences)
+
+
+def joined(sentences: List[str]) -> str:
+    """Some sentences as one line."""
+    return "; ".join(sentence.rstrip(".") for sentence in sentences)
 
 
 def told(text: str, job: str, taken: Taken) -> str:
@@ -80,9 +80,3 @@ def cause(missed: Missed, taken: Taken) -> str:
         return said_of_stop(missed, taken)
     except (BadInput, ValueError, IndexError):
         return ""
-
-
-def remark_of(exercise: Exercise, prints: Dict[tuple, int], found: tuple) -> Optional[str]:
-    """The remark of the wrong solution that a hand-in does as, or None."""
-    at = prints.get(found)
-    return None if at is None else exercise.wrong[at].remark

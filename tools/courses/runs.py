@@ -4,7 +4,7 @@ from typing import Dict, Iterator, List, NamedTuple, Optional, Sequence, Tuple
 from courses import machine
 from courses.dues import Due, Seen, applies, missed
 from courses.exercise import Case, Exercise
-from courses.schedules import EVERY, OWN, Plan, text_under
+from courses.schedules import EVERY, OWN, ROUNDS, Plan, text_under
 from courses.taken import Taken, Unfit, broken_rule, with_constants
 from kdf9 import deck as decks
 from kdf9.job import HEADER, join_lines, read_lines, read_slots
@@ -16,6 +16,9 @@ from outcomes.search import LATE, Limits
 
 # How many runs a search over every schedule takes at most.
 MOST_RUNS = 400
+
+# The calls of a run that shows why a program goes on for ever, and the rounds in which its transfers end.
+SHORT, SHORT_ROUNDS = 600, 20
 
 
 # The addresses of words by slot and name; None for one that the deck doesn't have.
@@ -153,7 +156,19 @@ def of_plan(exercise: Exercise, taken: Taken, case: Case, plan: Plan, names: Add
     if answer.status:
         raise Fault(answer.text, job)
     came, first = judged(exercise, case.dues, Seen(answer.text, names), plan)
+    if first and first.stopped is not None and not plan.is_measured:
+        job = shorter(exercise, taken, case, first.stopped) or job
     return came, Missed(case.name, plan.text, *first[:2], job, first.stopped) if first else None
+
+
+def shorter(exercise: Exercise, taken: Taken, case: Case, slot: int) -> Optional[str]:
+    """A job with fewer calls in which the program of a slot is still live, to be explained in place of one with many; or None."""
+    if exercise.rules.calls <= SHORT:
+        return None
+    job = composed(exercise, taken, case, {}, "")
+    job = composed(exercise, taken, case, {}, text_under(Plan("", ROUNDS, SHORT_ROUNDS), job, SHORT, tuple(sorted(case.given.events))))
+    answer = machine.ask(["run"], job)
+    return job if not answer.status and machine.section(answer.text, slot).state == ["LIVE"] else None
 
 
 def schedule_for(exercise: Exercise, taken: Taken, case: Case, plan: Plan) -> str:
