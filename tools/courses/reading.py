@@ -3,14 +3,21 @@ import pathlib
 import re
 from typing import Dict, Iterator, List, NamedTuple, NoReturn, Optional, Sequence, Tuple
 
-from courses import taken
+from courses import machine, taken
 from courses.dues import Due, joined, read_due
 from courses.exercise import Case, Exercise, Given, Rules, Wrong
 from courses.schedules import EVERY, OWN, Plan, plan_of
+from kdf9.fault import fault_of
+from kdf9.job import join_lines
 from kdf9.program import ROOT, BadInput
 
 # The blocks that mean something, and where: before the solution, in it, and in a wrong solution.
 IN_SHEET, IN_SOLUTION, IN_WRONG = ("job", "rules", "case"), ("deck", "job", "change", "case"), ("deck", "job", "change")
+
+KNOWN = {*IN_SHEET, *IN_SOLUTION}
+
+# The blocks that are there to be read.
+TO_READ = ("", "sh", "answer", "text", "usercode")
 
 HINTS, SOLUTION, WRONG = "Hints", "Solution", "Wrong: "
 FENCE = re.compile(r"(`{3,}|~{3,})\s*(.*)")
@@ -84,6 +91,7 @@ class Reader:
         sheet = [front, *(each for each in others if not self._is_kept(each))]
         job, rules = self._only(sheet, "job"), self._only(sheet, "rules", is_needed=False)
         made = self._rules(rules)
+        self._sound(job)
         solution = self._chapter(others, SOLUTION)
         answer = self._only([solution], "deck", "job", "change")
         cases = [self._case(block, made, True) for chapter in sheet for block in chapter.blocks if block.word == "case"]
@@ -98,11 +106,20 @@ class Reader:
             prose(solution), tuple(self._wrong(chapter, solved) for chapter in others if chapter.heading.startswith(WRONG)),
         )
 
+    def _sound(self, job: Block) -> None:
+        """Refuses a starting job that has a fault."""
+        text = join_lines(job.lines)
+        answer = machine.ask(["asm", "0"], text)
+        if answer.status in (2, 3):
+            found = fault_of(answer, job.lines)
+            self.fail(job.line + found.line, f"the starting job has a fault: {found.name}: {found.subject}")
+
     def _is_kept(self, chapter: Chapter) -> bool:
         """Whether a chapter isn't handed out."""
         return chapter.heading == SOLUTION or chapter.heading.startswith(WRONG)
 
     def _title(self, front: Chapter) -> str:
+        """The title of the exercise."""
         heading = next(((at, line) for at, line in enumerate(front.lines, 1) if line.strip()), (1, ""))
         if not re.fullmatch(r"# \S.*", heading[1]):
             self.fail(heading[0], "the first line has to be the title: # and a space, and then some words")
@@ -113,6 +130,8 @@ class Reader:
         chapters, fence, block = [Chapter(1, "", [], [])], "", None
         for at, line in enumerate(self._lines, 1):
             found = FENCE.match(line)
+            if block is not None and block.word in KNOWN and (line.startswith("## ") or found and found[2]):
+                self.fail(block.line, f"this block has no {fence} at its end")
             if block is not None and (line.rstrip() != fence):
                 block.lines.append(line)
             elif block is not None:
@@ -132,7 +151,9 @@ class Reader:
 
     def _placed(self, chapters: List[Chapter]) -> None:
         """Refuses a block or a heading that stands where it means nothing."""
-        solution = next((at for at, chapter in enumerate(chapters) if chapter.heading == SOLUTION), len(chapters))
+        solution = next((at for at, chapter in enumerate(chapters) if chapter.heading == SOLUTION), None)
+        if solution is None:
+            self.fail(len(self._lines), f"the exercise has no ## {SOLUTION}")
         for at, chapter in enumerate(chapters):
             if chapter.heading.lower().rstrip(":").split(" ")[0] in ("hint", "hints", "solution", "wrong") and not (
                     chapter.heading in (HINTS, SOLUTION) or chapter.heading.startswith(WRONG) and chapter.heading[len(WRONG):].strip()):
@@ -141,13 +162,14 @@ class Reader:
                 self.fail(chapter.line, f"## {chapter.heading} stands on the wrong side of ## Solution: after that there are only the wrong solutions")
             allowed = IN_SHEET if at < solution else IN_SOLUTION if at == solution else IN_WRONG
             for block in chapter.blocks:
-                if block.word in {*IN_SHEET, *IN_SOLUTION} - set(allowed):
+                if block.word in KNOWN - set(allowed):
                     self.fail(block.line, f"a block {block.word} can't stand here, but only {' or '.join(allowed)}")
+                if block.word not in KNOWN and block.word not in TO_READ:
+                    self.fail(block.line, f"a block {block.word} means nothing here; one that is there to be read is text, sh, answer or usercode")
 
     def _chapter(self, chapters: Sequence[Chapter], heading: str) -> Chapter:
+        """The only chapter with this heading."""
         found = [chapter for chapter in chapters if chapter.heading == heading]
-        if not found:
-            self.fail(len(self._lines), f"the exercise has no ## {heading}")
         if len(found) > 1:
             self.fail(found[1].line, f"there is a second ## {heading}")
         return found[0]

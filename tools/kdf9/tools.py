@@ -77,6 +77,11 @@ TOOLS = {tool.name: tool for tool in (
         "./kdf9 mark courses/machine --try",
     ),
     Tool(
+        "quiz", "KIND [--seed N] [--answers] [--json] [--html]",
+        "Writes a question of homework that a seed makes, and its answer, which is that of the machine.",
+        "./kdf9 quiz nest --seed 7 --answers",
+    ),
+    Tool(
         "picture", "[--text] < REPORT",
         "Draws the journal of a report, as SVG or, with --text, for a terminal.",
         "./kdf9 picture --text < examples/two-programs-share-a-punch.report",
