@@ -25,7 +25,7 @@ function __kdf9_at
     for word in (commandline -opc)[3..-1]
         if test $is_of_option = yes
             set is_of_option no
-        else if contains -- $word --at --watch --after --every --speed --speeds --calls --runs --out --part
+        else if contains -- $word --at --watch --after --every --speed --speeds --calls --runs --out --part --hand-out --seeds --seed
             set is_of_option yes
         else if not string match -q -- '-?*' $word
             set places (math $places + 1)
@@ -51,6 +51,8 @@ complete -c kdf9 -n __kdf9_first -a same -d 'Says of each program of a job wheth
 complete -c kdf9 -n __kdf9_first -a explore -d 'Finds what can come of a job over every schedule: results, deadlocks, and who can starve, each with a job that shows it.'
 complete -c kdf9 -n __kdf9_first -a stats -d 'Tells how many calls the programs and devices of a run had for what; of several jobs side by side.'
 complete -c kdf9 -n __kdf9_first -a study -d 'Runs a job with all combinations of some values, and keeps a row of measures for each run.'
+complete -c kdf9 -n __kdf9_first -a mark -d 'Marks what a class handed in for the exercises of a course, tries a course itself, or writes what students get.'
+complete -c kdf9 -n __kdf9_first -a quiz -d 'Writes a question of homework that a seed makes, and its answer, which is that of the machine.'
 complete -c kdf9 -n __kdf9_first -a picture -d 'Draws the journal of a report, as SVG or, with --text, for a terminal.'
 complete -c kdf9 -n __kdf9_first -a json -d 'Writes a report as JSON.'
 complete -c kdf9 -n __kdf9_first -a report -d 'Writes the report that a JSON text is.'
@@ -109,6 +111,19 @@ complete -c kdf9 -n '__kdf9_is stats' -l csv -d 'writes CSV, with a line for eac
 complete -c kdf9 -n '__kdf9_is study' -l help -d 'says this, and ends'
 complete -c kdf9 -n '__kdf9_is study' -l out -x -d 'keeps the rows; it has to be new, or to have rows of the same plan. Without it the rows are only written'
 complete -c kdf9 -n '__kdf9_is study' -l part -x -d 'does only each N-th run, the I-th of them first'
+complete -c kdf9 -n '__kdf9_is mark' -l help -d 'says this, and ends'
+complete -c kdf9 -n '__kdf9_is mark' -l csv -d 'writes the table as CSV'
+complete -c kdf9 -n '__kdf9_is mark' -l json -d 'writes JSON, with all that is known of each hand-in'
+complete -c kdf9 -n '__kdf9_is mark' -l html -d 'writes a page for the wall, by numbers'
+complete -c kdf9 -n '__kdf9_is mark' -l try -d 'tries the course itself: its solutions and its wrong ones'
+complete -c kdf9 -n '__kdf9_is mark' -l hand-out -x -d 'writes what students get: the exercises without their solutions, and the starting jobs'
+complete -c kdf9 -n '__kdf9_is mark' -l seeds -x -d 'with --try, each solution is also run under the schedules of so many seeds'
+complete -c kdf9 -n '__kdf9_at quiz 0' -k -a 'nest held idle deadlock journal'
+complete -c kdf9 -n '__kdf9_is quiz' -l help -d 'says this, and ends'
+complete -c kdf9 -n '__kdf9_is quiz' -l seed -x -d 'the seed; 1 if it is left out'
+complete -c kdf9 -n '__kdf9_is quiz' -l answers -d 'writes the answer too, and why it is so'
+complete -c kdf9 -n '__kdf9_is quiz' -l json -d 'writes JSON in place of Markdown'
+complete -c kdf9 -n '__kdf9_is quiz' -l html -d 'writes a page'
 complete -c kdf9 -n '__kdf9_is picture' -l help -d 'says this, and ends'
 complete -c kdf9 -n '__kdf9_is picture' -l text -d 'draws it in characters, for a terminal'
 complete -c kdf9 -n '__kdf9_is json' -l help -d 'says this, and ends'

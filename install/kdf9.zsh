@@ -27,6 +27,8 @@ _kdf9() {
         'explore:Finds what can come of a job over every schedule: results, deadlocks, and who can starve, each with a job that shows it.'
         'stats:Tells how many calls the programs and devices of a run had for what; of several jobs side by side.'
         'study:Runs a job with all combinations of some values, and keeps a row of measures for each run.'
+        'mark:Marks what a class handed in for the exercises of a course, tries a course itself, or writes what students get.'
+        'quiz:Writes a question of homework that a seed makes, and its answer, which is that of the machine.'
         'picture:Draws the journal of a report, as SVG or, with --text, for a terminal.'
         'json:Writes a report as JSON.'
         'report:Writes the report that a JSON text is.'
@@ -59,6 +61,8 @@ _kdf9() {
                 explore) _arguments '1:job:_files -g "*.job"' '--help[says this, and ends]' '--calls[the calls of a schedule; 60 if it is left out]:T: ' '--runs[the most runs of a search; 2000 if it is left out]:N: ' '--swap[priorities may be exchanged at any moment]' '--mode[naive runs each schedule by itself, to be compared with]' '--out[writes a job for each outcome to this folder, which has to be new or empty]:FOLDER: ' ;;
                 stats) _arguments '1:job:_files -g "*.job"' '2:job:_files -g "*.job"' '--help[says this, and ends]' '--json[writes JSON]' '--csv[writes CSV, with a line for each measure]' ;;
                 study) _arguments '1:: ' '--help[says this, and ends]' '--out[keeps the rows; it has to be new, or to have rows of the same plan. Without it the rows are only written]:FOLDER: ' '--part[does only each N-th run, the I-th of them first]:I/N: ' ;;
+                mark) _arguments '1:: ' '2:: ' '--help[says this, and ends]' '--csv[writes the table as CSV]' '--json[writes JSON, with all that is known of each hand-in]' '--html[writes a page for the wall, by numbers]' '--try[tries the course itself, its solutions and its wrong ones]' '--hand-out[writes what students get, the exercises without their solutions, and the starting jobs]:FOLDER: ' '--seeds[with --try, each solution is also run under the schedules of so many seeds]:N: ' ;;
+                quiz) _arguments '1:word:(nest held idle deadlock journal)' '--help[says this, and ends]' '--seed[the seed; 1 if it is left out]:N: ' '--answers[writes the answer too, and why it is so]' '--json[writes JSON in place of Markdown]' '--html[writes a page]' ;;
                 picture) _arguments '--help[says this, and ends]' '--text[draws it in characters, for a terminal]' ;;
                 json) _arguments '--help[says this, and ends]' ;;
                 report) _arguments '--help[says this, and ends]' ;;

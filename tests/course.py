@@ -16,6 +16,7 @@ import tempfile
 import zipfile
 from typing import Callable, Dict, Iterator, List, Optional, Tuple
 
+from course_quiz import SUITES as QUIZZES
 from toolkit import ROOT, kdf9, refused
 
 sys.path.insert(0, str(ROOT / "tools"))
@@ -152,7 +153,7 @@ def cut_off(path: pathlib.Path) -> None:
 
 SUM = b"PROGRAM V2; V0 = 5; V1 = 7; V0; V1; +; =V2; ZERO; OUT; FINISH;\n"
 LOOP = b"PROGRAM V2; V0 = 5; V1 = 7; 1; J1; FINISH;\n"
-BOMB = b" " * 100_000_000
+BOMB = b" " * 40_000_000
 
 # What hostile and careless students hand in, and what is said of it. Those of whom nothing is said are right.
 HOSTILE: List[Tuple[str, Callable[[pathlib.Path], None], str]] = [
@@ -174,7 +175,7 @@ HOSTILE: List[Tuple[str, Callable[[pathlib.Path], None], str]] = [
     ("a pipe", piped, "nothing was handed in"),
     ("a damaged link", in_file(f"1 {link_of(SUM.decode())[:-9]}\n"), "link is damaged"),
     ("no base 64", in_file("1 file:///kdf9.html#job=%%%\n"), "link is damaged"),
-    ("a bomb of a link", in_file("1 #job=" + base64.b64encode(gzip.compress(BOMB)).decode() + "\n"), "damaged" if len(gzip.compress(BOMB)) > 49000 else "more than 65536 bytes"),
+    ("a bomb of a link", in_file("1 #job=" + base64.b64encode(gzip.compress(BOMB)).decode() + "\n"), "more than 65536 bytes"),
     ("a link", in_file(f"1. {link_of(SUM.decode())}\n\n"), ""),
     ("two", in_folder(("01.deck", SUM), ("1 new.deck", SUM)), "2 texts for this exercise"),
     ("no letters", in_folder(("01.deck", b"\xff\xfe\x00" + SUM)), "plain text"),
@@ -183,9 +184,9 @@ HOSTILE: List[Tuple[str, Callable[[pathlib.Path], None], str]] = [
     ("another file", in_folder(("essay.pdf", b"%PDF")), "nothing was handed in"),
     ("brings slots", in_folder(("01.deck", SUM[:-9] + b"\nENDDECK\nSLOT 1\nSTORE 32\nDECK\nPROGRAM; FINISH;\n")), "NoFinish"),
     ("open comment", in_folder(("01.deck", b"PROGRAM V2; " + b"(" * 60000)), "CommentOpen"),
-    ("many statements", in_folder(("01.deck", b"PROGRAM V2;" + b"*;" * 30000 + b"FINISH;")), "ran past"),
+    ("many statements", in_folder(("01.deck", b"PROGRAM V2;" + b"*;" * 30000 + b"FINISH;")), "not an order"),
     ("no store", in_folder(("01.deck", b"PROGRAM; ZERO; OUT; FINISH;")), "has no V0"),
-    ("a long name", in_folder(("01.deck", b"PROGRAM V99999999999999999999; V0 = 1; FINISH;")), "BadNumber"),
+    ("a long name", in_folder(("01.deck", b"PROGRAM V99999999999999999999; V0 = 1; FINISH;")), "has no V1"),
     ("=1+1", in_folder(("01.deck", LOOP)), "it is in a loop"),
     ("a\nb", in_folder(("01.deck", LOOP)), "it is in a loop"),
 ]
@@ -304,7 +305,7 @@ def students_get_no_solution() -> Cases:
         yield "a folder that isn't empty", None if refused(again) and "isn't empty" in again.err else f"{again}"
 
 
-SUITES: List[Callable[[], Cases]] = [class_gets_its_marks, hostile_cost_themselves, faulty_are_refused, students_get_no_solution]
+SUITES: List[Callable[[], Cases]] = [class_gets_its_marks, hostile_cost_themselves, faulty_are_refused, students_get_no_solution, *QUIZZES]
 
 
 def main(words: List[str]) -> int:

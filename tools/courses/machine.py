@@ -57,7 +57,7 @@ def explained(job: str) -> List[str]:
         said_of_it = io.StringIO()
         with contextlib.redirect_stdout(io.StringIO()), contextlib.redirect_stderr(said_of_it):
             tool("explain").run(Namespace(job=file.name, command="run", strict=False))
-        return [line.replace(file.name, "-", 1) if line.startswith(file.name) else line for line in said_of_it.getvalue().split("\n")[:-1]]
+        return said_of_it.getvalue().replace(file.name, "-").split("\n")[:-1]
 
 
 @functools.lru_cache(maxsize=None)
