@@ -27,8 +27,11 @@ Cases = Iterator[Tuple[str, Optional[str]]]
 
 COURSES, SHEET = ROOT / "courses", ROOT / "tests" / "sheet"
 
+# The students of the class, and how many of them hand in zip files and links.
+CLASS, SOME = 30, 3
+
 # The seeds under which the solutions are run when nothing else is said.
-USUAL_SEEDS = 3
+USUAL_SEEDS = 1
 
 # Hand-ins of the class that are right in another way than the solution, by exercise and number; the others are its solution, 0, and its wrong ones.
 OTHERS_RIGHT = {"2-root": {1: ("V0; J3=Z;", "")}, "3-reverse": {1: ("REV; ERASE; EXIT 1", "EXIT 1")}}
@@ -55,9 +58,9 @@ def text_of(exercise: Exercise, number: int) -> str:
     return exercise.wrong[left.index(number)].text if number else exercise.solution
 
 
-def hand_in(folder: pathlib.Path, exercises: List[Exercise], form: Callable[[pathlib.Path, Dict[str, str]], None]) -> None:
-    """Writes what the class handed in, in some form."""
-    for line in (SHEET / "class.txt").read_text(encoding="ascii").split("\n")[:-1]:
+def hand_in(folder: pathlib.Path, exercises: List[Exercise], form: Callable[[pathlib.Path, Dict[str, str]], None], number_of_students: int) -> None:
+    """Writes what the first students of the class handed in, in some form."""
+    for line in (SHEET / "class.txt").read_text(encoding="ascii").split("\n")[:number_of_students]:
         name, *numbers = line.split(" ")
         form(folder / name, {exercise.name: job_of(exercise, int(number)) for exercise, number in zip(exercises, numbers) if number != "-"})
 
@@ -92,17 +95,16 @@ def link_of(job: str) -> str:
 
 
 def class_gets_its_marks() -> Cases:
-    """The class gets its marks, in whatever form it hands in."""
+    """The class gets its marks, and some of it in each form."""
     exercises, due = reading.course(str(SHEET)), (SHEET / "marks.csv").read_text(encoding="ascii").split("\n")[:-1]
     remarks = set()
-    for form in (as_folder, as_zip, as_links):
+    for form, number in ((as_folder, CLASS), (as_zip, SOME), (as_links, SOME)):
         with tempfile.TemporaryDirectory() as name:
-            hand_in(pathlib.Path(name), exercises, form)
+            hand_in(pathlib.Path(name), exercises, form, number)
             run = kdf9(["mark", str(SHEET), name, "--csv"], "")
-        rows = [row[:2 + len(exercises)] for row in csv.reader(io.StringIO(run.out))]
-        given = [",".join(row) for row in rows]
-        yield f"the marks of the class {form.__name__}", None if given == due else f"{[it for it in zip(given, due) if it[0] != it[1]]} {run.err}"
-        remarks.add(run.out)
+        rows = [",".join(row[:2 + len(exercises)]) for row in csv.reader(io.StringIO(run.out))]
+        yield f"the marks of the class {form.__name__}", None if rows == due[:1 + number] else f"{[it for it in zip(rows, due) if it[0] != it[1]]} {run.err}"
+        remarks.add("".join(run.out.splitlines(True)[:1 + SOME]))
     yield "the remarks in three forms", None if len(remarks) == 1 else "differ"
 
 
@@ -238,7 +240,7 @@ FAULTY: List[Tuple[str, str, int, str]] = [
     ("```\n\n## Hints", "\n## Hints", 35, "has no ``` at its end"),
     ("## Hints", "## Hint", 41, "isn't a heading here"),
     ("- A store by itself", "A store by itself", 43, "a hint begins"),
-    ("## Solution", "## Answers", 83, "no ## Solution"),
+    ("## Solution", "## Answers", 51, "can't stand here"),
     ("(your orders come here) =>", "(your orders) =>", 50, "0 times"),
     ("V0; V1; +; => SET 5; SET 7; +;", "V0; V1; +; SET 5; SET 7; +;", 63, "OLD => NEW"),
     ("Usercode writes + for an addition.", "", 76, "no remark"),
@@ -293,6 +295,11 @@ def students_get_no_solution() -> Cases:
     """What is handed out has the task and the starting job, and no solution."""
     with tempfile.TemporaryDirectory() as name:
         run = kdf9(["mark", "machine", "--hand-out", f"{name}/out"], "")
+        in_folder(("01.deck", SUM))(pathlib.Path(name, "mine", "me"))
+        mine = json.loads(kdf9(["mark", f"{name}/out", f"{name}/mine", "--json"], "").out)["students"][0]["exercises"]
+        yield "marks by what was handed out", None if [each["marks"] for each in mine] == [10] + [0] * (len(mine) - 1) else f"{mine}"
+        tried = kdf9(["mark", f"{name}/out", "--try"], "")
+        yield "what was handed out is tried", None if tried.status == 1 and tried.err.count("has no ## Solution") == len(mine) else f"{tried}"
         sheets = {path.name: path.read_text(encoding="utf-8") for path in pathlib.Path(name, "out").iterdir()}
         exercises = reading.course("machine")
         due = {f"{exercise.name}.{kind}" for exercise in exercises for kind in ("md", "job")}

@@ -42,7 +42,7 @@ DELAYS = [[], ["--after", "0"], ["--after", "7"], ["--every", "2", "--after", "3
 SLIPS = ("Traceback", "slip of the tool", OTHER_DECK)
 
 # The tools that read a text.
-READERS = [name for name in TOOLS if name not in ("page", "clean", "package", "lib")]
+READERS = [name for name in TOOLS if name not in ("page", "clean", "package", "lib", "mark", "quiz")]
 
 # The page has no machine here: making it takes minutes.
 output.engine = lambda: b""

@@ -51,7 +51,7 @@ class Wrong(NamedTuple):
 
 class Exercise(NamedTuple):
     """An exercise: its file, number, name and title; the part that students get; the lines of its starting job, and the line before them; its rules, cases and
-    hints; its solution, the line where that begins, what is said of it; and the wrong solutions.
+    hints; its solution, the line where that begins, what is said of it; and the wrong solutions. What was handed out has no solution.
     """
 
     path: str
@@ -64,10 +64,10 @@ class Exercise(NamedTuple):
     rules: Rules
     cases: Tuple[Case, ...]
     hints: Tuple[str, ...]
-    solution: str
-    solution_line: int
-    answers: str
-    wrong: Tuple[Wrong, ...]
+    solution: str = ""
+    solution_line: int = 1
+    answers: str = ""
+    wrong: Tuple[Wrong, ...] = ()
 
     @property
     def runs(self) -> int:

@@ -93,18 +93,21 @@ class Reader:
         made = self._rules(rules)
         self._sound(job)
         solution = self._chapter(others, SOLUTION)
-        answer = self._only([solution], "deck", "job", "change")
         cases = [self._case(block, made, True) for chapter in sheet for block in chapter.blocks if block.word == "case"]
         cases += [self._case(block, made, False) for block in solution.blocks if block.word == "case"]
         if not cases:
             self.fail(job.line, "the exercise has no case: a block ```case with lines give and due")
         self._distinct(cases)
-        solved = self._text(answer, "\n".join([*job.lines, ""]), "the starting job")
         number, name = int(FILE.fullmatch(pathlib.Path(self._path).name)[1]), pathlib.Path(self._path).stem
-        return Exercise(
-            self._path, number, name, title, self._sheet(), tuple(job.lines), job.line, made, tuple(cases), tuple(self._hints(others)), solved, answer.line,
-            prose(solution), tuple(self._wrong(chapter, solved) for chapter in others if chapter.heading.startswith(WRONG)),
-        )
+        made_of = Exercise(self._path, number, name, title, self._sheet(), tuple(job.lines), job.line, made, tuple(cases), tuple(self._hints(others)))
+        return self._solved(made_of, solution, others) if solution.heading else made_of
+
+    def _solved(self, of: Exercise, solution: Chapter, others: Sequence[Chapter]) -> Exercise:
+        """An exercise with its solution and its wrong solutions."""
+        answer = self._only([solution], "deck", "job", "change")
+        solved = self._text(answer, join_lines(of.job), "the starting job")
+        wrong = tuple(self._wrong(chapter, solved) for chapter in others if chapter.heading.startswith(WRONG))
+        return of._replace(solution=solved, solution_line=answer.line, answers=prose(solution), wrong=wrong)
 
     def _sound(self, job: Block) -> None:
         """Refuses a starting job that has a fault."""
@@ -151,9 +154,7 @@ class Reader:
 
     def _placed(self, chapters: List[Chapter]) -> None:
         """Refuses a block or a heading that stands where it means nothing."""
-        solution = next((at for at, chapter in enumerate(chapters) if chapter.heading == SOLUTION), None)
-        if solution is None:
-            self.fail(len(self._lines), f"the exercise has no ## {SOLUTION}")
+        solution = next((at for at, chapter in enumerate(chapters) if chapter.heading == SOLUTION), len(chapters))
         for at, chapter in enumerate(chapters):
             if chapter.heading.lower().rstrip(":").split(" ")[0] in ("hint", "hints", "solution", "wrong") and not (
                     chapter.heading in (HINTS, SOLUTION) or chapter.heading.startswith(WRONG) and chapter.heading[len(WRONG):].strip()):
@@ -168,11 +169,11 @@ class Reader:
                     self.fail(block.line, f"a block {block.word} means nothing here; one that is there to be read is text, sh, answer or usercode")
 
     def _chapter(self, chapters: Sequence[Chapter], heading: str) -> Chapter:
-        """The only chapter with this heading."""
+        """The only chapter with this heading, or an empty one."""
         found = [chapter for chapter in chapters if chapter.heading == heading]
         if len(found) > 1:
             self.fail(found[1].line, f"there is a second ## {heading}")
-        return found[0]
+        return found[0] if found else Chapter(len(self._lines), "", [], [])
 
     def _only(self, chapters: Sequence[Chapter], *words: str, is_needed: bool = True) -> Optional[Block]:
         """The block of one of these words in some chapters, of which there has to be one."""

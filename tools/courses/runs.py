@@ -4,7 +4,7 @@ from typing import Dict, Iterator, List, NamedTuple, Optional, Sequence, Tuple
 from courses import machine
 from courses.dues import Due, Seen, applies, missed
 from courses.exercise import Case, Exercise
-from courses.schedules import EVERY, OWN, ROUNDS, Plan, text_under
+from courses.schedules import EVERY, OWN, ROUNDS, SEED, Plan, text_under
 from courses.taken import Taken, Unfit, broken_rule, with_constants
 from kdf9 import deck as decks
 from kdf9.job import HEADER, join_lines, read_lines, read_slots
@@ -133,11 +133,18 @@ def outcome(exercise: Exercise, taken: Taken, seeds: int = 0) -> Outcome:
         return Outcome(0, exercise.runs, (broken,), Missed("", "", broken, "", ""))
     for case in exercise.cases:
         addresses = names.addresses(case, own_slot(exercise))
-        for plan in [Plan(f"seed {seed}", "seed", seed) for seed in range(1, seeds + 1)] if seeds and not exercise.rules.takes_schedule else case.plans:
+        for plan in plans_of(exercise, case, seeds):
             came, miss = of_plan(exercise, taken, case, plan, addresses)
             prints += came
             of, right, first = of + 1, right + (miss is None), first or miss
     return Outcome(right, of, tuple(prints), first)
+
+
+def plans_of(exercise: Exercise, case: Case, seeds: int) -> Sequence[Plan]:
+    """The schedules of a case, or so many seeds in their place. What the clock shows depends on the schedule, so a case that sets it keeps its own."""
+    if not seeds or exercise.rules.takes_schedule or any(line.startswith("CLOCK ") for _, line in case.given.events):
+        return case.plans
+    return [Plan(f"{SEED} {seed}", SEED, seed) for seed in range(1, seeds + 1)]
 
 
 def too_large(exercise: Exercise, names: Names) -> Optional[str]:

@@ -24,6 +24,9 @@ def tried(exercise: Exercise, seeds: int) -> Tried:
 
 def faults_of(exercise: Exercise, seeds: int) -> Iterator[str]:
     """What is wrong with an exercise."""
+    if not exercise.solution:
+        yield f"{exercise.path}:{exercise.solution_line}: the exercise has no ## Solution"
+        return
     found, cause, first = marking.judge(exercise, exercise.solution)
     if found.right < found.of or found.missed or not found.of:
         yield f"{exercise.path}:{exercise.solution_line}: the solution fails: {words(found, cause, first)}"
