@@ -112,6 +112,7 @@ def in_zip(*files: Tuple[str, bytes], packing: int = zipfile.ZIP_DEFLATED) -> Ca
     """Hands in a zip file."""
 
     def write(path: pathlib.Path) -> None:
+        """Writes the zip file."""
         with zipfile.ZipFile(f"{path}.zip", "w", packing) as packed:
             for name, data in files:
                 packed.writestr(name, data)
@@ -123,6 +124,7 @@ def in_folder(*files: Tuple[str, bytes]) -> Callable[[pathlib.Path], None]:
     """Hands in a folder."""
 
     def write(path: pathlib.Path) -> None:
+        """Writes the folder."""
         for name, data in files:
             (path / name).parent.mkdir(parents=True, exist_ok=True)
             (path / name).write_bytes(data)

@@ -79,13 +79,15 @@ def answers_are_those_of_the_machine() -> Cases:
         runs = side_by_side([(["quiz", kind, "--seed", str(seed), "--answers", "--json"], "") for seed in range(1, SEEDS + 1)])
         wrong = [(seed, run) for seed, run in enumerate(runs, 1) if run.status or not again(json.loads(run.out))]
         yield f"{SEEDS} questions {kind}", f"{wrong[:2]}" if wrong else None
-        yield f"the questions {kind}", None if len({json.dumps(json.loads(run.out)["texts"]) for run in runs if not run.status}) > SEEDS * 2 // 3 else "are often the same"
+        different = len({json.dumps(json.loads(run.out)["texts"]) for run in runs if not run.status})
+        yield f"the questions {kind}", None if different > SEEDS * 2 // 3 else f"only {different} are different"
 
 
 def questions_are_written() -> Cases:
     """A question has its answer only where that is asked for, and is the same each time."""
     plain, told = kdf9(["quiz", "nest", "--seed", "7"], ""), kdf9(["quiz", "nest", "--seed", "7", "--answers"], "")
-    yield "a question without its answer", None if plain.status == 0 and "Answer" not in plain.out and told.out.startswith(plain.out) and "\nAnswer: " in told.out else f"{plain} {told}"
+    is_so = plain.status == 0 and "Answer" not in plain.out and told.out.startswith(plain.out) and "\nAnswer: " in told.out
+    yield "a question without its answer", None if is_so else f"{plain} {told}"
     page = kdf9(["quiz", "deadlock", "--seed", "7", "--html"], "")
     yield "a page without its answer", None if page.status == 0 and page.out.startswith("<!DOCTYPE html>") and "<details>" not in page.out else f"{page}"
     yield "a page again", None if page == kdf9(["quiz", "deadlock", "--seed", "7", "--html"], "") else "differs"

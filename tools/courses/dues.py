@@ -173,7 +173,9 @@ def missed_state(due: Due, seen: Seen, slot: int):
     """Compares how a program came to its end."""
     state = " ".join(seen.section(slot).state)
     wanted = "FAILED" + str(due.value)[6:] if str(due.value).startswith("failed") else str(due.value).upper()
-    return None if state == wanted else (f"{of_slot(due, slot)}{SAID_OF_STATE.get(state, f'the program failed: {state[7:]}')}", WANTED_STATE.get(wanted, f"a failure, {wanted[7:]}"))
+    if state == wanted:
+        return None
+    return f"{of_slot(due, slot)}{SAID_OF_STATE.get(state, f'the program failed: {state[7:]}')}", WANTED_STATE.get(wanted, f"a failure, {wanted[7:]}")
 
 
 SAID_OF_STATE = {"LIVE": "the program didn't come to its end", "ENDED": "the program ended"}

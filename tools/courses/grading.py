@@ -6,7 +6,6 @@ from courses import handins, machine, marking
 from courses.exercise import Exercise
 from courses.handins import Student
 from courses.marking import Prints, Verdict
-from courses.runs import MOST_RUNS
 
 # How many processes share the work at most.
 MOST_PROCESSES = 2
@@ -64,6 +63,3 @@ def table(exercises: Sequence[Exercise], students: Sequence[Student]) -> List[Ro
         prints = workers.map(prints_of, exercises, 1)
     with context.Pool(number, begin, (exercises, prints)) as workers:
         return workers.map(row_of, students, 1)
-
-
-__all__ = ["Row", "table", "MOST_RUNS"]

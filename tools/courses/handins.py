@@ -90,8 +90,8 @@ def sorted_out(files: List[Tuple[str, HandIn]], exercises: Sequence[Exercise]) -
                 found.setdefault(which or number or 0, []).append((name, each))
     told = {}
     for number, several in found.items():
-        names = sorted({name for name, _ in several})
-        told[number] = several[0][1] if len(several) == 1 else HandIn(None, f"{count(len(several), 'text')} for this exercise, in {' and '.join(map(shown, names))}; one is wanted")
+        names = " and ".join(sorted({shown(name) for name, _ in several}))
+        told[number] = several[0][1] if len(several) == 1 else HandIn(None, f"{count(len(several), 'text')} for this exercise, in {names}; one is wanted")
     return told
 
 

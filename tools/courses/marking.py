@@ -1,5 +1,5 @@
 """Marks what students handed in for the exercises of a course."""
-from typing import Dict, List, NamedTuple, Optional, Sequence, Tuple
+from typing import Dict, NamedTuple, Optional, Sequence, Tuple
 
 from courses import remarks
 from courses.exercise import Exercise
@@ -58,13 +58,8 @@ def prints_of(exercise: Exercise) -> Prints:
     """How each wrong solution of an exercise does, with its number. Of two that do alike, the first counts."""
     prints: Prints = {}
     for number, wrong in enumerate(exercise.wrong):
-        prints.setdefault(print_of(judge(exercise, wrong.text)[0]), number)
+        prints.setdefault(judge(exercise, wrong.text)[0].print, number)
     return prints
-
-
-def print_of(found: Outcome) -> Tuple[str, ...]:
-    """What tells the ways from each other in which hand-ins are wrong."""
-    return found.print
 
 
 def verdict(exercise: Exercise, text: Optional[str], prints: Prints) -> Verdict:
@@ -89,6 +84,3 @@ def total(verdicts: Sequence[Verdict]) -> float:
 def refused(exercise: Exercise, why: str) -> Verdict:
     """What a hand-in gets that can't be read."""
     return Verdict(0.0, exercise.rules.marks, 0, exercise.runs, why)
-
-
-__all__: List[str] = ["Verdict", "verdict", "judge", "prints_of", "refused", "total", "NOTHING"]

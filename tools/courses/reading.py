@@ -179,7 +179,7 @@ class Reader:
         """The block of one of these words in some chapters, of which there has to be one."""
         found = [block for chapter in chapters for block in chapter.blocks if block.word in words]
         if len(found) > 1:
-            self.fail(found[1].line, f"there is a second block {found[1].word}; one of {', '.join(words)} is enough" if len(words) > 1 else f"there is a second block {words[0]}")
+            self.fail(found[1].line, f"there is a second block {found[1].word}; one of {', '.join(words)} is enough")
         if not found and is_needed:
             self.fail(chapters[0].line, f"there is no block {' or '.join(words)} here")
         return found[0] if found else None
@@ -316,6 +316,7 @@ class Reader:
             self.fail(at, f"this can't be given: {text}; it is V0 = 12, device 4 +TEXT, device 4 empty, CLOCK 5 after 20, or SWAP 0 1 after 20")
 
     def _due(self, at: int, text: str) -> Due:
+        """What a line says that is due."""
         try:
             return read_due(text, at)
         except ValueError as why:

@@ -32,7 +32,7 @@ def as_text(exercises: Sequence[Exercise], rows: Sequence[Row]) -> str:
     heads = ["", *(str(exercise.number) for exercise in exercises), "sum"]
     cells = [[row.name, *(f"{each.marks:g}" for each in row.verdicts), f"{row.total:g}"] for row in rows]
     widths = [max(len(line[at]) for line in [heads, *cells]) for at in range(len(heads))]
-    lines = ["  ".join(cell.ljust(width) if at == 0 else cell.rjust(width) for at, (cell, width) in enumerate(zip(line, widths))).rstrip() for line in [heads, *cells]]
+    lines = ["  ".join([line[0].ljust(widths[0]), *(each.rjust(width) for each, width in zip(line[1:], widths[1:]))]).rstrip() for line in [heads, *cells]]
     for row in rows:
         wrong = [(exercise, verdict) for exercise, verdict in zip(exercises, row.verdicts) if not verdict.is_right]
         lines += ["", row.name] if wrong else []

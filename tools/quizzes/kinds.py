@@ -2,7 +2,7 @@
 from typing import Callable, Dict, List, Sequence
 
 from courses import machine
-from courses.schedules import Chance
+from courses.schedules import AFTER, Chance, Plan, text_under
 from kdf9.job import read_lines
 from kdf9.report import length_of_journal, read_alone
 from kdf9.words import count, listed
@@ -35,8 +35,8 @@ def nest(chance: Chance) -> Made:
     job, left = job_of_orders(orders), state(orders)[1]
     if not 2 <= len(left) <= 5 or any(abs(number) > LARGEST_LEFT for number in left):
         raise Unfit
-    shown = " ".join(map(str, left))
-    return "The program of this job is run.", {"job": job}, "What does it leave on the nest, top first?", shown, f"`./kdf9 steps` shows the nest after each order; the last one has {count(len(left), 'word')}."
+    why = f"`./kdf9 steps` shows the nest after each order; the last one has {count(len(left), 'word')}."
+    return "The program of this job is run.", {"job": job}, "What does it leave on the nest, top first?", " ".join(map(str, left)), why
 
 
 def job_of_orders(orders: Sequence[str]) -> str:
@@ -65,7 +65,6 @@ def two_programs(chance: Chance) -> str:
 
 def with_transfers(job: str, calls: int, after: int) -> str:
     """A job with a schedule in which each transfer ends so many calls after it began."""
-    from courses.schedules import AFTER, Plan, text_under  # pylint: disable=import-outside-toplevel
     return f"{job}SCHEDULE\n{text_under(Plan('', AFTER, after), scheduled(job, calls, []), calls, ())}ENDJOB\n"
 
 
@@ -82,7 +81,8 @@ def held(chance: Chance) -> Made:
     after = 8 + chance.below(30)
     job = with_transfers(two_programs(chance), 200, after)
     path = path_of(ran(job), slots_of(job))
-    fit = [at for at, turn in enumerate(path.turns, 1) if turn.slot not in (None, 0) and turn.hold is None and 0 in path.moments[at].holds and path.moments[at].may_be_held(0, {})]
+    others = [at for at, turn in enumerate(path.turns, 1) if turn.slot not in (None, 0) and turn.hold is None]
+    fit = [at for at in others if 0 in path.moments[at].holds and path.moments[at].may_be_held(0, {})]
     if not fit:
         raise Unfit
     call = chance.of(fit)
@@ -90,7 +90,8 @@ def held(chance: Chance) -> Made:
     said = HOLDS[kind].format(which)
     answer = f"slot {path.turns[call - 1].slot}; slot 0 is held up by {said}"
     task = f"In this job each transfer ends {count(after, 'call')} after it began."
-    return task, {"job": job}, f"Which program obeys an order at call {call}, and what holds up the program of slot 0 then?", answer, "`./kdf9 steps JOB 0 --run` shows from which call on it is held up, and `./kdf9 picture` all calls."
+    why = "`./kdf9 steps JOB 0 --run` shows from which call on it is held up, and `./kdf9 picture` all calls."
+    return task, {"job": job}, f"Which program obeys an order at call {call}, and what holds up the program of slot 0 then?", answer, why
 
 
 def idle(chance: Chance) -> Made:
@@ -102,7 +103,8 @@ def idle(chance: Chance) -> Made:
     if not number or "STATE LIVE" in report:
         raise Unfit
     task = f"In this job each transfer ends {count(after, 'call')} after it began."
-    return task, {"job": job}, "How many calls of the run are idle?", str(number), f"The run takes {calls} calls. `./kdf9 stats` counts them, and the journal has them in its lines IDLE."
+    why = f"The run takes {calls} calls. `./kdf9 stats` counts them, and the journal has them in its lines IDLE."
+    return task, {"job": job}, "How many calls of the run are idle?", str(number), why
 
 
 def pool_job(chance: Chance) -> str:
@@ -111,8 +113,8 @@ def pool_job(chance: Chance) -> str:
     text = "KDF9 JOB 1\n"
     for number, (first, writes, second, then) in enumerate(kinds):
         work = "DUMMY; " * chance.below(5)
-        body = f"  SET {first}; SET 5; OUT; V0; =Q1; =C1; {writes}1; {work}INTQ1;\n  SET {second}; SET 5; OUT; V0; =Q2; =C2; {then}2;\n  C1; SET 6; OUT; C2; SET 6; OUT;\n"
-        text += slot(number, deck(body, head))
+        body = f"  SET {first}; SET 5; OUT; V0; =Q1; =C1; {writes}1; {work}INTQ1;\n  SET {second}; SET 5; OUT; V0; =Q2; =C2; {then}2;\n"
+        text += slot(number, deck(f"{body}  C1; SET 6; OUT; C2; SET 6; OUT;\n", head))
     return text + "POOL\nDEVICE 8 TP\nDEVICE 9 LP\n"
 
 
@@ -149,9 +151,9 @@ def deadlock(chance: Chance) -> Made:
         raise Unfit
     told, at = wrong[:3], chance.below(4)
     told.insert(at, right[0])
-    texts = {"job": scheduled(job, 0, told[0]).split("SCHEDULE")[0], **{f"schedule {LETTERS[each]}": "".join(f"{line}\n" for line in lines) for each, lines in enumerate(told)}}
+    texts = {"job": job, **{f"schedule {LETTERS[each]}": "".join(f"{line}\n" for line in lines) for each, lines in enumerate(told)}}
     task = f"The job ends with one of the schedules {listed(list(LETTERS))}: its lines come between SCHEDULE and ENDJOB."
-    why = "With it, each program has a device and waits for that of the other. `./kdf9 explain` says so of the job with this schedule, and `./kdf9 explore` finds that deadlock."
+    why = "With it, each program has a device and waits for that of the other. `./kdf9 explain` says so, and `./kdf9 explore` finds that deadlock."
     return task, texts, "Which of the schedules leads to a deadlock?", LETTERS[at], why
 
 
