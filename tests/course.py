@@ -16,11 +16,11 @@ import tempfile
 import zipfile
 from typing import Callable, Dict, Iterator, List, Optional, Tuple
 
-from course_quiz import SUITES as QUIZZES
+from course_quiz import PROGRAM, SUITES as QUIZZES
 from toolkit import ROOT, kdf9, refused
 
 sys.path.insert(0, str(ROOT / "tools"))
-from courses import reading  # noqa: E402
+from courses import machine, reading  # noqa: E402
 from courses.exercise import Exercise  # noqa: E402
 
 Cases = Iterator[Tuple[str, Optional[str]]]
@@ -319,6 +319,8 @@ SUITES: List[Callable[[], Cases]] = [class_gets_its_marks, hostile_cost_themselv
 
 def main(words: List[str]) -> int:
     """Does what the words say, and returns the status."""
+    os.environ.setdefault("KDF9", PROGRAM)
+    machine.answer_here()
     seeds = int(words[words.index("--seeds") + 1]) if "--seeds" in words else USUAL_SEEDS
     cases = [*courses_are_tried(seeds), *(case for suite in SUITES for case in suite())]
     failed = [(name, why) for name, why in cases if why]

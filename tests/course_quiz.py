@@ -1,24 +1,37 @@
 """Asks the machine again for the answers of quizzes, in another way than the tool: by counting in journals and reading sections."""
 import json
+import os
 import re
+import subprocess
+import sys
 from typing import Callable, Dict, Iterator, List, Optional, Tuple
 
-from toolkit import kdf9, side_by_side
+from toolkit import ROOT, kdf9
+
+sys.path.insert(0, str(ROOT / "tools"))
+from quizzes.kinds import KINDS, question  # noqa: E402
+from quizzes.written import as_json  # noqa: E402
 
 Cases = Iterator[Tuple[str, Optional[str]]]
 
 SEEDS = 30
+PROGRAM = os.environ.get("KDF9") or str(ROOT / "crates" / "kdf9" / "out" / "kdf9")
+
+
+def program(words: List[str], job: str) -> str:
+    """What the program itself writes for a job; the launcher, which takes longer to start, isn't asked."""
+    return subprocess.run([PROGRAM, *words], input=job.encode("latin-1"), stdout=subprocess.PIPE, check=False).stdout.decode("latin-1")
 
 
 def journal_of(job: str) -> List[List[str]]:
     """The entries of the journal of a job, each as its words."""
-    report = kdf9(["run"], job).out
+    report = program(["run"], job)
     return [line.split(" ") for line in report[:report.index("\nSLOT ")].split("\n")[1:]]
 
 
 def nest_again(question: dict) -> bool:
     """What `alone` says of the nest."""
-    words = re.search(r"^NEST \d+ (.*)$", kdf9(["alone", "0"], question["texts"]["job"]).out, re.MULTILINE)
+    words = re.search(r"^NEST \d+ (.*)$", program(["alone", "0"], question["texts"]["job"]), re.MULTILINE)
     numbers = [int(word, 8) for word in words[1].split(" ")] if words else []
     return question["answer"] == " ".join(str(number - 2**48 if number >= 2**47 else number) for number in numbers)
 
@@ -53,7 +66,7 @@ def deadlock_again(question: dict) -> bool:
     found = []
     for letter in "ABCD":
         job = f"{question['texts']['job']}SCHEDULE\n{question['texts'][f'schedule {letter}']}ENDJOB\n"
-        report = kdf9(["run"], job).out
+        report = program(["run"], job)
         waits = [re.findall(rf"^(?:RAN|LOV|BUSY|WAIT) {slot}\b.*$", report, re.MULTILINE)[-1] for slot in (0, 1)]
         if report.count("STATE LIVE") == 2 and all(line.startswith("WAIT") for line in waits):
             found.append(letter)
@@ -76,11 +89,12 @@ AGAIN: Dict[str, Callable[[dict], bool]] = {"nest": nest_again, "held": held_aga
 def answers_are_those_of_the_machine() -> Cases:
     """The answers of many seeds, asked again; and each is another question."""
     for kind, again in AGAIN.items():
-        runs = side_by_side([(["quiz", kind, "--seed", str(seed), "--answers", "--json"], "") for seed in range(1, SEEDS + 1)])
-        wrong = [(seed, run) for seed, run in enumerate(runs, 1) if run.status or not again(json.loads(run.out))]
+        made = {seed: json.loads(as_json(question(kind, seed), True)) for seed in range(1, SEEDS + 1)}
+        wrong = [told for told in made.values() if not again(told)]
         yield f"{SEEDS} questions {kind}", f"{wrong[:2]}" if wrong else None
-        different = len({json.dumps(json.loads(run.out)["texts"]) for run in runs if not run.status})
+        different = len({json.dumps(told["texts"]) for told in made.values()})
         yield f"the questions {kind}", None if different > SEEDS * 2 // 3 else f"only {different} are different"
+    yield "the kinds that are tried", None if list(AGAIN) == list(KINDS) else f"are {list(KINDS)}"
 
 
 def questions_are_written() -> Cases:

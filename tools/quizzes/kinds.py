@@ -30,7 +30,7 @@ def nest(chance: Chance) -> Made:
     orders = [f"SET {1 + chance.below(LARGEST_START)}" for _ in range(2 + chance.below(3))]
     while len([order for order in orders if not order.startswith("SET")]) < FEWEST_ORDERS + chance.below(MORE_ORDERS):
         more = [*orders, chance.of(ON_NEST)]
-        if state(more)[0] != "FAILED":
+        if state(more)[0] != "FAILED" and len(state(more)[1]) > 1:
             orders = more
     job, left = job_of_orders(orders), state(orders)[1]
     if not 2 <= len(left) <= 5 or any(abs(number) > LARGEST_LEFT for number in left):
@@ -127,9 +127,9 @@ def schedule_of(chance: Chance) -> List[str]:
     return lines
 
 
-def waits_for_good(job: str) -> bool:
-    """Whether the run of a job comes to a deadlock."""
-    return bool(path_of(ran(job), slots_of(job)).last.circle({8: "TP", 9: "LP"}))
+def waits_for_good(report: str) -> bool:
+    """Whether the run of this report, of two programs, comes to a deadlock."""
+    return "STATE LIVE" in report and bool(path_of(report, [0, 1]).last.circle({8: "TP", 9: "LP"}))
 
 
 def deadlock(chance: Chance) -> Made:
@@ -138,9 +138,9 @@ def deadlock(chance: Chance) -> Made:
     right, wrong = [], []
     for _ in range(60):
         lines = schedule_of(chance)
-        text = scheduled(job, 0, lines)
-        is_deadlock = waits_for_good(text)
-        if not is_deadlock and "STATE LIVE" in ran(text):
+        report = ran(scheduled(job, 0, lines))
+        is_deadlock = waits_for_good(report)
+        if not is_deadlock and "STATE LIVE" in report:
             continue
         mine = right if is_deadlock else wrong
         if lines not in mine:
