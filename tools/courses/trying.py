@@ -3,7 +3,7 @@ from typing import Iterator, List, NamedTuple, Sequence
 
 from courses import marking
 from courses.exercise import Exercise
-from courses.runs import Outcome
+from courses.runs import Outcome, plans_of
 from kdf9.words import count
 
 
@@ -18,7 +18,7 @@ def tried(exercise: Exercise, seeds: int) -> Tried:
     """What comes of an exercise that is tried, its solution also under the schedules of so many seeds."""
     faults = list(faults_of(exercise, seeds))
     said = f"{exercise.name}: {count(len(exercise.cases), 'case')}, {count(exercise.runs, 'run')}; the solution passes"
-    said += f", also under {count(seeds, 'seed')}" if seeds and not exercise.rules.takes_schedule else ""
+    said += f", also under {count(seeds, 'seed')}" if all(plans_of(exercise, case, seeds) is not case.plans for case in exercise.cases) else ""
     return Tried(f"{said}; {count(len(exercise.wrong), 'wrong solution')} refused, each with its remark", faults)
 
 

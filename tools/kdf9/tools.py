@@ -74,7 +74,7 @@ TOOLS = {tool.name: tool for tool in (
     Tool(
         "mark", "COURSE [HAND-INS] [--csv] [--json] [--html] [--try] [--seeds N] [--hand-out FOLDER]",
         "Marks what a class handed in for the exercises of a course, tries a course itself, or writes what students get.",
-        "./kdf9 mark courses/machine --try",
+        "./kdf9 mark machine --try",
     ),
     Tool(
         "quiz", "KIND [--seed N] [--answers] [--json] [--html]",
