@@ -17,7 +17,7 @@ import zipfile
 from typing import Callable, Dict, Iterator, List, Optional, Tuple
 
 from course_quiz import PROGRAM, SUITES as QUIZZES
-from toolkit import ROOT, kdf9, refused
+from toolkit import ROOT, document, kdf9, refused
 
 sys.path.insert(0, str(ROOT / "tools"))
 from courses import machine, reading  # noqa: E402
@@ -314,7 +314,21 @@ def students_get_no_solution() -> Cases:
         yield "a folder that isn't empty", None if refused(again) and "isn't empty" in again.err else f"{again}"
 
 
-SUITES: List[Callable[[], Cases]] = [class_gets_its_marks, hostile_cost_themselves, faulty_are_refused, students_get_no_solution, *QUIZZES]
+def page_is_so() -> Cases:
+    """The exercise that docs/COURSE.md shows is right, and the fault that it shows is refused so."""
+    page = document("COURSE.md")
+    text = re.search(r"^````markdown\n(.*?)^````$", page, re.MULTILINE | re.DOTALL)[1]
+    name, line, said = re.search(r"^courses/mine/(\S+):(\d+): (.*)$", page, re.MULTILINE).groups()
+    with tempfile.TemporaryDirectory() as folder:
+        path = pathlib.Path(folder, name)
+        path.write_text(text, encoding="utf-8")
+        run = kdf9(["mark", folder, "--try"], "")
+        yield "the exercise of docs/COURSE.md", None if run.status == 0 and "1 wrong solution refused" in run.out else f"{run}"
+        path.write_text(text.replace("due V1 = 42", "due V1 is 42"), encoding="utf-8")
+        yield "the fault of docs/COURSE.md", None if why_refused(path) == f"{path}:{line}: {said}" else why_refused(path)
+
+
+SUITES: List[Callable[[], Cases]] = [class_gets_its_marks, hostile_cost_themselves, faulty_are_refused, students_get_no_solution, page_is_so, *QUIZZES]
 
 
 def main(words: List[str]) -> int:
