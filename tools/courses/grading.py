@@ -6,6 +6,7 @@ from courses import handins, machine, marking
 from courses.exercise import Exercise
 from courses.handins import Student
 from courses.marking import Prints, Verdict
+from kdf9.command import slip
 
 # How many processes share the work at most.
 MOST_PROCESSES = 2
@@ -43,7 +44,10 @@ def row_of(student: Student) -> Row:
     """The row of a student, in a worker process."""
     exercises: List[Exercise] = WORK["exercises"]  # type: ignore[assignment]
     prints: List[Prints] = WORK["prints"]  # type: ignore[assignment]
-    handed = handins.of_student(student, exercises)
+    try:
+        handed = handins.of_student(student, exercises)
+    except Exception as why:  # pylint: disable=broad-except
+        return Row(student.name, tuple(marking.refused(exercise, f"this can't be read: {slip(why)}") for exercise in exercises))
     return Row(student.name, tuple(of_exercise(exercise, handed, mine) for exercise, mine in zip(exercises, prints)))
 
 

@@ -5,6 +5,7 @@ from courses import remarks
 from courses.exercise import Exercise
 from courses.runs import Fault, Outcome, outcome
 from courses.taken import Taken, Unfit, take
+from kdf9.command import slip
 from kdf9.program import BadInput
 
 # The digits of marks after their point.
@@ -17,7 +18,7 @@ Prints = Dict[Tuple[str, ...], int]
 
 class Verdict(NamedTuple):
     """What a hand-in gets for an exercise: its marks, of so many; how many runs are right, of so many; the remark, and what came in the first run that isn't
-    right and what was due. Of one that is all right the last two are empty.
+    right and what was due, with the cause if the remark is a teacher's. Of one that is all right the last two are empty.
     """
 
     marks: float
@@ -69,11 +70,12 @@ def verdict(exercise: Exercise, text: Optional[str], prints: Prints) -> Verdict:
         return Verdict(0.0, most, 0, exercise.runs, NOTHING)
     try:
         found, cause, first = judge(exercise, text)
-    except (BadInput, ArithmeticError, LookupError, ValueError, RecursionError, MemoryError) as why:
-        return Verdict(0.0, most, 0, exercise.runs, f"this couldn't be marked: {why}")
+    except Exception as why:  # pylint: disable=broad-except
+        return refused(exercise, f"this couldn't be marked: {why if isinstance(why, BadInput) else slip(why)}")
     told = exercise.wrong[prints[found.print]].remark if found.print in prints and found.right < found.of else ""
     marks = round(most * found.right / found.of, DIGITS) if found.of else 0.0
-    return Verdict(marks, most, found.right, found.of, told or cause, first if not told or first else cause)
+    shown = f"{first} ({cause})" if told and cause and first else first or (cause if told else "")
+    return Verdict(marks, most, found.right, found.of, told or cause, shown)
 
 
 def total(verdicts: Sequence[Verdict]) -> float:
