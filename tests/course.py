@@ -242,7 +242,7 @@ FAULTY: List[Tuple[str, str, int, str]] = [
     ("```\n\n## Hints", "\n## Hints", 35, "has no ``` at its end"),
     ("## Hints", "## Hint", 41, "isn't a heading here"),
     ("- A store by itself", "A store by itself", 43, "a hint begins"),
-    ("## Solution", "## Answers", 51, "can't stand here"),
+    ("## Solution", "## Answers", 49, "can't stand here"),
     ("(your orders come here) =>", "(your orders) =>", 50, "0 times"),
     ("V0; V1; +; => SET 5; SET 7; +;", "V0; V1; +; SET 5; SET 7; +;", 63, "OLD => NEW"),
     ("Usercode writes + for an addition.", "", 76, "no remark"),
