@@ -69,6 +69,8 @@ complete -c kdf9 -n __kdf9_first -a same -d 'Says of each program of a job wheth
 complete -c kdf9 -n __kdf9_first -a explore -d 'Finds what can come of a job over every schedule: results, deadlocks, and who can starve, each with a job that shows it.'
 complete -c kdf9 -n __kdf9_first -a stats -d 'Tells how many calls the programs and devices of a run had for what; of several jobs side by side.'
 complete -c kdf9 -n __kdf9_first -a study -d 'Runs a job with all combinations of some values, and keeps a row of measures for each run.'
+complete -c kdf9 -n __kdf9_first -a mark -d 'Marks what a class handed in for the exercises of a course, tries a course itself, or writes what students get.'
+complete -c kdf9 -n __kdf9_first -a quiz -d 'Writes a question of homework that a seed makes, and its answer, which is that of the machine.'
 complete -c kdf9 -n __kdf9_first -a picture -d 'Draws the journal of a report, as SVG or, with --text, for a terminal.'
 complete -c kdf9 -n __kdf9_first -a json -d 'Writes a report as JSON.'
 complete -c kdf9 -n __kdf9_first -a report -d 'Writes the report that a JSON text is.'

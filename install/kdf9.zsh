@@ -44,6 +44,8 @@ _kdf9() {
         'explore:Finds what can come of a job over every schedule: results, deadlocks, and who can starve, each with a job that shows it.'
         'stats:Tells how many calls the programs and devices of a run had for what; of several jobs side by side.'
         'study:Runs a job with all combinations of some values, and keeps a row of measures for each run.'
+        'mark:Marks what a class handed in for the exercises of a course, tries a course itself, or writes what students get.'
+        'quiz:Writes a question of homework that a seed makes, and its answer, which is that of the machine.'
         'picture:Draws the journal of a report, as SVG or, with --text, for a terminal.'
         'json:Writes a report as JSON.'
         'report:Writes the report that a JSON text is.'

@@ -22,7 +22,7 @@ PROGRAM, MODULE, SHARED = pathlib.Path("crates", "kdf9", "out", "kdf9"), engine.
 HTML = "kdf9.html"
 
 # The folders and files of the repository that a package has, and the tools that only a clone needs.
-FOLDERS, FILES = ("docs", "examples", "tables", "tools", "web", "install", "editors"), ("kdf9", "README.md", "CHANGELOG.md", "crates.txt")
+FOLDERS, FILES = ("docs", "examples", "courses", "tables", "tools", "web", "install", "editors"), ("kdf9", "README.md", "CHANGELOG.md", "crates.txt")
 OF_A_CLONE = ("build", "build-times.txt", "editors", "kit_line", "manual", "__pycache__")
 
 # Where the files go that a system looks for in places of its own, and where it has the rest.

@@ -72,6 +72,16 @@ TOOLS = {tool.name: tool for tool in (
         "./kdf9 study examples/study/degree.json",
     ),
     Tool(
+        "mark", "COURSE [HAND-INS] [--csv] [--json] [--html] [--try] [--seeds N] [--hand-out FOLDER]",
+        "Marks what a class handed in for the exercises of a course, tries a course itself, or writes what students get.",
+        "./kdf9 mark machine --try",
+    ),
+    Tool(
+        "quiz", "KIND [--seed N] [--answers] [--json] [--html]",
+        "Writes a question of homework that a seed makes, and its answer, which is that of the machine.",
+        "./kdf9 quiz nest --seed 7 --answers",
+    ),
+    Tool(
         "picture", "[--text] < REPORT",
         "Draws the journal of a report, as SVG or, with --text, for a terminal.",
         "./kdf9 picture --text < examples/two-programs-share-a-punch.report",

@@ -1,0 +1,1 @@
+"""Exercises that check themselves, and marks for a class (docs/COURSE.md)."""
