@@ -13,7 +13,7 @@ sys.path.insert(0, str(ROOT / "tools"))
 from editing.image import Image  # noqa: E402
 from editing.naming import class_of  # noqa: E402
 from editing.texts import Text  # noqa: E402
-from editing.statements import statements  # noqa: E402
+from kdf9.statements import statements  # noqa: E402
 from kdf9.deck import CONSTANT, DECLARATION  # noqa: E402
 
 # How a tool is started: by ./kdf9, or by itself where the variable KDF9 names the program.

@@ -11,7 +11,7 @@ from types import ModuleType
 from typing import Dict, List, Tuple
 
 from kdf9 import library, program
-from kdf9.facts import facts_of
+from kdf9.spent import facts_of
 from kdf9.job import lone_job, Slot
 from kdf9.measures import measures_of, said
 from kdf9.report import Section, read_report, read_section

@@ -4,8 +4,9 @@ import re
 from typing import Dict, Iterator, List, NamedTuple, Optional, Set, Tuple
 
 from courses.exercise import Exercise
-from kdf9.deck import OPENING, statements
+from kdf9.deck import OPENING
 from kdf9.job import HEADER
+from kdf9.statements import statements
 from kdf9.tables import table
 
 # The bytes that some editors write first, as their characters.

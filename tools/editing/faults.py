@@ -9,6 +9,7 @@ from kdf9.deck import OPENING, without_comments
 from kdf9.job import HEADER, Slot, read_lines
 from kdf9.names import meant
 from kdf9.program import BadInput
+from kdf9.statements import Statement, statement_at
 from kdf9.tables import hint, table
 from kdf9.tables import lines as rows_of_lines
 from kdf9.words import capitals, whole
@@ -18,7 +19,6 @@ from editing.features import edited
 from editing.image import image_of, line_of_deck, names_of
 from editing.naming import REFERENCE, V_STORE
 from editing.texts import Deck, Text
-from editing.statements import Statement, statement_at
 
 Edit = Tuple[int, int, str]
 

@@ -6,6 +6,7 @@ import re
 from typing import Dict, Iterator, List, NamedTuple, Optional, Tuple
 
 from kdf9.deck import COMMENT, CONSTANT
+from kdf9.statements import Statement
 from kdf9.tables import lines as rows_of_lines
 from kdf9.tables import table
 
@@ -14,7 +15,6 @@ from editing.image import image_of, names_of
 from editing.naming import PART, REFERENCE, V_STORE, Y_STORE, Names, Symbol, Use, class_of, part_name, places_of
 from editing.texts import Deck, Text
 from editing.told import orders
-from editing.statements import Statement
 
 # The kinds of tokens by their numbers, as the language server names them, and those of the classes of statements; those that aren't named are orders.
 TOKENS = ["comment", "keyword", "function", "variable", "number", "string", "namespace", "label", "operator"]

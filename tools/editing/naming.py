@@ -8,10 +8,10 @@ from bisect import bisect_right
 from typing import Dict, Iterator, List, NamedTuple, Optional, Tuple
 
 from kdf9.deck import CONSTANT, DECLARATION, OPENING
+from kdf9.statements import Statement, statements
 from kdf9.words import whole
 
 from editing.grammar import classes
-from editing.statements import Statement, statements
 
 # The kinds of names.
 REFERENCE, PART, V_STORE, Y_STORE = "reference", "part", "V-store", "Y-store"

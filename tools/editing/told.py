@@ -6,6 +6,7 @@ from typing import Dict, List, Optional
 from kdf9.changes import number_of
 from kdf9.deck import CONSTANT
 from kdf9.program import ROOT
+from kdf9.statements import Statement
 from kdf9.tables import table
 from kdf9.words import whole
 
@@ -13,7 +14,6 @@ from editing.grammar import HEADING
 from editing.image import Image, image_of, names_of
 from editing.naming import PART, REFERENCE, V_STORE, Names, Symbol, Use, class_of, form_of
 from editing.texts import Deck, Text
-from editing.statements import Statement
 
 # A Q-store that a statement names, and a number of SET or of a shift.
 Q_STORE = re.compile(r"[QCIM](\d+)")
