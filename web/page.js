@@ -6,7 +6,7 @@ import { Engine, Stopped, bytesOf, canRun, unpacked } from "./engine.js";
 import { chooseFirst, chooseOwn, chosenJob, listJobs } from "./examples.js";
 import { faultOf } from "./fault.js";
 import { hintOf } from "./hints.js";
-import { EMPTY_JOB, frontOf } from "./job.js";
+import { EMPTY_JOB, frontOf, placedLines, readJob, withLine } from "./job.js";
 import { JobView } from "./jobview.js";
 import { Keeping } from "./keeping.js";
 import { timeOf } from "./kept.js";
@@ -15,6 +15,7 @@ import { hasJob, jobOfLink, packedJob, saveFile } from "./link.js";
 import { outcomeOf, outcomeOfRecord, saidOfAnswer, showOutcome } from "./outcome.js";
 import { Replay } from "./replay.js";
 import { NoSchedule, readDelays, scheduled } from "./schedule.js";
+import { haveNames, withAddresses } from "./shows.js";
 import { roomFor, withSize } from "./size.js";
 import { Theorem } from "./theorem.js";
 import { Variations } from "./variations.js";
@@ -35,6 +36,7 @@ const PAUSE = 700;
 // What the page shows, and what the documents say of statements, once they are unpacked.
 const texts = { jobs: {}, failures: {}, start: null }, help = { orders: {} };
 const view = new JobView(byId("editors"), {
+  addresses: (slot, shows) => withAddresses(ask, slot, shows),
   onchange: changed, onremove: (what, before) => keeping.offerUndo(`Removed: ${what}.`, before),
   assist: (editor, slot) => new Assist(editor, help, (statement) => lastRun?.layouts.get(Number(slot.number))?.addressOf(statement)).element,
 });
@@ -101,18 +103,26 @@ async function showFault({ status, text: answer }, job) {
   }
   const fault = faultOf(answer, job);
   const hint = status === SNAPSHOT_HAS_FAULT ? null : await hintOf(ask, fault, job);
-  const room = fault.name === "TooLarge" ? await roomFor(ask, job, fault.slot) : null;
-  if (job === view.text) view.showFault(fault, room ? `the deck becomes ${room.words} words` : hint, room && enlargement(fault.slot, room.size));
+  const room = fault.name === "TooLarge" ? await roomFor(ask, job, fault.slot) : null, show = await lineShow(fault, job);
+  const mend = room ? mending(`STORE ${room.size}`, withSize(job, fault.slot, room.size)) : show && mending(show, withLine(job, fault.line, show));
+  if (job === view.text) view.showFault(fault, room ? `the deck becomes ${room.words} words` : show ? "a line SHOW has addresses" : hint, mend);
   return fault;
 }
 
-/** The button that gives the program of a slot a larger store. */
-function enlargement(slot, size) {
-  return button(`Write STORE ${size}`, () => {
+/** The line SHOW with the addresses of the stores that a faulty line names; null if it is no such line. */
+async function lineShow({ name, subject, line }, text) {
+  const shows = [subject?.slice("SHOW ".length) ?? ""], job = name === "BadNumber" && subject.startsWith("SHOW ") && haveNames(shows) ? readJob(text) : null;
+  const slot = job?.slots[placedLines(job)[line - 1].slot];
+  return slot ? withAddresses(ask, slot, shows).then(([show]) => `SHOW ${show}`, () => null) : null;
+}
+
+/** The button that writes a line, with which the job becomes this text. */
+function mending(line, text) {
+  return button(`Write ${line}`, () => {
     const before = view.text;
-    view.show(withSize(before, slot, size));
+    view.show(text);
     changed();
-    keeping.offerUndo(`Changed: STORE ${size}.`, before);
+    keeping.offerUndo(`Changed: ${line}.`, before);
   });
 }
 
