@@ -12,6 +12,7 @@ from page_firefox import page_in_firefox
 from page_help import SUITES as HELP, caret_at
 from page_kept import SUITES as KEPT, reloads_lose_nothing
 from page_looks import SUITES as LOOKS
+from page_picture import SUITES as PICTURES
 from page_pool import SUITES as POOL
 from page_runs import orders_are_those_of_the_program, runs_are_looked_at, runs_are_those_of_the_program
 from page_service import SUITES as SERVED
@@ -334,7 +335,7 @@ def nothing_is_fetched(running, address):
 
 SUITES = (
     runs_are_looked_at, faults_are_shown, faults_stand_at_their_parts, parts_and_text_are_in_step, snapshots_are_resumed_and_reports_checked,
-    schedules_write_themselves, runs_are_stopped, faults_stand_at_their_places, *VERDICTS, *KEPT, *WORDS, *HELP, *LOOKS, *POOL, *SERVED, *WATCHED, *THEOREM, controls_have_names,
+    schedules_write_themselves, runs_are_stopped, faults_stand_at_their_places, *VERDICTS, *PICTURES, *KEPT, *WORDS, *HELP, *LOOKS, *POOL, *SERVED, *WATCHED, *THEOREM, controls_have_names,
     orders_are_those_of_the_program, runs_are_those_of_the_program,
 )
 
@@ -343,7 +344,7 @@ def cases(file):
     """All cases for the page in this file."""
     address = f"file://{file}"
     size = file.stat().st_size
-    yield "the size of the page", None if size <= 600000 else f"is {size}"
+    yield "the size of the page", None if size <= 800000 else f"is {size}"
     yield from shipped_page_is_current(file)
     with Browser() as running:
         def opened(where, **how):

@@ -172,9 +172,10 @@ def keys_are_listed(shown):
     shown.page.press("Escape", 27)
     asked = {key for path in (ROOT / "web").glob("*.js") for key in re.findall(r'\bkey [!=]== "([^"]+)"', path.read_text(encoding="utf-8"))}
     letters = re.findall(r"^      ?([a-z]): \(\) =>|, ([a-z]): \(\) =>", (ROOT / "web/replay.js").read_text(encoding="utf-8"), re.MULTILINE)
-    due = asked | {one or other for one, other in letters}
+    of_pictures = re.findall(r'(?:^  |, )(?:"(.)"|(\w+)): \(it\) =>', (ROOT / "web/pictured.js").read_text(encoding="utf-8"), re.MULTILINE)
+    due = asked | {one or other for one, other in letters + of_pictures}
     words = {{"Space": " "}.get(word, word) for key in listed for word in key.split(" ")}
-    missing = {key for key in due if key not in words and key not in ("ArrowDown", "ArrowUp", "Tab")}
+    missing = {key for key in due if key not in words and key != "Tab" and not key.startswith("Arrow")}
     yield "the list of keys", None if is_open and len(due) > 8 and not missing else f"{is_open} {missing} of {due}"
     yield "Escape closes it", None if not shown.js(f"{id_of('keys')}.open") else "it is open"
     shown.js("document.querySelector('.slot textarea').focus()")

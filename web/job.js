@@ -162,7 +162,7 @@ export const withLine = (text, number, line) => text.split("\n").with(number - 1
 export const withStore = (slot) => ({ ...slot, shows: [`0 ${slot.store - 1}`] });
 
 /** The text of a job that has nothing but the deck of a slot, in a store of this size. */
-export const jobOfDeck = (slot, store = slot.store) => writeJob({ slots: [{ ...slot, store: `${store}`, devices: [], shows: [] }], pool: null, schedule: "" });
+export const jobOfDeck = (slot, ofWords = slot.store) => writeJob({ slots: [{ ...slot, store: `${ofWords}`, devices: [], shows: [] }], pool: null, schedule: "" });
 
 /** The text of a job by parts. Its last line has no end if it had none when it was read. */
 export function writeJob(job) {

@@ -11,6 +11,10 @@ const KEYS = [
     ["F1", "says what the statement at the caret is"], ["F2", "goes from a jump to its reference, and from a reference to the next jump to it"],
     ["Ctrl Space", "offers names that go on as the statement begins"], ["Ctrl Alt F", "finds and replaces"],
   ]],
+  ["In a picture", [
+    ["+, -, 0", "shows fewer calls, more calls, all calls"], ["[, ]", "goes back, goes on"],
+    ["←, →, ↑, ↓", "go from bar to bar and from row to row, and say what is there"], ["Enter", "goes to the call of the bar"],
+  ]],
   ["In a run, call by call", [
     ["b, f", "one call back, one call on"], ["e", "to the next event"], ["h", "to the next call that finds a program held up"],
     ["o", "to the next order of the chosen program"], ["n, p", "after watch: to the next stop, to the previous stop"],

@@ -186,7 +186,7 @@ async function runNow(asked) {
   const answer = await ask(asked, text);
   const fault = await showFault(answer, text);
   const outcome = await outcomeOf(ask, jobOf(asked[0], text), answer, { isRun, failures: texts.failures });
-  showText(outcome, { look: isRun ? look : null, go: goToStop, change: isRun ? changeAndRun : null });
+  showText(outcome, { look: isRun ? look : null, go: goToStop, change: isRun ? changeAndRun : null, say });
   lastRun = isRun && outcome.read ? { ...outcome, text } : null;
   if (lastRun) theorem.take(lastRun);
   if (text === view.text) view.showStops(outcome.verdicts?.all ?? []);
@@ -323,7 +323,7 @@ function chooseExample() {
 
 /** Shows the report that was recorded of an example, if the machine can't run. */
 function showRecorded({ job, report }) {
-  if (report) showText(outcomeOfRecord(job, report, texts.failures));
+  if (report) showText(outcomeOfRecord(job, report, texts.failures), { say });
 }
 
 async function openFile() {

@@ -7,7 +7,8 @@ import { mediumOf } from "./medium.js";
 import { NAMES_OF_POOL, callsOf, numberOf, readReport, saidOf, stateOfStint } from "./report.js";
 import { readSchedule, writeSchedule } from "./schedule.js";
 import { Timeline } from "./timeline.js";
-import { drawTimeline } from "./drawing.js";
+import { WHOLE } from "./picture.js";
+import { Pictured } from "./pictured.js";
 
 // How many entries of the journal are shown on each side of the call, and at most how many words of a program.
 const ENTRIES_AROUND = 6, MOST_WORDS = 40;
@@ -49,15 +50,14 @@ export class Replay {
     this.slider = make("input", { type: "range", min: "0", max: `${timeline.total}`, value: "0", oninput: () => this.show(Number(this.slider.value)) });
     this.slot = choice([...timeline.slots.keys()].map((slot) => [`${slot}`, `program ${slot}`]), `${stops?.slot}`, () => {});
     this.where = make("output", {});
-    const { picture, mark } = drawTimeline(timeline, (call) => this.show(call), { stops });
-    this.mark = mark;
+    this.picture = new Pictured(timeline, { name: "The run over time", choose: (call) => this.show(call), stops, size: WHOLE }).withButtons();
     const go = (name, key) => button(name, () => this.show(this.callOf(key)), { title: `Key ${key}` });
     const bar = make("div", { class: "bar", role: "group", "aria-label": "Where in the run" },
       labelled("After call", this.slider), this.where,
       go("A call back", "b"), go("A call on", "f"), go("Next event", "e"), go("Next hold", "h"),
       ...(stops ? [go("Previous stop", "p"), go("Next stop", "n")] : []), go("Next order of", "o"), labelled("Program", this.slot));
     this.shown = make("div", { class: "moment" });
-    this.element.replaceChildren(make("h2", {}, "The run, call by call"), picture, bar, this.shown);
+    this.element.replaceChildren(make("h2", {}, "The run, call by call"), this.picture.element, bar, this.shown);
   }
 
   /** The call to which a key leads, or undefined. */
@@ -111,7 +111,7 @@ export class Replay {
 
   drawMoment(call, now, before) {
     this.where.textContent = `${call.toLocaleString("en")} of ${this.timeline.total.toLocaleString("en")}`;
-    this.mark(call);
+    this.picture.mark(call);
     const programs = now.map((section, at) => this.drawProgram(call, section, before[at]));
     const said = `After call ${call}: ${now.map((section, at) => this.sentence(call, section, before[at])).join("; ")}.`;
     this.shown.replaceChildren(make("p", { class: "said" }, said), make("div", { class: "programs" }, ...programs), ...this.drawPool(call), this.drawJournal(call));
