@@ -15,6 +15,7 @@ from page_looks import SUITES as LOOKS
 from page_picture import SUITES as PICTURES
 from page_pool import SUITES as POOL
 from page_runs import orders_are_those_of_the_program, runs_are_looked_at, runs_are_those_of_the_program
+from page_schedules import SUITES as SCHEDULED
 from page_service import SUITES as SERVED
 from page_shipped import shipped_page_is_current
 from page_theorem import SUITES as THEOREM, no_run_before
@@ -60,14 +61,14 @@ SHARED, SHARED_CALL = "two-programs-share-a-punch", 20
 # The schedule of the first of them is shuffled with this seed in a picture.
 PICTURED_SEED = 18
 
-# Schedules that write themselves: an example, what is typed into the three boxes, and the arguments of the tool that writes the same.
+# Schedules that write themselves: an example, what is typed into the two boxes and those of devices, and the arguments of the tool that writes the same.
 SCHEDULES = [
-    ("adds-cards", ("7", "", "4=30"), ["--after", "7", "4=30"]),
-    ("reads-tape", ("2", "", ""), ["--after", "2"]),
-    ("adds-cards-while-a-tape-is-copied", ("25", "", ""), ["--after", "25"]),
-    ("computes-while-it-reads", ("3", "5", ""), ["--after", "3", "--every", "5"]),
-    ("adds-5-and-7", ("0", "", ""), ["--after", "0"]),
-    (SHARED, ("9", "", ""), ["--after", "9"]),
+    ("adds-cards", ("7", "", {"4": "30"}), ["--after", "7", "4=30"]),
+    ("reads-tape", ("2", "", {}), ["--after", "2"]),
+    ("adds-cards-while-a-tape-is-copied", ("25", "", {}), ["--after", "25"]),
+    ("computes-while-it-reads", ("3", "5", {}), ["--after", "3", "--every", "5"]),
+    ("adds-5-and-7", ("0", "", {}), ["--after", "0"]),
+    (SHARED, ("9", "", {}), ["--after", "9"]),
 ]
 
 
@@ -194,8 +195,10 @@ def schedules_write_themselves(shown):
     """The schedule is the one that the tool writes."""
     for name, fields, words in SCHEDULES:
         shown.example(name)
-        for field, value in zip(("after", "every", "delays"), fields):
+        for field, value in zip(("after", "every"), fields):
             shown.js(f"{id_of(field)}.value = {json.dumps(value)}")
+        for device, calls in fields[2].items():
+            shown.js(f"document.querySelector('#delays [data-device=\"{device}\"]').value = {json.dumps(calls)}")
         shown.click("schedule")
         shown.idle()
         due = kdf9(["schedule", f"examples/{name}.job", *words], "").out
@@ -335,7 +338,7 @@ def nothing_is_fetched(running, address):
 
 SUITES = (
     runs_are_looked_at, faults_are_shown, faults_stand_at_their_parts, parts_and_text_are_in_step, snapshots_are_resumed_and_reports_checked,
-    schedules_write_themselves, runs_are_stopped, faults_stand_at_their_places, *VERDICTS, *PICTURES, *KEPT, *WORDS, *HELP, *LOOKS, *POOL, *SERVED, *WATCHED, *THEOREM, controls_have_names,
+    schedules_write_themselves, runs_are_stopped, faults_stand_at_their_places, *VERDICTS, *PICTURES, *SCHEDULED, *KEPT, *WORDS, *HELP, *LOOKS, *POOL, *SERVED, *WATCHED, *THEOREM, controls_have_names,
     orders_are_those_of_the_program, runs_are_those_of_the_program,
 )
 

@@ -12,14 +12,16 @@ import { Keeping } from "./keeping.js";
 import { timeOf } from "./kept.js";
 import { attendToKeys } from "./keys.js";
 import { hasJob, jobOfLink, packedJob, saveFile } from "./link.js";
+import { Many } from "./many.js";
 import { outcomeOf, outcomeOfRecord, saidOfAnswer, showOutcome } from "./outcome.js";
 import { Replay } from "./replay.js";
-import { NoSchedule, readDelays, scheduled } from "./schedule.js";
+import { NoSchedule, drawDelays, readDelays, scheduled } from "./schedule.js";
 import { haveNames, withAddresses } from "./shows.js";
 import { roomFor, withSize } from "./size.js";
 import { Theorem } from "./theorem.js";
 import { Variations } from "./variations.js";
 import { NoPlace, watchable, wordOf } from "./watch.js";
+import { whatIf } from "./whatif.js";
 
 const SNAPSHOT_HAS_FAULT = 8, FAULTS = [2, 3, SNAPSHOT_HAS_FAULT];
 
@@ -50,6 +52,7 @@ const ask = (words, job) => engine.ask(words, job);
 const replay = new Replay(byId("replay"), { ask, say, failed: (error) => sayFailed(error) });
 const theorem = new Theorem(byId("compared"), { ask, say });
 const variations = new Variations({ ask, say, work, view, theorem, keeping, changed, run: runAgain, lastRun: () => lastRun });
+const trials = new Many({ ask, say, work, from: () => variations.from(), open: (seed, from) => variations.open(seed, from), failures: () => texts.failures });
 
 /** Says what has happened, in the line of the page that is read aloud. */
 function say(text, isWrong = false) {
@@ -64,6 +67,7 @@ function changed() {
   chooseOwn();
   byId("link-said").hidden = true;
   byId("stale").hidden = lastText === "";
+  drawDelays(view.text);
   clearTimeout(pause);
   pause = setTimeout(lookForFault, PAUSE);
 }
@@ -146,7 +150,7 @@ async function offerPlaces() {
 
 /** Shows whether the machine is at work. */
 function setBusy(isBusy) {
-  for (const id of ["run", "schedule", "shuffle", "neighbours"]) byId(id).disabled = isBusy || !engine;
+  for (const id of ["run", "schedule", "shuffle", "neighbours", "try"]) byId(id).disabled = isBusy || !engine;
   byId("compare-alone").disabled = isBusy || lastRun === null;
   byId("compare-before").disabled = isBusy || lastRun === null || theorem.before === null;
   byId("stop").disabled = !isBusy;
@@ -191,6 +195,8 @@ async function runNow(asked) {
   if (lastRun) theorem.take(lastRun);
   if (text === view.text) view.showStops(outcome.verdicts?.all ?? []);
   byId("look").disabled = byId("see").disabled = lastRun === null;
+  const asking = lastRun && whatIf(lastRun, { ask, say, work, take: takeSchedule });
+  byId("what-if").replaceChildren(...(asking ? [asking] : []));
   byId("stale").hidden = text === view.text;
   sayAnswer(answer, fault, outcome.verdicts);
 }
@@ -214,6 +220,11 @@ async function changeAndRun({ name, change }) {
   changed();
   keeping.offerUndo(`Changed: ${name}.`, before);
   return work("Running.", runAgain);
+}
+
+/** Puts a job with another schedule in the place of the one that was run, if that is still there, and runs it. `what` says what is new. */
+function takeSchedule(text, what) {
+  return changeAndRun({ name: what, change: () => text });
 }
 
 /** The fault of a job with its hint, as it is shown, or null if there is none. */
@@ -252,6 +263,7 @@ function showText(outcome, acts) {
   byId("save-report").disabled = lastText === "";
   replay.close();
   theorem.clear();
+  byId("what-if").replaceChildren();
   showOutcome(outcome, acts);
 }
 
@@ -260,8 +272,8 @@ function stop() {
 }
 
 async function writeSchedule() {
-  const delays = readDelays(...["after", "every", "delays"].map((id) => byId(id).value));
-  if (delays === null) return say("These aren't numbers of calls: 20, or 3=50 for device 3.", true);
+  const delays = readDelays();
+  if (delays === null) return say("These aren't numbers of calls.", true);
   return work("Writing the schedule.", async () => {
     const before = view.text, answer = await ask(["asm", "0"], before);
     const fault = await showFault(answer, before);
@@ -283,6 +295,8 @@ function begin(text, args) {
 function show(text, args) {
   stop();
   view.show(text);
+  drawDelays(text);
+  byId("outcomes").replaceChildren();
   byId("link-said").hidden = true;
   [byId("command").value, byId("value").value, byId("place").value] = [args[0], args[1] ?? "0", args[2] ?? "0"];
   chooseCommand();
@@ -380,6 +394,8 @@ function attend() {
   byId("run").onclick = run;
   byId("stop").onclick = stop;
   byId("schedule").onclick = writeSchedule;
+  byId("try").onclick = () => trials.tryAll();
+  byId("scheduling").ontoggle = () => drawDelays(view.text);
   byId("look").onclick = () => look(0);
   byId("place").onfocus = offerPlaces;
   byId("shuffle").onclick = () => variations.shuffle();
