@@ -16,6 +16,7 @@ from page_picture import SUITES as PICTURES
 from page_pool import SUITES as POOL
 from page_runs import orders_are_those_of_the_program, runs_are_looked_at, runs_are_those_of_the_program
 from page_schedules import SUITES as SCHEDULED
+from page_seek import SUITES as SOUGHT
 from page_service import SUITES as SERVED
 from page_shipped import shipped_page_is_current
 from page_theorem import SUITES as THEOREM, no_run_before
@@ -338,7 +339,7 @@ def nothing_is_fetched(running, address):
 
 SUITES = (
     runs_are_looked_at, faults_are_shown, faults_stand_at_their_parts, parts_and_text_are_in_step, snapshots_are_resumed_and_reports_checked,
-    schedules_write_themselves, runs_are_stopped, faults_stand_at_their_places, *VERDICTS, *PICTURES, *SCHEDULED, *KEPT, *WORDS, *HELP, *LOOKS, *POOL, *SERVED, *WATCHED, *THEOREM, controls_have_names,
+    schedules_write_themselves, runs_are_stopped, faults_stand_at_their_places, *VERDICTS, *PICTURES, *SCHEDULED, *SOUGHT, *KEPT, *WORDS, *HELP, *LOOKS, *POOL, *SERVED, *WATCHED, *THEOREM, controls_have_names,
     orders_are_those_of_the_program, runs_are_those_of_the_program,
 )
 

@@ -171,7 +171,7 @@ def keys_are_listed(shown):
     is_open, listed = shown.js(f"[{id_of('keys')}.open, [...document.querySelectorAll('#keys kbd')].map((it) => it.textContent)]")
     shown.page.press("Escape", 27)
     asked = {key for path in (ROOT / "web").glob("*.js") for key in re.findall(r'\bkey [!=]== "([^"]+)"', path.read_text(encoding="utf-8"))}
-    letters = re.findall(r"^      ?([a-z]): \(\) =>|, ([a-z]): \(\) =>", (ROOT / "web/replay.js").read_text(encoding="utf-8"), re.MULTILINE)
+    letters = re.findall(r"^      ?([a-zA-Z]): \(\) =>|, ([a-zA-Z]): \(\) =>", (ROOT / "web/replay.js").read_text(encoding="utf-8"), re.MULTILINE)
     of_pictures = re.findall(r'(?:^  |, )(?:"(.)"|(\w+)): \(it\) =>', (ROOT / "web/pictured.js").read_text(encoding="utf-8"), re.MULTILINE)
     due = asked | {one or other for one, other in letters + of_pictures}
     words = {{"Space": " "}.get(word, word) for key in listed for word in key.split(" ")}

@@ -9,6 +9,7 @@ const KEYS = [
   ]],
   ["In a deck", [
     ["F1", "says what the statement at the caret is"], ["F2", "goes from a jump to its reference, and from a reference to the next jump to it"],
+    ["F8", "shows the run at the next call at which the program comes to the statement at the caret"], ["F9", "sets a breakpoint at the statement, or takes it away"],
     ["Ctrl Space", "offers names that go on as the statement begins"], ["Ctrl Alt F", "finds and replaces"],
   ]],
   ["In a picture", [
@@ -18,6 +19,8 @@ const KEYS = [
   ["In a run, call by call", [
     ["b, f", "one call back, one call on"], ["e", "to the next event"], ["h", "to the next call that finds a program held up"],
     ["o", "to the next order of the chosen program"], ["n, p", "after watch: to the next stop, to the previous stop"],
+    ["N, B", "to the next breakpoint, to the one before"], ["c", "to the next call at which the program comes to the statement at the caret"],
+    ["w", "back to the call with which the chosen word got its value"],
   ]],
 ];
 

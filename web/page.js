@@ -16,6 +16,7 @@ import { Many } from "./many.js";
 import { outcomeOf, outcomeOfRecord, saidOfAnswer, showOutcome } from "./outcome.js";
 import { Replay } from "./replay.js";
 import { NoSchedule, drawDelays, readDelays, scheduled } from "./schedule.js";
+import { Breaks } from "./seek.js";
 import { haveNames, withAddresses } from "./shows.js";
 import { roomFor, withSize } from "./size.js";
 import { Theorem } from "./theorem.js";
@@ -37,10 +38,13 @@ const PAUSE = 700;
 
 // What the page shows, and what the documents say of statements, once they are unpacked.
 const texts = { jobs: {}, failures: {}, start: null }, help = { orders: {} };
+const breaks = new Breaks();
+let caret = null; // the slot and the beginning of the statement at which the caret was last
 const view = new JobView(byId("editors"), {
   addresses: (slot, shows) => withAddresses(ask, slot, shows),
   onchange: changed, onremove: (what, before) => keeping.offerUndo(`Removed: ${what}.`, before),
-  assist: (editor, slot) => new Assist(editor, help, (statement) => lastRun?.layouts.get(Number(slot.number))?.addressOf(statement)).element,
+  assist: (editor, slot) => new Assist(editor, help, (statement) => lastRun?.layouts.get(Number(slot.number))?.addressOf(statement),
+    { breaks, slot: slot.number, runTo, caretAt: (number, statement) => { caret = statement && { slot: Number(number), start: statement.start }; } }).element,
 });
 const keeping = new Keeping({ text: () => view.text, bring: bringBack, undo: takeBack });
 let engine = null;
@@ -49,7 +53,7 @@ let lastRun = null; // what can be shown call by call: the job, its report, the 
 let pause = 0;
 
 const ask = (words, job) => engine.ask(words, job);
-const replay = new Replay(byId("replay"), { ask, say, failed: (error) => sayFailed(error) });
+const replay = new Replay(byId("replay"), { ask, say, failed: (error) => sayFailed(error), breaks, caret: () => (lastRun?.text === view.text ? caret : null) });
 const theorem = new Theorem(byId("compared"), { ask, say });
 const variations = new Variations({ ask, say, work, view, theorem, keeping, changed, run: runAgain, lastRun: () => lastRun });
 const trials = new Many({ ask, say, work, from: () => variations.from(), open: (seed, from) => variations.open(seed, from), failures: () => texts.failures });
@@ -239,6 +243,16 @@ async function explain(job) {
 function look(call) {
   replay.open(lastRun, call);
   goTo("replay");
+}
+
+/** Shows the run at the next call at which a program comes to a statement. A job that was changed is run first. */
+async function runTo(slot, { start }) {
+  if (lastRun?.text !== view.text) await run();
+  if (lastRun?.text !== view.text) return;
+  caret = { slot: Number(slot), start };
+  goTo("replay");
+  await replay.open(lastRun, replay.callShown(lastRun));
+  await replay.go("c");
 }
 
 /** Goes to the comparisons. If there is none yet, it is that with the lone runs. */

@@ -316,7 +316,7 @@ class Sheet {
       [shape("rect", { width: 22, height: SIZES.ready, y: 9, fill: SHADES.ready, class: "ready" }), LEGEND.ready],
       [shape("path", { d: "M11 0v13", stroke: "#000", class: "sign" }), LEGEND.begun], [this.sign("move", 8, 4), LEGEND.move],
       [shape("rect", { x: 6, y: 1, width: 10, height: 10, fill: "#000", class: "sign ended" }), LEGEND.ended], [this.sign("failed", 5, 0), LEGEND.failed], [this.sign("clock", 11, 0), LEGEND.clock],
-      ...(timeline.swaps.length ? [[this.sign("exchange", 7, 12), LEGEND.exchange]] : []), ...(this.stops ? [[shape("path", { d: "M11 2l3.5 6h-7z", class: "stop" }), "a stop of the watch"]] : []),
+      ...(timeline.swaps.length ? [[this.sign("exchange", 7, 12), LEGEND.exchange]] : []), ...(this.stops ? [[shape("path", { d: "M11 2l3.5 6h-7z", class: "key-of-stop" }), "a stop of the watch"]] : []),
     ];
     const inRow = Math.max(1, Math.floor((this.size.left + this.size.width + this.size.right) / this.size.key));
     keys.forEach(([drawn, words], at) => {

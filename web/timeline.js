@@ -234,6 +234,12 @@ export class Timeline {
     return span ? Math.max(span.start, call) + 1 : this.total;
   }
 
+  /** The call before this one in which a program obeyed an order; null if there is none. */
+  orderBefore(slot, call) {
+    const span = this.slots.get(slot)?.findLast(({ what, start }) => what === RAN && start + 1 < call);
+    return span ? Math.min(span.end, call - 1) : null;
+  }
+
   /** The first of these calls, which are in ascending sequence, that is after `call`; the last call of the run if there is none. */
   next(calls, call) {
     return calls.find((each) => each > call) ?? this.total;
