@@ -15,7 +15,7 @@ from page_looks import SUITES as LOOKS
 from page_picture import SUITES as PICTURES
 from page_pool import SUITES as POOL
 from page_runs import orders_are_those_of_the_program, runs_are_looked_at, runs_are_those_of_the_program
-from page_schedules import SUITES as SCHEDULED
+from page_schedules import PAIR, SUITES as SCHEDULED
 from page_seek import SUITES as SOUGHT
 from page_service import SUITES as SERVED
 from page_shipped import shipped_page_is_current
@@ -286,10 +286,25 @@ def pages_are_made_with_jobs(opened, file):
     yield "a page with no job", None if refused.status == 1 and refused.err == "nowhere.job: No such file or directory\n" else f"{refused}"
 
 
+def browsers_with_short_addresses(opened, address):
+    """If memories have no 64-bit addresses, the machine runs with 32-bit ones, and answers the same."""
+    shown = Shown(opened(address, before=WITHOUT_MEMORY64))
+    yield "what is said of short addresses", None if shown.state().startswith("Done, in") and shown.js("!document.getElementById('short-addresses').hidden") else shown.state()
+    for path in sorted((ROOT / "examples").glob("*.args")):
+        words, job = path.read_text(encoding="ascii").split("\n")[:-1], path.with_suffix(".job")
+        if job.exists():
+            got = shown.js(f"kdf9.ask({json.dumps(words)}, {json.dumps(job.read_text(encoding='latin-1'))}).then(({{ text }}) => text)")
+            yield f"{path.stem} with short addresses", None if got == path.with_suffix(".report").read_text(encoding="latin-1") else f"is {got[:200]!r}"
+    shown.write_job(job_of_deck(LONG_DECK).replace("STORE 32", "STORE 8192"))
+    got = shown.run("run")
+    yield "a long deck with short addresses", None if got[1] == 0 and "\nRAN 0 10\n" in got[0] else f"{got}"
+    shown.page.close()
+
+
 def browsers_without_the_machine(opened, address):
     """The examples are shown with their recorded reports, and the page says what the browser lacks."""
-    shown = Shown(opened(address, before=WITHOUT_MEMORY64))
-    yield "what is lacking", None if "it lacks a 64 bit memory in WebAssembly" in shown.state() else shown.state()
+    shown = Shown(opened(address, before="delete globalThis.WebAssembly;"))
+    yield "what is lacking", None if "it has no WebAssembly" in shown.state() else shown.state()
     shown.example("reads-tape")
     due = (ROOT / "examples/reads-tape.report").read_text(encoding="ascii")
     got = shown.js("[kdf9.text(), document.getElementById('run').disabled]")
@@ -361,6 +376,7 @@ def cases(file):
         yield from no_run_before(opened, address)
         yield from reloads_lose_nothing(opened, address)
         yield from links_hold_jobs(shown, opened, address)
+        yield from browsers_with_short_addresses(opened, address)
         yield from browsers_without_the_machine(opened, address)
         yield from memory_comes_to_its_end(opened, address)
         yield from nothing_is_fetched(running, address)
@@ -402,6 +418,19 @@ def take_pictures(opened, address):
     shown.idle()
     top = shown.js(f"{id_of('theorem')}.getBoundingClientRect().top + scrollY")
     shown.page.picture(docs / "page-theorem.png", whole=True, x=0, y=top, width=1200, height=1110)
+    shown.example(PICTURED)
+    shown.run("run")
+    shown.page.picture(docs / "page-picture.png", whole=True, **around(shown, "#pictured", 1100))
+    shown.js("document.querySelector('#what-if select').value = '6'")
+    shown.js("[...document.querySelectorAll('#what-if button')].find((it) => it.textContent === 'Show').click()")
+    shown.idle()
+    shown.page.picture(docs / "page-what-if.png", whole=True, **around(shown, "#what-if", 1600))
+    shown.write_job(PAIR)
+    shown.view("parts")
+    shown.js(f"{id_of('scheduling')}.open = true")
+    shown.click("try")
+    shown.idle()
+    shown.page.picture(docs / "page-many.png", whole=True, **around(shown, "#scheduling", 900))
     shown.page.close()
 
 

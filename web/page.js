@@ -2,7 +2,7 @@
 
 import { Assist } from "./assist.js";
 import { button, byId } from "./dom.js";
-import { Engine, Stopped, bytesOf, canRun, unpacked } from "./engine.js";
+import { Engine, Stopped, bytesOf, canRun, hasLongAddresses, unpacked } from "./engine.js";
 import { chooseFirst, chooseOwn, chosenJob, listJobs } from "./examples.js";
 import { faultOf } from "./fault.js";
 import { hintOf } from "./hints.js";
@@ -13,6 +13,7 @@ import { timeOf } from "./kept.js";
 import { attendToKeys } from "./keys.js";
 import { hasJob, jobOfLink, packedJob, saveFile } from "./link.js";
 import { Many } from "./many.js";
+import { narrowed } from "./narrow.js";
 import { outcomeOf, outcomeOfRecord, saidOfAnswer, showOutcome } from "./outcome.js";
 import { Replay } from "./replay.js";
 import { NoSchedule, drawDelays, readDelays, scheduled } from "./schedule.js";
@@ -436,8 +437,10 @@ async function load() {
     Object.assign(value, JSON.parse(new TextDecoder().decode(await unpacked(bytesOf(byId(name).textContent)))));
   }
   listJobs(texts.jobs);
-  if (!canRun()) throw new Error("it lacks a 64 bit memory in WebAssembly");
-  const module = await WebAssembly.compile(await unpacked(bytesOf(byId("module").textContent)));
+  if (!canRun()) throw new Error("it has no WebAssembly");
+  const bytes = await unpacked(bytesOf(byId("module").textContent)), isLong = hasLongAddresses();
+  byId("short-addresses").hidden = isLong;
+  const module = await WebAssembly.compile(isLong ? bytes : narrowed(bytes));
   engine = new Engine(module, byId("worker").textContent);
 }
 

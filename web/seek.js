@@ -5,7 +5,7 @@ import { callsOfOrders, readReport } from "./report.js";
 import { readWatch } from "./watch.js";
 
 /** How many orders a statement is looked for that doesn't begin a word, and over how many calls a change is looked for one by one. */
-const MOST_ORDERS = 2000, NEAR = 100;
+const FARTHEST = 2000, NEAR = 100;
 
 /** The breakpoints of the decks by their slots: where each statement begins, with its text. */
 export class Breaks {
@@ -64,7 +64,7 @@ export class Seeker {
       const calls = await this.callsAt(slot, word);
       return (by > 0 ? calls.find((call) => call > from) : calls.findLast((call) => call < from)) ?? null;
     }
-    for (let call = from, orders = 0; orders < MOST_ORDERS; orders += 1) {
+    for (let call = from, orders = 0; orders < FARTHEST; orders += 1) {
       call = by > 0 ? this.timeline.nextOrder(slot, call) : this.timeline.orderBefore(slot, call);
       if (call === null || (await this.at(slot, call)).join() === place.join()) return call;
       if (call >= this.timeline.total) return null;

@@ -124,7 +124,12 @@ export class Verdicts {
 
   saidOfFailure(section, failure, statement) {
     const place = this.placeOf(section.slot, statement) || `at word ${section.at[0]}, syllable ${section.at[1]}, where no statement wrote an order`;
-    return `Program ${section.slot} failed ${place}. ${failure}: ${this.failures[failure]}. Here ${this.operandsOf(section, statement)}.`;
+    return `Program ${section.slot} failed ${place}. ${failure}: ${this.failures[failure]}. ${this.why(section, statement)}`;
+  }
+
+  /** Why a program failed. This is the one place where the page says it: here it names the operands, and what the facts of a run say of the cause belongs here. */
+  why(section, statement) {
+    return `Here ${this.operandsOf(section, statement)}.`;
   }
 
   /** The registers that a statement has to do with. */
