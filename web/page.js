@@ -37,6 +37,9 @@ const IS_CHANGED = "The job has been changed since this run. Run it again.";
 /** How many milliseconds after the last key the page looks for a fault of the job. */
 const PAUSE = 700;
 
+/** A job of at most so many characters is read again after each key. */
+const SHORT = 20000;
+
 // What the page shows, and what the documents say of statements, once they are unpacked.
 const texts = { jobs: {}, failures: {}, start: null }, help = { orders: {} };
 const breaks = new Breaks();
@@ -72,7 +75,7 @@ function changed() {
   chooseOwn();
   byId("link-said").hidden = true;
   byId("stale").hidden = lastText === "";
-  drawDelays(view.text);
+  if (byId("scheduling").open || view.text.length <= SHORT) drawDelays(view.text);
   clearTimeout(pause);
   pause = setTimeout(lookForFault, PAUSE);
 }
