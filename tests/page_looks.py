@@ -195,6 +195,7 @@ def all_is_near_by_keys(shown):
         walked.append(shown.js("all.indexOf(document.activeElement)") - first)
     yield "the sequence of tabs", None if walked == list(range(1, 13)) else f"{walked}"
     shown.js("document.querySelectorAll('details').forEach((it) => { it.open = false; })")
+    shown.run("run")
 
 
 def keys_are_listed(shown):
