@@ -12,8 +12,11 @@ from page_firefox import page_in_firefox
 from page_help import SUITES as HELP, caret_at
 from page_kept import SUITES as KEPT, reloads_lose_nothing
 from page_looks import SUITES as LOOKS
+from page_picture import SUITES as PICTURES
 from page_pool import SUITES as POOL
 from page_runs import orders_are_those_of_the_program, runs_are_looked_at, runs_are_those_of_the_program
+from page_schedules import PAIR, SUITES as SCHEDULED
+from page_seek import SUITES as SOUGHT
 from page_service import SUITES as SERVED
 from page_shipped import shipped_page_is_current
 from page_theorem import SUITES as THEOREM, no_run_before
@@ -59,14 +62,14 @@ SHARED, SHARED_CALL = "two-programs-share-a-punch", 20
 # The schedule of the first of them is shuffled with this seed in a picture.
 PICTURED_SEED = 18
 
-# Schedules that write themselves: an example, what is typed into the three boxes, and the arguments of the tool that writes the same.
+# Schedules that write themselves: an example, what is typed into the two boxes and those of devices, and the arguments of the tool that writes the same.
 SCHEDULES = [
-    ("adds-cards", ("7", "", "4=30"), ["--after", "7", "4=30"]),
-    ("reads-tape", ("2", "", ""), ["--after", "2"]),
-    ("adds-cards-while-a-tape-is-copied", ("25", "", ""), ["--after", "25"]),
-    ("computes-while-it-reads", ("3", "5", ""), ["--after", "3", "--every", "5"]),
-    ("adds-5-and-7", ("0", "", ""), ["--after", "0"]),
-    (SHARED, ("9", "", ""), ["--after", "9"]),
+    ("adds-cards", ("7", "", {"4": "30"}), ["--after", "7", "4=30"]),
+    ("reads-tape", ("2", "", {}), ["--after", "2"]),
+    ("adds-cards-while-a-tape-is-copied", ("25", "", {}), ["--after", "25"]),
+    ("computes-while-it-reads", ("3", "5", {}), ["--after", "3", "--every", "5"]),
+    ("adds-5-and-7", ("0", "", {}), ["--after", "0"]),
+    (SHARED, ("9", "", {}), ["--after", "9"]),
 ]
 
 
@@ -193,8 +196,10 @@ def schedules_write_themselves(shown):
     """The schedule is the one that the tool writes."""
     for name, fields, words in SCHEDULES:
         shown.example(name)
-        for field, value in zip(("after", "every", "delays"), fields):
+        for field, value in zip(("after", "every"), fields):
             shown.js(f"{id_of(field)}.value = {json.dumps(value)}")
+        for device, calls in fields[2].items():
+            shown.js(f"document.querySelector('#delays [data-device=\"{device}\"]').value = {json.dumps(calls)}")
         shown.click("schedule")
         shown.idle()
         due = kdf9(["schedule", f"examples/{name}.job", *words], "").out
@@ -281,10 +286,25 @@ def pages_are_made_with_jobs(opened, file):
     yield "a page with no job", None if refused.status == 1 and refused.err == "nowhere.job: No such file or directory\n" else f"{refused}"
 
 
+def browsers_with_short_addresses(opened, address):
+    """If memories have no 64-bit addresses, the machine runs with 32-bit ones, and answers the same."""
+    shown = Shown(opened(address, before=WITHOUT_MEMORY64))
+    yield "what is said of short addresses", None if shown.state().startswith("Done, in") and shown.js("!document.getElementById('short-addresses').hidden") else shown.state()
+    for path in sorted((ROOT / "examples").glob("*.args")):
+        words, job = path.read_text(encoding="ascii").split("\n")[:-1], path.with_suffix(".job")
+        if job.exists():
+            got = shown.js(f"kdf9.ask({json.dumps(words)}, {json.dumps(job.read_text(encoding='latin-1'))}).then(({{ text }}) => text)")
+            yield f"{path.stem} with short addresses", None if got == path.with_suffix(".report").read_text(encoding="latin-1") else f"is {got[:200]!r}"
+    shown.write_job(job_of_deck(LONG_DECK).replace("STORE 32", "STORE 8192"))
+    got = shown.run("run")
+    yield "a long deck with short addresses", None if got[1] == 0 and "\nRAN 0 10\n" in got[0] else f"{got}"
+    shown.page.close()
+
+
 def browsers_without_the_machine(opened, address):
     """The examples are shown with their recorded reports, and the page says what the browser lacks."""
-    shown = Shown(opened(address, before=WITHOUT_MEMORY64))
-    yield "what is lacking", None if "it lacks a 64 bit memory in WebAssembly" in shown.state() else shown.state()
+    shown = Shown(opened(address, before="delete globalThis.WebAssembly;"))
+    yield "what is lacking", None if "it has no WebAssembly" in shown.state() else shown.state()
     shown.example("reads-tape")
     due = (ROOT / "examples/reads-tape.report").read_text(encoding="ascii")
     got = shown.js("[kdf9.text(), document.getElementById('run').disabled]")
@@ -334,7 +354,7 @@ def nothing_is_fetched(running, address):
 
 SUITES = (
     runs_are_looked_at, faults_are_shown, faults_stand_at_their_parts, parts_and_text_are_in_step, snapshots_are_resumed_and_reports_checked,
-    schedules_write_themselves, runs_are_stopped, faults_stand_at_their_places, *VERDICTS, *KEPT, *WORDS, *HELP, *LOOKS, *POOL, *SERVED, *WATCHED, *THEOREM, controls_have_names,
+    schedules_write_themselves, runs_are_stopped, faults_stand_at_their_places, *VERDICTS, *PICTURES, *SCHEDULED, *SOUGHT, *KEPT, *WORDS, *HELP, *LOOKS, *POOL, *SERVED, *WATCHED, *THEOREM, controls_have_names,
     orders_are_those_of_the_program, runs_are_those_of_the_program,
 )
 
@@ -343,7 +363,7 @@ def cases(file):
     """All cases for the page in this file."""
     address = f"file://{file}"
     size = file.stat().st_size
-    yield "the size of the page", None if size <= 600000 else f"is {size}"
+    yield "the size of the page", None if size <= 800000 else f"is {size}"
     yield from shipped_page_is_current(file)
     with Browser() as running:
         def opened(where, **how):
@@ -356,6 +376,7 @@ def cases(file):
         yield from no_run_before(opened, address)
         yield from reloads_lose_nothing(opened, address)
         yield from links_hold_jobs(shown, opened, address)
+        yield from browsers_with_short_addresses(opened, address)
         yield from browsers_without_the_machine(opened, address)
         yield from memory_comes_to_its_end(opened, address)
         yield from nothing_is_fetched(running, address)
@@ -397,6 +418,21 @@ def take_pictures(opened, address):
     shown.idle()
     top = shown.js(f"{id_of('theorem')}.getBoundingClientRect().top + scrollY")
     shown.page.picture(docs / "page-theorem.png", whole=True, x=0, y=top, width=1200, height=1110)
+    shown.example(PICTURED)
+    shown.run("run")
+    shown.js("scrollTo(0, 0)")
+    shown.page.picture(docs / "page-picture.png", whole=True, **around(shown, "#pictured", 1100))
+    shown.js("document.querySelector('#what-if select').value = '6'")
+    shown.js("[...document.querySelectorAll('#what-if button')].find((it) => it.textContent === 'Show').click()")
+    shown.idle()
+    shown.js("scrollTo(0, 0)")
+    shown.page.picture(docs / "page-what-if.png", whole=True, **around(shown, "#what-if", 1600))
+    shown.write_job(PAIR)
+    shown.view("parts")
+    shown.js(f"{id_of('scheduling')}.open = true")
+    shown.click("try")
+    shown.idle()
+    shown.page.picture(docs / "page-many.png", whole=True, **around(shown, "#scheduling", 900))
     shown.page.close()
 
 

@@ -64,7 +64,7 @@ def removals_are_undone(shown):
     shown.js(PRESS)
     good = "\nDEVICE 3 TP\nS" in after and shown.js("kdf9.job()") == before
     yield "undo: another kind of device", None if good else f"{after} {shown.js('kdf9.job()')}"
-    for name, value in (("after", "20"), ("every", ""), ("delays", "")):
+    for name, value in (("after", "20"), ("every", "")):
         shown.js(f"{id_of(name)}.value = {json.dumps(value)}")
     shown.click("schedule")
     shown.idle()

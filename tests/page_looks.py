@@ -53,6 +53,10 @@ SMALL = """(() => {
     return found;
 })()"""
 
+# All that a tab leads to, in this sequence. Of the radio buttons of a group it leads to one.
+USABLE = """[...document.querySelectorAll('a[href], button, input, select, textarea, summary, [tabindex="0"]')].filter((it) => it.checkVisibility({ visibilityProperty: true })
+    && !it.disabled && it.tabIndex >= 0 && (it.type !== 'radio' || it.checked))"""
+
 # What has a role by which it is used.
 USED = {"button", "textbox", "combobox", "checkbox", "radio", "slider", "link", "listbox", "DisclosureTriangle"}
 
@@ -163,6 +167,37 @@ def sheets_are_few(shown):
     yield "what is printed", None if all(seen) and gone == 0 else f"{seen} {gone}"
 
 
+def all_is_near_by_keys(shown):
+    """All that can be used is at most 12 tabs from the editor of a deck, or from a place to which F6 leads, which the list of keys has."""
+    for name in ("adds-cards-while-a-tape-is-copied", "two-programs-share-a-punch"):
+        shown.example(name)
+        shown.view("parts")
+        shown.run("run")
+        shown.click("compare-alone")
+        shown.idle()
+        shown.click("look")
+        shown.page.wait("document.querySelector('#replay .programs') !== null")
+        shown.js("document.querySelectorAll('details').forEach((it) => { it.open = true; })")
+        names = shown.js(f"(globalThis.all = {USABLE}).map((it) => it.id || it.textContent.trim().slice(0, 30) || it.tagName)")
+        shown.js("document.querySelector('#editors textarea').focus()")
+        stations, at = [], None
+        while at not in stations:
+            stations.append(at)
+            shown.page.press("F6", 117)
+            at = shown.js("all.indexOf(document.activeElement)")
+        places = [*stations[1:], shown.js("all.indexOf(document.querySelector('#editors textarea'))")]
+        far = [each for index, each in enumerate(names) if min(abs(index - place) for place in places) > 12]
+        yield f"what is far away, {name}", None if len(names) > 60 and len(places) > 8 and -1 not in places and not far else f"{len(names)} {places} {far}"
+    shown.js("document.querySelector('#editors textarea').focus()")
+    first, walked = shown.js("all.indexOf(document.activeElement)"), []
+    for _ in range(12):
+        shown.page.press("Tab", 9)
+        walked.append(shown.js("all.indexOf(document.activeElement)") - first)
+    yield "the sequence of tabs", None if walked == list(range(1, 13)) else f"{walked}"
+    shown.js("document.querySelectorAll('details').forEach((it) => { it.open = false; })")
+    shown.run("run")
+
+
 def keys_are_listed(shown):
     """The key ? lists each key that a script of the page asks for, and nothing opens while a text is written."""
     shown.view("parts")
@@ -171,10 +206,11 @@ def keys_are_listed(shown):
     is_open, listed = shown.js(f"[{id_of('keys')}.open, [...document.querySelectorAll('#keys kbd')].map((it) => it.textContent)]")
     shown.page.press("Escape", 27)
     asked = {key for path in (ROOT / "web").glob("*.js") for key in re.findall(r'\bkey [!=]== "([^"]+)"', path.read_text(encoding="utf-8"))}
-    letters = re.findall(r"^      ?([a-z]): \(\) =>|, ([a-z]): \(\) =>", (ROOT / "web/replay.js").read_text(encoding="utf-8"), re.MULTILINE)
-    due = asked | {one or other for one, other in letters}
+    letters = re.findall(r"^      ?([a-zA-Z]): \(\) =>|, ([a-zA-Z]): \(\) =>", (ROOT / "web/replay.js").read_text(encoding="utf-8"), re.MULTILINE)
+    of_pictures = re.findall(r'(?:^  |, )(?:"(.)"|(\w+)): \(it\) =>', (ROOT / "web/pictured.js").read_text(encoding="utf-8"), re.MULTILINE)
+    due = asked | {one or other for one, other in letters + of_pictures}
     words = {{"Space": " "}.get(word, word) for key in listed for word in key.split(" ")}
-    missing = {key for key in due if key not in words and key not in ("ArrowDown", "ArrowUp", "Tab")}
+    missing = {key for key in due if key not in words and key != "Tab" and not key.startswith("Arrow")}
     yield "the list of keys", None if is_open and len(due) > 8 and not missing else f"{is_open} {missing} of {due}"
     yield "Escape closes it", None if not shown.js(f"{id_of('keys')}.open") else "it is open"
     shown.js("document.querySelector('.slot textarea').focus()")
@@ -183,5 +219,5 @@ def keys_are_listed(shown):
 
 
 SUITES = (
-    texts_have_contrast, all_that_is_used_has_its_name, telephones_show_what_came, lectures_are_read_from_afar, sheets_are_few, keys_are_listed,
+    texts_have_contrast, all_that_is_used_has_its_name, telephones_show_what_came, lectures_are_read_from_afar, sheets_are_few, all_is_near_by_keys, keys_are_listed,
 )

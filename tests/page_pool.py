@@ -87,10 +87,8 @@ CALLS_OF_KEY = """(() => {
     return seen;
 })()"""
 
-# The width of what is drawn for lent devices and for programs that wait.
-DRAWN = """['.lent', '.waits'].map((kind) => [...document.querySelectorAll(`#replay ${kind}`)]
-    .map((it) => [it.getAttribute('class'), Number(it.getAttribute('width'))]))"""
-WIDTH = 900
+# What the bars of the picture say.
+DRAWN = "[...document.querySelectorAll('#replay .bar > title')].map((it) => it.textContent).join('\\n')"
 
 NAMES = {"TP": "punch", "LP": "printer"}
 STATES = {"LIVE": "held", "ENDED": "held until the program ended", "FAILED": "held until the program failed"}
@@ -237,14 +235,13 @@ def calls_of_events(report):
 
 
 def wrong_picture(shown, report, total):
-    """What is wrong with the widths of the lent devices and of the waits in the picture of a run, or None."""
+    """What is wrong with the calls of the lent devices and of the waits in the picture of a run, or None."""
     chart = Chart(report, "the report", total)
     due = sum((lane.total() for lane in chart.lent_lanes.values()), Counter()), sum(waiting_calls(lane.total()) for lane in chart.slot_lanes.values())
-    lendings, waits = shown.js(DRAWN)
-    seen = Counter()
-    for looks, width in lendings:
-        seen[int(looks[-1])] += width * total / WIDTH
-    seen = Counter({slot: round(calls) for slot, calls in seen.items()}), round(sum(width for _, width in waits) * total / WIDTH)
+    said, lendings = shown.js(DRAWN), Counter()
+    for slot, calls in re.findall(r"lent to slot (\d) for (\d+) call", said):
+        lendings[int(slot)] += int(calls)
+    seen = lendings, sum(int(calls) for calls in re.findall(r"held up for (\d+) calls? by the pool", said))
     return None if seen == due else f"has {seen} in place of {due}"
 
 

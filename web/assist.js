@@ -11,20 +11,24 @@ import { nextUse, placesOf, referencesOf, statementNear, storesOfDeck, usesOf } 
 const MOST_STORES = 10, LONGEST_READ = 100000;
 
 export class Assist {
-  /** Help for an editor with a deck. `help` is what the documents say, and `addressOf` gives the address of a store by its name and part, if it is known. */
-  constructor(editor, help, addressOf) {
-    Object.assign(this, { editor, help, addressOf });
+  /** Help for an editor with a deck. `help` is what the documents say, `addressOf` gives the address of a store by its name and part, if it is known, `breaks` has
+   * the breakpoints of all decks, of which this one is that of `slot`, `runTo` runs to a statement, and `caretAt` is called with the statement at the caret. */
+  constructor(editor, help, addressOf, { breaks, slot, runTo, caretAt }) {
+    Object.assign(this, { editor, help, addressOf, breaks, slot, runTo, caretAt });
     this.panel = make("div", { class: "help", role: "region", "aria-label": "What this statement is", "aria-live": "polite", hidden: true });
     this.findLine = new FindLine(editor);
     this.offers = new Offers(editor, (text, caret) => this.namesFor(text, caret));
     const tools = make("div", { class: "bar", role: "group", "aria-label": "Help with the deck" },
       button("What is this?", () => this.toggle(), { title: "F1" }), button("Go to reference", () => this.follow(), { title: "F2" }),
       button("Offer names", () => this.offer(), { title: "Ctrl Space" }),
-      button("Find", () => this.findLine.open(), { title: "Ctrl Alt F" }));
+      button("Find", () => this.findLine.open(), { title: "Ctrl Alt F" }),
+      button("Breakpoint", () => this.toggleBreak(), { title: "F9" }), button("Run to here", () => this.runHere(), { title: "F8" }));
     this.element = make("div", {}, tools, this.findLine.element, this.panel);
     const { textarea } = editor;
     textarea.addEventListener("keydown", (event) => this.press(event));
     textarea.addEventListener("pointermove", (event) => this.hover(event));
+    textarea.addEventListener("input", () => this.keepBreaks());
+    this.keepBreaks();
     for (const name of ["keyup", "pointerup", "input", "focus"]) textarea.addEventListener(name, () => this.caretMoved());
   }
 
@@ -44,9 +48,34 @@ export class Assist {
     const isFind = event.key === "f" && event.ctrlKey && event.altKey;
     if (event.key === "F1") this.toggle();
     else if (event.key === "F2") this.follow();
+    else if (event.key === "F8") this.runHere();
+    else if (event.key === "F9") this.toggleBreak();
     else if (isFind) this.findLine.open();
     else return;
     event.preventDefault();
+  }
+
+  /** Sets a breakpoint at the statement at the caret, or takes it away. */
+  toggleBreak() {
+    const { statement } = this;
+    this.editor.textarea.focus();
+    if (!statement) return;
+    this.breaks.toggle(this.slot, statement);
+    this.keepBreaks();
+  }
+
+  /** Shows the breakpoints whose statements are still there. */
+  keepBreaks() {
+    if (!this.breaks.of(this.slot).length && !this.editor.breaks.length) return;
+    const { statements } = this;
+    this.breaks.keep(this.slot, statements);
+    const starts = new Set(this.breaks.of(this.slot));
+    this.editor.markBreaks(statements.filter(({ start }) => starts.has(start)));
+  }
+
+  runHere() {
+    const { statement } = this;
+    if (statement) this.runTo(this.slot, statement);
   }
 
   toggle() {
@@ -61,6 +90,7 @@ export class Assist {
 
   caretMoved() {
     if (this.editor.text.length > LONGEST_READ) return;
+    this.caretAt(this.slot, this.statement);
     this.editor.markUses(usesOf(this.statements, this.statement));
     if (!this.panel.hidden) this.draw();
   }

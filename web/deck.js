@@ -93,6 +93,11 @@ export class Layout {
     return this.names.flatMap(({ address, count }) => Array.from({ length: count }, (_, at) => address + at));
   }
 
+  /** The addresses of each group of stores of one name that has at least so many. */
+  groupsOf(fewest) {
+    return this.names.filter(({ count }) => count >= fewest).map(({ address, count }) => Array.from({ length: count }, (_, at) => address + at));
+  }
+
   /** The word at an address as it is when the program begins, in octal digits. */
   octalAt(address) {
     return this.words[address] ?? NOUGHT;

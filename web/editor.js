@@ -40,6 +40,13 @@ export class Editor {
     this.fault = null;
     this.stops = [];
     this.uses = [];
+    this.breaks = [];
+  }
+
+  /** Marks the statements that have breakpoints. */
+  markBreaks(statements) {
+    this.breaks = statements;
+    this.draw();
   }
 
   /** Marks the statements that have to do with one place of a deck, if there is more than one. */
@@ -128,7 +135,7 @@ export class Editor {
   /** The text in pieces, each of which has one look. */
   pieces(text) {
     const stops = this.stops.map(({ kind, ...place }) => ({ ...place, kind: `stopped ${kind}` }));
-    const parts = [...this.paint(text), ...this.uses, ...stops, ...(this.fault ? [{ kind: "wrong", ...this.fault }] : [])];
+    const parts = [...this.paint(text), ...this.uses, ...this.breaks.map(({ start, end }) => ({ kind: "break", start, end })), ...stops, ...(this.fault ? [{ kind: "wrong", ...this.fault }] : [])];
     const cuts = [...new Set([0, text.length, ...parts.flatMap(({ start, end }) => [start, Math.min(end, text.length)])])].sort((a, b) => a - b);
     const open = [];
     let next = 0;
@@ -144,14 +151,14 @@ export class Editor {
 
   drawNumbers(count) {
     const lineOf = (place) => this.text.slice(0, place).split("\n").length;
-    const marked = new Map([...this.stops.map(({ kind, start }) => [lineOf(start), kind]), ...(this.fault ? [[lineOf(this.fault.start), "wrong"]] : [])]);
+    const marked = new Map([...this.breaks.map(({ start }) => [lineOf(start), "break"]), ...this.stops.map(({ kind, start }) => [lineOf(start), kind]), ...(this.fault ? [[lineOf(this.fault.start), "wrong"]] : [])]);
     const shown = `${count} ${JSON.stringify([...marked])}`;
     if (shown === this.numbered) return;
     this.numbered = shown;
     const plain = (first, last) => Array.from({ length: last - first }, (_, at) => `${first + at + 1}\n`).join("");
     const lines = [...marked.keys()].filter((line) => line <= count).sort((one, other) => one - other);
     this.numbers.replaceChildren(
-      ...lines.flatMap((line, at) => [plain(lines[at - 1] ?? 0, line - 1), make("span", { class: marked.get(line) }, `▸${line}`), "\n"]), plain(lines.at(-1) ?? 0, count));
+      ...lines.flatMap((line, at) => [plain(lines[at - 1] ?? 0, line - 1), make("span", { class: marked.get(line) }, `${marked.get(line) === "break" ? "●" : "▸"}${line}`), "\n"]), plain(lines.at(-1) ?? 0, count));
   }
 
   scroll() {

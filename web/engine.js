@@ -9,13 +9,14 @@ export const STATUSES = [
 /** A question was given up before its answer came. */
 export class Stopped extends Error {}
 
-/** The smallest module with a memory whose addresses have 64 bits. A browser that accepts it can run the machine. */
+/** The smallest module with a memory whose addresses have 64 bits. A browser that accepts it runs the machine as it is. */
 const MEMORY_OF_64_BITS = new Uint8Array([0, 97, 115, 109, 1, 0, 0, 0, 5, 3, 1, 4, 1]);
 
 /** Whether this browser can run the machine. */
-export function canRun() {
-  return typeof WebAssembly === "object" && WebAssembly.validate(MEMORY_OF_64_BITS) && typeof DecompressionStream === "function";
-}
+export const canRun = () => typeof WebAssembly === "object";
+
+/** Whether memories of this browser can have 64-bit addresses. */
+export const hasLongAddresses = () => WebAssembly.validate(MEMORY_OF_64_BITS);
 
 /** The bytes that a text in base64 stands for. */
 export function bytesOf(base64) {

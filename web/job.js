@@ -155,8 +155,14 @@ export function placedLines(job) {
   return placed;
 }
 
+/** A text with another line in the place of the one of this number. */
+export const withLine = (text, number, line) => text.split("\n").with(number - 1, line).join("\n");
+
 /** A slot of a job that shows its whole store. */
 export const withStore = (slot) => ({ ...slot, shows: [`0 ${slot.store - 1}`] });
+
+/** The text of a job that has nothing but the deck of a slot, in a store of this size. */
+export const jobOfDeck = (slot, ofWords = slot.store) => writeJob({ slots: [{ ...slot, store: `${ofWords}`, devices: [], shows: [] }], pool: null, schedule: "" });
 
 /** The text of a job by parts. Its last line has no end if it had none when it was read. */
 export function writeJob(job) {

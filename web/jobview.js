@@ -3,6 +3,7 @@
 import { button, choice, freshId, labelled, make } from "./dom.js";
 import { Editor } from "./editor.js";
 import { painted } from "./deck.js";
+import { haveNames } from "./shows.js";
 import { HEADER, KINDS, KINDS_OF_POOL, POOL, editedMedia, editedShows, linesOf, placedLines, readJob, readMedia, readShows, writeJob } from "./job.js";
 
 const NO_PARTS = "This text can't be shown by parts: it is more than a job, or one of its lines isn't allowed where it is. Here is the whole text.";
@@ -33,9 +34,10 @@ function paintedJob(text) {
 
 export class JobView {
   /** The view of a job in an element of the page. `onchange` is called after each change that the user makes, and then `onremove` if something was removed, with
-   * what it was and the text of the job before. `assist` gives the element with the help for the editor of a deck, whose slot has this number. */
-  constructor(element, { onchange, onremove, assist }) {
-    Object.assign(this, { onchange, onremove, assist });
+   * what it was and the text of the job before. `assist` gives the element with the help for the editor of a deck, whose slot has this number, and `addresses`
+   * the ranges of a slot that are shown, with addresses in the places of names. */
+  constructor(element, { onchange, onremove, assist, addresses }) {
+    Object.assign(this, { onchange, onremove, assist, addresses });
     this.isWhole = false;
     this.stops = [];
     this.controls = new Map();
@@ -134,8 +136,7 @@ export class JobView {
     this.controls.set(`deck ${at}`, deck);
     const fields = make("div", { class: "fields" },
       labelled("Store, in words", this.input(`store ${at}`, slot.store, (value) => { slot.store = value; }, { inputmode: "numeric", size: "6" })),
-      labelled("Show the words from, to", this.input(`shows ${at}`, editedShows(slot.shows), (value) => { slot.shows = readShows(value); },
-        { size: "16", placeholder: "0 7, 32 40" })),
+      this.drawShows(slot, at),
       this.box(`service ${at}`, SERVED, slot.isServed, (isServed) => { slot.isServed = isServed; }),
       button("Remove", () => this.remove(`the program in slot ${slot.number}`, () => this.job.slots.splice(at, 1), "add"),
         { "aria-label": `Remove the program in slot ${slot.number}` }));
@@ -156,6 +157,36 @@ export class JobView {
     control.value = value;
     this.controls.set(name, control);
     return control;
+  }
+
+  /** The words that the job shows. If names are typed, the job gets the addresses, and once the field is left it has them too. */
+  drawShows(slot, at) {
+    const said = make("output", {});
+    const control = this.input(`shows ${at}`, editedShows(slot.shows), (typed) => this.takeShows(slot, readShows(typed), control, said),
+      { size: "16", placeholder: "0 7, YA0 to YA60", onchange: () => { control.value = said.dataset.wrong ? control.value : editedShows(slot.shows); } });
+    return make("span", { class: "field" }, labelled("Show the words from, to", control), said);
+  }
+
+  /** Takes the ranges that are typed into a control, and says by `said` which addresses they have. */
+  async takeShows(slot, typed, control, said) {
+    const asked = control.value;
+    delete said.dataset.wrong;
+    said.textContent = "";
+    if (!haveNames(typed)) {
+      slot.shows = typed;
+      return;
+    }
+    said.dataset.wrong = "not yet";
+    try {
+      const shows = await this.addresses(slot, typed);
+      if (control.value !== asked) return;
+      delete said.dataset.wrong;
+      slot.shows = shows;
+      said.textContent = shows.map((show) => `SHOW ${show}`).join(", ");
+      this.partChanged();
+    } catch (error) {
+      if (control.value === asked) said.textContent = `${error.message[0].toUpperCase()}${error.message.slice(1)}.`;
+    }
   }
 
   /** The devices of a slot or of the pool, which is called `name`. */

@@ -27,9 +27,9 @@ export async function jobOfLink(hash) {
   }
 }
 
-/** Offers a text as a file of this name. */
-export function saveFile(name, text) {
-  const address = URL.createObjectURL(new Blob([text], { type: "text/plain" }));
+/** Offers a text or bytes as a file of this name. */
+export function saveFile(name, content, type = "text/plain") {
+  const address = URL.createObjectURL(new Blob([content], { type }));
   make("a", { href: address, download: name }).click();
   setTimeout(() => URL.revokeObjectURL(address), 60000);
 }

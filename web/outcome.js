@@ -1,8 +1,8 @@
 // What a command came to: what is read from the text that the machine wrote, and the part of the page that shows it.
 
 import { byId, make } from "./dom.js";
-import { HALF_WIDTH, drawTimeline } from "./drawing.js";
 import { STATUSES } from "./engine.js";
+import { Pictured, tableOfSums } from "./pictured.js";
 import { layoutsOf, readResult, resultsOf, shownText, storesOf } from "./results.js";
 import { Timeline } from "./timeline.js";
 import { Verdicts, drawVerdicts } from "./verdict.js";
@@ -43,22 +43,19 @@ function callsDrawn({ entries, total }) {
   return kind === "IDLE" && calls < total / 2 ? Math.min(total, calls + IDLE_DRAWN) : total;
 }
 
-/** The picture of a run. A click in it calls `look`. */
-function pictureOf({ timeline, stops }, look) {
-  const calls = callsDrawn(timeline);
-  const { picture, mark } = drawTimeline(timeline, look ?? (() => {}), { name: "The run at a glance", calls, stops, width: HALF_WIDTH });
-  mark(-1);
-  const rest = timeline.total - calls;
-  if (rest) picture.append(make("p", {}, `The ${rest.toLocaleString("en")} calls after these are idle.`));
-  return picture;
+/** The picture of a run, and to what its calls went. A click in the picture calls `look`. */
+function pictureOf({ timeline, stops }, look, say) {
+  const shown = callsDrawn(timeline), rest = timeline.total - shown;
+  const { element } = new Pictured(timeline, { name: "The run at a glance", choose: look, shown, stops }).withButtons();
+  return [element, ...(rest ? [make("p", {}, `The ${rest.toLocaleString("en")} calls after these are idle.`)] : []), tableOfSums(timeline, { say })];
 }
 
 /** Shows what a command came to, or nothing if it is null. `look` shows a run call by call, `go` goes to a statement, and `change` changes the job; those that are null
- * aren't offered. */
-export function showOutcome(outcome, { look, go, change } = {}) {
+ * aren't offered. `say` says something. */
+export function showOutcome(outcome, { look, go, change, say } = {}) {
   const { text = "", read = null, layouts, stores, timeline, stops, verdicts } = outcome ?? {}, shown = shownText(text);
   byId("verdicts").replaceChildren(...(read ? drawVerdicts(verdicts, { go, change }) : []));
-  byId("pictured").replaceChildren(...(read && timeline.total ? [pictureOf({ timeline, stops }, look)] : []));
+  byId("pictured").replaceChildren(...(read && timeline.total ? pictureOf({ timeline, stops }, look, say) : []));
   byId("sections").replaceChildren(...(stops ? [drawStops(stops, layouts.get(stops.slot), look)] : []), ...resultsOf(read, layouts, stores));
   byId("text-details").open = !read;
   byId("report").textContent = shown.text;

@@ -2,23 +2,28 @@
 
 import { Assist } from "./assist.js";
 import { button, byId } from "./dom.js";
-import { Engine, Stopped, bytesOf, canRun, unpacked } from "./engine.js";
+import { Engine, Stopped, bytesOf, canRun, hasLongAddresses, unpacked } from "./engine.js";
 import { chooseFirst, chooseOwn, chosenJob, listJobs } from "./examples.js";
 import { faultOf } from "./fault.js";
 import { hintOf } from "./hints.js";
-import { EMPTY_JOB, frontOf } from "./job.js";
+import { EMPTY_JOB, frontOf, placedLines, readJob, withLine } from "./job.js";
 import { JobView } from "./jobview.js";
 import { Keeping } from "./keeping.js";
 import { timeOf } from "./kept.js";
 import { attendToKeys } from "./keys.js";
 import { hasJob, jobOfLink, packedJob, saveFile } from "./link.js";
+import { Many } from "./many.js";
+import { narrowed } from "./narrow.js";
 import { outcomeOf, outcomeOfRecord, saidOfAnswer, showOutcome } from "./outcome.js";
 import { Replay } from "./replay.js";
-import { NoSchedule, readDelays, scheduled } from "./schedule.js";
+import { NoSchedule, drawDelays, readDelays, scheduled } from "./schedule.js";
+import { Breaks } from "./seek.js";
+import { haveNames, withAddresses } from "./shows.js";
 import { roomFor, withSize } from "./size.js";
 import { Theorem } from "./theorem.js";
 import { Variations } from "./variations.js";
 import { NoPlace, watchable, wordOf } from "./watch.js";
+import { whatIf } from "./whatif.js";
 
 const SNAPSHOT_HAS_FAULT = 8, FAULTS = [2, 3, SNAPSHOT_HAS_FAULT];
 
@@ -32,11 +37,18 @@ const IS_CHANGED = "The job has been changed since this run. Run it again.";
 /** How many milliseconds after the last key the page looks for a fault of the job. */
 const PAUSE = 700;
 
+/** A job of at most so many characters is read again after each key. */
+const SHORT = 20000;
+
 // What the page shows, and what the documents say of statements, once they are unpacked.
 const texts = { jobs: {}, failures: {}, start: null }, help = { orders: {} };
+const breaks = new Breaks();
+let caret = null; // the slot and the beginning of the statement at which the caret was last
 const view = new JobView(byId("editors"), {
+  addresses: (slot, shows) => withAddresses(ask, slot, shows),
   onchange: changed, onremove: (what, before) => keeping.offerUndo(`Removed: ${what}.`, before),
-  assist: (editor, slot) => new Assist(editor, help, (statement) => lastRun?.layouts.get(Number(slot.number))?.addressOf(statement)).element,
+  assist: (editor, slot) => new Assist(editor, help, (statement) => lastRun?.layouts.get(Number(slot.number))?.addressOf(statement),
+    { breaks, slot: slot.number, runTo, caretAt: (number, statement) => { caret = statement && { slot: Number(number), start: statement.start }; } }).element,
 });
 const keeping = new Keeping({ text: () => view.text, bring: bringBack, undo: takeBack });
 let engine = null;
@@ -45,9 +57,10 @@ let lastRun = null; // what can be shown call by call: the job, its report, the 
 let pause = 0;
 
 const ask = (words, job) => engine.ask(words, job);
-const replay = new Replay(byId("replay"), { ask, say, failed: (error) => sayFailed(error) });
+const replay = new Replay(byId("replay"), { ask, say, failed: (error) => sayFailed(error), breaks, caret: () => (lastRun?.text === view.text ? caret : null) });
 const theorem = new Theorem(byId("compared"), { ask, say });
 const variations = new Variations({ ask, say, work, view, theorem, keeping, changed, run: runAgain, lastRun: () => lastRun });
+const trials = new Many({ ask, say, work, from: () => variations.from(), open: (seed, from) => variations.open(seed, from), failures: () => texts.failures });
 
 /** Says what has happened, in the line of the page that is read aloud. */
 function say(text, isWrong = false) {
@@ -62,6 +75,7 @@ function changed() {
   chooseOwn();
   byId("link-said").hidden = true;
   byId("stale").hidden = lastText === "";
+  if (byId("scheduling").open || view.text.length <= SHORT) drawDelays(view.text);
   clearTimeout(pause);
   pause = setTimeout(lookForFault, PAUSE);
 }
@@ -101,18 +115,26 @@ async function showFault({ status, text: answer }, job) {
   }
   const fault = faultOf(answer, job);
   const hint = status === SNAPSHOT_HAS_FAULT ? null : await hintOf(ask, fault, job);
-  const room = fault.name === "TooLarge" ? await roomFor(ask, job, fault.slot) : null;
-  if (job === view.text) view.showFault(fault, room ? `the deck becomes ${room.words} words` : hint, room && enlargement(fault.slot, room.size));
+  const room = fault.name === "TooLarge" ? await roomFor(ask, job, fault.slot) : null, show = await lineShow(fault, job);
+  const mend = room ? mending(`STORE ${room.size}`, withSize(job, fault.slot, room.size)) : show && mending(show, withLine(job, fault.line, show));
+  if (job === view.text) view.showFault(fault, room ? `the deck becomes ${room.words} words` : show ? "a line SHOW has addresses" : hint, mend);
   return fault;
 }
 
-/** The button that gives the program of a slot a larger store. */
-function enlargement(slot, size) {
-  return button(`Write STORE ${size}`, () => {
+/** The line SHOW with the addresses of the stores that a faulty line names; null if it is no such line. */
+async function lineShow({ name, subject, line }, text) {
+  const shows = [subject?.slice("SHOW ".length) ?? ""], job = name === "BadNumber" && subject.startsWith("SHOW ") && haveNames(shows) ? readJob(text) : null;
+  const slot = job?.slots[placedLines(job)[line - 1].slot];
+  return slot ? withAddresses(ask, slot, shows).then(([show]) => `SHOW ${show}`, () => null) : null;
+}
+
+/** The button that writes a line, with which the job becomes this text. */
+function mending(line, text) {
+  return button(`Write ${line}`, () => {
     const before = view.text;
-    view.show(withSize(before, slot, size));
+    view.show(text);
     changed();
-    keeping.offerUndo(`Changed: STORE ${size}.`, before);
+    keeping.offerUndo(`Changed: ${line}.`, before);
   });
 }
 
@@ -136,7 +158,7 @@ async function offerPlaces() {
 
 /** Shows whether the machine is at work. */
 function setBusy(isBusy) {
-  for (const id of ["run", "schedule", "shuffle", "neighbours"]) byId(id).disabled = isBusy || !engine;
+  for (const id of ["run", "schedule", "shuffle", "neighbours", "try"]) byId(id).disabled = isBusy || !engine;
   byId("compare-alone").disabled = isBusy || lastRun === null;
   byId("compare-before").disabled = isBusy || lastRun === null || theorem.before === null;
   byId("stop").disabled = !isBusy;
@@ -176,11 +198,13 @@ async function runNow(asked) {
   const answer = await ask(asked, text);
   const fault = await showFault(answer, text);
   const outcome = await outcomeOf(ask, jobOf(asked[0], text), answer, { isRun, failures: texts.failures });
-  showText(outcome, { look: isRun ? look : null, go: goToStop, change: isRun ? changeAndRun : null });
+  showText(outcome, { look: isRun ? look : null, go: goToStop, change: isRun ? changeAndRun : null, say });
   lastRun = isRun && outcome.read ? { ...outcome, text } : null;
   if (lastRun) theorem.take(lastRun);
   if (text === view.text) view.showStops(outcome.verdicts?.all ?? []);
   byId("look").disabled = byId("see").disabled = lastRun === null;
+  const asking = lastRun && whatIf(lastRun, { ask, say, work, take: takeSchedule });
+  byId("what-if").replaceChildren(...(asking ? [asking] : []));
   byId("stale").hidden = text === view.text;
   sayAnswer(answer, fault, outcome.verdicts);
 }
@@ -206,6 +230,11 @@ async function changeAndRun({ name, change }) {
   return work("Running.", runAgain);
 }
 
+/** Puts a job with another schedule in the place of the one that was run, if that is still there, and runs it. `what` says what is new. */
+function takeSchedule(text, what) {
+  return changeAndRun({ name: what, change: () => text });
+}
+
 /** The fault of a job with its hint, as it is shown, or null if there is none. */
 async function explain(job) {
   const { status, text } = await ask(["asm", "0"], job);
@@ -218,6 +247,16 @@ async function explain(job) {
 function look(call) {
   replay.open(lastRun, call);
   goTo("replay");
+}
+
+/** Shows the run at the next call at which a program comes to a statement. A job that was changed is run first. */
+async function runTo(slot, { start }) {
+  if (lastRun?.text !== view.text) await run();
+  if (lastRun?.text !== view.text) return;
+  caret = { slot: Number(slot), start };
+  goTo("replay");
+  await replay.open(lastRun, replay.callShown(lastRun));
+  await replay.go("c");
 }
 
 /** Goes to the comparisons. If there is none yet, it is that with the lone runs. */
@@ -242,6 +281,7 @@ function showText(outcome, acts) {
   byId("save-report").disabled = lastText === "";
   replay.close();
   theorem.clear();
+  byId("what-if").replaceChildren();
   showOutcome(outcome, acts);
 }
 
@@ -250,8 +290,8 @@ function stop() {
 }
 
 async function writeSchedule() {
-  const delays = readDelays(...["after", "every", "delays"].map((id) => byId(id).value));
-  if (delays === null) return say("These aren't numbers of calls: 20, or 3=50 for device 3.", true);
+  const delays = readDelays();
+  if (delays === null) return say("These aren't numbers of calls.", true);
   return work("Writing the schedule.", async () => {
     const before = view.text, answer = await ask(["asm", "0"], before);
     const fault = await showFault(answer, before);
@@ -273,6 +313,8 @@ function begin(text, args) {
 function show(text, args) {
   stop();
   view.show(text);
+  drawDelays(text);
+  byId("outcomes").replaceChildren();
   byId("link-said").hidden = true;
   [byId("command").value, byId("value").value, byId("place").value] = [args[0], args[1] ?? "0", args[2] ?? "0"];
   chooseCommand();
@@ -313,7 +355,7 @@ function chooseExample() {
 
 /** Shows the report that was recorded of an example, if the machine can't run. */
 function showRecorded({ job, report }) {
-  if (report) showText(outcomeOfRecord(job, report, texts.failures));
+  if (report) showText(outcomeOfRecord(job, report, texts.failures), { say });
 }
 
 async function openFile() {
@@ -370,6 +412,8 @@ function attend() {
   byId("run").onclick = run;
   byId("stop").onclick = stop;
   byId("schedule").onclick = writeSchedule;
+  byId("try").onclick = () => trials.tryAll();
+  byId("scheduling").ontoggle = () => drawDelays(view.text);
   byId("look").onclick = () => look(0);
   byId("place").onfocus = offerPlaces;
   byId("shuffle").onclick = () => variations.shuffle();
@@ -396,8 +440,10 @@ async function load() {
     Object.assign(value, JSON.parse(new TextDecoder().decode(await unpacked(bytesOf(byId(name).textContent)))));
   }
   listJobs(texts.jobs);
-  if (!canRun()) throw new Error("it lacks a 64 bit memory in WebAssembly");
-  const module = await WebAssembly.compile(await unpacked(bytesOf(byId("module").textContent)));
+  if (!canRun()) throw new Error("it has no WebAssembly");
+  const bytes = await unpacked(bytesOf(byId("module").textContent)), isLong = hasLongAddresses();
+  byId("short-addresses").hidden = isLong;
+  const module = await WebAssembly.compile(isLong ? bytes : narrowed(bytes));
   engine = new Engine(module, byId("worker").textContent);
 }
 

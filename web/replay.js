@@ -6,24 +6,33 @@ import { readJob, withStore, writeJob } from "./job.js";
 import { mediumOf } from "./medium.js";
 import { NAMES_OF_POOL, callsOf, numberOf, readReport, saidOf, stateOfStint } from "./report.js";
 import { readSchedule, writeSchedule } from "./schedule.js";
+import { Seeker } from "./seek.js";
 import { Timeline } from "./timeline.js";
-import { drawTimeline } from "./drawing.js";
+import { WHOLE } from "./picture.js";
+import { Pictured } from "./pictured.js";
 
 // How many entries of the journal are shown on each side of the call, and at most how many words of a program.
 const ENTRIES_AROUND = 6, MOST_WORDS = 40;
 const CHANGED = "• ";
 
-/** The job cut after a call, with the events between that call and the next, and with the whole store of each program shown. */
-export function cutJob(text, calls) {
+// What is said if a key leads to no call.
+const NOT_FOUND = {
+  N: "No program comes to a breakpoint after this call. F9 in a deck sets one.", B: "No program came to a breakpoint before this call. F9 in a deck sets one.",
+  c: "The program doesn't come to the statement at the caret after this call, or the caret isn't in a deck of this run.",
+};
+
+/** The job cut after a call, with the events between that call and the next, and with the whole store of each program shown, or what `shown` makes of a slot. */
+export function cutJob(text, calls, shown = withStore) {
   const job = readJob(text);
   const schedule = readSchedule(job.schedule);
   const events = schedule.events.filter((event) => event.calls <= calls);
-  return writeJob({ ...job, slots: job.slots.map(withStore), schedule: writeSchedule({ calls: Math.min(calls, schedule.calls), events }) });
+  return writeJob({ ...job, slots: job.slots.map(shown), schedule: writeSchedule({ calls: Math.min(calls, schedule.calls), events }) });
 }
 
 export class Replay {
-  constructor(element, { ask, say, failed }) {
-    Object.assign(this, { element, ask, say, failed });
+  /** The part of the page that shows runs. `breaks` has the breakpoints, and `caret` gives the slot and the beginning of the statement at the caret of a deck, or null. */
+  constructor(element, { ask, say, failed, breaks, caret }) {
+    Object.assign(this, { element, ask, say, failed, breaks, caret });
     this.element.addEventListener("keydown", (event) => this.press(event));
   }
 
@@ -32,10 +41,16 @@ export class Replay {
     if (run !== this.run) {
       const { text, report, layouts, stops } = run;
       Object.assign(this, { run, text, layouts, stops, job: readJob(text), timeline: new Timeline(readReport(report)), wanted: null, isAsking: false, last: null });
+      this.seeker = new Seeker({ ask: this.ask, text, timeline: this.timeline, layouts, report: (at, hasStores) => (hasStores ? this.sections(at) : this.sectionsOnly(at)) });
       this.draw();
       this.element.hidden = false;
     }
     return this.show(call);
+  }
+
+  /** The call at which a run is shown; 0 if it isn't. */
+  callShown(run) {
+    return this.run === run ? this.call : 0;
   }
 
   close() {
@@ -49,15 +64,16 @@ export class Replay {
     this.slider = make("input", { type: "range", min: "0", max: `${timeline.total}`, value: "0", oninput: () => this.show(Number(this.slider.value)) });
     this.slot = choice([...timeline.slots.keys()].map((slot) => [`${slot}`, `program ${slot}`]), `${stops?.slot}`, () => {});
     this.where = make("output", {});
-    const { picture, mark } = drawTimeline(timeline, (call) => this.show(call), { stops });
-    this.mark = mark;
-    const go = (name, key) => button(name, () => this.show(this.callOf(key)), { title: `Key ${key}` });
+    this.picture = new Pictured(timeline, { name: "The run over time", choose: (call) => this.show(call), stops, size: WHOLE }).withButtons();
+    this.word = make("input", { type: "text", size: "8", placeholder: "YA3" });
+    const go = (name, key) => button(name, () => this.go(key), { title: `Key ${key}` });
     const bar = make("div", { class: "bar", role: "group", "aria-label": "Where in the run" },
       labelled("After call", this.slider), this.where,
       go("A call back", "b"), go("A call on", "f"), go("Next event", "e"), go("Next hold", "h"),
-      ...(stops ? [go("Previous stop", "p"), go("Next stop", "n")] : []), go("Next order of", "o"), labelled("Program", this.slot));
+      ...(stops ? [go("Previous stop", "p"), go("Next stop", "n")] : []), go("Next order of", "o"), labelled("Program", this.slot),
+      go("Breakpoint before", "B"), go("Next breakpoint", "N"), go("To the caret", "c"), go("Back to the last change of", "w"), labelled("Word", this.word));
     this.shown = make("div", { class: "moment" });
-    this.element.replaceChildren(make("h2", {}, "The run, call by call"), picture, bar, this.shown);
+    this.element.replaceChildren(make("h2", {}, "The run, call by call"), this.picture.element, bar, this.shown);
   }
 
   /** The call to which a key leads, or undefined. */
@@ -71,13 +87,45 @@ export class Replay {
     return to[key]?.() ?? undefined;
   }
 
+  /** The calls that have to be looked for, by the key that leads to them. */
+  get sought() {
+    const { seeker, call, breaks } = this;
+    return {
+      N: () => seeker.nextBreak(breaks, call, 1), B: () => seeker.nextBreak(breaks, call, -1),
+      c: () => { const at = this.caret(); return at ? seeker.comesTo(at.slot, at.start, call) : null; },
+      w: () => this.lastChange(),
+    };
+  }
+
   /** Does what the button of the pressed key does. */
   press(event) {
-    if (!this.timeline || event.ctrlKey || event.altKey || event.metaKey) return;
-    const to = this.callOf(event.key);
-    if (to === undefined) return;
+    if (!this.timeline || event.ctrlKey || event.altKey || event.metaKey || event.target === this.word) return;
+    if (this.callOf(event.key) === undefined && !(event.key in this.sought)) return;
     event.preventDefault();
-    this.show(to);
+    this.go(event.key);
+  }
+
+  /** Goes to the call to which a key leads, or says that there is none. */
+  async go(key) {
+    const { timeline } = this, to = this.callOf(key);
+    if (to !== undefined) return this.show(to);
+    try {
+      const found = await this.sought[key]();
+      if (timeline !== this.timeline) return undefined;
+      if (typeof found === "number") return await this.show(found);
+      this.say(found ?? NOT_FOUND[key], true);
+    } catch (error) {
+      this.failed(error);
+    }
+    return undefined;
+  }
+
+  /** The call with which the word that is typed got the value that it has, or why there is none. */
+  async lastChange() {
+    const slot = Number(this.slot.value), layout = this.layouts.get(slot), name = this.word.value.trim().toUpperCase(), number = /^E?(\d+)$/.exec(name)?.[1];
+    const address = number === undefined ? layout?.addressOf({ text: name, part: 0 }) : Number(number), { store } = this.slotOf(slot);
+    if (address === undefined || address >= Number(store)) return `Program ${slot} has no word ${name || "without a name"}. One is typed by its name or its address: YA3, V0P2 or 40.`;
+    return await this.seeker.became(slot, address, this.call) ?? `${name} has had its value from the beginning on.`;
   }
 
   /** Shows the machine after a call. While a question to the machine is open, only the call that was asked for last is kept. */
@@ -100,6 +148,13 @@ export class Replay {
     this.isAsking = false;
   }
 
+  /** The sections after a call, without the stores. */
+  async sectionsOnly(call) {
+    const { status, text } = await this.ask(["run"], cutJob(this.text, call, (slot) => ({ ...slot, shows: [] })));
+    if (status) throw new Error(text.trim());
+    return readReport(text).sections;
+  }
+
   async sections(call) {
     if (this.last?.call === call && this.last.text === this.text) return this.last.sections;
     const { status, text } = await this.ask(["run"], cutJob(this.text, call));
@@ -111,7 +166,7 @@ export class Replay {
 
   drawMoment(call, now, before) {
     this.where.textContent = `${call.toLocaleString("en")} of ${this.timeline.total.toLocaleString("en")}`;
-    this.mark(call);
+    this.picture.mark(call);
     const programs = now.map((section, at) => this.drawProgram(call, section, before[at]));
     const said = `After call ${call}: ${now.map((section, at) => this.sentence(call, section, before[at])).join("; ")}.`;
     this.shown.replaceChildren(make("p", { class: "said" }, said), make("div", { class: "programs" }, ...programs), ...this.drawPool(call), this.drawJournal(call));
@@ -124,6 +179,7 @@ export class Replay {
     if (section.orders > before.orders) {
       const obeyed = layout?.statementOf(...before.at)?.written ?? "an order that no statement wrote";
       const words = changedWords(section, before).slice(0, 3).map(({ address, octal }) => `, ${layout?.nameOf(address) ?? `E${address}`} is ${numberOf(octal)}`);
+      if (section.state.startsWith("FAILED")) return `${name} failed at ${obeyed}: ${section.state.split(" ")[1]}`;
       return `${name} obeyed ${obeyed}${words.join("")}${this.exchangeOf(section.slot, call)}`;
     }
     const state = section.state.split(" ")[0];

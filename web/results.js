@@ -3,7 +3,7 @@
 import { byId, make, table } from "./dom.js";
 import { Layout, readListing } from "./deck.js";
 import { readJob, withStore, writeJob } from "./job.js";
-import { choiceOfView, tableOfWords } from "./words.js";
+import { choiceOfView, tableOfArray, tableOfWords } from "./words.js";
 import { LONGEST_READ, linesOfBlocks, many, numberOf, readReport, saidOf, stateOfStint, timed } from "./report.js";
 
 const OUT_OF_SERVICE = 64n;
@@ -11,6 +11,9 @@ const FLAGS = ["V, the overflow flag", "TR, the test register"];
 
 // How many characters of a text, entries of a journal and words of a program are shown at most. The saved file has all of them.
 const MOST_SHOWN = 100000, MOST_ENTRIES = 1000, MOST_WORDS = 1000;
+
+/** How many stores of one name are an array. */
+const FEWEST_IN_ARRAY = 10;
 
 /** The entries and sections of a report or of the text of a lone run; null for any other text, and for one that is too long to be read. */
 export const readResult = (text) => (text.length <= LONGEST_READ && /^KDF9 (REPORT|ALONE) /.test(text) ? readReport(text) : null);
@@ -56,22 +59,36 @@ function storyOf(section, layout) {
   return `Program ${slot} ${became}, after ${many(orders, "order")}. ${life === "ENDED" ? "" : stands}${hintOfOut(section)}`;
 }
 
-/** The words of a program: those that the run changed come first, and then those that the job shows. The others that have names are folded. */
+/** The words of a program: those that the run changed come first, and then those that the job shows. The others that have names are folded. An array has a table of its own. */
 function drawWords(section, layout, store) {
   const shown = new Map(section.words.map(({ address, octal }) => [address, octal]));
   const named = (layout?.addresses ?? []).filter((address) => store?.has(address));
   const isChanged = (address) => layout !== undefined && valueOf(address) !== layout.octalAt(address);
   const valueOf = (address) => shown.get(address) ?? store.get(address);
-  const wordAt = (address) => ({ name: layout?.nameOf(address) ?? `E${address}`, address, octal: valueOf(address) });
-  const all = [...new Set([...shown.keys(), ...named])].sort((one, other) => one - other), rest = all.filter((address) => !isChanged(address));
-  const first = [...all.filter(isChanged), ...rest.filter((address) => shown.has(address))], folded = rest.filter((address) => !shown.has(address));
-  const drawn = (caption, addresses) => [tableOfWords(caption, addresses.slice(0, MOST_WORDS).map(wordAt)),
-    ...(addresses.length > MOST_WORDS ? [make("p", {}, `${(addresses.length - MOST_WORDS).toLocaleString("en")} more words aren't shown.`)] : [])];
-  const summary = make("summary", {}, `${many(folded.length, "word")} that the run left unchanged`);
+  const wordAt = (address) => ({ name: layout?.nameOf(address) ?? `E${address}`, address, octal: valueOf(address), isChanged: isChanged(address) });
+  const all = [...new Set([...shown.keys(), ...named])].sort((one, other) => one - other), there = new Set(all);
+  const arrays = (layout?.groupsOf(FEWEST_IN_ARRAY) ?? []).filter((addresses) => addresses.every((address) => there.has(address)));
+  const inArray = new Set(arrays.flat()), single = all.filter((address) => !inArray.has(address)), rest = single.filter((address) => !isChanged(address));
+  const first = [...single.filter(isChanged), ...rest.filter((address) => shown.has(address))], folded = rest.filter((address) => !shown.has(address));
+  const isFirst = (addresses) => addresses.some((address) => isChanged(address) || shown.has(address)), left = arrays.filter((each) => !isFirst(each));
+  const summary = make("summary", {}, `${many(folded.length + left.flat().length, "word")} that the run left unchanged`);
+  const unchanged = [...(folded.length ? drawTable("Unchanged words", folded.map(wordAt)) : []), ...left.flatMap((addresses) => drawArray(addresses.map(wordAt)))];
   return [
-    ...(first.length ? drawn("Words", first) : []),
-    ...(folded.length ? [make("details", {}, summary, ...drawn("Unchanged words", folded))] : []),
+    ...(first.length ? drawTable("Words", first.map(wordAt)) : []), ...arrays.filter(isFirst).flatMap((addresses) => drawArray(addresses.map(wordAt))),
+    ...(unchanged.length ? [make("details", {}, summary, ...unchanged)] : []),
   ];
+}
+
+function drawTable(caption, words) {
+  const rest = words.length - MOST_WORDS;
+  return [tableOfWords(caption, words.slice(0, MOST_WORDS)), ...(rest > 0 ? [make("p", {}, `${rest.toLocaleString("en")} more words aren't shown.`)] : [])];
+}
+
+/** The words of an array: ten to a row, and folded one to a line, with their addresses and in octal. */
+function drawArray(words) {
+  const [first, last] = [words[0], words.at(-1)], name = `${first.name} to ${last.name}`, changed = words.filter(({ isChanged }) => isChanged).length;
+  const caption = `${name}: ${changed ? `the run changed ${many(changed, "word")}, which ${changed === 1 ? "has" : "have"} a dot` : "unchanged"}`;
+  return [tableOfArray(caption, words.slice(0, MOST_WORDS)), make("details", {}, make("summary", {}, `${name}, one to a line`), ...drawTable(name, words))];
 }
 
 function sectionOf(section, layout, store) {
@@ -109,7 +126,7 @@ export function resultsOf(read, layouts, stores) {
   if (read === null) return [];
   const { entries, sections } = read;
   const drawn = sections.map((section) => sectionOf(section, layouts.get(section.slot), stores?.get(section.slot)));
-  const hasWords = drawn.some((section) => section.querySelector(".words"));
+  const hasWords = drawn.some((section) => section.querySelector(".words, .array"));
   return [...(hasWords ? [choiceOfView(byId("sections"))] : []), ...drawn, ...(entries.length ? [journalOf(entries)] : [])];
 }
 

@@ -1,6 +1,7 @@
 // A schedule that writes itself: each transfer ends a given number of calls after it began. When transfers begin is read from the machine's own journals. If
 // a schedule is right up to some call, its journal is right up to that call, so each run shows more of what to write than the one before.
 
+import { byId, labelled, make } from "./dom.js";
 import { linesOf, readJob, textOf, writeJob } from "./job.js";
 import { callsOf, readReport, timed } from "./report.js";
 import { JOB } from "./tables.js";
@@ -11,13 +12,30 @@ const USUAL_WINDOW = 64;
 /** Why the schedule can't be written. */
 export class NoSchedule extends Error {}
 
-/** How long transfers take, as it is written: the calls of a transfer, the calls until a word moves, and the devices with numbers of their own. Null if these
- * aren't numbers. */
-export function readDelays(after, every, delays) {
-  const numbers = [after, every].map((number) => number.trim());
-  const own = delays.split(",").map((part) => part.trim()).filter((part) => part !== "");
-  if (!numbers.every((number) => /^\d{0,8}$/.test(number)) || !own.every((delay) => /^\d{1,2}=\d{1,8}$/.test(delay))) return null;
-  const devices = new Map(own.map((delay) => delay.split("=")).map(([device, steps]) => [device, Number(steps)]));
+/** The devices of a job, those of the pool too, by their numbers. */
+function devicesOf(text) {
+  const job = readJob(text), owners = [...job?.slots ?? [], ...(job?.pool ? [job.pool] : [])];
+  return owners.flatMap(({ devices }) => devices).filter(({ number }) => /^\d{1,2}$/.test(number)).sort((one, other) => one.number - other.number);
+}
+
+/** Offers a number of calls for each device of a job. What is typed for a device stays as long as the job has it. */
+export function drawDelays(text) {
+  const devices = devicesOf(text).map(({ number, kind }) => [number, `Device ${number} ${kind}`]), shown = [...byId("delays").querySelectorAll("input")];
+  if (`${devices.map(([, name]) => name)}` === `${shown.map(({ labels: [label] }) => label.textContent)}`) return;
+  const typed = new Map(shown.map((control) => [control.dataset.device, control.value]));
+  byId("delays").replaceChildren(...devices.map(([number, name]) => {
+    const control = make("input", { type: "text", size: "8", inputmode: "numeric", "data-device": number, placeholder: "as above" });
+    control.value = typed.get(number) ?? "";
+    return labelled(name, control);
+  }));
+}
+
+/** How long transfers take, as it is typed: the calls of a transfer, the calls until a word moves, and the devices with numbers of their own. Null if these aren't
+ * numbers. */
+export function readDelays() {
+  const numbers = ["after", "every"].map((name) => byId(name).value.trim()), own = [...byId("delays").querySelectorAll("input")].map(({ dataset, value }) => [dataset.device, value.trim()]);
+  if (![...numbers, ...own.map(([, number]) => number)].every((number) => /^\d{0,8}$/.test(number))) return null;
+  const devices = new Map(own.filter(([, number]) => number !== "").map(([device, number]) => [device, Number(number)]));
   return { after: Number(numbers[0] || JOB.usual_delay), every: Number(numbers[1]), devices };
 }
 
@@ -44,10 +62,12 @@ export function writeSchedule({ calls, events }) {
   return textOf(lines);
 }
 
-/** The transfers that a journal records, each with its device and how many calls had been made when it had begun, and the number of calls of the whole run. */
+/** The transfers that a journal records, each with its device, the number of transfers that the device had had before, and how many calls had been made when it had
+ * begun; and the number of calls of the whole run. */
 function readTransfers(report) {
-  const entries = timed(readReport(report).entries);
-  const begun = entries.filter(([, [kind]]) => kind === "START").map(([calls, [, , device]]) => ({ calls, device: `${device}` }));
+  const entries = timed(readReport(report).entries), had = new Map();
+  const next = (device) => had.set(device, (had.get(device) ?? -1) + 1).get(device);
+  const begun = entries.filter(([, [kind]]) => kind === "START").map(([calls, [, , device]]) => ({ calls, device: `${device}`, index: next(device) }));
   const [before, last] = entries.at(-1) ?? [0, []];
   return { begun, calls: before + callsOf(last) };
 }

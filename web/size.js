@@ -1,7 +1,7 @@
 // How large a store has to be for a deck.
 
 import { readListing } from "./deck.js";
-import { readJob, writeJob } from "./job.js";
+import { jobOfDeck, readJob, writeJob } from "./job.js";
 import { JOB, LINES } from "./tables.js";
 
 const GROUP = JOB.most.words_of_group, [[, LARGEST]] = LINES.STORE.numbers;
@@ -11,8 +11,7 @@ const GROUP = JOB.most.words_of_group, [[, LARGEST]] = LINES.STORE.numbers;
 export async function roomFor(ask, text, slot) {
   const job = readJob(text), own = job?.slots.find(({ number }) => number === `${slot}`);
   if (!own) return null;
-  const alone = writeJob({ ...job, slots: [{ ...own, store: `${LARGEST}`, devices: [], shows: [] }], pool: null, schedule: "" });
-  const { status, text: listing } = await ask(["asm", `${slot}`], alone);
+  const { status, text: listing } = await ask(["asm", `${slot}`], jobOfDeck(own, LARGEST));
   if (status !== 0) return null;
   const words = readListing(listing).words.length;
   return { words, size: GROUP * Math.ceil(words / GROUP) };

@@ -25,5 +25,11 @@ export const KINDS = Object.fromEntries(JOB.kinds.map((kind) => [kind.kind, kind
 /** The entries of a journal. */
 export const ENTRIES = /* tables/entries.json */ null;
 
+/** What a picture of a run looks like, and what it says. */
+export const PICTURE = /* tables/picture.json */ null;
+
+/** A sentence of a table, with these values in the places of their names. */
+export const worded = (sentence, values) => sentence.replace(/\{(\w+)\}/g, (_, each) => values[each]);
+
 /** The hint of this name, with these values in the places of their names. */
-export const hint = (name, values = {}) => HINTS[name].replace(/\{(\w+)\}/g, (_, each) => values[each]);
+export const hint = (name, values = {}) => worded(HINTS[name], values);

@@ -2,8 +2,9 @@
 
 import { aligned } from "./aligned.js";
 import { make, table } from "./dom.js";
-import { drawTimeline } from "./drawing.js";
 import { linesOf } from "./job.js";
+import { WHOLE } from "./picture.js";
+import { Pictured } from "./pictured.js";
 import { HOLDS, callsOf, callsOfOrders, many, numberOf, saidOf } from "./report.js";
 import { Alone, Shared, Whole, compare } from "./same.js";
 import { Timeline } from "./timeline.js";
@@ -97,10 +98,8 @@ export class Theorem {
 /** What two runs look like over time, where their journals part, and their schedules. */
 function drawRuns(whole, other) {
   const runs = [["The run before", new Timeline(other)], ["This run", new Timeline(whole)]], calls = Math.max(...runs.map(([, { total }]) => total));
-  const pictures = runs.map(([name, timeline], at) => {
-    const { picture } = drawTimeline(timeline, () => {}, { name: `${name} over time`, hasLegend: at === runs.length - 1, calls });
-    return make("div", {}, make("h3", {}, `${name}: ${many(timeline.total, "call")}`), picture);
-  });
+  const pictures = runs.map(([name, timeline]) => make("div", {}, make("h3", {}, `${name}: ${many(timeline.total, "call")}`),
+    new Pictured(timeline, { name: `${name} over time`, calls, size: WHOLE }).element));
   const journals = sideBySide("Both journals", [other, whole].map(({ entries }) => entries), saidOf);
   const schedules = sideBySide("Both schedules", [other, whole].map(({ job }) => linesOf(job.schedule)), (line) => line);
   return [...pictures, make("p", {}, saidOfJournals(other.entries, whole.entries)), journals, schedules];

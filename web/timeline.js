@@ -1,5 +1,8 @@
 // A journal over time: what each program did, which transfers each device had, and to whom the pool lent its devices. Time is counted in calls of the machine.
 
+import { many } from "./report.js";
+import { PICTURE, worded } from "./tables.js";
+
 export const RAN = "ran";
 export const HELD = "held";
 export const WAITS = "waits";
@@ -13,21 +16,25 @@ const program = () => ({ does: READY, since: 0, reason: null, waitsFor: new Set(
 /** How each entry is taken. The others change nothing that is shown over time. */
 const TAKERS = {
   RAN: (timeline, slot, orders) => timeline.ran(slot, orders),
-  IDLE: (timeline, calls) => { timeline.total += calls; },
+  IDLE: (timeline, calls) => timeline.pass(calls),
+  MOVE: (timeline, device, words) => timeline.move(device, words),
+  CLOCK: (timeline, time) => timeline.clock.push({ call: timeline.total, time }),
+  SWAP: (timeline, slot, other) => timeline.exchange(slot, other),
   LOV: (timeline, slot, group) => timeline.hold("LOV", slot, group),
   BUSY: (timeline, slot, device) => timeline.hold("BUSY", slot, device),
   WAIT: (timeline, slot, kind) => timeline.wait(slot, kind),
-  START: (timeline, slot, device) => timeline.flying.set(device, { start: timeline.total, slot }),
+  START: (timeline, slot, device) => timeline.start(slot, device),
   END: (timeline, device) => timeline.end(device),
   TAKE: (timeline, slot, device) => timeline.lend(slot, device),
   GIVE: (timeline, slot, device) => timeline.takeBack([device]),
-  FAIL: (timeline, slot) => timeline.stop(slot),
+  FAIL: (timeline, slot, failure) => timeline.stop(slot, failure),
   ENDED: (timeline, slot) => timeline.stop(slot),
 };
 
 /** A run over time. Each slot and each device has its spans, each with the number of calls before its beginning and before its end. A span is open if it
  * goes on when the run stops. The devices of the pool also have the spans for which they were lent; a report has only those that were taken. There are also
- * the calls after which something happened (`events`), those that found a program held up (`holds`), and the entries, each with the number of calls before it. */
+ * the calls after which something happened (`events`), those that found a program held up (`holds`), the entries, each with the number of calls before it, and what is
+ * drawn besides: idle calls, the ends of programs, words that were moved, the clock, and exchanges of priorities. `sums` says to what all calls went. */
 export class Timeline {
   constructor({ entries, sections }) {
     const own = sections.flatMap(({ devices }) => devices), stints = sections.flatMap(({ stints: each }) => each);
@@ -37,6 +44,13 @@ export class Timeline {
     this.slots = new Map(sections.map(({ slot }) => [slot, []]));
     this.devices = new Map([...own.map(({ number }) => number), ...this.pool.keys()].map((number) => [number, []]));
     this.lendings = new Map([...this.pool.keys()].map((number) => [number, []]));
+    this.kinds = new Map([...own, ...stints].map(({ number, kind }) => [number, kind]));
+    this.states = new Map(sections.map(({ slot, state, orders }) => [slot, { state, orders }]));
+    this.ends = new Map(sections.map(({ slot }) => [slot, []]));
+    this.moves = new Map([...this.devices.keys()].map((number) => [number, []]));
+    this.order = sections.map(({ slot }) => slot);
+    this.priorities = [0, 1, 2, 3];
+    Object.assign(this, { idle: [], clock: [], swaps: [], transfers: 0 });
     this.events = [];
     this.holds = [];
     this.programs = new Map(sections.map(({ slot }) => [slot, program()]));
@@ -51,6 +65,7 @@ export class Timeline {
     for (const slot of this.programs.keys()) this.turn(slot, null);
     for (const device of [...this.flying.keys()]) this.land(device);
     this.takeBack([...this.lent.keys()]);
+    this.sums = this.sumUp();
   }
 
   /** What goes on from a number of calls to now. */
@@ -77,6 +92,21 @@ export class Timeline {
     Object.assign(this.programs.get(slot), { since: this.total, wait: null });
   }
 
+  pass(calls) {
+    this.idle.push({ start: this.total, end: this.total + calls });
+    this.total += calls;
+  }
+
+  /** A MOVE changes nothing if the device has no transfer. */
+  move(device, words) {
+    if (this.flying.has(device)) this.moves.get(device)?.push({ call: this.total, words });
+  }
+
+  exchange(slot, other) {
+    this.priorities = this.priorities.map((each) => (each === slot ? other : each === other ? slot : each));
+    this.swaps.push({ call: this.total, slots: [slot, other], after: this.priorities.filter((each) => this.order.includes(each)) });
+  }
+
   /** A program that a group holds up counts as held up until it goes on, or until the last of its transfers in flight has ended. */
   hold(kind, slot, number) {
     const own = [...this.flying].filter(([device, flight]) => (kind === "BUSY" ? device === number : flight.slot === slot)).map(([device]) => device);
@@ -90,6 +120,11 @@ export class Timeline {
     this.turn(slot, WAITS, reason);
     this.programs.get(slot).wait = reason;
     this.countHold();
+  }
+
+  start(slot, device) {
+    this.flying.set(device, { start: this.total, slot });
+    this.transfers += 1;
   }
 
   countHold() {
@@ -137,9 +172,39 @@ export class Timeline {
   }
 
   /** A program that is over holds nothing of the pool. */
-  stop(slot) {
+  stop(slot, failure = null) {
     this.turn(slot, null);
+    this.ends.get(slot)?.push({ call: this.total, failure });
     this.takeBack([...this.lent].filter(([, lending]) => lending.slot === slot).map(([device]) => device));
+  }
+
+  /** To what the calls went: those in all, those in which an order was obeyed and those that found all programs held up; of each program those in which it ran, was
+   * ready, was held up by each cause, and was over; and of each device its transfers and how long it had one. */
+  sumUp() {
+    const lengths = (spans, is = () => true) => spans.filter(is).reduce((sum, { start, end }) => sum + end - start, 0);
+    const programs = [...this.slots].map(([slot, spans]) => {
+      const running = lengths(spans, ({ what }) => what === RAN), ready = lengths(spans, ({ what }) => what === READY);
+      const [device, group, pool] = ["BUSY", "LOV", "WAIT"].map((kind) => lengths(spans, ({ reason }) => reason?.kind === kind));
+      return { slot, running, ready, device, group, pool, over: this.total - running - ready - device - group - pool };
+    });
+    const devices = [...this.devices].map(([device, spans]) => ({ device, busy: lengths(spans), transfers: spans.length, lent: this.lendings.get(device)?.length ?? 0 }));
+    return { made: this.total, running: programs.reduce((sum, { running }) => sum + running, 0), idle: lengths(this.idle), programs, devices };
+  }
+
+  /** What became of a program in all, in words. */
+  saidOfSums(slot) {
+    const { ready, device, group, pool } = this.sums.programs.find((each) => each.slot === slot);
+    return worded(PICTURE.says.sums, { orders: many(this.states.get(slot).orders, "order"), held: many(device + group + pool, "call"), ready });
+  }
+
+  /** How many transfers a device had, how many lines MOVE moved words of them, and how often the pool lent it, in words. */
+  saidOfDevice(device) {
+    const { transfers, lent } = this.sums.devices.find((each) => each.device === device), moves = this.moves.get(device).length;
+    return [many(transfers, "transfer"), ...(moves ? [many(moves, "MOVE")] : []), ...(lent ? [`lent ${many(lent, "time")}`] : [])].join(", ");
+  }
+
+  get saidOfExchanges() {
+    return `${many(this.swaps.length, "exchange")}, at the end ${this.swaps.at(-1).after.join(", ")}`;
   }
 
   /** The span that goes on after a call, or undefined. */
@@ -169,6 +234,12 @@ export class Timeline {
     return span ? Math.max(span.start, call) + 1 : this.total;
   }
 
+  /** The call before this one in which a program obeyed an order; null if there is none. */
+  orderBefore(slot, call) {
+    const span = this.slots.get(slot)?.findLast(({ what, start }) => what === RAN && start + 1 < call);
+    return span ? Math.min(span.end, call - 1) : null;
+  }
+
   /** The first of these calls, which are in ascending sequence, that is after `call`; the last call of the run if there is none. */
   next(calls, call) {
     return calls.find((each) => each > call) ?? this.total;
@@ -180,16 +251,3 @@ export class Timeline {
   }
 }
 
-/** The columns of a row of the picture: the share of each kind of span in each column, and for a device the slot of its transfer or its holder. */
-export function columnsOf(spans, total, count) {
-  const columns = Array.from({ length: count }, () => ({}));
-  const length = total / count;
-  for (const { start, end, what, slot } of spans) {
-    for (let at = Math.floor(start / length); at < count && at * length < end; at += 1) {
-      const share = (Math.min(end, (at + 1) * length) - Math.max(start, at * length)) / length;
-      if (share > 0) columns[at][what] = (columns[at][what] ?? 0) + share;
-      if (slot !== undefined) columns[at].slot = slot;
-    }
-  }
-  return columns;
-}

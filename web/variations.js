@@ -34,11 +34,31 @@ export class Variations {
     });
   }
 
+  /** The job whose schedule is shuffled: the one that is shown, or the one that it was made from. */
+  from() {
+    const { mixed, page: { view } } = this;
+    if (view.text !== mixed.text) mixed.from = view.text;
+    return mixed.from;
+  }
+
+  /** Shows the schedule of a seed of a job, and runs it. */
+  open(seed, from) {
+    const { ask, say, work, run, view, keeping, changed } = this.page;
+    if (this.from() !== from) return say("The job has been changed since these schedules were tried. Try them again.", true);
+    return work(`Running with seed ${seed}.`, async () => {
+      const before = view.text;
+      this.mixed.text = await shuffled(ask, from, seed);
+      view.show(this.mixed.text);
+      changed();
+      keeping.offerUndo(`The schedule is that of seed ${seed}.`, before);
+      await run();
+    });
+  }
+
   shuffle() {
     const { mixed, page: { ask, say, view } } = this;
     return this.compare("Shuffling the schedule.", async (seed) => {
-      if (view.text !== mixed.text) mixed.from = view.text;
-      mixed.text = await shuffled(ask, mixed.from, seed);
+      mixed.text = await shuffled(ask, this.from(), seed);
       if (mixed.text === mixed.from) return say("There is nothing to shuffle: this job has one program and no transfers.", true);
       view.show(mixed.text);
       return "The schedule was shuffled";

@@ -81,7 +81,32 @@ export class Verdicts {
     return waiting;
   }
 
+  /** What came of the first program with this kind of verdict, in a few words; of a deadlock, who waits for whom. */
+  inShort(kind) {
+    const { slot, section } = this.all.find((verdict) => verdict.kind === kind), hold = this.holdOf(slot);
+    if (kind === "deadlock") return this.circleFrom(slot);
+    if (kind === "failed") return `program ${slot}: ${section.state.split(" ")[1]}`;
+    if (kind === "held") return `program ${slot} by ${hold.kind === "LOV" ? "group" : hold.kind === "BUSY" ? "device" : "the pool, of kind"} ${hold.number}`;
+    return `program ${slot}`;
+  }
+
+  /** Who waits for which device and who has it, from a program on, until one comes again. */
+  circleFrom(slot) {
+    const seen = [], parts = [];
+    for (let at = slot; !seen.includes(at);) {
+      seen.push(at);
+      const { number } = this.holdOf(at), [device] = this.devicesOfKind(number), { slot: holder } = this.holderOf(device);
+      parts.push(`waits for ${NAMES_OF_POOL[number]} ${device}, held by ${holder}`);
+      at = holder;
+    }
+    return `program ${slot} ${parts.join(", which ")}`;
+  }
+
   verdictOn(section) {
+    return { section, ...this.judge(section) };
+  }
+
+  judge(section) {
     const { slot, state, at } = section, [life, failure] = state.split(" ");
     const statement = this.layouts.get(slot)?.statementOf(...at), hold = this.holdOf(slot);
     if (life === "ENDED") return { slot, kind: "ended", said: `Program ${slot} has ended, after ${many(section.orders, "order")}.`, offers: [] };
@@ -99,7 +124,12 @@ export class Verdicts {
 
   saidOfFailure(section, failure, statement) {
     const place = this.placeOf(section.slot, statement) || `at word ${section.at[0]}, syllable ${section.at[1]}, where no statement wrote an order`;
-    return `Program ${section.slot} failed ${place}. ${failure}: ${this.failures[failure]}. Here ${this.operandsOf(section, statement)}.`;
+    return `Program ${section.slot} failed ${place}. ${failure}: ${this.failures[failure]}. ${this.why(section, statement)}`;
+  }
+
+  /** Why a program failed. This is the one place where the page says it: here it names the operands, and what the facts of a run say of the cause belongs here. */
+  why(section, statement) {
+    return `Here ${this.operandsOf(section, statement)}.`;
   }
 
   /** The registers that a statement has to do with. */

@@ -36,3 +36,15 @@ export function tableOfWords(caption, words) {
     ...Object.entries(VIEWS).map(([name, view]) => make("td", { "data-view": name }, make("code", {}, view(octal))))));
   return make("table", { class: "words" }, make("caption", {}, caption), make("thead", {}, make("tr", {}, ...head, ...views)), make("tbody", {}, ...rows));
 }
+
+const IN_A_ROW = 10;
+
+/** A table of an array, ten words to a row: each in decimal, with a dot before it if the run changed it, and as what the list says besides. */
+export function tableOfArray(caption, words) {
+  const heads = ["", ...Array.from({ length: IN_A_ROW }, (_, at) => `+${at}`)].map((name) => make("th", { scope: "col" }, name));
+  const cellOf = ({ octal, isChanged }) => make("td", {}, `${isChanged ? "• " : ""}${numberOf(octal).toLocaleString("en")}`,
+    ...Object.entries(VIEWS).map(([name, view]) => make("code", { "data-view": name }, view(octal))));
+  const rows = Array.from({ length: Math.ceil(words.length / IN_A_ROW) }, (_, at) => words.slice(IN_A_ROW * at, IN_A_ROW * at + IN_A_ROW));
+  return make("table", { class: "array" }, make("caption", {}, caption), make("thead", {}, make("tr", {}, ...heads)),
+    make("tbody", {}, ...rows.map((row) => make("tr", {}, make("th", { scope: "row" }, row[0].name), ...row.map(cellOf)))));
+}

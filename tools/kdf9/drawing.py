@@ -4,37 +4,28 @@ from html import escape
 from kdf9.journal import RAN, groups
 from kdf9.said import (MOST_SIGNS, description, exchanges_in_all, held_calls, label_of_device, said_of_device, said_of_exchanges, said_of_lending,
                        said_of_slot, state_of, sums_of_slot, title_of, transfers_and_moves, waiting_calls)
+from kdf9.tables import table
 from kdf9.words import count
 
-# Colours by slot that can be told apart without telling red from green; and the shades of what belongs to no program.
-COLOURS = ("#0072b2", "#e69f00", "#009e73", "#cc79a7")
-TINTS = ("#b9dcf2", "#fbe3b5", "#b3e3d5", "#f3d6e5")
-IDLE, READY_LINE, FAILURE = "#9a9a9a", "#8a8a8a", "#d55e00"
+# What it looks like. The page draws with the same table (web/picture.js).
+STYLE = table("picture")
+SHADES, LEGEND, SIZES = STYLE["shades"], STYLE["legend"], STYLE["sizes"]
+COLOURS, TINTS, DIGITS = ([slot[what] for slot in STYLE["slots"]] for what in ("shade", "tint", "ink"))
 
 # Where things are, in pixels.
-LEFT, WIDTH, RIGHT, TOP = 170, 880, 420, 46
-SLOT_HEIGHT, DEVICE_HEIGHT, GAP, LINE = 30, 18, 8, 18
+LEFT, WIDTH, RIGHT, TOP = (SIZES[name] for name in ("left", "width", "right", "top"))
+SLOT_HEIGHT, DEVICE_HEIGHT, GAP, LINE = (SIZES[name] for name in ("slot", "device", "gap", "line"))
 
 # The width in pixels of a character of the slots after the sign of an exchange, and of the sign itself.
 CHARACTER, SIGN = 9, 12
-
-# The least width of a bar that has the digit of its slot in it, and the colours of digits by slot.
-BAR_OF_DIGIT = 14
-DIGITS = ("#fff", "#000", "#fff", "#000")
 
 HEAD = """<svg xmlns="http://www.w3.org/2000/svg" viewBox="0 0 {width} {height}" width="{width}" height="{height}" \
 font-family="sans-serif" font-size="14" role="img" aria-labelledby="title desc">
 <title id="title">{title}</title>
 <desc id="desc">{desc}</desc>
-<defs><pattern id="held" width="6" height="6" patternUnits="userSpaceOnUse" patternTransform="rotate(45)">\
-<rect width="6" height="6" fill="#fff"/><rect width="2.4" height="6" fill="#7a7a7a"/></pattern>{more}</defs>
+<defs>{patterns}</defs>
 <rect width="100%" height="100%" fill="#fff"/>
 <text x="{left}" y="20" font-size="16">{title}</text>"""
-
-
-# The shade of a program that waits for the pool, which only a picture with a pool has.
-WAITS = """<pattern id="waits" width="6" height="6" patternUnits="userSpaceOnUse"><rect width="6" height="6" fill="#fff"/>\
-<circle cx="3" cy="3" r="1.7" fill="#7a7a7a"/></pattern>"""
 
 
 class Drawing:
@@ -70,7 +61,7 @@ class Drawing:
     def when(self, first, end):
         """The calls of some stretches in words, counted from 1."""
         begins, ends = self.columns.starts[first] + 1, self.columns.starts[end]
-        return f"calls {begins} to {ends}" if begins < ends else f"call {begins}"
+        return STYLE["says"]["several" if begins < ends else "one"].format(first=begins, last=ends)
 
     def stack(self, first, end, height, parts):
         """Boxes one on the other from the bottom of the lane, each as high as its share of the calls, for pairs of calls and fill."""
@@ -78,7 +69,7 @@ class Drawing:
         bottom = self.y + height
         for calls, fill in parts:
             if calls:
-                part = max(1.5, height * calls / whole)
+                part = max(SIZES["least_part"], height * calls / whole)
                 bottom = max(self.y, bottom - part)
                 yield self.box(self.x(first), bottom, self.x(end) - self.x(first), part, fill)
 
@@ -88,10 +79,10 @@ class Drawing:
         self.label(SLOT_HEIGHT, f"slot {number}: {state_of(section)}", sums_of_slot(section, lane))
         for first, end, calls, events in groups(lane):
             waits = waiting_calls(calls)
-            parts = [(calls[RAN], COLOURS[number]), (held_calls(calls) - waits, "url(#held)"), (waits, "url(#waits)")]
+            parts = [(calls[RAN], COLOURS[number]), (held_calls(calls) - waits, SHADES["held"]), (waits, SHADES["waits"])]
             boxes = list(self.stack(first, end, SLOT_HEIGHT, parts))
             if not boxes:
-                boxes = [self.box(self.x(first), self.y + SLOT_HEIGHT - 1.5, self.x(end) - self.x(first), 1.5, READY_LINE)]
+                boxes = [self.box(self.x(first), self.y + SLOT_HEIGHT - SIZES["ready"], self.x(end) - self.x(first), SIZES["ready"], SHADES["ready"])]
             if 2 * calls[RAN] > sum(calls.values()):
                 boxes += self.digit(number, first, end, SLOT_HEIGHT)
             self.titled(f"slot {number}, {self.when(first, end)}: {said_of_slot(self.chart, calls)}", boxes)
@@ -103,7 +94,7 @@ class Drawing:
 
     def digit(self, number, first, end, height, fill=None):
         """The digit of a slot in a bar, where there is room for it."""
-        if self.x(end) - self.x(first) >= BAR_OF_DIGIT:
+        if self.x(end) - self.x(first) >= SIZES["bar_of_digit"]:
             x, y, fill = (self.x(first) + self.x(end)) / 2, self.y + height / 2 + 5, fill or DIGITS[number]
             yield f'<text x="{x:.1f}" y="{y:g}" text-anchor="middle" fill="{fill}">{number}</text>'
 
@@ -116,19 +107,19 @@ class Drawing:
         return f'<rect x="{x + 2:.1f}" y="{self.y + 10}" width="10" height="10" fill="#000"/>'
 
     def failure_sign(self, x):
-        return f'<path d="M{x + 2:.1f} {self.y + 9}l12 12m0 -12l-12 12" stroke="{FAILURE}" stroke-width="4"/>'
+        return sign("failed", x + 2, self.y + 9)
 
     def start_sign(self, x):
         return f'<path d="M{x:.1f} {self.y - 2}v{DEVICE_HEIGHT + 4}" stroke="#000" stroke-width="1"/>'
 
     def move_sign(self, x):
-        return f'<path d="M{x - 3:.1f} {self.y}h6l-3 6z" fill="#fff" stroke="#000" stroke-width="0.7"/>'
+        return sign("move", x - 3, self.y)
 
     def small_move_sign(self, x):
-        return f'<path d="M{x:.1f} {self.y}v3" stroke="#000" stroke-width="0.7"/>'
+        return sign("small_move", x, self.y)
 
     def clock_sign(self, x):
-        return f'<path d="M{x:.1f} {self.y + 2}l5 12h-10z" fill="#000"/>'
+        return sign("clock", x, self.y + 2)
 
     def device(self, number, lane):
         """The lane of a device. If there are too many transfers to see each one, their beginnings are only counted."""
@@ -167,7 +158,7 @@ class Drawing:
         lane = self.chart.idle
         self.label(DEVICE_HEIGHT, "idle", count(lane.total()["idle"], "call"))
         for first, end, calls, _ in groups(lane):
-            boxes = self.stack(first, end, DEVICE_HEIGHT, [(calls["idle"], IDLE)])
+            boxes = self.stack(first, end, DEVICE_HEIGHT, [(calls["idle"], SHADES["idle"])])
             self.titled(f"{self.when(first, end)}: {count(calls['idle'], 'call')} idle: every live program is held up", boxes)
         self.y += DEVICE_HEIGHT + GAP
 
@@ -200,7 +191,7 @@ class Drawing:
         lines = []
         for calls in self.numbers_of_axis():
             x = self.x(self.columns.place(calls))
-            lines.append(f'<path d="M{x:.1f} {TOP - 6}V{self.y + 4}" stroke="#d8d8d8"/>')
+            lines.append(f'<path d="M{x:.1f} {TOP - 6}V{self.y + 4}" stroke="{SHADES["axis"]}"/>')
             self.text(x, self.y + 18, str(calls), ' text-anchor="middle"')
         self.text(8, self.y + 18, "calls made")
         for stretch in sorted(self.columns.folds):
@@ -231,42 +222,47 @@ class Drawing:
         """What the shades and signs mean."""
         y = self.y
         holders = sorted({slot for lane in self.chart.lent_lanes.values() for _, slot in lane.happened()})
-        shades = [(COLOURS[slot], f"slot {slot} obeys orders; a transfer for it") for slot in self.chart.sections]
-        shades += [(TINTS[slot], f"a device of the pool, lent to slot {slot}") for slot in holders]
-        shades += [("url(#waits)", "waits for a device of the pool")] if self.chart.pool else []
-        shades += [("url(#held)", "held up by a device or a group of words"), (IDLE, "idle: all live programs are held up")]
+        shades = [(COLOURS[slot], LEGEND["slot"].format(slot=slot)) for slot in self.chart.sections]
+        shades += [(TINTS[slot], LEGEND["lent"].format(slot=slot)) for slot in holders]
+        shades += [(SHADES["waits"], LEGEND["waits"])] if self.chart.pool else []
+        shades += [(SHADES["held"], LEGEND["held"]), (SHADES["idle"], LEGEND["idle"])]
         for index, (fill, words) in enumerate(shades):
             self.key(index, self.box(0, 0, 22, 12, fill), words)
         signs = [
-            (f'<rect width="22" height="1.5" y="9" fill="{READY_LINE}"/>', "ready, while another runs"),
-            (f'<path d="M11 0v13" stroke="#000"/>', "a transfer begins"),
-            (f'<path d="M8 4h6l-3 6z" fill="#fff" stroke="#000" stroke-width="0.7"/>', "words are moved by MOVE"),
-            (f'<rect x="6" y="1" width="10" height="10"/>', "ended"),
-            (f'<path d="M5 0l12 12m0 -12l-12 12" stroke="{FAILURE}" stroke-width="4"/>', "failed"),
-            (f'<path d="M11 0l5 12h-10z"/>', "the clock is set"),
+            (f'<rect width="22" height="{SIZES["ready"]}" y="9" fill="{SHADES["ready"]}"/>', LEGEND["ready"]), ('<path d="M11 0v13" stroke="#000"/>', LEGEND["begun"]),
+            (sign("move", 8, 4), LEGEND["move"]), ('<rect x="6" y="1" width="10" height="10"/>', LEGEND["ended"]),
+            (sign("failed", 5, 0), LEGEND["failed"]), (sign("clock", 11, 0), LEGEND["clock"]),
         ]
         if self.chart.exchanges.number_of_events():
-            signs.append((exchange_sign(11, 0), "two slots exchange their priorities"))
+            signs.append((exchange_sign(11, 0), LEGEND["exchange"]))
         for index, (shape, words) in enumerate(signs, len(shades)):
             self.key(index, shape, words)
         self.y = y + LINE * -(-(len(shades) + len(signs)) // 3)
         if self.columns.length > 1:
-            self.text(8, self.y + 12, f"Each column is {self.columns.length} calls; heights are shares of them.")
+            self.text(8, self.y + 12, LEGEND["columns"].format(calls=self.columns.length))
             self.y += LINE
         if self.columns.folds:
-            self.text(8, self.y + 12, "A broken line marks a long idle stretch that is folded.")
+            self.text(8, self.y + 12, LEGEND["folds"])
             self.y += LINE
 
     def key(self, index, shape, words):
         """An entry of the legend, which has three columns."""
-        x, y = 8 + 420 * (index % 3), self.y + LINE * (index // 3)
+        x, y = 8 + SIZES["key"] * (index % 3), self.y + LINE * (index // 3)
         self.add(f'<g transform="translate({x} {y})">{shape}</g>')
         self.text(x + 30, y + 11, words)
 
 
+def sign(name, x, y):
+    """The sign of this name at a place."""
+    look = dict(STYLE["signs"][name])
+    path = look.pop("path")
+    return f'<path d="M{x:.1f} {y}{path}" ' + " ".join(f'{key}="{value}"' for key, value in look.items()) + "/>"
+
+
 def exchange_sign(x, y):
     """An arrow up and one down, with x between them and y at their top."""
-    return f'<path d="M{x - 4:.1f} {y + 12}v-12m-2.5 3.5l2.5 -3.5l2.5 3.5M{x + 4:.1f} {y}v12m-2.5 -3.5l2.5 3.5l2.5 -3.5" fill="none" stroke="#000"/>'
+    look = STYLE["signs"]["exchange"]
+    return f'<path d="M{x - 4:.1f} {y + 12}{look["path"]}M{x + 4:.1f} {y}{look["other"]}" fill="{look["fill"]}" stroke="{look["stroke"]}"/>'
 
 
 def span(events):
@@ -296,6 +292,6 @@ def svg(chart):
     drawing.exchanges()
     drawing.axis()
     drawing.legend()
-    words = {"title": title_of(chart), "desc": escape(description(chart)), "more": WAITS if chart.pool else ""}
+    words = {"title": title_of(chart), "desc": escape(description(chart)), "patterns": STYLE["patterns"]["held"] + (STYLE["patterns"]["waits"] if chart.pool else "")}
     head = HEAD.format(width=LEFT + WIDTH + RIGHT, height=drawing.y + 10, left=8, **words)
     return [head, *drawing.lines, "</svg>"]

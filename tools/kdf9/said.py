@@ -1,35 +1,31 @@
 """What is said of a chart in words: of its programs, devices and exchanges, in all or in some of its stretches."""
 from kdf9.journal import RAN, READY, Held, in_order
+from kdf9.tables import table
 from kdf9.words import count
 
+# What is said of a picture. The page says it by the same table (web/picture.js).
+SAYS = table("picture")["says"]
+
 # The beginnings of transfers are drawn only for a device that has no more of them than this; if there are more MOVEs, their signs are small.
-MOST_SIGNS = 100
+MOST_SIGNS = table("picture")["sizes"]["most_signs"]
 
 
 def name_of_device(chart, number):
     """A device in words: its number and its kind."""
-    return f"device {number} {chart.devices[number]}"
+    return SAYS["device"].format(device=number, kind=chart.devices[number])
 
 
 def label_of_device(chart, number):
     """A device in words, and whether it is one of the pool."""
-    return name_of_device(chart, number) + (" (pool)" if number in chart.pool else "")
+    return SAYS["pooled" if number in chart.pool else "device"].format(device=number, kind=chart.devices[number])
 
 
 def reasons(chart, calls):
     """What held a program up, and for how many calls, in words, most calls first."""
     held = [(number, reason) for reason, number in calls.items() if isinstance(reason, Held)]
-    for number, reason in sorted(held, key=lambda one: -one[0]):
-        yield f"held up for {count(number, 'call')} by {said_of_hold(chart, reason)}"
-
-
-def said_of_hold(chart, reason):
-    """What holds a program up, in words."""
-    if reason.what == "device":
-        return f"{name_of_device(chart, reason.which)}, which has a transfer"
-    if reason.what == "group":
-        return f"group {reason.which}, which is locked out"
-    return f"the pool, whose devices of kind {reason.which} all have holders"
+    for number, (what, which) in sorted(held, key=lambda one: -one[0]):
+        device = name_of_device(chart, which) if what == "device" else ""
+        yield SAYS[f"by_{what}"].format(calls=count(number, "call"), device=device, group=which, kind=which)
 
 
 def held_calls(calls):
@@ -44,18 +40,18 @@ def waiting_calls(calls):
 
 def said_of_slot(chart, calls):
     """What a program did in these calls, in words."""
-    said = [f"obeyed {count(calls[RAN], 'order')}"] if calls[RAN] else []
+    said = [SAYS["obeyed"].format(orders=count(calls[RAN], "order"))] if calls[RAN] else []
     said += reasons(chart, calls)
     if calls[READY]:
-        said.append(f"ready for {count(calls[READY], 'call')} while another ran")
+        said.append(SAYS["ready"].format(calls=count(calls[READY], "call")))
     return "; ".join(said)
 
 
 def said_of_device(calls, events):
     """For whom a device had transfers in these calls, in words."""
-    said = [f"a transfer for slot {slot} during {count(calls[slot], 'call')}" for slot in sorted(calls)]
+    said = [SAYS["transfer"].format(slot=slot, calls=count(calls[slot], "call")) for slot in sorted(calls)]
     if events:
-        said.append(f"{count(len(events), 'transfer')} begun")
+        said.append(SAYS["begun"].format(transfers=count(len(events), "transfer")))
     return "; ".join(said)
 
 
@@ -68,12 +64,12 @@ def transfers_and_moves(chart, number):
 
 def times_lent(chart, number):
     """How often the pool lent a device, in words."""
-    return f"lent {count(chart.lent_lanes[number].number_of_events(), 'time')}"
+    return SAYS["lent_in_all"].format(times=count(chart.lent_lanes[number].number_of_events(), "time"))
 
 
 def said_of_lending(calls):
     """To whom a device of the pool was lent in these calls, in words."""
-    return "; ".join(f"lent to slot {slot} for {count(calls[slot], 'call')}" for slot in sorted(calls))
+    return "; ".join(SAYS["lent"].format(slot=slot, calls=count(calls[slot], "call")) for slot in sorted(calls))
 
 
 def said_of_exchanges(chart, exchanges):
@@ -82,7 +78,7 @@ def said_of_exchanges(chart, exchanges):
     said = f"SWAP {first.slots[0]} {first.slots[1]}"
     if len(exchanges) > 1:
         said += f" to SWAP {last.slots[0]} {last.slots[1]}"
-    return f"{said}; priorities, highest first: {in_order(last.after, chart.sections)}"
+    return f"{said}; {SAYS['exchanged'].format(slots=in_order(last.after, chart.sections))}"
 
 
 def exchanges_in_all(chart):
@@ -93,7 +89,7 @@ def exchanges_in_all(chart):
 def sums_of_slot(section, lane):
     """What became of a program in all, in words."""
     total = lane.total()
-    return f"{count(section.orders, 'order')}, held up for {count(held_calls(total), 'call')}, ready for {total[READY]}"
+    return SAYS["sums"].format(orders=count(section.orders, "order"), held=count(held_calls(total), "call"), ready=total[READY])
 
 
 def description(chart):
@@ -111,4 +107,4 @@ def state_of(section):
 def title_of(chart):
     """The run in one line."""
     transfers = sum(chart.transfers.values())
-    return f"{count(chart.total, 'call')}, {chart.idle.total()['idle']} of them idle; {count(transfers, 'transfer')}"
+    return SAYS["run"].format(calls=count(chart.total, "call"), idle=chart.idle.total()["idle"], transfers=count(transfers, "transfer"))

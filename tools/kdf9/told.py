@@ -20,7 +20,7 @@ from kdf9.words import shown
 
 # The names of classes, by the definitions and members that they are of, where these aren't called so themselves.
 NAMES = {"use of a device": "Device", "calls of a program": "Calls", "calls": "Spent", "holders": "Holder", "statements": "Line", "references": "Reference"}
-TYPES = {"integer": int, "string": str, "boolean": bool}
+KINDS_OF_VALUES = {"integer": int, "string": str, "boolean": bool}
 
 # A row of `*`, of which the second and the others do nothing.
 STARS = re.compile(rb"\*[* \n]*\*")
@@ -99,7 +99,7 @@ class Classes:
             is_pair = schema.get("minItems") == schema.get("maxItems") == 2
             kind, read = (Tuple[inner, inner], tuple) if is_pair else (List[inner], each and (lambda told: [each(one) for one in told]))
         else:
-            kind, read = next(TYPES[name] for name in TYPES if name in types), None
+            kind, read = next(KINDS_OF_VALUES[name] for name in KINDS_OF_VALUES if name in types), None
         return (Optional[kind] if "null" in types else kind), read
 
 
