@@ -7,6 +7,7 @@ from courses.exercise import Case, Exercise
 from courses.schedules import EVERY, OWN, ROUNDS, SEED, Plan, text_under
 from courses.taken import Taken, Unfit, broken_rule, with_constants
 from kdf9 import deck as decks
+from kdf9 import told
 from kdf9.job import HEADER, join_lines, read_lines, read_slots
 from kdf9.schedule import start_of
 from outcomes.found import Found, Witness
@@ -75,7 +76,7 @@ class Names:
             answer = machine.ask(["asm", str(slot)], job)
             if answer.status:
                 raise Fault(answer.text, job)
-            self._layouts[slot] = decks.Layout(self._slots[slot].deck, decks.read_listing(answer.text))
+            self._layouts[slot] = decks.Layout(told.listing_in(job, slot))
 
     def words(self, slot: int) -> int:
         """How many words the image of a slot's deck has."""

@@ -62,7 +62,8 @@ def text_under(plan: Plan, job: str, calls: int, events: Tuple[Tuple[int, str], 
     if plan.kind in (ROUNDS, SEED):
         return text_by_number(plan, tuple(sorted(kinds)), tuple(sorted(slots)), calls, events)
     schedule = Schedule(calls, [Event(at, line) for at, line in events if at < calls])
-    return join_lines(lines_of_schedule(machine.tool("schedule").Search("the job", slots, schedule, delays(plan, kinds)).schedule()))
+    tool = machine.tool("schedule")
+    return join_lines(lines_of_schedule(tool.Search("the job", tool.loaded(slots), schedule, delays(plan, kinds), tool.run_of).found()))
 
 
 @functools.lru_cache(maxsize=256)

@@ -1,10 +1,9 @@
 """The faults of a text as an editor shows them, each with the edits that mend it: those after which the machine finds no fault there any more."""
-import functools
 import re
 from typing import Iterator, List, NamedTuple, Optional, Tuple
 
 from kdf9 import fault as found_faults
-from kdf9 import hints
+from kdf9 import hints, told
 from kdf9.deck import OPENING, without_comments
 from kdf9.job import HEADER, Slot, read_lines
 from kdf9.names import meant
@@ -104,26 +103,23 @@ def hint_of(text: Text, fault: Fault) -> Optional[str]:
         return None
 
 
-@functools.lru_cache(maxsize=16)
-def hint_of_deck(deck: str, store: int, name: str, offset: int, line: int, column: int) -> Optional[str]:
-    """A hint for a fault of a deck that begins in this line of its text, or None."""
-    slot = Slot(0, store, line, deck, [])
-    return hints.hint_of_deck(found_faults.Fault(name, line, column, "", slot, offset))
-
-
 def hint_in(text: str, is_job: bool, fault: Fault) -> Optional[str]:
     """A hint for a fault of a text, or None. Its places are those of the text."""
     if fault.deck:
-        deck, facts = text[fault.deck.start:fault.deck.end], fault.facts
-        if not deck.endswith("\n"):
-            deck += "\n"
-        return hint_of_deck(deck, fault.deck.store, fault.name, facts["offset"], fault.deck.line + 1, facts["column"])
+        deck = text[fault.deck.start:fault.deck.end]
+        slot = Slot(0, fault.deck.store, fault.deck.line + 1, deck if deck.endswith("\n") else f"{deck}\n", [])
+        return hints.hint_of_deck(placed(fault.facts, *slot.place(fault.facts["offset"])), slot)
     if not is_job:
         return None
     lines = read_lines(text)
     if fault.name == "Header":
         return found_faults.hint_of_header(lines)[2:] or None
-    return hints.hint_of_job(found_faults.Fault(fault.name, fault.facts["line"], fault.facts["column"], fault.facts["text"] or ""), lines)
+    return hints.hint_of_job(told.fault_in(fault.facts), lines)
+
+
+def placed(facts: dict, line: int, column: int) -> "told.Fault":
+    """The fault of these facts, at another line and column."""
+    return told.fault_in({**facts, "line": line, "column": column})
 
 
 def fixes_of(text: Text, fault: Fault) -> List[Fix]:

@@ -126,6 +126,11 @@ def told_of(job: Text, *words: str) -> Any:
     return classes().of(told.pop("kind").capitalize())[1](told)
 
 
+def fault_in(facts: Dict[str, Any]) -> Any:
+    """The fault that these facts are."""
+    return classes().of("Fault")[1]({member: value for member, value in facts.items() if member not in ("format", "kind")})
+
+
 def is_fault(told: Any) -> bool:
     """Whether facts are those of a fault."""
     return hasattr(told, "sentence")
