@@ -52,7 +52,7 @@ class Classes:
     def __init__(self) -> None:
         self.schema = json.loads((ROOT / "docs" / "schema" / "facts.json").read_text(encoding="utf-8"))["definitions"]
         self.known: Dict[str, Tuple[type, Reader]] = {}
-        faults = [self.schema[f"fault of a {what}"]["properties"] for what in ("job", "deck", "text")]
+        faults = [one["properties"] for name, one in self.schema.items() if name.startswith("fault of a ")]
         fault = {"properties": {member: one for fault in faults for member, one in fault.items()}, "required": []}
         self.kinds = {"Run": self.schema["run"], "Listing": self.schema["listing"], "Fault": fault}
 
