@@ -60,6 +60,8 @@ _kdf9() {
         explore) places=(job) options='--help --calls --runs --swap --mode --out' with_word='--calls --runs --out' ;;
         stats) places=(job job) options='--help --json --csv' with_word='' ;;
         study) places=('') options='--help --out --plot --part --join --dask --job' with_word='--out --part --join --dask --job' ;;
+        mark) places=('' '') options='--help --csv --json --html --try --hand-out --seeds' with_word='--hand-out --seeds' ;;
+        quiz) places=('nest held idle deadlock journal') options='--help --seed --answers --json --html' with_word='--seed' ;;
         picture) places=() options='--help --text' with_word='' ;;
         json) places=() options='--help' with_word='' ;;
         report) places=() options='--help' with_word='' ;;
@@ -72,7 +74,7 @@ _kdf9() {
         package) places=(folder) options='--help' with_word='' ;;
     esac
     if [ "$COMP_CWORD" = 1 ]; then
-        _kdf9_place 'run alone asm make save resume check watch explain steps listing schedule same explore stats study picture json report page replay lsp dap lib clean package --help --version'
+        _kdf9_place 'run alone asm make save resume check watch explain steps listing schedule same explore stats study mark quiz picture json report page replay lsp dap lib clean package --help --version'
         return
     fi
     for ((at = 2; at < COMP_CWORD; at++)); do

@@ -43,7 +43,7 @@ function __kdf9_at
     for word in (commandline -opc)[3..-1]
         if test $is_of_option = yes
             set is_of_option no
-        else if contains -- $word --at --watch --after --every --speed --speeds --calls --runs --out --part --join --dask --job --faults
+        else if contains -- $word --at --watch --after --every --speed --speeds --calls --runs --out --part --join --dask --job --hand-out --seeds --seed --faults
             set is_of_option yes
         else if not string match -q -- '-?*' $word
             set places (math $places + 1)
@@ -135,6 +135,19 @@ complete -c kdf9 -n '__kdf9_is study' -l part -x -d 'does only each N-th run, fr
 complete -c kdf9 -n '__kdf9_is study' -l join -x -d 'makes no run, but takes the rows of the parts in this folder; it can be given for several folders'
 complete -c kdf9 -n '__kdf9_is study' -l dask -x -d 'makes the runs on the workers of the scheduler of Dask at this address'
 complete -c kdf9 -n '__kdf9_is study' -l job -x -d 'makes no study, but writes the job of run N'
+complete -c kdf9 -n '__kdf9_is mark' -l help -d 'says this, and ends'
+complete -c kdf9 -n '__kdf9_is mark' -l csv -d 'writes the table as CSV'
+complete -c kdf9 -n '__kdf9_is mark' -l json -d 'writes JSON, with all that is known of each hand-in'
+complete -c kdf9 -n '__kdf9_is mark' -l html -d 'writes a page for the wall, by numbers'
+complete -c kdf9 -n '__kdf9_is mark' -l try -d 'tries the course itself: its solutions and its wrong ones'
+complete -c kdf9 -n '__kdf9_is mark' -l hand-out -x -d 'writes what students get: the exercises without their solutions, and the starting jobs'
+complete -c kdf9 -n '__kdf9_is mark' -l seeds -x -d 'with --try, each solution is also run under the schedules of so many seeds'
+complete -c kdf9 -n '__kdf9_at quiz 0' -k -a 'nest held idle deadlock journal'
+complete -c kdf9 -n '__kdf9_is quiz' -l help -d 'says this, and ends'
+complete -c kdf9 -n '__kdf9_is quiz' -l seed -x -d 'the seed; 1 if it is left out'
+complete -c kdf9 -n '__kdf9_is quiz' -l answers -d 'writes the answer too, and why it is so'
+complete -c kdf9 -n '__kdf9_is quiz' -l json -d 'writes JSON in place of Markdown'
+complete -c kdf9 -n '__kdf9_is quiz' -l html -d 'writes a page'
 complete -c kdf9 -n '__kdf9_is picture' -l help -d 'says this, and ends'
 complete -c kdf9 -n '__kdf9_is picture' -l text -d 'draws it in characters, for a terminal'
 complete -c kdf9 -n '__kdf9_is json' -l help -d 'says this, and ends'

@@ -9,9 +9,10 @@ from typing import BinaryIO, Callable, Dict, Iterator, List, NamedTuple, Optiona
 from debugging.history import History, Place, Program
 from editing.naming import V_STORE, Y_STORE, Symbol
 from editing.wire import Incoming, Nonsense, Outgoing
+from kdf9 import journal
 from kdf9.changes import number_of
 from kdf9.deck import WORD
-from kdf9.journal import SLOTS, calls_of, exchanged
+from kdf9.journal import calls_of, exchanged
 from kdf9.program import BadInput, read_text
 from kdf9.report import Section
 from kdf9.words import whole
@@ -407,7 +408,7 @@ class Adapter:
 
     def _machine(self, slot: int) -> Iterator[Tuple[str, str]]:
         section = self._sections()[slot]
-        order = SLOTS
+        order = journal.SLOTS
         for at, (kind, *numbers) in self._history.entries:
             if at <= self._calls and kind == "SWAP":
                 order = exchanged(order, *numbers)
