@@ -11,7 +11,7 @@ from toolkit import ROOT
 
 sys.path.insert(0, str(ROOT / "tools"))
 from kdf9.drawing import svg  # noqa: E402
-from kdf9.facts import facts_of  # noqa: E402
+from kdf9.spent import facts_of  # noqa: E402
 from kdf9.journal import Chart  # noqa: E402
 from kdf9.report import read_report  # noqa: E402
 
