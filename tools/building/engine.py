@@ -286,7 +286,7 @@ class Room:
     def link_shared(self):
         """Links it as a library to load, of which only the calls are seen."""
         (self.folder / "calls").write_text(f"{{ global: {'; '.join(CALLS)}; local: *; }};\n", encoding="ascii")
-        shared = ["-shared", "-soname", SHARED.name, "--version-script=calls", self.kit / "toolchain/lib/libc.so.6"]
+        shared = ["-shared", "-s", "-soname", SHARED.name, "--version-script=calls", self.kit / "toolchain/lib/libc.so.6"]
         self.run(*self.links(), *shared, "-o", SHARED.name, cwd=self.folder)
 
     def links(self):

@@ -5,11 +5,11 @@ The journals of the machine itself say when transfers begin. A schedule that is 
 """
 from typing import Callable, Dict, List, NamedTuple, Sequence, Tuple
 
+from kdf9 import library
 from kdf9.delays import Delays, Transfer
 from kdf9.job import read_lines
-from plans.lengths import words_of_next
-from kdf9.program import BadInput
-from kdf9.report import length_of_journal, read_entries, read_section
+from kdf9.program import ENCODING, BadInput
+from kdf9.report import length_of_journal, read_entries
 from kdf9.schedule import MOST_LINES, Event, Schedule
 from plans.foresight import Foresight, Guess
 from plans.recall import Memory
@@ -22,14 +22,11 @@ WINDOW, FEWEST = 2048, 8
 
 
 class Loaded(NamedTuple):
-    """A job without its schedule: the text of the job with a schedule, the memories of its programs by slot, the kinds of the pool's devices by number, and how many
-    words a transfer has that the program of a slot begins by its next order after a schedule.
-    """
+    """A job without its schedule: the text of the job with a schedule, the memories of its programs by slot, and the kinds of the pool's devices by number."""
 
     text: Callable[[Schedule], str]
     memories: Dict[int, Memory]
     pool: Dict[int, str]
-    words: Callable[[Schedule, int], int]
 
 
 class Settled(NamedTuple):
@@ -147,13 +144,13 @@ class Search:
             raise BadInput(f"{self._source}: {TOO_LONG}")
 
     def _transfer(self, begun: Begun) -> Transfer:
-        """A transfer that began, with its words if the time that it takes goes by them: the run is cut before the order that began it."""
+        """A transfer that began, with its words if the time that it takes goes by them: the machine tells them of the run up to the order that began it."""
         transfer = Transfer(begun.calls, begun.device)
         if not self._delays.goes_by_words(begun.device):
             return transfer
         known, place = self._job.memories[begun.slot].words, (begun.answers, begun.order)
         if place not in known:
-            known[place] = self._job.words(self._with(self._found, begun.calls - 1), begun.slot)
+            known[place] = words_begun(self._job.text(self._with(self._found, begun.calls)), begun.device)
         return transfer._replace(words=known[place])
 
     def _words(self) -> Dict[Tuple[int, int], int]:
@@ -167,9 +164,10 @@ class Search:
         return Schedule(calls, sorted(events, key=at))
 
 
-def words_of(report: str, slot: int) -> int:
-    """The words of the transfer that the next order of the program of a slot begins, after a run that shows its whole store."""
-    return words_of_next(read_section(report, slot))
+def words_begun(text: str, device: int) -> int:
+    """The words of the transfer of a device that the last order of a job's run began."""
+    transfers = library.facts(text.encode(ENCODING))["transfers"]
+    return next(each["words"] for each in reversed(transfers) if each["device"] == device)
 
 
 def run_of(text: str, run: Callable[[str], str]) -> Settled:

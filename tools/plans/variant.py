@@ -3,16 +3,16 @@ import functools
 from typing import Dict, List, NamedTuple, Optional, Tuple
 
 from kdf9.delays import Delays, Speed, speeds_of_kinds
-from kdf9.job import HEADER, Slot, join_lines, kinds_of, parts_of, read_lines, read_pool, read_slots
+from kdf9.job import HEADER, Slot, join_lines, kinds_of, parts_of, read_pool, read_slots
 from kdf9.journal import SLOTS
 from kdf9.machine import answer_to
 from kdf9.program import BadInput
-from kdf9.schedule import MOST_LINES, Event, Schedule, job_with, lines_of_schedule, read_schedule
+from kdf9.schedule import MOST_LINES, Event, Schedule, lines_of_schedule, read_schedule
 from kdf9.tables import table
 from plans import workload
 from plans.plan import Run, Source, Value
 from plans.recall import Memories
-from plans.settle import TOO_LONG, Loaded, Search, Settled, at, run_of, words_of
+from plans.settle import TOO_LONG, Loaded, Search, Settled, at, run_of
 
 # How many jobs are kept taken apart.
 KEPT = 64
@@ -47,7 +47,7 @@ class Variants:
         if delays is None:
             return run_of(with_schedule(head, own), run_of_text)
         memories = {slot: self._memories.of(join_lines(parts.lines[slot])) for slot in kept}
-        loaded = Loaded(lambda schedule: with_schedule(head, schedule), memories, kinds_of(pool), lambda schedule, slot: words_after(head, schedule, slot))
+        loaded = Loaded(lambda schedule: with_schedule(head, schedule), memories, kinds_of(pool))
         return Search("the job", loaded, own, delays, run_of_text).settled()
 
     def _taken_apart(self, values: Tuple[Tuple[str, Value], ...]) -> Parts:
@@ -64,11 +64,6 @@ def run_of_text(text: str) -> str:
 def with_schedule(head: str, schedule: Schedule) -> str:
     """The text of a job with a schedule behind its line SCHEDULE."""
     return head + join_lines([*lines_of_schedule(schedule), "ENDJOB"])
-
-
-def words_after(head: str, schedule: Schedule, slot: int) -> int:
-    """The words of the transfer that the program of a slot begins by its next order after a schedule."""
-    return words_of(run_of_text(job_with(read_slots(read_lines(head + "ENDJOB\n")), schedule, [slot])), slot)
 
 
 def pool_of(pool: List[str], own: set, values: Dict[str, Value]) -> List[str]:
