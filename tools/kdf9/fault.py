@@ -35,7 +35,7 @@ def fault_of(answer: Answer, lines: List[str], command: str = saved.RUN) -> told
     if kind == "SNAPSHOT":
         return fault_of_snapshot(words[0], int(words[1]), lines)
     front = len(lines) if command == saved.RUN else saved.length_of_front(lines)
-    is_further = kind == "JOB" and command == saved.RESUME and int(words[1]) > front
+    is_further = kind == "JOB" and command == saved.RESUME and int(words[1]) > front and "SEAL" in lines[front:]
     job = saved.joined(lines) if is_further else saved.Joined(lines[:front], range(1, front + 1))
     fault = told.told_in("\n".join(job.lines), "run")
     return type(fault)(**{**vars(fault), "line": [*job.numbers, len(lines) + 1][fault.line - 1]})
