@@ -1,4 +1,5 @@
 """The texts that say what programs came to: the report of a run, and the output for a program that ran alone."""
+import re
 from typing import NamedTuple
 
 from kdf9.deck import WORD
@@ -18,6 +19,9 @@ SLOTS = ["0", "1", "2", "3"]
 # The first line of a report; and those of a report and of the text of a program that ran alone.
 HEADER = "KDF9 REPORT 1"
 HEADERS = (HEADER, *(f"KDF9 ALONE {slot}" for slot in SLOTS))
+
+# What a line of a device says after its kind.
+STATE_OF_DEVICE = re.compile(r"(?:HELD|FREE) PLACE [0-9]+ FLAG [0-9]+")
 
 # The first word of what the program writes instead of a report, and the status that goes with it.
 STATUSES = {"USAGE": 1, "JOB": 2, "DECK": 3, "LARGE": 4, "SNAPSHOT": 8}
@@ -73,9 +77,12 @@ def length_of_journal(lines):
     return next((at for at, line in enumerate(lines) if line.startswith("SLOT ")), len(lines))
 
 
-def numbers(text):
-    """The numbers of which a text is made."""
-    return tuple(map(int, text.split(" ")))
+def numbers(text, count):
+    """The numbers, so many, of which a text is made."""
+    found = tuple(map(int, text.split(" ")))
+    if len(found) != count:
+        raise ValueError(text)
+    return found
 
 
 def add_word(section, rest):
@@ -84,12 +91,20 @@ def add_word(section, rest):
 
 
 def add_q_store(section, rest):
-    q, *parts = numbers(rest)
+    q, *parts = numbers(rest, 4)
     section.q_stores[q] = tuple(parts)
+
+
+def add_spool(section, rest):
+    stream, _ = rest.split(" ", 1)
+    int(stream)
+    section.spools.append(rest)
 
 
 def read_device(rest):
     number, kind, state = rest.split(" ", 2)
+    if not STATE_OF_DEVICE.fullmatch(state):
+        raise ValueError(state)
     return Device(int(number), kind, state, [], [])
 
 
@@ -103,13 +118,13 @@ def add_block(section, rest, is_marked):
 READERS = {
     "STATE": lambda section, rest: setattr(section, "state", rest.split(" ")),
     "ORDERS": lambda section, rest: setattr(section, "orders", int(rest)),
-    "AT": lambda section, rest: setattr(section, "at", numbers(rest)),
-    "FLAGS": lambda section, rest: setattr(section, "flags", numbers(rest)),
+    "AT": lambda section, rest: setattr(section, "at", numbers(rest, 2)),
+    "FLAGS": lambda section, rest: setattr(section, "flags", numbers(rest, 2)),
     "NEST": lambda section, rest: setattr(section, "nest", [int(word, 8) for word in rest.split(" ")[1:]]),
     "LINKS": lambda section, rest: setattr(section, "links", rest.split(" ")[1:]),
     "Q": add_q_store,
     "WORD": add_word,
-    "SPOOL": lambda section, rest: section.spools.append(rest),
+    "SPOOL": add_spool,
     "DEVICE": lambda section, rest: section.devices.append(read_device(rest)),
     "POOL": lambda section, rest: section.stints.append(read_device(rest)),
     "BLOCK": lambda section, rest: add_block(section, rest, False),
