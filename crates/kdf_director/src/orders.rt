@@ -9,6 +9,8 @@ ghost use Rattle.kdf_director.specs.Fields.Standing.{shown_of};
 ghost use Rattle.kdf_theory.specs.Next.{lone_dispatched};
 ghost use Rattle.kdf_director.specs.Orders.{HasMadeAll, HasMadeFewer};
 ghost use Rattle.kdf_director.specs.Halts.{HasMadeButTo, HasMadeTo};
+ghost use Rattle.kdf_director.specs.declared.halt.Halt.TheVariants.{Never};
+ghost use Rattle.kdf_director.specs.Runs.{HasMadeButFewer};
 ghost use Rattle.kdf_director.specs.Progressed.{found_live};
 ghost use Rattle.kdf_theory.specs.Served.{IsTrueFor};
 ghost use Rattle.kdf_service.specs.Rules.{IsService};
@@ -33,9 +35,45 @@ fn found_live(progress: Progress) -> bool
 }
 
 impl Yard {
+    /// Of so many calls that are left, one at least, all, or those up to one that found no live program. Answers what the
+    /// last did, and leaves the number of those that are left still. At Err some are made, and the one that had no memory
+    /// has changed nothing.
+    #[inline(always)]
+    fn all_orders<F: Fn(u64) -> u64>(
+        &mut self,
+        journal: &mut Journal,
+        left: &mut u32,
+        service: &Service<F>,
+        room: u32,
+    ) -> Result<Progress, AllocError>
+        requires service { IsService (F.pre service.now) (F.post service.now) }
+        requires ready { IsReady self.old journal.old room }
+        requires some { 0 < left.old }
+        requires few { calls journal.old.entries + left.old ≤ CALL_LIMIT }
+        ensures ready { IsReady self.new journal.new room }
+        ensures made { IfOk result (HasMadeTo (F.post service.now) Never left.old left.new
+            (shown_of self.old journal.old room) (shown_of self.new journal.new room)) }
+        ensures err { OnErr result (HasMadeButFewer (F.post service.now) left.old
+            (shown_of self.old journal.old room) (shown_of self.new journal.new room)) }
+    {
+        loop {
+            let calls = Calls {
+                service,
+                room,
+                most: *left,
+            };
+            let (made, progress) = self.advance(journal, &calls)?;
+            *left -= made;
+            if *left == 0 || !found_live(progress) {
+                return Ok(progress);
+            }
+        }
+    }
+
     /// Of so many calls that are left, one at least, those up to one after which they stop, or that found no live program.
     /// Answers what the last did, and leaves the number of those that are left still. At Err some are made, and the one
-    /// that had no memory has changed nothing.
+    /// that had no memory has changed nothing. The halt is looked at between runs of calls, so that where there is none,
+    /// no call pays for it.
     #[inline(always)]
     pub(crate) fn orders<F: Fn(u64) -> u64>(
         &mut self,
@@ -56,13 +94,10 @@ impl Yard {
             (shown_of self.old journal.old room) (shown_of self.new journal.new room)) }
     {
         loop {
-            let calls = Calls {
-                service,
-                room,
-                most: halt.batch(*left),
-            };
-            let (made, progress) = self.advance(journal, &calls)?;
-            *left -= made;
+            let most = halt.batch(*left);
+            let mut rest = most;
+            let progress = self.all_orders(journal, &mut rest, service, room)?;
+            *left -= most - rest;
             if *left == 0 || !found_live(progress) || self.stops(halt, progress) {
                 return Ok(progress);
             }

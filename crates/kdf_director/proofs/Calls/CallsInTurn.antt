@@ -32,16 +32,7 @@ module _ (answers : ℕ → ℕ → Type 0) (old : Shown) where
           all_on = λ found. made_then answers i k old m new h (x.all_on found);
         }
 
-    -- and they were the last
-    pub at_most : (n left k : ℕ) (new : Shown) (r : Progress) → i + left ≡ n → k ≤ left → HasMadeSome answers k m new r → (left - k ≡ 0) ⊎ (found_live r ≡ false) → HasMadeAtMost answers n old new r
-    at_most n left k new r all few x whole =
-        record { made = k + i; some = some_more k new r x; within = omega (arith, all, few); whole = ends whole }
-      where
-        ends : (left - k ≡ 0) ⊎ (found_live r ≡ false) → (k + i ≡ n) ⊎ (found_live r ≡ false)
-        ends (inl none) = inl (omega (arith, all, few, none))
-        ends (inr dead) = inr dead
-
-    -- or the next one, or one behind it, had no memory
+    -- or the next one, or one after it, had no memory
     pub fewer_more : (n left : ℕ) (new : Shown) → i + left ≡ n → HasMadeButFewer answers left m new → HasMadeButFewer answers n old new
     fewer_more n left new all x = let lt = x.1 in (x.0 + i, omega (arith, all), made_then answers i x.0 old m new h x.2)
 
