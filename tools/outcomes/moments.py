@@ -25,8 +25,8 @@ class Turn(NamedTuple):
 
 
 class Moment:
-    """What a journal tells up to some call. `over` has how each program that isn't live any more came to its end, `flying` the slots that have transfers by
-    device, and `lent` the holders of the pool's devices.
+    """What a journal tells up to some call. `over` has how each program that isn't live any more came to its end, `flying` the transfers in flight by device,
+    each with its slot and the number of the order that began it, and `lent` the holders of the pool's devices.
     """
 
     __slots__ = ("orders", "answers", "over", "holds", "flying", "lent", "time", "order")
@@ -36,7 +36,7 @@ class Moment:
         self.answers: Dict[int, Tuple[int, ...]] = {slot: () for slot in slots}
         self.over: Dict[int, str] = {}
         self.holds: Dict[int, Hold] = {}
-        self.flying: Dict[int, int] = {}
+        self.flying: Dict[int, Tuple[int, int]] = {}
         self.lent: Dict[int, int] = {}
         self.time = 0
         self.order: Tuple[int, ...] = SLOTS
@@ -69,20 +69,21 @@ class Moment:
 
     def flights(self, slot: int) -> List[int]:
         """The devices on which a program has a transfer."""
-        return sorted(device for device, owner in self.flying.items() if owner == slot)
+        return sorted(device for device, (owner, _) in self.flying.items() if owner == slot)
 
     def may_be_held(self, slot: int, pool: Dict[int, str]) -> bool:
         """Whether what held a program up last may still do so. A journal doesn't tell which transfer locks out a group, so any of the program's may."""
         kind, which = self.holds.get(slot, ("", None))
         if kind == "WAIT":
             return all(device in self.lent for device, its in pool.items() if its == which)
-        return which in self.flying if kind == "BUSY" else kind == "LOV" and slot in self.flying.values()
+        return which in self.flying if kind == "BUSY" else kind == "LOV" and bool(self.flights(slot))
 
-    def key(self, pool: Dict[int, str]) -> tuple:
-        """All that decides how the run can go on. Two moments with equal keys have equal futures."""
-        holds = tuple((slot, self.holds[slot]) for slot in sorted(self.holds) if self.may_be_held(slot, pool))
-        ends = tuple(sorted(self.over.items()))
-        return tuple(self.orders.values()), tuple(self.answers.values()), ends, holds, tuple(sorted(self.flying)), self.time, self.order
+    def key(self) -> tuple:
+        """All that decides how the run can go on: by the law `equal_futures`, two moments with equal keys have equal futures. The law also asks how many words
+        of each transfer were called for. These are none, because no schedule that is tried has a MOVE.
+        """
+        told = self.orders, self.answers, self.over, self.holds, self.flying, self.lent
+        return (*(tuple(sorted(each.items())) for each in told), self.time, self.order)
 
     def circle(self, pool: Dict[int, str]) -> Circle:
         """The programs that wait for good: each device that one of them waits for has one of them as its holder. None of them will go on."""
@@ -137,8 +138,9 @@ class Path:
             for _ in range(fields[0]):
                 self._call(Turn())
         elif kind == "START":
-            now.flying[fields[1]] = fields[0]
-            self.begun.append((len(self.turns), fields[1]))
+            slot, device, order = fields
+            now.flying[device] = slot, order
+            self.begun.append((len(self.turns), device))
         elif kind in ("ANSWER", "TAKE", "GIVE", "FAIL", "ENDED"):
             self._note(now, kind, *fields)
         else:

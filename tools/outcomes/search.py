@@ -1,6 +1,7 @@
 """The search through the schedules of a job. A node is a schedule; its children have one event more, later or at the same moment.
 
-By the law `cut`, one run of a schedule shows each moment up to its end, so it serves all schedules that begin as it does.
+By the law `cut`, one run of a schedule shows each moment up to its end, so it serves all schedules that begin as it does. By the law `equal_futures`, what
+follows a moment needs to be searched only once.
 """
 from typing import Dict, Iterator, List, Optional
 
@@ -64,7 +65,7 @@ class Search:
 
     def _is_known(self, moment: Moment, calls: int) -> bool:
         """Whether an equal moment came up after as few calls; if not, this one is known from now on."""
-        key = moment.key(self._job.pool)
+        key = moment.key()
         if self._seen.get(key, calls + 1) <= calls:
             return True
         self._seen[key] = calls

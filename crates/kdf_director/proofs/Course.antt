@@ -1,4 +1,5 @@
 -- What a journal tells of the programs, and what its steps make of that.
+pub mod EqualFutures
 pub mod EventsInTurn
 pub mod HoldsInside
 pub mod OneJournal

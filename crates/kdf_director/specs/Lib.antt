@@ -1,4 +1,5 @@
 pub mod Advance
+pub mod Alike
 pub mod Examples
 pub mod Fields
 pub mod Halts

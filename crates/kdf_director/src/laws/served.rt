@@ -2,7 +2,7 @@
 //! service's, and `F.post rule` says which answers it has to a word.
 ghost use Rattle.std.specs.Prelude.{◌≡◌, ℕ, List, [], ◌++◌, length};
 ghost use Rattle.kdf_journal.specs.declared.entry.Entry.{Entry};
-ghost use Rattle.kdf_journal.specs.Steps.{Step, added, steps};
+ghost use Rattle.kdf_journal.specs.Steps.{Step, added, journal_of, steps};
 ghost use Rattle.kdf_schedule.specs.declared.event.Event.{Event};
 ghost use Rattle.kdf_schedule.specs.Calls.{Call, calls_made};
 ghost use Rattle.kdf_course.specs.Cut.{cut};
@@ -10,9 +10,11 @@ ghost use Rattle.kdf_course.specs.Legal.{Noted};
 ghost use Rattle.kdf_service.specs.Rules.{IsService};
 ghost use Rattle.kdf_transfer.specs.Slots.{Slot};
 ghost use Rattle.kdf_theory.specs.Follows.{Follows, IsWhole};
-ghost use Rattle.kdf_theory.specs.Legal.{IsLegal, IsTrue};
+ghost use Rattle.kdf_theory.specs.ByJournal.{flights_of, lone_world, own, seen_of};
+ghost use Rattle.kdf_theory.specs.Legal.{IsLegal, IsTrue, Meets};
 ghost use Rattle.kdf_theory.specs.Served.{is_true_for, unasked, IsAnswered, IsJournalFor, IsTrueFor};
 ghost use Rattle.kdf_theory.specs.Slots.{NoneServed};
+ghost use Rattle.kdf_director.specs.Alike.{AreAlike};
 ghost use Rattle.kdf_director.specs.Unasked.{AsksNone};
 
 /// With a service, slots have at most one journal under a schedule.
@@ -79,4 +81,24 @@ pub fn none_asked<F: Fn(u64) -> u64, G: Fn(u64) -> u64>()
     ensures every { (rule : F) (other : G) (slots : List Slot) (J : List Entry) → AsksNone slots J →
         IsTrueFor (F.post rule) slots J → IsTrueFor (G.post other) slots J }
     ensures unserved { (slots : List Slot) (J : List Entry) → NoneServed slots → AsksNone slots J }
+{}
+
+/// Equal moments have equal futures. Let two journals tell of one moment (`AreAlike`), however they came to it, and let
+/// both schedules go on with the same events: then both journals go on with the same steps, and come to equal moments
+/// again. At equal moments each step that meets the rules by the one journal meets them by the other, each program has the
+/// same lone state and the same transfers, and the same is seen of it.
+pub fn equal_futures<F: Fn(u64) -> u64>()
+    ensures step { (J K : List Entry) (s : Step) → AreAlike J K → AreAlike (added J s) (added K s) }
+    ensures judged { (slots : List Slot) (J K : List Entry) (heard : ℕ) (s : Step) → AreAlike J K →
+        Meets (lone_world slots J) slots J heard s → Meets (lone_world slots K) slots K heard s }
+    ensures shown { (slots : List Slot) (J K : List Entry) (p : ℕ) → AreAlike J K →
+        (own slots J p ≡ own slots K p) × (flights_of slots J p ≡ flights_of slots K p)
+        × (seen_of slots J p ≡ seen_of slots K p) }
+    ensures future { (rule : F) → IsService (F.pre rule) (F.post rule) → (slots : List Slot)
+        (events others further : List Event) (J K L : List Entry) → IsJournalFor (F.post rule) slots events J →
+        IsJournalFor (F.post rule) slots others K → AreAlike J K →
+        IsJournalFor (F.post rule) slots (events ++ further) L →
+        (Q : List Step) × (steps L ≡ Q ++ steps J)
+        × IsJournalFor (F.post rule) slots (others ++ further) (journal_of (Q ++ steps K))
+        × AreAlike L (journal_of (Q ++ steps K)) }
 {}
