@@ -19,6 +19,9 @@ from kdf9.report import read_alone, read_report  # noqa: E402
 TOLD = os.environ.get("KDF_TOLD", ROOT / "crates" / "kdf_told" / "out" / "kdf_told")
 SCHEMA = Schema(json.loads((ROOT / "docs" / "schema" / "facts.json").read_text(encoding="utf-8")))
 
+# The syllables of the jump in word 0, and the order, in hexadecimal, that fills a word.
+SIZE_OF_JUMP, DUMMY = 3, "01"
+
 # Jobs of more bytes are left out.
 MOST_BYTES = 1_000_000
 
@@ -47,6 +50,80 @@ COLUMNS = [
     ("KDF8 JOB 1\n", 4), ("KDF9 JOB 1\nSLOT 7\n", 6), ("KDF9 JOB 1\nSLOT 0\nSTORE 33\n", 7), ("KDF9 JOB 1\nSLOT 0\nSTORE 32\nSTACK\n", 1),
     ("KDF9 JOB 1\nSLOT 0\nSTORE 32\nDECK\nENDDECK\nDEVICE 1 MT a-b\n", 13), ("KDF9 JOB 1\nSLOT 0\nSTORE 32\nDECK\nENDDECK\nDEVICE 1 TR\n+AB#\n", 4),
     ("KDF9 JOB 1\nSLOT 0\nSTORE 32\nDECK\nENDDECK\nSHOW 3 99999\n", 8), ("KDF9 JOB 1\nSLOT 0\nSTORE 32\nDECK\nENDDECK\nPOOL\nDEVICE 1 TR\n", 10),
+]
+
+# A job without a fault whose lines the jobs below change, and its front up to the lines of its device.
+HEAD = "KDF9 JOB 1\nSLOT 0\nSTORE 64\nDECK\nPROGRAM; FINISH;\nENDDECK\n"
+TAIL = "SCHEDULE\nENDJOB\n"
+
+# Decks with a fault, and the hint that is told of it: the name of its sentence, and the values in it.
+HINTS_OF_DECKS = [
+    ("PROGRAM;\t FINISH;", {"name": "tab"}),
+    ("PROGRAM;\r FINISH;", {"name": "byte_13"}),
+    ("PROGRAM; (\xc3\xa4) FINISH;", {"name": "letter", "letter": "\xe4"}),
+    ("PROGRAM; (\xf0\x9f\x98\x80) FINISH;", {"name": "letter", "letter": "\U0001f600"}),
+    ("PROGRAM; (\xe4) FINISH;", {"name": "no_letters"}),
+    ("PROGRAM; +F; FINISH;", {"name": "floating"}),
+    ("PROGRAM; FINISH (the end)", {"name": "semicolon_missing", "place": "5:16"}),
+    ("PROGRAM; SET 40000; FINISH;", {"name": "largest", "number": 32767}),
+    ("PROGRAM; 1; ZERO;\n 1; OUT; FINISH;", {"name": "first_reference", "number": 1, "part": "the main part", "place": "5:10"}),
+    ("PROGRAM; 1; 2; 5; J7; FINISH;", {"name": "references", "part": "the main part", "numbers": "1, 2 and 5"}),
+    ("PROGRAM; J7P2; P2; 3; OUT; FINISH;", {"name": "reference", "part": "part 2", "numbers": "3"}),
+    ("PROGRAM; J7; FINISH;", {"name": "no_references", "part": "the main part", "numbers": ""}),
+    ("PROGRAM; P2; P2; FINISH;", {"name": "first_part", "number": 2, "place": "5:10"}),
+    ("PROGRAM; JSP3; P2; P4; FINISH;", {"name": "parts", "parts": "P2 and P4"}),
+    ("PROGRAM; JSP3; FINISH;", {"name": "no_parts"}),
+    ("PROGRAM V2; V3; FINISH;", {"name": "stores", "owner": "the main part has", "group": "V", "highest": 2}),
+    ("PROGRAM; V0; FINISH;", {"name": "no_stores", "owner": "the main part has", "group": "V"}),
+    ("PROGRAM; =V1P2; P2V0; FINISH;", {"name": "one_store", "owner": "part 2 has", "group": "V"}),
+    ("PROGRAM V1; V0 = 1; V0 = 2; FINISH;", {"name": "constant_twice", "number": 0}),
+    ("YB2; PROGRAM; YB3; FINISH;", {"name": "stores", "owner": "the deck declares", "group": "YB", "highest": 2}),
+    ("Y31; PROGRAM; FINISH;", {"name": "image_size", "words": "33 words", "store": 64}),
+    ("Y8191; PROGRAM; FINISH;", {"name": "image_too_large", "most": 8192}),
+    ("PROGRAM; NO FINISH HERE;", None),
+]
+
+# Jobs with a fault in a line, likewise.
+HINTS_OF_JOBS = [
+    ("KDF9 JOB 1\r\n", {"name": "byte_13"}),
+    ("\xef\xbb\xbfKDF9 JOB 1\n", {"name": "byte_order_mark"}),
+    ("kdf9 job 1\n", {"name": "capitals", "text": "KDF9 JOB 1"}),
+    ("\n\nKDF9 JOB 1\n", {"name": "nothing_before"}),
+    ("KDF8 JOB 1\n", None),
+    ("KDF9 JOB 1\nSLOT 0\nSTORE 64\nDECK\nPROGRAM;\n", {"name": "missing_line", "line": "ENDDECK"}),
+    (HEAD + "SCHEDULE\n", {"name": "missing_line", "line": "ENDJOB"}),
+    (HEAD + "SCHEDULE\nORDERS 3\r\nENDJOB\n", {"name": "byte_13"}),
+    (HEAD + "schedule\n", {"name": "capitals", "text": "SCHEDULE"}),
+    (HEAD + "SCHEDULE\nORDERS  3\n", {"name": "one_space"}),
+    (HEAD + "SCHEDULE\nORDERS 03\n", {"name": "leading_zeros"}),
+    (HEAD + "SCHEDULE\nORDERS 0\n", {"name": "range", "least": 1, "most": 20000000}),
+    (HEAD + "SCHEDULE\nMOVE 3 4097\n", {"name": "range", "least": 1, "most": 4096}),
+    (HEAD + "DEVICE 16 CR\n" + TAIL, {"name": "range", "least": 0, "most": 15}),
+    (HEAD + "SERVICE\nSERVICE\n" + TAIL, {"name": "service_twice"}),
+    (HEAD + "DEVICE 1 TR\nSERVICE\n" + TAIL, {"name": "service_once"}),
+    (HEAD + "POOL\nPOOL\n" + TAIL, {"name": "pool_twice"}),
+    ("KDF9 JOB 1\nPOOL\n", {"name": "pool_once"}),
+    (HEAD + "POOL\nSHOW 0 3\n" + TAIL, {"name": "pool_last"}),
+    (HEAD + "POOL\nDEVICE 1\n" + TAIL, {"name": "form", "form": "DEVICE d TP, or DEVICE d LP"}),
+    (HEAD + "POOL\nDEVICE 1 TR\n" + TAIL, {"name": "pool_kind", "kind": "TR"}),
+    (HEAD + "SCHEDULE\nORDERS\n", {"name": "form", "form": "ORDERS n"}),
+    (HEAD + "SCHEDULE 3\n", {"name": "form", "form": "SCHEDULE, with nothing after it"}),
+    (HEAD + "SHEDULE\n", {"name": "meant", "names": "SCHEDULE"}),
+    (HEAD + "SCHEDULE\nENDJOB\nX\n", {"name": "expected", "names": "the end of the job"}),
+    (HEAD + "DEVICE 4 MT A\n12\n" + TAIL, {"name": "expected", "names": "+, =, DEVICE, SHOW, SLOT, POOL or SCHEDULE"}),
+    (HEAD + "DEVICE 4 TP\n1\n" + TAIL, {"name": "expected", "names": "DEVICE, SHOW, SLOT, POOL or SCHEDULE"}),
+    (HEAD + "1\n" + TAIL, {"name": "expected", "names": "SERVICE, DEVICE, SHOW, SLOT, POOL or SCHEDULE"}),
+    ("KDF9 JOB 1\nX\n", {"name": "expected", "names": "SLOT"}),
+    (HEAD + "SHOW 5 3\n" + TAIL, {"name": "show_falls", "first": 5, "last": 3}),
+    (HEAD + "SHOW 3 64\n" + TAIL, {"name": "show_store", "last": 63}),
+    ("KDF9 JOB 1\nSLOT 0\nSTORE 65\n", {"name": "whole_groups", "below": 64, "above": 96}),
+    (HEAD + "DEVICE 4 TP\n+A\n" + TAIL, {"name": "kind_empty", "kind": "TP"}),
+    (HEAD + "POOL\n+A\n" + TAIL, {"name": "pool_empty"}),
+    (HEAD + "DEVICE 4 TR\n+Aa\n" + TAIL, {"name": "lowercase"}),
+    (HEAD + "DEVICE 4 TR\n=A\n" + TAIL, {"name": "mark"}),
+    (HEAD + "DEVICE 4 MT A\n+\n" + TAIL, {"name": "empty_block", "text": "a block of a tape"}),
+    (HEAD + f"DEVICE 4 CR\n+{'A' * 81}\n" + TAIL, {"name": "too_long", "text": "a card", "most": 80, "characters": 81}),
+    (HEAD + "DEVICE 4 TR\n+A#\n" + TAIL, {"name": "no_character", "character": "#"}),
 ]
 
 
@@ -165,8 +242,40 @@ def faults_of_listing(facts, text):
     for one in orders:
         at = 6 * one["at"][0] + one["at"][1]
         size = 1 + (int(image[2 * at:2 * at + 2], 16) >= 0x40) + (int(image[2 * at:2 * at + 2], 16) >= 0x80)
-        if size != one["syllables"]:
-            yield f"{one['text']}: {one['syllables']} syllables at {one['at']}, where {size} stand"
+        if size != one["syllables"] or one["kind"] != "order":
+            yield f"{one['text']}: a statement of kind {one['kind']} has {one['syllables']} syllables at {one['at']}, where {size} stand"
+    due = [(number, at) for _, number, *at in references]
+    if [(int(one["written"]), one["at"]) for one in facts["statements"] if one["kind"] == "reference"] != due:
+        yield "the statements that are references aren't those of the listing"
+    yield from faults_of_places(facts, image)
+
+
+def faults_of_places(facts, image):
+    """What is wrong with the stores of a deck and with where its statements stand: from the jump of word 0 to the last Y-store nothing is left out."""
+    place, opened = SIZE_OF_JUMP, {one["offset"]: one for one in facts["parts"]}
+    count = {one["part"]: one["count"] for one in facts["stores"]}
+    for one in facts["statements"]:
+        at = 6 * one["at"][0] + one["at"][1]
+        if one["filled"] and image[2 * place:2 * (place + one["filled"])] != DUMMY * one["filled"]:
+            yield f"{one['text']}: what stands before it is no filling"
+        if one["kind"] not in ("constant", "reference"):
+            if at != place + one["filled"]:
+                yield f"{one['text']}: at {one['at']} for {place + one['filled']}"
+            place = at + one["syllables"]
+        if one["kind"] == "opening":
+            part = opened[one["offset"]]
+            place += 6 * count.get(part["part"], 0)
+            if 6 * part["at"][0] + part["at"][1] != place:
+                yield f"part {part['part']}: its first order isn't at {part['at']}"
+        if " ".join(re.sub(r"\([^)]*\)?", " ", one["text"]).split()) != one["written"] or not one["text"][:one["length"]].endswith(one["written"][-1]):
+            yield f"{one['text']!r}: {one['length']} bytes and {one['written']!r}"
+    for one in facts["stores"] if facts["statements"] else []:
+        if one["part"] is None:
+            if 6 * one["address"] != place:
+                yield f"{one['name']}0: its address isn't {one['address']}"
+            place += 6 * one["count"]
+    if place != 6 * len(facts["words"]) and facts["statements"]:
+        yield f"the deck has {place} syllables in {len(facts['words'])} words"
 
 
 def faults_of_watch(facts, text):
@@ -274,6 +383,11 @@ def faults_of_decks():
         found = [facts[member] for member in ("name", "line", "column", "text")] + [facts[member] for member in ("words", "store") if size]
         if found != [name, line, column, subject, *size]:
             yield f"{deck!r}: {found}"
+    jobs = [(job_of_deck(deck), hint) for deck, hint in HINTS_OF_DECKS] + HINTS_OF_JOBS
+    for job, hint in jobs:
+        facts = told(["run"], job)
+        if facts.get("hint", "none") != hint or SCHEMA.faults(facts):
+            yield f"{job!r}: {facts.get('hint', 'no hint')} for {hint}, {SCHEMA.faults(facts)}"
     for job, column in COLUMNS:
         facts = told(["run"], job)
         if facts["column"] != column:

@@ -393,12 +393,9 @@ class Adapter:
 
     def _named_words(self, slot: int) -> Iterator[Tuple[str, int]]:
         """The stores of a deck, with their addresses."""
-        program = self._history.programs[slot]
-        for part in program.names.parts:
-            for number in range((part.highest if part.highest is not None else -1) + 1):
-                yield f"V{number}P{part.number}", program.image.address(Symbol(V_STORE, part.number, number), program.names)
-        for letter, last in sorted(program.names.highest_stores().items()):
-            yield from ((f"Y{letter}{number}", program.image.address(Symbol(Y_STORE, letter, number), program.names)) for number in range(last + 1))
+        for row in self._history.programs[slot].image.facts["stores"]:
+            part = "" if row["part"] is None else f"P{row['part']}"
+            yield from ((f"{row['name']}{number}{part}", row["address"] + number) for number in range(row["count"]))
 
     def _devices(self, slot: int) -> Iterator[Tuple[str, str]]:
         section = self._sections()[slot]

@@ -10,7 +10,7 @@ from editing.facts import facts_of
 from editing.image import Image
 from editing.naming import Names
 from kdf9 import library
-from kdf9.deck import COMMENT, WORD
+from kdf9.deck import WORD
 from kdf9.job import read_lines, read_slots
 from kdf9.journal import calls_of
 from kdf9.program import ENCODING, BadInput, how_ended
@@ -51,14 +51,14 @@ class Program:
         self.names, self.image = Names(slot.deck), Image(slot.deck, slot.store)
         rows = listing["statements"]
         self.orders = [
-            Place(slot.number, WORD * row["at"][0] + row["at"][1], row["line"], row["column"], " ".join(COMMENT.sub(" ", row["text"]).split()))
+            Place(slot.number, WORD * row["at"][0] + row["at"][1], row["line"], row["column"], row["written"])
             for row in rows if row["syllables"]
         ]
         self._by_place = {order.place: order for order in self.orders}
         self._places = [order.place for order in self.orders]
         self._sizes = [row["syllables"] for row in rows if row["syllables"]]
         self._entries = self._entries_of(listing)
-        head = next(row for row in rows if row["text"].startswith("PROGRAM"))
+        head = next(row for row in rows if row["kind"] == "opening")
         self._first = Place(slot.number, 0, head["line"], head["column"], "(to the main part)")
 
     def place(self, place: int) -> Place:

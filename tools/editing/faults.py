@@ -17,12 +17,15 @@ from editing.facts import facts_of
 from editing.features import edited
 from editing.image import image_of, line_of_deck, names_of
 from editing.naming import REFERENCE, V_STORE
-from editing.texts import Deck, Text
+from editing.texts import ABOVE, Deck, Text
 
 Edit = Tuple[int, int, str]
 
 # For how long a text hints are looked for, which may ask the machine several times.
 LONGEST_HINTED = 100_000
+
+# The number of the last Q-store.
+LAST_Q_STORE = 15
 
 # How many other numbers are offered for one that a deck doesn't have.
 MOST_OFFERED = 4
@@ -108,18 +111,23 @@ def hint_in(text: str, is_job: bool, fault: Fault) -> Optional[str]:
     if fault.deck:
         deck = text[fault.deck.start:fault.deck.end]
         slot = Slot(0, fault.deck.store, fault.deck.line + 1, deck if deck.endswith("\n") else f"{deck}\n", [])
-        return hints.hint_of_deck(placed(fault.facts, *slot.place(fault.facts["offset"])), slot)
+        return hints.hint_of_deck(placed(fault.facts, slot), slot)
     if not is_job:
         return None
     lines = read_lines(text)
     if fault.name == "Header":
         return found_faults.hint_of_header(lines)[2:] or None
-    return hints.hint_of_job(told.fault_in(fault.facts), lines)
+    return hints.told_hint(told.fault_in(fault.facts))
 
 
-def placed(facts: dict, line: int, column: int) -> "told.Fault":
-    """The fault of these facts, at another line and column."""
-    return told.fault_in({**facts, "line": line, "column": column})
+def placed(facts: dict, slot: Slot) -> "told.Fault":
+    """The fault of these facts of a deck alone, with the places that it has in the text where the deck is that of a slot."""
+    line, column = slot.place(facts["offset"])
+    hint = facts["hint"]
+    if hint and "place" in hint:
+        own, _, own_column = hint["place"].partition(":")
+        hint = {**hint, "place": f"{int(own) - ABOVE - 1 + slot.deck_line}:{own_column}"}
+    return told.fault_in({**facts, "line": line, "column": column, "hint": hint})
 
 
 def fixes_of(text: Text, fault: Fault) -> List[Fix]:
@@ -199,11 +207,10 @@ def of_statement(deck: str, facts: dict, statement: Optional[Statement]) -> Offe
 
 def of_number(_deck: str, facts: dict, statement: Optional[Statement]) -> Offered:
     """What may mend a number that is too large: the largest that is allowed."""
-    said = hints.hint_of_range(statement.text, facts["name"])
-    number = re.search(r"\d+\Z", said or "")
-    first = next((each for each in re.finditer(r"\d+", statement.written) if number and whole(each[0]) > int(number[0])), None)
+    most = facts["hint"]["number"] if facts["hint"] else LAST_Q_STORE
+    first = next((each for each in re.finditer(r"\d+", statement.written) if whole(each[0]) > most), None)
     if first:
-        new = statement.written[:first.start()] + number[0] + statement.written[first.end():]
+        new = statement.written[:first.start()] + str(most) + statement.written[first.end():]
         yield f"Write {new}", [(statement.start, statement.end, new)]
 
 

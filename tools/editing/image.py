@@ -2,9 +2,6 @@
 import functools
 from typing import Dict, List, Optional
 
-from kdf9.deck import COMMENT, OPENING
-from kdf9.words import whole
-
 from editing.facts import facts_of
 from editing.naming import PART, REFERENCE, V_STORE, Names, Symbol
 from editing.texts import ABOVE, lone_job
@@ -42,15 +39,9 @@ class Image:
         return {(row["part"], row["reference"]): row["at"] for row in self.facts.get("references", [])}
 
     @functools.cached_property
-    def _openings(self) -> Dict[int, dict]:
-        """The openings of parts by their numbers."""
-        found = {}
-        for row in self.facts.get("statements", []):
-            if row["text"][:1] == "P" and row["syllables"] == 0:
-                opening = OPENING.match("".join(COMMENT.sub("", row["text"]).split()))
-                if opening:
-                    found.setdefault(whole(opening[1] or ""), row)
-        return found
+    def _stores(self) -> Dict[tuple, dict]:
+        """The stores that the deck names, by their names and the numbers of their parts."""
+        return {(row["name"], row["part"]): row for row in self.facts.get("stores", [])}
 
     def at(self, offset: int) -> Optional[list]:
         """The word and the syllable of the statement at this offset, if the machine knows them."""
@@ -69,18 +60,12 @@ class Image:
         first = 6 * row["at"][0] + row["at"][1]
         return [self.words[at // 6] >> 8 * (5 - at % 6) & 255 for at in range(first, first + row["syllables"])]
 
-    def address(self, symbol: Symbol, names: Names) -> Optional[int]:
-        """The address of a store: V-stores come where their part is opened, and Y-stores last, in the sequence of their letters."""
-        if not self.is_sound or symbol.kind in (REFERENCE, PART):
+    def address(self, symbol: Symbol) -> Optional[int]:
+        """The address of a store."""
+        if symbol.kind in (REFERENCE, PART):
             return None
-        if symbol.kind == V_STORE:
-            opening = self._openings.get(symbol.of)
-            return opening and opening["at"][0] + symbol.number
-        highest = names.highest_stores()
-        if symbol.of not in highest:
-            return None
-        after = sum(last + 1 for letter, last in highest.items() if letter >= symbol.of)
-        return len(self.words) - after + symbol.number
+        stores = self._stores.get(("V", symbol.of) if symbol.kind == V_STORE else (f"Y{symbol.of}", None))
+        return stores and stores["address"] + symbol.number
 
 
 @functools.lru_cache(maxsize=16)

@@ -126,7 +126,7 @@ def said_of_deck(of: Said, statement: Statement, part: Optional[int]) -> List[st
     """What the deck and its image say of a statement: where it is and what it became, numbers, and each name in it."""
     lines = [*place_and_syllables(of.image, statement), *said_of_number(statement.text)]
     if CONSTANT.match(statement.text) and part is not None:
-        address = of.image.address(Symbol(V_STORE, part, whole(CONSTANT.match(statement.text)[1])), of.names)
+        address = of.image.address(Symbol(V_STORE, part, whole(CONSTANT.match(statement.text)[1])))
         if address is not None:
             lines += said_of_word(of.image.words[address], is_q="=Q" in statement.text)
     for use in of.names.uses_in(statement, part):
@@ -173,7 +173,7 @@ def said_of_use(of: Said, use: Use) -> List[str]:
         at = of.image.place(symbol)
         jumps = sum(not each.defines for each in of.names.by_symbol.get(symbol, []))
         return [f"{symbol.said()}{where}" + (f", at {at[0]}/{at[1]}" if at else "") + (f"; named {jumps} time{'s' * (jumps != 1)}" if use.defines else "")]
-    address = of.image.address(symbol, of.names)
+    address = of.image.address(symbol)
     if address is None:
         return [f"{symbol.said()}{where}"]
     starts = "" if use.defines else f", which has octal `{of.image.words[address]:016o}` at the start"

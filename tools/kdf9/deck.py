@@ -1,15 +1,20 @@
 """A deck next to its image: its statements, what each of them became, and the names of words.
 
-The machine tells where each statement is, and how many syllables it became (kdf9/told.py); nothing else is known of orders here.
+The machine tells the kind of each statement, where it is and what it became, and the parts and stores of the deck (kdf9/told.py); nothing else is known of
+orders here.
 """
 import bisect
 import re
-from typing import Dict, Iterator, List, NamedTuple, Optional, Tuple
+from typing import Iterator, List, NamedTuple, Optional, Tuple
 
 from kdf9.words import whole
 
 # The syllables of a word, and those of the jump in word 0.
 WORD, SIZE_OF_JUMP = 6, 3
+
+# The kinds of statements that became something, or mean a place; each of the others is a heading.
+KINDS = ("order", "constant", "reference")
+
 COMMENT = re.compile(r"\([^)]*\)?")
 DECLARATION = re.compile(r"Y([A-Z]?)(\d+)\Z")
 OPENING = re.compile(r"(?:PROGRAM|P(\d+))(?:V(\d+))?\Z")
@@ -66,26 +71,17 @@ def written(text: str) -> str:
     return "*" if text[:1] == "*" else " ".join(without_comments(text).split())
 
 
-def statement_at(line: int, column: int, text: str) -> Statement:
-    """The statement at a line and a column of the job, of its text up to the next `;`."""
-    words = written(text)
-    return Statement(line, column, words, words.replace(" ", ""))
-
-
 class Layout:
     """A deck next to its image, in which each statement has its row and each store its name. It is made of the facts of the deck (`told.Listing`)."""
 
     def __init__(self, listing) -> None:
         self.image = b"".join(int(word, 8).to_bytes(WORD, "big") for word in listing.words)
         self.rows: List[Row] = [Row("jump", 0, SIZE_OF_JUMP, None)]
-        self.names: List[Names] = []
-        self._place, self._part = SIZE_OF_JUMP, 0
-        self._parts: Dict[int, int] = {}
-        self._groups: Dict[str, int] = {}
-        self._references = {(each.part, each.reference): WORD * each.at[0] + each.at[1] for each in listing.references}
+        self.names = [Names(each.name, f"P{each.part}" if each.part else "", each.address, each.count) for each in listing.stores]
+        self._parts = {each.part: place_at(each.at) for each in listing.parts}
+        self._references = {(each.part, each.reference): place_at(each.at) for each in listing.references}
         for each in listing.statements:
-            self._add(statement_at(each.line, each.column, each.text), WORD * each.at[0] + each.at[1], each.syllables)
-        self._name_groups()
+            self._add(each)
         self._orders = {place: row for row in self.rows if row.size for place in places_of_orders(row)}
         self._addresses = [names.address for names in self.names]
 
@@ -148,56 +144,21 @@ class Layout:
             return WORD * word + syllable
         return self._parts.get(part) if reference is None else self._references.get((part or 0, reference))
 
-    def _add(self, statement: Statement, place: int, size: int) -> None:
-        """Adds a statement that stands at this place, and became so many syllables, and what fills the word before it."""
-        text = statement.text
-        opening, declaration = OPENING.match(text), None if self._parts else DECLARATION.match(text)
-        if declaration:
-            self._groups[declaration[1]] = whole(declaration[2]) + 1
-            self._put("heading", self._place, 0, statement)
-        elif text.isdigit():
-            self._put("reference", self._references[self._part, whole(text)], 0, statement)
-        elif CONSTANT.match(text):
-            self._put("constant", WORD * (self.names[-1].address + whole(CONSTANT.match(text)[1])), WORD, statement)
-        elif text == "*":
-            self._add_star(statement, place)
-        else:
-            self._fill(-(-place // WORD) * WORD if text == "FINISH" else place)
-            self._put("order" if size else "heading", self._place, size, statement)
-            self._place += size
-        if opening:
-            self._open(opening)
+    def _add(self, line) -> None:
+        """Adds a statement, and what fills the word before it. A `*` comes before what it fills, and one after a `*` is left out: it fills nothing."""
+        last, place = self.rows[-1].statement, place_at(line.at)
+        statement = Statement(line.line, line.column, line.written, line.written.replace(" ", ""))
+        filling = [Row("filling", place - line.filled, line.filled, None)] if line.filled else []
+        if line.kind != "star":
+            size = WORD if line.kind == "constant" else line.syllables
+            self.rows += [*filling, Row(line.kind if line.kind in KINDS else "heading", place, size, statement)]
+        elif last is None or last.text != "*":
+            self.rows += [Row("heading", place - line.filled, 0, statement), *filling]
 
-    def _add_star(self, statement: Statement, place: int) -> None:
-        """A `*` fills a word. One after a `*` is left out: it fills nothing."""
-        last = self.rows[-1].statement
-        if last is None or last.text != "*":
-            self._put("heading", self._place, 0, statement)
-            self._fill(place)
 
-    def _put(self, kind: str, place: int, size: int, statement: Optional[Statement]) -> None:
-        self.rows.append(Row(kind, place, size, statement))
-
-    def _fill(self, place: int) -> None:
-        """What fills a word up to this place."""
-        if place > self._place:
-            self._put("filling", self._place, place - self._place, None)
-        self._place = place
-
-    def _open(self, opening: "re.Match[str]") -> None:
-        """Opens a part: its V-stores come first."""
-        self._part, count = whole(opening[1] or ""), whole(opening[2]) + 1 if opening[2] else 0
-        if count:
-            self.names.append(Names("V", f"P{self._part}" if self._part else "", self._place // WORD, count))
-        self._place += WORD * count
-        self._parts[self._part] = self._place
-
-    def _name_groups(self) -> None:
-        """Names the Y-stores, which come after the last word, in the order of their letters."""
-        address = -(-self._place // WORD)
-        for letter, count in sorted(self._groups.items()):
-            self.names.append(Names(f"Y{letter}", "", address, count))
-            address += count
+def place_at(at: Tuple[int, int]) -> int:
+    """The place of a word and a syllable."""
+    return WORD * at[0] + at[1]
 
 
 def places_of_orders(row: Row) -> Iterator[int]:

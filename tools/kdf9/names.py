@@ -5,10 +5,8 @@ import re
 from kdf9.job import Slot, lone_job
 from kdf9.program import ask
 from kdf9.tables import faults, forms, hint, lines, table
-from kdf9.words import whole
 
-# No number of a statement is larger, and no store.
-MOST_NUMBER = 2**48
+# No store is larger.
 LARGEST_STORE = lines()["STORE"]["numbers"][0][1]
 
 # How many statements a hint names at most.
@@ -27,19 +25,6 @@ def fault_in(statement):
 def has_form(statement):
     """Whether the program knows a statement of this text, whatever the sequence and the stores of the deck are."""
     return fault_in(statement) not in FORMLESS
-
-
-def hint_of_range(text, name):
-    """The largest number that the program takes in a statement that has the fault of this name, in the place of the first number that is at fault; or None."""
-    for number in re.finditer(r"(?<![B\d])\d+", text):
-        before, after = text[:number.start()], text[number.end():]
-        if fault_in(f"{before}1{after}") != name:
-            least, most = 1, min(whole(number[0]), MOST_NUMBER)
-            while most - least > 1:
-                middle = (least + most) // 2
-                least, most = (least, middle) if fault_in(f"{before}{middle}{after}") == name else (middle, most)
-            return hint("largest", number=least)
-    return None
 
 
 def distance_is_one(one, other):

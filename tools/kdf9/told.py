@@ -8,7 +8,6 @@ from __future__ import annotations
 
 import functools
 import json
-import re
 from typing import Any, Callable, Dict, List, Optional, Tuple
 
 from kdf9 import library
@@ -19,11 +18,11 @@ from kdf9.report import STATUSES
 from kdf9.words import shown
 
 # The names of classes, by the definitions and members that they are of, where these aren't called so themselves.
-NAMES = {"use of a device": "Device", "calls of a program": "Calls", "calls": "Spent", "holders": "Holder", "statements": "Line", "references": "Reference"}
+NAMES = {
+    "use of a device": "Device", "calls of a program": "Calls", "calls": "Spent", "holders": "Holder", "statements": "Line", "references": "Reference",
+    "parts": "Part", "stores": "Store",
+}
 KINDS_OF_VALUES = {"integer": int, "string": str, "boolean": bool}
-
-# A row of `*`, of which the second and the others do nothing.
-STARS = re.compile(rb"\*[* \n]*\*")
 
 Reader = Callable[[Any], Any]
 
@@ -114,14 +113,9 @@ def __getattr__(name: str) -> type:
         raise AttributeError(f"module {__name__!r} has no attribute {name!r}") from None
 
 
-def alone(stars: "re.Match[bytes]") -> bytes:
-    """A row of `*` with all but the first as spaces: the text of each goes up to the next `;`, so a long row would have a text without end."""
-    return b"*" + stars[0][1:].replace(b"*", b" ")
-
-
 def told_of(job: Text, *words: str) -> Any:
     """What the machine tells of a job by these words, which are `run`, or `asm` and a slot: a Run or a Listing, or a Fault."""
-    told = library.facts(STARS.sub(alone, library.as_bytes(job)) if words[0] == "asm" else job, words)
+    told = library.facts(job, words)
     del told["format"]
     return classes().of(told.pop("kind").capitalize())[1](told)
 

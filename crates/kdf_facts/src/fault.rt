@@ -7,6 +7,9 @@ ghost use Rattle.kdf_usercode.specs.WellFormed.{IsWellFormed};
 
 use crate::deck_lines::deck_line;
 use crate::fault_columns::{column_of, kind_above};
+use crate::hint::{write_none, write_plain};
+use crate::hint_deck::{Faulty, least_store, write_deck_hint};
+use crate::hint_job::{FaultyLine, write_job_hint};
 use crate::json::{count_of, write_text};
 use crate::layout::statement_of;
 use crate::places::{Spot, before, from, line_of, spot_after};
@@ -21,9 +24,6 @@ use std::fmt::Write;
 
 /// The size of the largest store.
 const MOST_STORE: u16 = 8192;
-
-/// A store is whole groups of so many words.
-const GROUP: u32 = 32;
 
 /// A fault of a deck: its slot, and its place, an offset in the deck.
 #[derive(Clone, Copy)]
@@ -51,6 +51,16 @@ pub fn deck_of(job: &Job, p: u8) -> &[u8] {
         }
     }
     &[]
+}
+
+/// The words of the store of a slot.
+fn store_of(job: &Job, p: u8) -> u16 {
+    for slot in job.slots.iter() {
+        if slot.p == p {
+            return slot.size;
+        }
+    }
+    0
 }
 
 /// The facts of a fault in a line of a job.
@@ -93,20 +103,30 @@ fn write_job_named(out: &mut String, name: &str, number: u8, line: u32) -> Resul
     write!(out, "{name}\",\"number\":{number},\"line\":{line},")
 }
 
-/// The column of a fault in a line of a job, the line, and what the fault says.
+/// The column of a fault in a line of a job, the line, what the fault says, and the hint.
 fn job_rest(alloc: Global, bytes: &[u8], fault: JobFault, line: u32) -> Result<String, AllocError>
     requires { length bytes.now ≤ TEXT_LIMIT }
 {
     let mut out = String::new(alloc);
-    match line_of(bytes, line) {
-        Some(text) => {
-            let column = column_of(fault, text, kind_above(bytes, line));
-            write!(out, "\"column\":{column},\"text\":")?;
-            write_text(&mut out, text)?;
-        }
-        None => out.push_str("\"column\":1,\"text\":null")?,
+    let text = line_of(bytes, line);
+    let column = match text {
+        Some(text) => column_of(fault, text, kind_above(bytes, line)),
+        None => 1,
+    };
+    write!(out, "\"column\":{column},\"text\":")?;
+    match text {
+        Some(text) => write_text(&mut out, text)?,
+        None => out.push_str("null")?,
     }
     write_sentence(&mut out, of_job(fault))?;
+    out.push_str(",\"hint\":")?;
+    let faulty = FaultyLine {
+        fault,
+        number: line,
+        text,
+        column,
+    };
+    write_job_hint(&mut out, bytes, faulty)?;
     out.push_str("}\n")?;
     Ok(out)
 }
@@ -132,8 +152,23 @@ pub fn snapshot_fault(
         None => out.push_str("null")?,
     }
     write_sentence(&mut out, of_snapshot(fault))?;
+    out.push_str(",\"hint\":")?;
+    write_snapshot_hint(&mut out, fault, line_of(bytes, line).is_some())?;
     out.push_str("}\n")?;
     Ok(out)
+}
+
+/// Writes the hint on a fault of a snapshot, whose line is there or not.
+fn write_snapshot_hint(
+    out: &mut String,
+    fault: SnapshotFault,
+    is_there: bool,
+) -> Result<(), AllocError> {
+    match fault {
+        SnapshotFault::NoJournal if !is_there => write_plain(out, "no_journal"),
+        SnapshotFault::NoEnd => write_plain(out, "no_end"),
+        _ => write_none(out),
+    }
 }
 
 /// Writes what a fault says.
@@ -142,17 +177,17 @@ fn write_sentence(out: &mut String, sentence: &str) -> Result<(), AllocError> {
     write_text(out, sentence.as_bytes())
 }
 
-/// The facts of a fault of a deck with this text, in a job of these bytes.
+/// The facts of a fault of a deck in a job of these bytes.
 pub fn deck_fault(
     alloc: Global,
     bytes: &[u8],
-    deck: &[u8],
+    job: &Job,
     found: DeckFound,
 ) -> Result<String, AllocError>
     requires { length bytes.now ≤ TEXT_LIMIT }
     ensures { IfOk result (λ text. Begins (deck_front found.slot found.fault found.place) (string_bytes text)) }
 {
-    let rest = deck_rest(alloc, bytes, deck, found)?;
+    let rest = deck_rest(alloc, bytes, job, found)?;
     let mut out = String::new(alloc);
     write_deck_front(&mut out, found)?;
     out.push_str(rest.as_str())?;
@@ -194,23 +229,29 @@ fn write_deck_named(
 }
 
 /// Where a fault of a deck is in the job, what stands there, and what the fault says.
-fn deck_rest(
-    alloc: Global,
-    bytes: &[u8],
-    deck: &[u8],
-    found: DeckFound,
-) -> Result<String, AllocError>
+fn deck_rest(alloc: Global, bytes: &[u8], job: &Job, found: DeckFound) -> Result<String, AllocError>
     requires { length bytes.now ≤ TEXT_LIMIT }
 {
     let mut out = String::new(alloc);
+    let deck = deck_of(job, found.slot);
     let first = Spot::of_line(deck_line(bytes, found.slot));
     write_spot(&mut out, spot_after(before(deck, found.place), first))?;
     out.push_str(",\"text\":")?;
     write_text(&mut out, subject(deck, found))?;
     write_sentence(&mut out, of_deck(found.fault))?;
+    let words = size_of(alloc, deck, found.fault)?;
     if found.fault == DeckFault::TooLarge {
-        write_size(alloc, &mut out, deck)?;
+        write_size(&mut out, words)?;
     }
+    let faulty = Faulty {
+        text: deck,
+        first,
+        store: store_of(job, found.slot),
+        fault: found.fault,
+        place: found.place,
+    };
+    out.push_str(",\"hint\":")?;
+    write_deck_hint(alloc, &mut out, faulty, subject(deck, found), words)?;
     out.push_str("}\n")?;
     Ok(out)
 }
@@ -232,8 +273,8 @@ fn subject(deck: &[u8], found: DeckFound) -> &[u8] {
 }
 
 /// Writes how many words the image of a deck has, and the least store for it; nothing is known of one that no store has room for.
-fn write_size(alloc: Global, out: &mut String, deck: &[u8]) -> Result<(), AllocError> {
-    match image_size(alloc, deck)? {
+fn write_size(out: &mut String, words: Option<u32>) -> Result<(), AllocError> {
+    match words {
         Some(words) => {
             let store = least_store(words);
             write!(out, ",\"words\":{words},\"store\":{store}")
@@ -242,9 +283,13 @@ fn write_size(alloc: Global, out: &mut String, deck: &[u8]) -> Result<(), AllocE
     }
 }
 
-/// The least store for so many words.
-fn least_store(words: u32) -> u32 {
-    words.div_ceil(GROUP).saturating_mul(GROUP)
+/// How many words the image of a deck has that is too large for its store, if the largest has room for it.
+fn size_of(alloc: Global, deck: &[u8], fault: DeckFault) -> Result<Option<u32>, AllocError> {
+    if fault == DeckFault::TooLarge {
+        image_size(alloc, deck)
+    } else {
+        Ok(None)
+    }
 }
 
 /// How many words the image of a deck has, if the largest store has room for it.

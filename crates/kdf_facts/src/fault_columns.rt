@@ -135,7 +135,7 @@ pub fn kind_above(bytes: &[u8], number: u32) -> &[u8]
 }
 
 /// The kind of the device that a line begins, or the one before it.
-fn kind_after<'a>(kind: &'a [u8], line: &'a [u8]) -> &'a [u8] {
+pub fn kind_after<'a>(kind: &'a [u8], line: &'a [u8]) -> &'a [u8] {
     if is(line, b"POOL") {
         return &[];
     }

@@ -16,7 +16,8 @@ pub fn write_text(out: &mut String, bytes: &[u8]) -> Result<(), AllocError> {
     out.push('"')
 }
 
-fn write_byte(out: &mut String, byte: u8) -> Result<(), AllocError> {
+/// Writes a byte of a text in quotes.
+pub fn write_byte(out: &mut String, byte: u8) -> Result<(), AllocError> {
     match byte {
         b'"' | b'\\' => {
             out.push('\\')?;
@@ -56,4 +57,24 @@ pub fn count_of(length: usize) -> u32 {
     } else {
         4_294_967_295
     }
+}
+
+/// Writes the letter of a code in a text in quotes.
+pub fn write_code(out: &mut String, code: u32) -> Result<(), AllocError> {
+    if code < 0x1_0000 {
+        write_half(out, code)
+    } else {
+        let further = code.saturating_sub(0x1_0000);
+        write_half(out, (further / 1024 % 1024).saturating_add(0xd800))?;
+        write_half(out, (further % 1024).saturating_add(0xdc00))
+    }
+}
+
+/// Writes 16 bits of a text in quotes.
+fn write_half(out: &mut String, half: u32) -> Result<(), AllocError> {
+    out.push_str("\\u")?;
+    out.push(DIGITS[(half / 4096 % 16) as usize])?;
+    out.push(DIGITS[(half / 256 % 16) as usize])?;
+    out.push(DIGITS[(half / 16 % 16) as usize])?;
+    out.push(DIGITS[(half % 16) as usize])
 }

@@ -6,8 +6,11 @@ use kdf_syllable::{Order, size};
 use kdf_usercode::{DeckError, Statement, What, read_deck};
 use std::alloc::{AllocError, Global};
 
+/// How many syllables the jump in word 0 has.
+const SIZE_OF_JUMP: u64 = 3;
+
 /// A statement: its offset in the deck, its line and column in the job, the number of the syllable at which it stands, how many syllables it has,
-/// and the Q-store of an order on a device.
+/// the Q-store of an order on a device, its kind, and how many syllables before it fill a word.
 #[derive(Clone, Copy)]
 pub struct Row {
     pub place: u32,
@@ -15,6 +18,31 @@ pub struct Row {
     pub at: u64,
     pub size: u64,
     pub q: Option<u8>,
+    pub kind: Kind,
+    pub filled: u64,
+}
+
+/// The kind of a statement.
+#[derive(Clone, Copy)]
+pub enum Kind {
+    /// It declares so many stores of a group, which is 0 for Y and 1 to 26 for YA to YZ.
+    Declaration { group: u8, count: u64 },
+    /// It opens a part, with so many V-stores. The main part is 0.
+    Opening { part: u16, count: u64 },
+    /// What stands in a V-store at the start.
+    Constant,
+    Reference,
+    /// `*`: it fills a word.
+    Star,
+    Order,
+    Finish,
+}
+
+/// How far the statements of a deck have come: the next syllable, and the first of the V-stores of the part.
+#[derive(Clone, Copy)]
+struct Reached {
+    at: u64,
+    stores: u64,
 }
 
 /// A deck that was read: its text, its statements, and those of them that are orders.
@@ -42,11 +70,16 @@ pub fn lay_out(alloc: Global, text: &[u8], line: u32) -> Result<Layout<'_>, Allo
     Ok(laid)
 }
 
-/// A statement after this many syllables. A part, and what follows `*`, begins a word.
-fn row_at(at: u64, spot: Spot, statement: &Statement) -> Row {
+/// A statement after what was reached. What fills a word stands at the next one, and a constant in its store.
+fn row_at(reached: Reached, spot: Spot, statement: &Statement) -> Row {
     let at = match statement.what {
-        What::Star | What::Program { .. } | What::Part { .. } => at.div_ceil(6).saturating_mul(6),
-        _ => at,
+        What::Star | What::Program { .. } | What::Part { .. } | What::Finish => {
+            reached.at.div_ceil(6).saturating_mul(6)
+        }
+        What::Constant { n, .. } => reached
+            .stores
+            .saturating_add(u64::from(n).saturating_mul(6)),
+        _ => reached.at,
     };
     Row {
         place: statement.place,
@@ -54,17 +87,46 @@ fn row_at(at: u64, spot: Spot, statement: &Statement) -> Row {
         at,
         size: size_of(&statement.what),
         q: device_store(&statement.what),
+        kind: kind_of(&statement.what),
+        filled: at.saturating_sub(reached.at),
     }
 }
 
-/// The syllable after a statement with its V-stores.
-fn end_of(row: Row, what: &What) -> u64 {
-    let at = row.at.saturating_add(row.size);
-    match what {
-        What::Program { v } | What::Part { v, .. } => {
-            at.saturating_add(stores(*v).saturating_mul(6))
-        }
-        _ => at,
+/// What is reached after a statement. The V-stores of a part come before its orders.
+fn reached_after(reached: Reached, row: Row) -> Reached {
+    match row.kind {
+        Kind::Opening { count, .. } => Reached {
+            at: row.at.saturating_add(count.saturating_mul(6)),
+            stores: row.at,
+        },
+        Kind::Constant => reached,
+        _ => Reached {
+            at: row.at.saturating_add(row.size),
+            ..reached
+        },
+    }
+}
+
+/// The kind of a statement that says this.
+fn kind_of(what: &What) -> Kind {
+    match *what {
+        What::Declare { group, n } => Kind::Declaration {
+            group,
+            count: stores(Some(n)),
+        },
+        What::Program { v } => Kind::Opening {
+            part: 0,
+            count: stores(v),
+        },
+        What::Part { p, v } => Kind::Opening {
+            part: p,
+            count: stores(v),
+        },
+        What::Constant { .. } => Kind::Constant,
+        What::Reference { .. } => Kind::Reference,
+        What::Star => Kind::Star,
+        What::Finish => Kind::Finish,
+        _ => Kind::Order,
     }
 }
 
@@ -97,18 +159,21 @@ fn device_store(what: &What) -> Option<u8> {
 }
 
 impl Layout<'_> {
-    /// Takes the statements in the order of the deck: the first stands at syllable 0 of word 1.
+    /// Takes the statements in the order of the deck. Before the first there is the jump of word 0.
     fn push_all(&mut self, statements: &[Statement], line: u32) -> Result<(), AllocError> {
-        let mut at = 6;
+        let mut reached = Reached {
+            at: SIZE_OF_JUMP,
+            stores: 0,
+        };
         let mut place = 0;
         let mut spot = Spot::of_line(line);
         for statement in statements {
             let further = statement.place.saturating_sub(place);
             spot = spot_after(before(from(self.text, place), further), spot);
             place = statement.place;
-            let row = row_at(at, spot, statement);
+            let row = row_at(reached, spot, statement);
             self.push(row)?;
-            at = end_of(row, &statement.what);
+            reached = reached_after(reached, row);
         }
         Ok(())
     }
@@ -153,9 +218,13 @@ impl Layout<'_> {
         }
     }
 
-    /// The statement at an offset, as it is written, without the `;` that ends it.
-    pub fn written(&self, offset: u32) -> &[u8] {
-        statement_of(from(self.text, offset))
+    /// A statement as it stands in the deck, without the `;` that ends it. What follows `*` is another statement.
+    pub fn written(&self, row: &Row) -> &[u8] {
+        let rest = from(self.text, row.place);
+        match row.kind {
+            Kind::Star => before(rest, 1),
+            _ => statement_of(rest),
+        }
     }
 }
 

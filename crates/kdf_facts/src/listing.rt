@@ -2,7 +2,9 @@
 
 use crate::fault::write_spot;
 use crate::json::{write_comma, write_text};
-use crate::layout::{Layout, Row};
+use crate::layout::{Kind, Layout, Row};
+use crate::spaced::{length_of, write_spaced};
+use crate::stores::{write_parts, write_stores};
 use kdf_place::{Image, Label};
 use kdf_text::write_octal;
 use kdf_word::Word;
@@ -25,9 +27,13 @@ pub fn listing(
     out.push_str(",\"words\":[")?;
     write_words(&mut out, &image.words)?;
     out.push_str("],\"statements\":[")?;
-    write_statements(&mut out, layout)?;
+    write_statements(&mut out, layout, &image.labels)?;
     out.push_str("],\"references\":[")?;
     write_references(&mut out, &image.labels)?;
+    out.push_str("],\"parts\":[")?;
+    write_parts(&mut out, layout)?;
+    out.push_str("],\"stores\":[")?;
+    write_stores(&mut out, layout)?;
     out.push_str("]}\n")?;
     Ok(out)
 }
@@ -39,7 +45,7 @@ pub fn absent(alloc: Global, p: u8) -> Result<String, AllocError> {
         out,
         "{{\"format\":\"kdf9-facts 1\",\"kind\":\"listing\",\"slot\":{p},\"start\":null,"
     )?;
-    out.push_str("\"words\":[],\"statements\":[],\"references\":[]}\n")?;
+    out.push_str("\"words\":[],\"statements\":[],\"references\":[],\"parts\":[],\"stores\":[]}\n")?;
     Ok(out)
 }
 
@@ -61,24 +67,71 @@ fn write_words(out: &mut String, words: &[Word]) -> Result<(), AllocError> {
     Ok(())
 }
 
-/// Writes each statement: its place in the deck and in the job, where it stands in the store, and what is written there.
-fn write_statements(out: &mut String, layout: &Layout<'_>) -> Result<(), AllocError> {
+/// Writes each statement: its place in the deck and in the job, what it is, where it stands in the store, and what is written there.
+fn write_statements(
+    out: &mut String,
+    layout: &Layout<'_>,
+    labels: &[Label],
+) -> Result<(), AllocError> {
+    let mut references: usize = 0;
     for (i, row) in layout.rows.iter().enumerate() {
         write_comma(out, i)?;
-        write_statement(out, layout, row)?;
+        match row.kind {
+            Kind::Reference => {
+                write_statement(out, layout, row, place_of(labels, references, row))?;
+                references = references.saturating_add(1);
+            }
+            _ => write_statement(out, layout, row, row.at)?,
+        }
     }
     Ok(())
 }
 
-fn write_statement(out: &mut String, layout: &Layout<'_>, row: &Row) -> Result<(), AllocError> {
-    let Row { place, size, .. } = *row;
-    write!(out, "{{\"offset\":{place},")?;
+/// Where the reference of this number stands: a `*` may come between it and its order.
+fn place_of(labels: &[Label], i: usize, row: &Row) -> u64 {
+    match labels.get(i) {
+        Some(label) => u64::from(label.at),
+        None => row.at,
+    }
+}
+
+fn write_statement(
+    out: &mut String,
+    layout: &Layout<'_>,
+    row: &Row,
+    at: u64,
+) -> Result<(), AllocError> {
+    let Row {
+        place,
+        size,
+        filled,
+        ..
+    } = *row;
+    let text = layout.written(row);
+    let length = length_of(text);
+    let kind = name_of(row.kind);
+    write!(out, "{{\"offset\":{place},\"length\":{length},")?;
     write_spot(out, row.spot)?;
-    out.push_str(",\"at\":")?;
-    write_at(out, row.at)?;
-    write!(out, ",\"syllables\":{size},\"text\":")?;
-    write_text(out, layout.written(place))?;
+    write!(out, ",\"kind\":\"{kind}\",\"at\":")?;
+    write_at(out, at)?;
+    write!(out, ",\"syllables\":{size},\"filled\":{filled},\"text\":")?;
+    write_text(out, text)?;
+    out.push_str(",\"written\":")?;
+    write_spaced(out, text)?;
     out.push_str("}")
+}
+
+/// The name of a kind of statements.
+fn name_of(kind: Kind) -> &'static str {
+    match kind {
+        Kind::Declaration { .. } => "declaration",
+        Kind::Opening { .. } => "opening",
+        Kind::Constant => "constant",
+        Kind::Reference => "reference",
+        Kind::Star => "star",
+        Kind::Order => "order",
+        Kind::Finish => "finish",
+    }
 }
 
 /// Writes each reference: its part, its number, and where it stands.

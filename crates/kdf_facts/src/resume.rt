@@ -6,7 +6,7 @@ ghost use Rattle.kdf_job.specs.WellFormed.{IsJob};
 ghost use Rattle.kdf_job.specs.declared.job.TheConstants.{TEXT_LIMIT};
 ghost use Rattle.kdf_service.specs.Rules.{IsService};
 
-use crate::fault::{DeckFound, deck_fault, deck_of, job_fault, large, snapshot_fault};
+use crate::fault::{DeckFound, deck_fault, job_fault, large, snapshot_fault};
 use crate::nowhere::Nowhere;
 use crate::run::{Loaded, run_facts};
 use kdf_io::MemorySource;
@@ -73,7 +73,7 @@ fn fault_of_front(alloc: Global, bytes: &[u8], found: DeckFound) -> Result<Strin
     requires { length bytes.now ≤ TEXT_LIMIT }
 {
     match read_job_front(alloc, bytes) {
-        Ok((job, _end)) => deck_fault(alloc, bytes, deck_of(&job, found.slot), found),
+        Ok((job, _end)) => deck_fault(alloc, bytes, &job, found),
         Err(_) => Err(AllocError),
     }
 }

@@ -209,7 +209,7 @@ fn of_deck_fault(
     ensures status { IfOk result (λ r. r.0 ≡ status.Deck found.slot found.fault found.place) }
     ensures text { IfOk result (λ r. Begins (deck_front found.slot found.fault found.place) (string_bytes r.1)) }
 {
-    let told = deck_fault(alloc, bytes, deck_of(job, found.slot), found)?;
+    let told = deck_fault(alloc, bytes, job, found)?;
     let DeckFound { slot, fault, place } = found;
     Ok((Status::Deck { slot, fault, place }, told))
 }
