@@ -3,6 +3,12 @@
 #![tactic(auto)]
 
 mod alone;
+mod broken_claim;
+mod broken_nest;
+mod broken_out;
+mod broken_store;
+mod case;
+mod cause;
 mod check;
 mod deck_lines;
 mod devices;
@@ -12,10 +18,15 @@ mod fault_columns;
 mod flights;
 mod holds;
 mod json;
+mod kinds;
 mod layout;
 mod listing;
+mod live;
+mod loops;
+mod names;
 mod nowhere;
 mod places;
+mod pool;
 mod programs;
 mod registers;
 mod resume;
@@ -25,7 +36,11 @@ mod running;
 mod sentences;
 mod snapshot;
 mod story;
+mod stuck;
 mod telling;
+mod unset;
 mod watch;
+mod why;
+mod words;
 
 pub use telling::facts;
