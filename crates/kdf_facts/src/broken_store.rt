@@ -58,8 +58,8 @@ fn modified(
     a: u16,
     address: u16,
 ) -> Result<(), AllocError> {
-    let text = case.text()?;
-    let name = store_named(text.as_str());
+    let name = store_named(case)?;
+    let name = name.as_str();
     let modifier = case.modifier(q);
     cause.text("name", name)?;
     write!(
@@ -73,12 +73,28 @@ fn modified(
 }
 
 /// The name of the store in the statement of an order: what stands before its modifier.
-fn store_named(text: &str) -> &str {
-    let name = text.strip_prefix("=").unwrap_or(text);
-    match name.rfind("M") {
-        Some(end) => &name[..end],
-        None => name,
+fn store_named(case: Case<'_, '_>) -> Result<String, AllocError> {
+    let text = case.text()?;
+    let bytes = text.as_str().as_bytes();
+    let end = last_modifier(bytes);
+    let mut name = String::new(case.alloc);
+    for (i, byte) in bytes.iter().enumerate() {
+        if i < end && *byte != b'=' {
+            name.push(char::from(*byte))?;
+        }
     }
+    Ok(name)
+}
+
+/// Where the modifier of a statement begins.
+fn last_modifier(bytes: &[u8]) -> usize {
+    let mut end = bytes.len();
+    for (i, byte) in bytes.iter().enumerate() {
+        if *byte == b'M' {
+            end = i;
+        }
+    }
+    end
 }
 
 /// A word by the sum of two modifiers.

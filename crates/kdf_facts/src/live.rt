@@ -113,7 +113,7 @@ fn is_own(case: Case<'_, '_>, group: u16) -> bool {
         Some(row) => row.size.max(1),
         None => 1,
     };
-    let last = at.saturating_add(size) - 1;
+    let last = at.saturating_add(size).saturating_sub(1);
     let group = u64::from(group);
     group == at / WORD / 32 || group == last / WORD / 32
 }
@@ -204,9 +204,9 @@ struct Since {
 fn push_turns(causes: &mut Vec<Cause>, case: Case<'_, '_>) -> Result<(), AllocError> {
     let since = since_turn(case);
     let mut slots = Vec::new(case.alloc);
-    for (p, ran) in since.ran.iter().enumerate() {
-        if *ran {
-            slots.push(p as u8)?;
+    for p in 0..4u8 {
+        if since.ran[usize::from(p)] {
+            slots.push(p)?;
         }
     }
     if slots.is_empty() {

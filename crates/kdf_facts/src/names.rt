@@ -133,7 +133,7 @@ fn write_group(out: &mut String, n: u64, group: u8) -> Result<(), AllocError> {
 
 /// What the deck of a program has in a word.
 fn find_met(case: Case<'_, '_>, word: u64) -> Result<Met, AllocError> {
-    let text = &case.slot.deck;
+    let text = case.layout.text;
     if text.len() > TEXT_LIMIT {
         return Ok(Met::Nothing);
     }
@@ -185,8 +185,8 @@ fn word_of(rows: &[Row], i: usize) -> u64 {
 /// What is met, where a part with these V-stores begins at a word.
 fn with_part(met: Met, word: u64, first: u64, last: Option<u16>, p: u16) -> Met {
     match last {
-        Some(last) if first <= word && word - first <= u64::from(last) => Met::V {
-            n: word - first,
+        Some(last) if first <= word && word.saturating_sub(first) <= u64::from(last) => Met::V {
+            n: word.saturating_sub(first),
             p,
         },
         _ => met,
@@ -206,9 +206,9 @@ fn met_in_groups(deck: &Deck, end: u64, word: u64) -> Met {
     let mut first = end;
     for group in 0..GROUPS {
         let count = declared(deck, group);
-        if first <= word && word - first < count {
+        if first <= word && word.saturating_sub(first) < count {
             return Met::Y {
-                n: word - first,
+                n: word.saturating_sub(first),
                 group,
             };
         }

@@ -4,7 +4,8 @@ use crate::case::Case;
 use crate::cause::Cause;
 use crate::endings::Ending;
 use crate::holds::{Cause as HeldBy, Loan};
-use crate::json::{write_comma, write_items};
+use crate::json::write_comma;
+use crate::kinds::a_device;
 use crate::stuck::{all_stuck, hold_of};
 use crate::why::write_held_by;
 use crate::words::write_separator;
@@ -180,7 +181,8 @@ fn write_waiter(
     ending.write_holders(&mut cause.members, kind)?;
     cause.members.push_str("]}")?;
     cause.say(if written == 0 { "" } else { "; " })?;
-    write!(cause.sentence, "slot {p} waits for a {name}, which ")?;
+    let a_device = a_device(kind);
+    write!(cause.sentence, "slot {p} waits for {a_device}, which ")?;
     write_holders_in_words(&mut cause.sentence, ending, kind)
 }
 
@@ -194,7 +196,7 @@ fn write_holders_in_words(
     let mut many = 0;
     for is_holder in holders {
         if is_holder {
-            many += 1;
+            many = usize::saturating_add(many, 1);
         }
     }
     let mut i = 0;
@@ -202,7 +204,7 @@ fn write_holders_in_words(
         if *is_holder {
             write_separator(out, i, many, " and ")?;
             write!(out, "slot {p}")?;
-            i += 1;
+            i = usize::saturating_add(i, 1);
         }
     }
     out.push_str(if many == 1 { " has" } else { " have" })

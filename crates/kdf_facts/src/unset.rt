@@ -18,7 +18,7 @@ struct Uses {
 
 /// Adds the Q-stores that a deck uses and no statement sets.
 pub fn push_unset(causes: &mut Vec<Cause>, case: Case<'_, '_>) -> Result<(), AllocError> {
-    let text = &case.slot.deck;
+    let text = case.layout.text;
     if text.len() > TEXT_LIMIT {
         return Ok(());
     }

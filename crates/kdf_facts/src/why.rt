@@ -22,17 +22,28 @@ const SERVICE: u64 = 64;
 
 /// Writes why a program isn't over, or `null` where it ended.
 pub fn write_why(out: &mut String, case: Case<'_, '_>) -> Result<(), AllocError> {
-    let mut causes = Vec::new(case.alloc);
     match case.registers.state {
-        Life::Ended => return out.push_str(",\"why\":null"),
-        Life::Failed(kind) => push_failed(&mut causes, case, kind)?,
-        Life::Live => push_waiting(&mut causes, case)?,
+        Life::Ended => out.push_str(",\"why\":null"),
+        Life::Failed(_) | Life::Live => write_causes(out, case),
     }
+}
+
+fn write_causes(out: &mut String, case: Case<'_, '_>) -> Result<(), AllocError> {
+    let mut causes = Vec::new(case.alloc);
+    push_causes(&mut causes, case)?;
     out.push_str(",\"why\":[")?;
     for (i, cause) in causes.iter().enumerate() {
         write_cause(out, i, cause)?;
     }
     out.push_str("]")
+}
+
+fn push_causes(causes: &mut Vec<Cause>, case: Case<'_, '_>) -> Result<(), AllocError> {
+    match case.registers.state {
+        Life::Failed(kind) => push_failed(causes, case, kind),
+        Life::Live => push_waiting(causes, case),
+        Life::Ended => Ok(()),
+    }
 }
 
 /// Why a program failed, and how it was.

@@ -13,7 +13,11 @@ pub fn write_separator(
     if i == 0 {
         return Ok(());
     }
-    out.push_str(if many - 1 <= i { last } else { ", " })
+    out.push_str(if i.saturating_add(1) >= many {
+        last
+    } else {
+        ", "
+    })
 }
 
 /// Writes a number of something, which gets an s where it isn't 1.
