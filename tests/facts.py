@@ -10,6 +10,7 @@ import sys
 from concurrent.futures import ThreadPoolExecutor
 
 from schema import Schema
+from slips import CARDS, ENDS, KEEPS, READER, READS, RING, SERVICE, TAKES, job, pooled
 from toolkit import ROOT, document, job_of_deck
 
 sys.path.insert(0, str(ROOT / "tools"))
@@ -126,6 +127,59 @@ HINTS_OF_JOBS = [
     (HEAD + "DEVICE 4 TR\n+A#\n" + TAIL, {"name": "no_character", "character": "#"}),
 ]
 
+# What a program's failure is told by: its deck, its devices, and the cause with its values.
+BROKEN = [
+    ("PROGRAM; =E9999; FINISH;", "", {"what": "nest short", "step": 2, "words": 0, "name": "=E9999"}),
+    ("PROGRAM; ZERO; =E9999; FINISH;", "", {"what": "address", "step": 3, "address": 9999, "store": 64}),
+    ("Y3; PROGRAM; SET 90; =M2; Y2M2; FINISH;", "", {"what": "address", "name": "Y2", "word": 5, "q": 2, "modifiers": [90], "address": 95, "store": 64}),
+    ("PROGRAM; SET 200; =M2; M0M2H; FINISH;", "", {"what": "modifiers", "q": 2, "modifiers": [0, 100], "address": 100}),
+    ("PROGRAM V0; V0 = Q3/9/5; V0; =Q1; TLOQ1; FINISH;", "", {"what": "area", "q": 1, "parts": [3, 9, 5], "first": 9, "last": 5}),
+    ("PROGRAM V0; V0 = Q0/60/64; V0; SET 8; OUT; FINISH;", "", {"what": "area", "number": 8, "first": 60, "last": 64, "store": 64}),
+    ("PROGRAM V3; V3 = 5; SET 4; =LINK; EXIT; FINISH;", "", {"what": "constant", "step": 1, "word": 4, "name": "V3 = 5"}),
+    ("Y0; PROGRAM; SET 1; =Y0; FINISH;", "", {"what": "ran past", "step": 1, "word": 2, "name": "=Y0"}),
+    ("YA1; Y0; PROGRAM; SET 4; =LINK; EXIT; FINISH;", "", {"what": "no order", "step": 1, "word": 4, "name": "YA0"}),
+    ("PROGRAM; SET 64; =LINK; EXIT; FINISH;", "", {"what": "outside", "step": 1, "word": 64, "store": 64}),
+    ("PROGRAM; EXIT; FINISH;", "", {"what": "no link", "step": 2, "links": 0}),
+    ("PROGRAM; 1; JS1; FINISH;", "", {"what": "links full", "step": 2, "links": 16}),
+    ("PROGRAM; 1; ZERO; J1; FINISH;", "", {"what": "nest full", "step": 2, "words": 16}),
+    ("PROGRAM; SET 4; OUT; FINISH;", "", {"what": "nest short", "step": 2, "words": 1, "name": "OUT", "number": 4}),
+    ("PROGRAM; SET -1; =LINK; EXIT; FINISH;", "", {"what": "link", "step": 3, "link": [8191, 7]}),
+    ("PROGRAM; SET 5; SET -2; OUT; FINISH;", "", {"what": "call", "step": 3, "number": -2, "operand": 5, "meant": 5}),
+    ("PROGRAM; SET 9; SET 5; OUT; FINISH;", "", {"what": "kind", "number": 5, "operand": 9}),
+    ("PROGRAM V0; V0 = Q8/1/1; V0; SET 8; OUT; FINISH;", "", {"what": "stream", "number": 8, "stream": 8}),
+    ("PROGRAM; SET 7; SETB100; OUT; FINISH;", "", {"what": "not served", "number": 64, "operand": 7}),
+    ("PROGRAM; SET 7; SET 100; OUT; FINISH;", SERVICE, {"what": "call", "number": 100, "meant": 64}),
+    ("PROGRAM; PRQ1; FINISH;", READER, {"what": "no device", "q": 1, "parts": [0, 0, 0], "device": 0}),
+    ("PROGRAM; SET 2; =C1; PRQ1; FINISH;", READER, {"what": "not claimed", "q": 1, "device": 2, "kind": "TR"}),
+    ("PROGRAM; SET 2; SET 5; OUT; =C1; LPQ1; FINISH;", READER, {"what": "wrong kind", "q": 1, "device": 2, "kind": "TR", "wanted": "LP", "name": "LPQ1"}),
+    ("PROGRAM; SET 9; =C1; PWQ1; FINISH;", "POOL\nDEVICE 9 TP\n", {"what": "not taken", "q": 1, "device": 9, "kind": "TP"}),
+    ("PROGRAM; SET 4; SET 5; OUT; FINISH;", READER, {"what": "none", "wanted": "CR"}),
+    ("PROGRAM; SET 4; SET 5; OUT; SET 4; SET 5; OUT; FINISH;", CARDS, {"what": "none left", "wanted": "CR", "taken": [4]}),
+    ("PROGRAM; SET 1; SET 5; OUT; SET 1; SET 5; OUT; FINISH;", "POOL\nDEVICE 9 TP\n", {"what": "none left", "wanted": "TP", "taken": [9]}),
+    ("PROGRAM V0; V0 = PWATER; V0; SET 4; OUT; FINISH;", CARDS, {"what": "label", "label": "WATER"}),
+    ("PROGRAM; SET 5; SET 4; OUT; FINISH;", CARDS, {"what": "label", "operand": 5, "meant": 5}),
+    ("PROGRAM; SET 4; SET 6; OUT; FINISH;", CARDS, {"what": "not given", "device": 4}),
+]
+
+# Why programs are live still: the job, the slot, and the causes with values of theirs, in their sequence.
+LIVE = [
+    (job(READS, READER), 0, [{"what": "state", "order": 8, "stuck": True}, {"what": "group", "group": 1, "first": 32, "last": 63, "own": False}, {"what": "transfer", "transfer": 0, "device": 2, "call": 8}]),
+    (job("PROGRAM V0; V0 = Q9/0/0; V0; =Q1; 1; DC1; J1C1NZ; 2; J2; FINISH;", schedule="ORDERS 10\n"), 0, [{"what": "state", "stuck": False}, {"what": "loop", "period": 2, "counters": [[1, 5, 6]]}]),
+    (job("PROGRAM; ZERO; ZERO; ZERO; FINISH;", schedule="ORDERS 3\n"), 0, [{"what": "state", "order": 3}, {"what": "calls", "calls": 3}]),
+    (job("PROGRAM; 1; M1; J1; FINISH;", schedule=""), 0, [{"what": "state", "order": 0}, {"what": "no turn", "slots": []}, {"what": "unset", "q": 1, "line": 5, "column": 13}]),
+    (KEEPS, 1, [{"what": "state", "stuck": False}, {"what": "loan", "device": 9, "slot": 0, "call": 4, "kept": "going on"}]),
+    (pooled(TAKES + ENDS, TAKES + ENDS, "ORDERS 40\n"), 1, [{"what": "state", "stuck": True}, {"what": "loan", "slot": 0, "kept": "transfer"}]),
+    (
+        RING, 0,
+        [
+            {"what": "state", "stuck": True}, {"what": "loan", "device": 4, "slot": 1, "kept": "pool"},
+            {"what": "deadlock", "circle": [
+                {"slot": 0, "pool": "LP", "holders": [{"device": 4, "slot": 1}]}, {"slot": 1, "pool": "TP", "holders": [{"device": 9, "slot": 0}]},
+            ]},
+        ],
+    ),
+]
+
 
 def told(words, text):
     """The facts that these words ask for over a job."""
@@ -219,6 +273,27 @@ def faults_of_programs(facts, report):
         if (state, one["orders"], tuple(one["at"])) != (section.state, section.orders, tuple(section.at)):
             yield f"slot {one['slot']}: its end isn't that of its section"
         yield from faults_of_registers(f"slot {one['slot']}", one, section)
+        yield from (f"slot {one['slot']}: {fault}" for fault in faults_of_why(facts, one))
+
+
+def faults_of_why(facts, one):
+    """What is wrong with why a program isn't over, by the rest of the facts."""
+    causes = {cause["what"]: cause for cause in one["why"] or []}
+    if (one["state"] == "ENDED") != (one["why"] is None) or (one["state"] == "FAILED") != ("step" in (one["why"] or [{}])[0]):
+        yield f"{list(causes)} for {one['state']}"
+    if causes and causes["state"]["order"] != one["orders"]:
+        yield "another number of orders"
+    if causes.get("state", {}).get("stuck", False) and one["lacks"]["what"] == "calls":
+        yield "it isn't held up, and is stuck"
+    if ("deadlock" in causes) != bool(one["lacks"] and one["lacks"].get("deadlock")):
+        yield "the deadlock isn't that of what it lacks"
+    for cause in one["why"] or []:
+        transfer = facts["transfers"][cause["transfer"]] if "transfer" in cause else None
+        if transfer and (transfer["ended"] is not None or (transfer["device"], transfer["began"]) != (cause["device"], cause["call"])):
+            yield f"transfer {cause['transfer']} isn't that which goes on"
+        loan = {"device": cause["device"], "slot": cause["slot"], "taken": cause["call"], "given": None} if cause["what"] == "loan" else None
+        if loan and loan not in facts["loans"]:
+            yield f"there is no loan {loan}"
 
 
 def faults_of_registers(name, one, section):
@@ -394,6 +469,22 @@ def faults_of_decks():
             yield f"{job!r}: column {facts['column']} for {column}"
 
 
+def faults_of_causes():
+    """What is wrong with the causes of the tables above."""
+    for deck, devices, due in BROKEN:
+        yield from faults_of_due(deck, told(["run"], job(deck, devices))["programs"][0]["why"][:1], [due])
+    for text, slot, due in LIVE:
+        program = next(one for one in told(["run"], text)["programs"] if one["slot"] == slot)
+        yield from faults_of_due(text, program["why"], due)
+
+
+def faults_of_due(name, causes, due):
+    """What is wrong with causes that have to have these values."""
+    found = [{member: cause.get(member) for member in one} for cause, one in zip(causes or [], due)]
+    if found != due or len(causes) != len(due):
+        yield f"{name!r}: {causes} for {due}"
+
+
 def main():
     """Tries every case; the status is 0 where each passed."""
     if not os.path.exists(TOLD):
@@ -401,7 +492,8 @@ def main():
         return 1
     with ThreadPoolExecutor() as pool:
         results = list(pool.map(faults_of_case, cases()))
-    results += [[fault] for fault in faults_of_decks()] or [[]]
+    for suite in (faults_of_decks, faults_of_causes):
+        results += [[fault] for fault in suite()] or [[]]
     faults = [fault for result in results for fault in result]
     print(*(f"facts: {fault}" for fault in faults[:50]), sep="\n", end="\n" if faults else "")
     print(f"facts: {sum(not result for result in results)} passed, {sum(map(bool, results))} failed")

@@ -9,7 +9,7 @@ use std::alloc::AllocError;
 use std::fmt::Write;
 
 /// The end of a run, and the pool of its job.
-#[derive(Drop)]
+#[derive(Clone, Copy)]
 pub struct Ending<'a> {
     pub story: &'a Story,
     pub pool: &'a [(u8, Kind)],
@@ -80,7 +80,7 @@ impl Ending<'_> {
     }
 
     /// Writes the devices of a kind in the pool, each with the slot that has it.
-    fn write_holders(&self, out: &mut String, kind: Kind) -> Result<(), AllocError> {
+    pub fn write_holders(&self, out: &mut String, kind: Kind) -> Result<(), AllocError> {
         let mut written = 0;
         for d in 0..16 {
             if let (true, Some(p)) = (self.is_of(d, kind), self.story.borrower(d)) {
@@ -93,12 +93,12 @@ impl Ending<'_> {
     }
 
     /// Whether the pool has a device of this number and kind.
-    fn is_of(&self, d: u8, kind: Kind) -> bool {
+    pub fn is_of(&self, d: u8, kind: Kind) -> bool {
         kind_lent(self.pool, d) == Some(kind)
     }
 
     /// Whether none of those who have the devices of a kind can ever give one back: each waits for the pool, and so on.
-    fn is_stuck(&self, kind: Kind) -> bool {
+    pub fn is_stuck(&self, kind: Kind) -> bool {
         let mut stuck = [self.waits(0), self.waits(1), self.waits(2), self.waits(3)];
         for _round in 0..4 {
             stuck = [
@@ -117,7 +117,7 @@ impl Ending<'_> {
     }
 
     /// The kind of device that the program of a slot waits for.
-    fn wanted(&self, p: u8) -> Option<Kind> {
+    pub fn wanted(&self, p: u8) -> Option<Kind> {
         let hold = self.story.holds.get(self.waiting(p)? as usize)?;
         match hold.cause {
             Cause::Pool(kind) => Some(kind),
@@ -134,7 +134,7 @@ impl Ending<'_> {
     }
 
     /// Whether all who have the devices of a kind are among these.
-    fn are_all(&self, kind: Kind, stuck: &[bool; 4]) -> bool {
+    pub fn are_all(&self, kind: Kind, stuck: &[bool; 4]) -> bool {
         for d in 0..16 {
             if self.is_of(d, kind) {
                 match self.story.borrower(d) {

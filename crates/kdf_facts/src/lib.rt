@@ -3,6 +3,12 @@
 #![tactic(auto)]
 
 mod alone;
+mod broken_claim;
+mod broken_nest;
+mod broken_out;
+mod broken_store;
+mod case;
+mod cause;
 mod check;
 mod deck_lines;
 mod devices;
@@ -23,11 +29,16 @@ mod hint_stores;
 mod holds;
 mod job_lines;
 mod json;
+mod kinds;
 mod layout;
 mod listing;
+mod live;
+mod loops;
+mod names;
 mod near;
 mod nowhere;
 mod places;
+mod pool;
 mod programs;
 mod registers;
 mod resume;
@@ -39,7 +50,11 @@ mod snapshot;
 mod spaced;
 mod stores;
 mod story;
+mod stuck;
 mod telling;
+mod unset;
 mod watch;
+mod why;
+mod words;
 
 pub use telling::facts;

@@ -1,13 +1,16 @@
 //! The programs of a run at its end.
 
+use crate::case::Case;
 use crate::endings::Ending;
 use crate::flights::write_order;
 use crate::json::{write_comma, write_number};
 use crate::layout::Layout;
 use crate::registers::write_registers;
+use crate::run::Loaded;
+use crate::why::write_why;
 use kdf_director::Machine;
 use kdf_processor::{Life, Registers};
-use std::alloc::AllocError;
+use std::alloc::{AllocError, Global};
 use std::fmt::Write;
 
 /// The deck of a slot.
@@ -29,10 +32,12 @@ pub fn layout_of<'a, 'b>(decks: &'a [Deck<'b>], p: u8) -> Option<&'a Layout<'b>>
 
 /// Writes how each program is at the end: how many orders it obeyed, whether it is live, its next order, and what it waits for.
 pub fn write_programs(
+    alloc: Global,
     out: &mut String,
     decks: &[Deck<'_>],
     machine: &Machine,
-    ending: &Ending<'_>,
+    ending: Ending<'_>,
+    loaded: Loaded<'_>,
 ) -> Result<(), AllocError> {
     for (i, deck) in decks.iter().enumerate() {
         write_comma(out, i)?;
@@ -41,11 +46,40 @@ pub fn write_programs(
         if let Some(registers) = machine.seen(p) {
             write_place(out, registers, &deck.layout)?;
             write_waiting(out, registers.state, ending.waiting(p), ending)?;
+            write_cause_of(alloc, out, i, deck, registers, machine, ending, loaded)?;
             write_registers(out, registers)?;
         }
         out.push_str("}")?;
     }
     Ok(())
+}
+
+/// Writes why the program of the slot of a number in the job isn't over.
+fn write_cause_of(
+    alloc: Global,
+    out: &mut String,
+    i: usize,
+    deck: &Deck<'_>,
+    registers: &Registers,
+    machine: &Machine,
+    ending: Ending<'_>,
+    loaded: Loaded<'_>,
+) -> Result<(), AllocError> {
+    match (loaded.job.slots.get(i), loaded.images.get(i)) {
+        (Some(slot), Some(image)) => write_why(
+            out,
+            Case {
+                alloc,
+                slot,
+                image,
+                layout: &deck.layout,
+                registers,
+                machine,
+                ending,
+            },
+        ),
+        _ => out.push_str(",\"why\":null"),
+    }
 }
 
 /// Writes how many orders a program obeyed, whether it is live, and its next order.
@@ -77,7 +111,7 @@ fn write_waiting(
     out: &mut String,
     life: Life,
     waiting: Option<u32>,
-    ending: &Ending<'_>,
+    ending: Ending<'_>,
 ) -> Result<(), AllocError> {
     out.push_str(",\"hold\":")?;
     write_number(out, waiting)?;

@@ -16,6 +16,7 @@ use crate::endings::Ending;
 use crate::flights::write_flights;
 use crate::holds::{write_asks, write_holds, write_loans};
 use crate::layout::lay_out;
+use crate::loops::orders_of_live;
 use crate::programs::{Deck, write_programs};
 use crate::retrace::Retrace;
 use crate::running::{load_machine, run_job};
@@ -72,10 +73,11 @@ fn told_by<F: Fn(u64) -> u64>(
     let world = World {
         decks: &decks,
         pool: &loaded.job.pool,
+        live: orders_of_live(machine),
     };
     let _all = machine.journal().calls();
     let (story, account) = story_of(alloc, loaded, machine.journal(), world, service)?;
-    let rest = rest_text(alloc, loaded.job, machine, &story, &decks)?;
+    let rest = rest_text(alloc, loaded, machine, &story, &decks)?;
     run_text(alloc, loaded.job, account.moments(), &rest)
 }
 
@@ -193,11 +195,12 @@ fn go_through<F: Fn(u64) -> u64>(
 /// What is told of a run after its moments and calls.
 fn rest_text(
     alloc: Global,
-    job: &Job,
+    loaded: Loaded<'_>,
     machine: &Machine,
     story: &Story,
     decks: &[Deck<'_>],
 ) -> Result<String, AllocError> {
+    let job = loaded.job;
     let mut out = String::new(alloc);
     write_end(&mut out, machine.journal())?;
     out.push_str("\"programs\":[")?;
@@ -205,7 +208,7 @@ fn rest_text(
         story,
         pool: &job.pool,
     };
-    write_programs(&mut out, decks, machine, &ending)?;
+    write_programs(alloc, &mut out, decks, machine, ending, loaded)?;
     out.push_str("],\n\"devices\":[")?;
     write_devices(&mut out, job, &story.flights, machine.journal().calls())?;
     write_story(&mut out, story, decks)?;

@@ -5,6 +5,7 @@ use crate::flights::Flight;
 use crate::holds::{Ask, Cause, Hold, Loan};
 use crate::json::count_of;
 use crate::layout::Layout;
+use crate::loops::{Past, Stretch, go_on};
 use crate::programs::{Deck, layout_of};
 use crate::retrace::{Before, Retrace};
 use kdf_account::{Free, Unlocked, free_of, with_one};
@@ -13,11 +14,12 @@ use kdf_journal::{Entry, Kind};
 use kdf_service::Service;
 use std::alloc::{AllocError, Global};
 
-/// What doesn't change in a run: its decks and its pool.
+/// What doesn't change in a run: its decks, its pool, and how many orders each program obeys that is live at the end.
 #[derive(Clone, Copy)]
 pub struct World<'a, 'b> {
     pub decks: &'a [Deck<'b>],
     pub pool: &'a [(u8, Kind)],
+    pub live: [u32; 4],
 }
 
 /// What is known of a run after some of its entries.
@@ -27,6 +29,8 @@ pub struct Story {
     pub holds: Vec<Hold>,
     pub asks: Vec<Ask>,
     pub loans: Vec<Loan>,
+    /// The last orders of the programs that are live at the end.
+    pub pasts: Vec<Past>,
     /// The numbers of the transfers that go on, by device.
     pub open: [Option<u32>; 16],
     /// The numbers of the loans that go on, by device.
@@ -35,6 +39,8 @@ pub struct Story {
     pub held: [Option<u32>; 4],
     /// How many orders each program has obeyed.
     pub ran: [u32; 4],
+    /// After how many calls each program that is over was so.
+    pub over: [Option<u32>; 4],
     pub free: Free,
     pub idle: u32,
     /// The calls in which an order was obeyed while a transfer went on.
@@ -63,10 +69,12 @@ impl Story {
             holds: Vec::new(alloc),
             asks: Vec::new(alloc),
             loans: Vec::new(alloc),
+            pasts: Vec::new(alloc),
             open: [None; 16],
             lent: [None; 16],
             held: [None; 4],
             ran: [0; 4],
+            over: [None; 4],
             free: free_of(pool),
             idle: 0,
             meanwhile: 0,
@@ -85,7 +93,16 @@ impl Story {
         requires { IsService (F.pre service.now) (F.post service.now) }
     {
         match entry {
-            Entry::Ran { p, n } => self.take_orders(call, p, n, retrace),
+            Entry::Ran { p, n } => {
+                let stretch = self.take_orders(call, p, n);
+                go_on(
+                    &mut self.pasts,
+                    stretch,
+                    live_of(world.live, p),
+                    retrace,
+                    service,
+                )?;
+            }
             Entry::Idle { n } => {
                 self.idle = self.idle.saturating_add(n);
                 retrace.owe(n);
@@ -112,19 +129,21 @@ impl Story {
     }
 
     /// The orders that a program obeyed.
-    fn take_orders(&mut self, call: u32, p: u8, n: u32, retrace: &mut Retrace) {
-        retrace.owe(n);
+    fn take_orders(&mut self, call: u32, p: u8, n: u32) -> Stretch {
+        let mut from = 0;
         if self.open.iter().any(|flight| flight.is_some()) {
             self.meanwhile = self.meanwhile.saturating_add(n);
         }
         let slot = usize::from(p);
         if slot < 4 {
-            self.ran[slot] = self.ran[slot].saturating_add(n);
+            from = self.ran[slot];
+            self.ran[slot] = from.saturating_add(n);
             if let Some(i) = self.held[slot] {
                 set_resumed(&mut self.holds, i, call);
             }
             self.held[slot] = None;
         }
+        Stretch { p, from, n }
     }
 
     /// What held a program up.
@@ -297,11 +316,21 @@ impl Story {
 
     /// The pool has back what a program had.
     fn give_all(&mut self, call: u32, p: u8, pool: &[(u8, Kind)]) {
+        let slot = usize::from(p);
+        if slot < 4 {
+            self.over[slot] = Some(call);
+        }
         for d in 0..16 {
             if self.borrower(d) == Some(p) {
                 self.give(call, d, pool);
             }
         }
+    }
+
+    /// After how many calls the program of a slot was over.
+    pub fn over_of(&self, p: u8) -> Option<u32> {
+        let slot = usize::from(p);
+        if slot < 4 { self.over[slot] } else { None }
     }
 
     /// The program that has a device of the pool.
@@ -319,6 +348,12 @@ pub fn is_none_free(free: Free, kind: Kind) -> bool {
         Kind::Lp => free.printers == 0,
         _ => false,
     }
+}
+
+/// How many orders the program of a slot obeys in all, if it is live at the end.
+fn live_of(live: [u32; 4], p: u8) -> u32 {
+    let slot = usize::from(p);
+    if slot < 4 { live[slot] } else { 0 }
 }
 
 /// The number that a table has for a device.
