@@ -83,7 +83,7 @@ impl Case<'_, '_> {
     /// The statement of the next order without comments and spaces, if there is one.
     pub fn text(&self) -> Result<String, AllocError> {
         match self.layout.order_at(self.registers.at) {
-            Some(row) => without_comments(self.alloc, self.layout.written(row.place), ""),
+            Some(row) => without_comments(self.alloc, self.layout.written(&row), ""),
             None => Ok(String::new(self.alloc)),
         }
     }
@@ -108,7 +108,7 @@ impl Case<'_, '_> {
     /// Whether an order that is the next one goes on behind the store.
     pub fn is_cut(&self, order: Order) -> bool {
         let end = u32::from(self.registers.at) + u32::from(size(&order));
-        end > u32::from(self.slot.size) * WORD
+        end > u32::from(self.slot.size).saturating_mul(WORD)
     }
 
     /// A failure of this program.

@@ -2,24 +2,20 @@
 
 use crate::case::Case;
 use crate::cause::Cause;
-use crate::layout::Row;
+use crate::layout::{Kind, Row};
+use crate::stores::{GROUPS, count_in, end_of};
 use crate::words::without_comments;
-use kdf_job::TEXT_LIMIT;
-use kdf_usercode::{Deck, DeckError, What, read_deck};
 use std::alloc::{AllocError, Global};
 use std::fmt::Write;
 
 /// How many syllables a word has.
 const WORD: u64 = 6;
 
-/// How many groups of Y-stores a deck can have: Y, and YA to YZ.
-const GROUPS: u8 = 27;
-
 /// What a deck has in a word.
 #[derive(Clone, Copy)]
 enum Met {
-    /// The constant whose statement has this offset.
-    Constant(u32),
+    /// The constant of this statement.
+    Constant(Row),
     /// V-store n of part p.
     V { n: u64, p: u16 },
     /// Y-store n of a group.
@@ -73,7 +69,7 @@ fn last_before(rows: &[Row], at: u64) -> Option<Row> {
 
 fn past(case: Case<'_, '_>, word: u64, row: Row) -> Result<Cause, AllocError> {
     let mut cause = case.failure("ran past", 1)?;
-    let name = without_comments(case.alloc, case.layout.written(row.place), " ")?;
+    let name = without_comments(case.alloc, case.layout.written(&row), " ")?;
     let name = name.as_str();
     cause.number("word", word)?;
     cause.text("name", name)?;
@@ -86,15 +82,15 @@ fn past(case: Case<'_, '_>, word: u64, row: Row) -> Result<Cause, AllocError> {
 
 /// A word of the store that has no order.
 fn elsewhere(case: Case<'_, '_>, word: u64) -> Result<Cause, AllocError> {
-    match find_met(case, word)? {
-        Met::Constant(offset) => constant(case, word, offset),
+    match met_at(&case.layout.rows, word) {
+        Met::Constant(row) => constant(case, word, row),
         other => named(case, word, other),
     }
 }
 
-fn constant(case: Case<'_, '_>, word: u64, offset: u32) -> Result<Cause, AllocError> {
+fn constant(case: Case<'_, '_>, word: u64, row: Row) -> Result<Cause, AllocError> {
     let mut cause = case.failure("constant", 1)?;
-    let name = without_comments(case.alloc, case.layout.written(offset), " ")?;
+    let name = without_comments(case.alloc, case.layout.written(&row), " ")?;
     let name = name.as_str();
     cause.number("word", word)?;
     cause.text("name", name)?;
@@ -131,42 +127,20 @@ fn write_group(out: &mut String, n: u64, group: u8) -> Result<(), AllocError> {
     write!(out, "{n}")
 }
 
-/// What the deck of a program has in a word.
-fn find_met(case: Case<'_, '_>, word: u64) -> Result<Met, AllocError> {
-    let text = case.layout.text;
-    if text.len() > TEXT_LIMIT {
-        return Ok(Met::Nothing);
-    }
-    match read_deck(case.alloc, text) {
-        Ok(deck) => Ok(met_in(&deck, &case.layout.rows, word)),
-        Err(DeckError::Memory) => Err(AllocError),
-        Err(DeckError::Fault(_, _)) => Ok(Met::Nothing),
-    }
-}
-
-fn met_in(deck: &Deck, rows: &[Row], word: u64) -> Met {
-    match met_in_parts(deck, rows, word) {
-        Met::Nothing => met_in_groups(deck, end_of(rows), word),
-        met => met,
-    }
-}
-
-/// A constant or a V-store of a part. A part begins with its V-stores.
-fn met_in_parts(deck: &Deck, rows: &[Row], word: u64) -> Met {
-    let mut first = 0u64;
-    let mut met = Met::Nothing;
-    for (i, statement) in deck.statements.iter().enumerate() {
-        match statement.what {
-            What::Program { v } => {
-                first = word_of(rows, i);
-                met = with_part(met, word, first, v, 0);
-            }
-            What::Part { p, v } => {
-                first = word_of(rows, i);
-                met = with_part(met, word, first, v, p);
-            }
-            What::Constant { n, .. } if first.saturating_add(n.into()) == word => {
-                return Met::Constant(statement.place);
+/// What a deck has in a word. A constant stands in a V-store.
+fn met_at(rows: &[Row], word: u64) -> Met {
+    let mut met = met_in_groups(rows, word);
+    for row in rows {
+        let first = row.at / WORD;
+        match row.kind {
+            Kind::Constant if first == word => return Met::Constant(*row),
+            Kind::Opening { part, count }
+                if first <= word && word.saturating_sub(first) < count =>
+            {
+                met = Met::V {
+                    n: word.saturating_sub(first),
+                    p: part,
+                };
             }
             _ => {}
         }
@@ -174,38 +148,11 @@ fn met_in_parts(deck: &Deck, rows: &[Row], word: u64) -> Met {
     met
 }
 
-/// The word at which the statement of this number stands.
-fn word_of(rows: &[Row], i: usize) -> u64 {
-    match rows.get(i) {
-        Some(row) => row.at / WORD,
-        None => 0,
-    }
-}
-
-/// What is met, where a part with these V-stores begins at a word.
-fn with_part(met: Met, word: u64, first: u64, last: Option<u16>, p: u16) -> Met {
-    match last {
-        Some(last) if first <= word && word.saturating_sub(first) <= u64::from(last) => Met::V {
-            n: word.saturating_sub(first),
-            p,
-        },
-        _ => met,
-    }
-}
-
-/// The word after the last order.
-fn end_of(rows: &[Row]) -> u64 {
-    match rows.last() {
-        Some(row) => row.at.div_ceil(WORD),
-        None => 0,
-    }
-}
-
 /// A Y-store: they stand after the last order, in the order of their letters.
-fn met_in_groups(deck: &Deck, end: u64, word: u64) -> Met {
-    let mut first = end;
+fn met_in_groups(rows: &[Row], word: u64) -> Met {
+    let mut first = end_of(rows);
     for group in 0..GROUPS {
-        let count = declared(deck, group);
+        let count = count_in(rows, group);
         if first <= word && word.saturating_sub(first) < count {
             return Met::Y {
                 n: word.saturating_sub(first),
@@ -215,17 +162,4 @@ fn met_in_groups(deck: &Deck, end: u64, word: u64) -> Met {
         first = first.saturating_add(count);
     }
     Met::Nothing
-}
-
-/// How many stores a deck declares of a group.
-fn declared(deck: &Deck, wanted: u8) -> u64 {
-    let mut count = 0;
-    for statement in deck.statements.iter() {
-        if let What::Declare { group, n } = statement.what {
-            if group == wanted {
-                count = u64::from(n) + 1;
-            }
-        }
-    }
-    count
 }

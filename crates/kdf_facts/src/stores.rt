@@ -7,7 +7,7 @@ use std::alloc::AllocError;
 use std::fmt::Write;
 
 /// How many groups of Y-stores there are: Y, and YA to YZ.
-const GROUPS: u8 = 27;
+pub const GROUPS: u8 = 27;
 
 /// Writes each part: its number, the offset of its opening, and where its first order stands.
 pub fn write_parts(out: &mut String, layout: &Layout<'_>) -> Result<(), AllocError> {
@@ -79,7 +79,7 @@ fn write_group(out: &mut String, group: u8, address: u64, count: u64) -> Result<
 }
 
 /// The address after the last word of a deck's orders.
-fn end_of(rows: &[Row]) -> u64 {
+pub fn end_of(rows: &[Row]) -> u64 {
     match rows.last() {
         Some(row) => row.at / 6,
         None => 0,
@@ -87,7 +87,7 @@ fn end_of(rows: &[Row]) -> u64 {
 }
 
 /// How many stores of a group are declared. Nothing is declared below the first part.
-fn count_in(rows: &[Row], wanted: u8) -> u64 {
+pub fn count_in(rows: &[Row], wanted: u8) -> u64 {
     for row in rows {
         match row.kind {
             Kind::Declaration { group, count } if group == wanted => return count,

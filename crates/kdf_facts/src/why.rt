@@ -14,11 +14,15 @@ use crate::unset::push_unset;
 use crate::words::write_count;
 use kdf_processor::{Failure, Life};
 use kdf_text::write_octal;
+use kdf_word::Word;
 use std::alloc::AllocError;
 use std::fmt::Write;
 
 /// The number of the OUT that asks the installation's service.
 const SERVICE: u64 = 64;
+
+/// There are so many words.
+const WORDS: u64 = 281_474_976_710_656;
 
 /// Writes why a program isn't over, or `null` where it ended.
 pub fn write_why(out: &mut String, case: Case<'_, '_>) -> Result<(), AllocError> {
@@ -89,9 +93,16 @@ fn write_nest(out: &mut String, case: Case<'_, '_>) -> Result<(), AllocError> {
     }
     for i in 0..case.depth() {
         out.push_str(if i == 0 { "" } else { " " })?;
-        write_octal(out, case.bits(i))?;
+        write_nested(out, case.nested(i))?;
     }
     Ok(())
+}
+
+fn write_nested(out: &mut String, word: Option<Word>) -> Result<(), AllocError> {
+    match word {
+        Some(word) => write_octal(out, word.bits()),
+        None => Ok(()),
+    }
 }
 
 /// How a live program is, and why it isn't over.
@@ -168,10 +179,10 @@ fn last_asked(asks: &[Ask], p: u8) -> Option<Ask> {
 }
 
 /// The word that a question asks the service to answer.
-fn word_asked(ask: &Ask) -> Option<u64> {
+fn word_asked(ask: &Ask) -> Option<Word> {
     let before = ask.before?;
     if before.top?.bits() == SERVICE {
-        Some(before.next?.bits())
+        before.next
     } else {
         None
     }
@@ -180,17 +191,19 @@ fn word_asked(ask: &Ask) -> Option<u64> {
 fn answer(case: Case<'_, '_>, ask: Ask) -> Result<Cause, AllocError> {
     let mut cause = Cause::new(case.alloc, "answer")?;
     let Ask { p, k, answer, .. } = ask;
-    let word = word_asked(&ask).unwrap_or(0);
+    let word = word_asked(&ask);
     cause.number("order", k.into())?;
     cause.number("answer", answer)?;
-    cause.number("operand", word)?;
+    if let Some(word) = word {
+        cause.number("operand", word.bits())?;
+    }
     write!(
         cause.sentence,
         "ANSWER {p} {answer}: its order {k} asked the installation's service, which answered "
     )?;
-    write_octal(&mut cause.sentence, answer)?;
+    write_octal(&mut cause.sentence, answer % WORDS)?;
     cause.say(" to the word ")?;
-    write_octal(&mut cause.sentence, word)?;
+    write_nested(&mut cause.sentence, word)?;
     Ok(cause)
 }
 
