@@ -29,7 +29,7 @@ export function saidOfOutcomes(found) {
 }
 
 /** A whole number that is typed into a control, or null if it isn't from `least` to `most`. */
-function typedNumber(name, least, most) {
+export function typedNumber(name, least, most) {
   const typed = byId(name).value.trim(), number = Number(typed);
   return /^\d+$/.test(typed) && number >= least && number <= most ? number : null;
 }

@@ -4,6 +4,7 @@ import { Assist } from "./assist.js";
 import { button, byId } from "./dom.js";
 import { Engine, Stopped, bytesOf, canRun, hasLongAddresses, unpacked } from "./engine.js";
 import { chooseFirst, chooseOwn, chosenJob, listJobs } from "./examples.js";
+import { Exploring } from "./explore.js";
 import { faultOf } from "./fault.js";
 import { hintOf } from "./hints.js";
 import { EMPTY_JOB, frontOf, placedLines, readJob, withLine } from "./job.js";
@@ -61,6 +62,7 @@ const replay = new Replay(byId("replay"), { ask, say, failed: (error) => sayFail
 const theorem = new Theorem(byId("compared"), { ask, say });
 const variations = new Variations({ ask, say, work, view, theorem, keeping, changed, run: runAgain, lastRun: () => lastRun });
 const trials = new Many({ ask, say, work, from: () => variations.from(), open: (seed, from) => variations.open(seed, from), failures: () => texts.failures });
+const exploring = new Exploring({ ask, say, work, text: () => view.text, open: replaceAndRun });
 
 /** Says what has happened, in the line of the page that is read aloud. */
 function say(text, isWrong = false) {
@@ -158,7 +160,7 @@ async function offerPlaces() {
 
 /** Shows whether the machine is at work. */
 function setBusy(isBusy) {
-  for (const id of ["run", "schedule", "shuffle", "neighbours", "try"]) byId(id).disabled = isBusy || !engine;
+  for (const id of ["run", "schedule", "shuffle", "neighbours", "try", "explore"]) byId(id).disabled = isBusy || !engine;
   byId("compare-alone").disabled = isBusy || lastRun === null;
   byId("compare-before").disabled = isBusy || lastRun === null || theorem.before === null;
   byId("stop").disabled = !isBusy;
@@ -222,11 +224,15 @@ function goToStop({ slot, statement }) {
 
 /** Changes the job as a verdict proposes, if it is still the one that was run, and runs it again. */
 async function changeAndRun({ name, change }) {
+  return view.text === lastRun?.text ? replaceAndRun(change(view.text), name) : say(IS_CHANGED, true);
+}
+
+/** Puts another job in the place of the one that is shown, and runs it. `what` says what is new. */
+function replaceAndRun(text, what) {
   const before = view.text;
-  if (before !== lastRun?.text) return say(IS_CHANGED, true);
-  view.show(change(before));
+  view.show(text);
   changed();
-  keeping.offerUndo(`Changed: ${name}.`, before);
+  keeping.offerUndo(`Changed: ${what}.`, before);
   return work("Running.", runAgain);
 }
 
@@ -314,7 +320,7 @@ function show(text, args) {
   stop();
   view.show(text);
   drawDelays(text);
-  byId("outcomes").replaceChildren();
+  for (const id of ["outcomes", "explored"]) byId(id).replaceChildren();
   byId("link-said").hidden = true;
   [byId("command").value, byId("value").value, byId("place").value] = [args[0], args[1] ?? "0", args[2] ?? "0"];
   chooseCommand();
@@ -413,6 +419,7 @@ function attend() {
   byId("stop").onclick = stop;
   byId("schedule").onclick = writeSchedule;
   byId("try").onclick = () => trials.tryAll();
+  byId("explore").onclick = () => exploring.all();
   byId("scheduling").ontoggle = () => drawDelays(view.text);
   byId("look").onclick = () => look(0);
   byId("place").onfocus = offerPlaces;
