@@ -1,8 +1,6 @@
 // A run as a search takes it: what each program has obeyed, was answered and waits for after each call, and whose turn each call was. All of it is read from the
 // machine's reports. What a search goes by is said in docs/STUDY.md; the tool explore has the same in tools/outcomes/moments.py, and tests/page compares the two.
 
-import { readReport } from "./report.js";
-
 const HOLDING = ["LOV", "BUSY", "WAIT"];
 
 /** The priorities after two slots have exchanged theirs. */
@@ -81,7 +79,7 @@ export class Instant {
 export class Course {
   constructor(report, slots, events) {
     Object.assign(this, { events, instants: [new Instant(slots)], turns: [], begun: [], sections: sectionsIn(report) });
-    for (const [kind, ...fields] of readReport(report).entries) this.take(kind, fields);
+    for (const [kind, ...fields] of entriesIn(report)) this.take(kind, fields);
   }
 
   /** The number of calls before the last event. */
@@ -140,6 +138,12 @@ export class Course {
       now.lentTo(slot).forEach((device) => now.lent.delete(device));
     }
   }
+}
+
+/** The entries of a report: the words of each, of which those that are numbers are read. */
+function entriesIn(report) {
+  const [, ...lines] = report.slice(0, report.search(/^SLOT /m)).trimEnd().split("\n");
+  return lines.map((line) => line.split(" ").map((word) => (/^\d+$/.test(word) ? Number(word) : word)));
 }
 
 /** The lines of each section of a report by its slot, without its first. */

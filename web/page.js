@@ -17,7 +17,7 @@ import { Many } from "./many.js";
 import { narrowed } from "./narrow.js";
 import { outcomeOf, outcomeOfRecord, saidOfAnswer, showOutcome } from "./outcome.js";
 import { Replay } from "./replay.js";
-import { NoSchedule, drawDelays, readDelays, scheduled } from "./schedule.js";
+import { NoSchedule, drawDelays, listSpeeds, readDelays, scheduled } from "./schedule.js";
 import { Breaks } from "./seek.js";
 import { haveNames, withAddresses } from "./shows.js";
 import { roomFor, withSize } from "./size.js";
@@ -57,7 +57,7 @@ let lastText = "";
 let lastRun = null; // what can be shown call by call: the job, its report, the layouts of its decks, and the stops of a watch if there was one
 let pause = 0;
 
-const ask = (words, job) => engine.ask(words, job);
+const ask = (words, job, isTold) => engine.ask(words, job, isTold);
 const replay = new Replay(byId("replay"), { ask, say, failed: (error) => sayFailed(error), breaks, caret: () => (lastRun?.text === view.text ? caret : null) });
 const theorem = new Theorem(byId("compared"), { ask, say });
 const variations = new Variations({ ask, say, work, view, theorem, keeping, changed, run: runAgain, lastRun: () => lastRun });
@@ -296,7 +296,7 @@ function stop() {
 }
 
 async function writeSchedule() {
-  const delays = readDelays();
+  const delays = readDelays(view.text);
   if (delays === null) return say("These aren't numbers of calls.", true);
   return work("Writing the schedule.", async () => {
     const before = view.text, answer = await ask(["asm", "0"], before);
@@ -408,6 +408,7 @@ function switchLecture() {
 
 function attend() {
   attendToKeys();
+  listSpeeds();
   byId("lecture").onclick = switchLecture;
   byId("example").onchange = chooseExample;
   byId("command").onchange = () => {
@@ -421,6 +422,7 @@ function attend() {
   byId("try").onclick = () => trials.tryAll();
   byId("explore").onclick = () => exploring.all();
   byId("scheduling").ontoggle = () => drawDelays(view.text);
+  byId("speeds").onchange = () => drawDelays(view.text);
   byId("look").onclick = () => look(0);
   byId("place").onfocus = offerPlaces;
   byId("shuffle").onclick = () => variations.shuffle();
