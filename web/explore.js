@@ -3,8 +3,8 @@
 import { button, byId, make } from "./dom.js";
 import { Asunder } from "./lone.js";
 import { typedNumber } from "./many.js";
-import { Contradiction, Search, Tried } from "./search.js";
-import { Story } from "./story.js";
+import { Contradiction, Exploration, Tried } from "./search.js";
+import { Telling } from "./telling.js";
 import { OUTCOMES, worded } from "./tables.js";
 
 /** How many calls a schedule may have here, and how many runs a search. */
@@ -49,8 +49,8 @@ export class Exploring {
   async search(tried, limits) {
     const onrun = () => { byId("exploring-runs").value += 1; };
     const asunder = tried.pool.size || tried.times.length ? null : new Asunder(tried, limits, onrun);
-    const found = await (asunder ?? new Search(tried, limits, onrun)).all();
-    return new Story(found, limits, asunder, onrun).parts();
+    const found = await (asunder ?? new Exploration(tried, limits, onrun)).all();
+    return new Telling(found, limits, asunder, onrun).parts();
   }
 
   /** A part of what is told: its line, and those under it. Each that shows something opens. */

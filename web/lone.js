@@ -1,14 +1,14 @@
 // A job without a pool and a clock: what each program is answered depends on no other, so each is searched by itself, and the schedules of the whole job are put together
 // from theirs. The tool explore has the same in tools/outcomes/apart.py.
 
-import { Firsts, Harvest, Search, compareResults, compareSchedules } from "./search.js";
+import { Firsts, Harvest, Exploration, compareResults, compareSchedules } from "./search.js";
 import { JOB, OUTCOMES } from "./tables.js";
 
-const DEVICES = 16;
+const NUMBER_OF_DEVICES = 16;
 
 /** The search of a job of one program. `way` is the shortest run after which others may have their turns, because the program is held up or over; `endless` is a run in
  * which it has all turns; and `asks` says whether it was answered anything. */
-class Lone extends Search {
+class Lone extends Exploration {
   constructor(...how) {
     super(...how);
     Object.assign(this, { way: null, endless: null, asks: true });
@@ -31,8 +31,8 @@ class Lone extends Search {
   /** The run in which each transfer ends at once; null if its schedule would be too long. */
   async atOnce() {
     const { calls } = this.limits;
-    if (calls * (DEVICES + 1) > JOB.most.lines_of_schedule) return null;
-    const everywhere = Array.from({ length: (calls - 1) * DEVICES }, (_, at) => ({ calls: 1 + Math.floor(at / DEVICES), line: `END ${at % DEVICES}` }));
+    if (calls * (NUMBER_OF_DEVICES + 1) > JOB.most.lines_of_schedule) return null;
+    const everywhere = Array.from({ length: (calls - 1) * NUMBER_OF_DEVICES }, (_, at) => ({ calls: 1 + Math.floor(at / NUMBER_OF_DEVICES), line: `END ${at % NUMBER_OF_DEVICES}` }));
     const course = await this.run(everywhere);
     course.events = course.begun.map(({ calls: began, device }) => ({ calls: began, line: `END ${device}` }));
     return course;

@@ -160,7 +160,7 @@ class Waiting {
 }
 
 /** A search through the schedules of a job. `limits` are its calls and its runs, and `onrun` is called after each run. */
-export class Search {
+export class Exploration {
   constructor(tried, limits, onrun) {
     Object.assign(this, { tried, limits, onrun, known: new Map(), waiting: new Waiting(tried.pool.size > 0), found: new Harvest(tried) });
   }

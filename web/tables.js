@@ -28,6 +28,9 @@ export const ENTRIES = /* tables/entries.json */ null;
 /** What a picture of a run looks like, and what it says. */
 export const PICTURE = /* tables/picture.json */ null;
 
+/** The measures of a run. */
+export const MEASURES = /* tables/measures.json */ null;
+
 /** Sets of speeds of devices. */
 export const SPEEDS = /* tables/speeds.json */ null;
 

@@ -10,19 +10,19 @@ const IN_OTHER_WORDS = /^(STATE|ORDERS) /;
 
 const some = (number, what) => `${number} ${what}${number === 1 ? "" : "s"}`;
 const enumerated = (words) => (words.length > 1 ? `${words.slice(0, -1).join(", ")} and ${words.at(-1)}` : words.join());
-const rest = (told, most) => (told.length > most ? says.cut : "");
-const saidOfAnswers = ({ answers }) => (answers.length ? worded(says.answers, { answers: answers.slice(0, MOST_OF_ANSWERS).join(" ") + rest(answers, MOST_OF_ANSWERS) }) : "");
+const mark = (told, most) => (told.length > most ? says.cut : "");
+const saidOfAnswers = ({ answers }) => (answers.length ? worded(says.answers, { answers: answers.slice(0, MOST_OF_ANSWERS).join(" ") + mark(answers, MOST_OF_ANSWERS) }) : "");
 
 /** The events of a schedule, in words. */
 function saidOfEvents({ events }) {
   const said = events.slice(0, MOST_OF_SCHEDULE).map((event) => worded(says.event, event));
-  return said.length ? worded(says.events, { events: said.join(", ") + rest(events, MOST_OF_SCHEDULE) }) : "";
+  return said.length ? worded(says.events, { events: said.join(", ") + mark(events, MOST_OF_SCHEDULE) }) : "";
 }
 
 /** The end of a program in a joint outcome. */
 const saidOfEnd = (slot, result) => worded(says.end, { slot, state: result.state === FOR_GOOD ? says.waits : result.state, answers: saidOfAnswers(result) });
 
-export class Story {
+export class Telling {
   /** The story of what was found for a job within limits. `asunder` has the searches of its programs, if each could be searched by itself. `onrun` is called after each
    * run that shows something. */
   constructor(found, limits, asunder, onrun) {
