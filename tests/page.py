@@ -434,7 +434,25 @@ def take_pictures(opened, address):
     shown.click("try")
     shown.idle()
     shown.page.picture(docs / "page-many.png", whole=True, **around(shown, "#scheduling", 900))
+    pictures_of_schedules(shown, docs)
     shown.page.close()
+
+
+def pictures_of_schedules(shown, docs):
+    """Takes the pictures of a schedule by speeds, and of all that can come of a job."""
+    shown.example(PICTURED)
+    shown.view("parts")
+    shown.js(f"{id_of('scheduling')}.open = true")
+    shown.choose("speeds", "kdf9")
+    left, top, width, _ = shown.js("(({ left, top, width, height }) => [left, top + scrollY, width, height])(document.querySelector('.schedule').getBoundingClientRect())")
+    bottom = shown.js(f"{id_of('schedule')}.getBoundingClientRect().bottom + scrollY")
+    shown.page.picture(docs / "page-schedule.png", whole=True, x=left - 8, y=top - 8, width=width + 16, height=bottom - top + 16)
+    shown.choose("speeds", "")
+    shown.write_job((ROOT / "examples/study/deadlock.job").read_text(encoding="ascii"))
+    shown.js(f"{id_of('exploring')}.open = true")
+    shown.click("explore")
+    shown.idle()
+    shown.page.picture(docs / "page-explore.png", whole=True, **around(shown, "#exploring", 900))
 
 
 def around(shown, selector, height):
