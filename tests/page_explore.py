@@ -78,9 +78,9 @@ def searches_are_stopped(shown):
     shown.idle()
     lines, hidden = shown.js(LINES), shown.js(f"{id_of('exploring-runs')}.hidden")
     yield "a search that is stopped", None if hidden and lines and lines[-1].startswith("not whole: the search was stopped, with ") else f"{hidden} {lines} {shown.state()}"
-    for text, due in ((small_jobs.job(1).replace("FINISH;", "ADD 7; FINISH;", 1), "DECK 0 UnknownOrder"), ("KDF9 JOB 1\nSTORE 7\n", "can't be explored")):
-        explored(shown, text)
-        yield f"no search: {due}", None if due in shown.state() else shown.state()
+    for text, due in ((small_jobs.job(1).replace("FINISH;", "ADD 7; FINISH;", 1), "Status 3: a deck has a fault. UnknownOrder"), ("KDF9 JOB 1\nSTORE 7\n", "Status 2: the job has a fault. BadLine")):
+        lines, marked = explored(shown, text), shown.js("document.querySelector('.fault') !== null")
+        yield f"no search: {due}", None if due in shown.state() and marked and not lines else f"{shown.state()} {lines}"
 
 
 SUITES = outcomes_are_those_of_the_tool, outcomes_open, searches_are_stopped

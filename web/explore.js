@@ -20,12 +20,17 @@ export class Exploring {
 
   /** Searches for all that can come of the job. If it is stopped, what was found so far is told. */
   async all() {
-    const { say, work, text, ask } = this.page, calls = typedNumber("explored-calls", 1, LONGEST), runs = typedNumber("explored-runs", 1, MOST_RUNS_HERE);
+    const { say, work, text, ask, isSound } = this.page, calls = typedNumber("explored-calls", 1, LONGEST), runs = typedNumber("explored-runs", 1, MOST_RUNS_HERE);
     if (calls === null || runs === null) return say(`A schedule can have 1 to ${LONGEST} calls here, and a search 1 to ${MOST_RUNS_HERE} runs; the tool explore goes further.`, true);
-    const from = text() === this.opened ? this.from : text(), tried = Tried.of(ask, from);
-    if (!tried) return say("This text can't be explored: it is more than a job, or one of its lines isn't allowed where it is.", true);
     return work("Looking for all that can come of the job.", async () => {
-      this.begin(runs);
+      const from = text() === this.opened ? this.from : text(), tried = Tried.of(ask, from);
+      byId("explored").replaceChildren();
+      if (!await isSound(from)) return;
+      if (!tried) {
+        say("This job can't be shown by parts, so the page can't explore it. The tool explore does.", true);
+        return;
+      }
+      Object.assign(byId("exploring-runs"), { hidden: false, value: 0, max: runs });
       try {
         const parts = await this.search(tried, { calls, runs });
         this.from = from;
@@ -40,11 +45,6 @@ export class Exploring {
     });
   }
 
-  begin(runs) {
-    Object.assign(byId("exploring-runs"), { hidden: false, value: 0, max: runs });
-    byId("explored").replaceChildren();
-  }
-
   /** What is told of a job. Where there is neither a pool nor a clock, each program is searched by itself. */
   async search(tried, limits) {
     const onrun = () => { byId("exploring-runs").value += 1; };
@@ -56,7 +56,7 @@ export class Exploring {
   /** A part of what is told: its line, and those under it. Each that shows something opens. */
   draw({ head, lines, job }) {
     const opens = (said, text) => (text ? [" ", button("Open", () => this.open(text), { "aria-label": `Open: ${said.trim()}` })] : []);
-    if (!lines.length) return make("p", { class: "told" }, make("span", { class: "line" }, head), ...opens(head, job));
+    if (!lines.length) return make("p", { class: job ? "found" : "told" }, make("span", { class: "line" }, head), ...opens(head, job));
     const list = lines.map(({ said, job: text }) => make("li", {}, make("span", { class: "line" }, said), ...opens(said, text)));
     return make("details", { open: true }, make("summary", {}, make("span", { class: "line" }, head)), make("ul", { class: "journal" }, ...list));
   }

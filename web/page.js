@@ -61,8 +61,8 @@ const ask = (words, job, isTold) => engine.ask(words, job, isTold);
 const replay = new Replay(byId("replay"), { ask, say, failed: (error) => sayFailed(error), breaks, caret: () => (lastRun?.text === view.text ? caret : null) });
 const theorem = new Theorem(byId("compared"), { ask, say });
 const variations = new Variations({ ask, say, work, view, theorem, keeping, changed, run: runAgain, lastRun: () => lastRun });
-const trials = new Many({ ask, say, work, from: () => variations.from(), open: (seed, from) => variations.open(seed, from), failures: () => texts.failures });
-const exploring = new Exploring({ ask, say, work, text: () => view.text, open: replaceAndRun });
+const trials = new Many({ ask, say, work, isSound, from: () => variations.from(), open: (seed, from) => variations.open(seed, from), failures: () => texts.failures });
+const exploring = new Exploring({ ask, say, work, isSound, text: () => view.text, open: replaceAndRun });
 
 /** Says what has happened, in the line of the page that is read aloud. */
 function say(text, isWrong = false) {
@@ -217,6 +217,13 @@ function sayAnswer(answer, fault, verdicts) {
   byId("state").dataset.status = answer.status;
 }
 
+/** Whether a job has no fault; if it has one, the page shows it. */
+async function isSound(text) {
+  const answer = await ask(["asm", "0"], text), fault = await showFault(answer, text);
+  if (fault) sayAnswer(answer, fault);
+  return !fault;
+}
+
 /** Goes to the statement at which a program stopped, if the job is still the one that was run. */
 function goToStop({ slot, statement }) {
   if (!view.goToStatement(slot, statement)) say(IS_CHANGED, true);
@@ -299,13 +306,12 @@ async function writeSchedule() {
   const delays = readDelays(view.text);
   if (delays === null) return say("These aren't numbers of calls.", true);
   return work("Writing the schedule.", async () => {
-    const before = view.text, answer = await ask(["asm", "0"], before);
-    const fault = await showFault(answer, before);
-    if (fault) return sayAnswer(answer, fault);
+    const before = view.text;
+    if (!await isSound(before)) return;
     view.show(await scheduled(ask, before, delays));
     changed();
     keeping.offerUndo("The schedule was written anew.", before);
-    return say("The schedule is written. It can be changed like any other text.");
+    say("The schedule is written. It can be changed like any other text.");
   });
 }
 
