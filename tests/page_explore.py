@@ -1,9 +1,9 @@
 """Tries "All that can come of it": the page finds what the tool explore does, line by line, each outcome opens as a job, and Stop tells what was found so far."""
 import json
-import pathlib
 
 import small_jobs
 from shown import id_of
+from slips import job
 from toolkit import ROOT, kdf9, side_by_side
 
 STUDY = ROOT / "examples" / "study"
@@ -15,6 +15,9 @@ NAMED = [
     *(ROOT / "examples" / f"{name}.job" for name in ("adds-cards", "lets-a-starved-program-in", "two-programs-share-a-punch", "asks-for-the-time", "waits-until-the-other-fails")),
 ]
 SEEDS = range(1, 15)
+
+# A program that asks three times during each of twelve transfers: it has millions of results.
+ENDLESS = job(f"PROGRAM V0; V0 = Q3/32/33;\n  SET 2; SET 5; OUT; V0; =Q1;\n  {'PRQ1; BUSYQ1; BUSYQ1; BUSYQ1; ' * 12}ZERO; OUT; FINISH;", "DEVICE 3 TR\n+" + "AB" * 400 + "\n", "ORDERS 400\n")
 
 LINES = "[...document.querySelectorAll('#explored .line')].map((it) => it.textContent)"
 OPENS = "[...document.querySelectorAll('#explored button')].map((it) => it.getAttribute('aria-label'))"
@@ -70,7 +73,7 @@ def outcomes_open(shown):
 
 def searches_are_stopped(shown):
     """Stop ends a search, and what was found so far is told, with what was left out. A job with a fault isn't explored."""
-    shown.write_job(pathlib.Path(STUDY / "convoy-gives-back.job").read_text(encoding="ascii"))
+    shown.write_job(ENDLESS)
     shown.js(f"{id_of('explored-calls')}.value = '300'; {id_of('explored-runs')}.value = '20000'")
     shown.click("explore")
     shown.page.wait(f"{id_of('exploring-runs')}.value > 3")

@@ -51,10 +51,11 @@ export class JobView {
     this.show(`${HEADER}\n`);
   }
 
-  /** Shows another job. */
+  /** Shows another job. The lines of its schedule are folded. */
   show(text) {
     this.text = text;
     this.stops = [];
+    this.isScheduleOpen = false;
     this.draw();
   }
 
