@@ -8,6 +8,7 @@ import tempfile
 
 import browser
 from browser import Browser
+from page_explore import SUITES as EXPLORED
 from page_firefox import page_in_firefox
 from page_help import SUITES as HELP, caret_at
 from page_kept import SUITES as KEPT, reloads_lose_nothing
@@ -354,7 +355,7 @@ def nothing_is_fetched(running, address):
 
 SUITES = (
     runs_are_looked_at, faults_are_shown, faults_stand_at_their_parts, parts_and_text_are_in_step, snapshots_are_resumed_and_reports_checked,
-    schedules_write_themselves, runs_are_stopped, faults_stand_at_their_places, *VERDICTS, *PICTURES, *SCHEDULED, *SOUGHT, *KEPT, *WORDS, *HELP, *LOOKS, *POOL, *SERVED, *WATCHED, *THEOREM, controls_have_names,
+    schedules_write_themselves, runs_are_stopped, faults_stand_at_their_places, *VERDICTS, *PICTURES, *SCHEDULED, *EXPLORED, *SOUGHT, *KEPT, *WORDS, *HELP, *LOOKS, *POOL, *SERVED, *WATCHED, *THEOREM, controls_have_names,
     orders_are_those_of_the_program, runs_are_those_of_the_program,
 )
 
@@ -433,7 +434,25 @@ def take_pictures(opened, address):
     shown.click("try")
     shown.idle()
     shown.page.picture(docs / "page-many.png", whole=True, **around(shown, "#scheduling", 900))
+    pictures_of_schedules(shown, docs)
     shown.page.close()
+
+
+def pictures_of_schedules(shown, docs):
+    """Takes the pictures of a schedule by speeds, and of all that can come of a job."""
+    shown.example(PICTURED)
+    shown.view("parts")
+    shown.js(f"{id_of('scheduling')}.open = true")
+    shown.choose("speeds", "kdf9")
+    left, top, width, _ = shown.js("(({ left, top, width, height }) => [left, top + scrollY, width, height])(document.querySelector('.schedule').getBoundingClientRect())")
+    bottom = shown.js(f"{id_of('schedule')}.getBoundingClientRect().bottom + scrollY")
+    shown.page.picture(docs / "page-schedule.png", whole=True, x=left - 8, y=top - 8, width=width + 16, height=bottom - top + 16)
+    shown.choose("speeds", "")
+    shown.write_job((ROOT / "examples/study/deadlock.job").read_text(encoding="ascii"))
+    shown.js(f"{id_of('exploring')}.open = true")
+    shown.click("explore")
+    shown.idle()
+    shown.page.picture(docs / "page-explore.png", whole=True, **around(shown, "#exploring", 900))
 
 
 def around(shown, selector, height):

@@ -7,10 +7,13 @@ import sys
 import xml.etree.ElementTree
 
 from slips import job
-from toolkit import ROOT
+from toolkit import ROOT, kdf9
 
 sys.path.insert(0, str(ROOT / "tools"))
+from kdf9 import library  # noqa: E402
 from kdf9.drawing import svg  # noqa: E402
+from kdf9.measures import HELD_BY, of_device, of_program, of_run  # noqa: E402
+from kdf9.program import ENCODING  # noqa: E402
 from kdf9.spent import facts_of  # noqa: E402
 from kdf9.journal import Chart  # noqa: E402
 from kdf9.report import read_report  # noqa: E402
@@ -25,6 +28,12 @@ TITLES = "[...document.querySelectorAll('#pictured .bar > title')].map((it) => i
 SUMS = "Object.fromEntries([...document.querySelectorAll('#pictured .sums tbody tr')].map((row) => [row.cells[0].textContent, Number(row.cells[1].textContent.replaceAll(',', ''))]))"
 SAID = "document.querySelector('#pictured .told').textContent"
 NUMBERS = "[...document.querySelectorAll('#pictured text[text-anchor]')].map((it) => it.textContent).filter((text) => /^[\\d,]{2,}$/.test(text))"
+
+CELLS = "[...document.querySelectorAll('#pictured .sums tbody tr')].map((row) => [...row.cells].map((cell) => cell.textContent))"
+
+# The jobs whose numbers are compared with those that ./kdf9 stats writes.
+STATED = [ROOT / "examples" / "adds-cards-while-a-tape-is-copied.job", ROOT / "examples" / "two-programs-share-a-punch.job",
+          *(ROOT / "examples" / "study" / f"{name}.job" for name in ("convoy", "deadlock", "lists-first", "computes-first", "convoy-short-first"))]
 
 # Keeps what is saved as files and copied.
 KEEP = """globalThis.saved = []; URL.createObjectURL = (blob) => { saved.push(blob); return 'data:,'; };
@@ -46,18 +55,19 @@ def examples_of_runs():
                 yield path.stem, deck.read_text(encoding="latin-1"), report
 
 
-def rows_due(report):
-    """The rows of the table that a report has to have, as the tools reckon them."""
-    facts = facts_of(report, "the report")
-    due = {"all calls": facts.calls, "processor: running": facts.running, "processor: finding a program held up": facts.held_up, "processor: idle": facts.idle}
+def rows_due(text):
+    """The rows of the table that a job has to have, as the tool stats reckons them."""
+    facts = facts_of(library.facts(text.encode(ENCODING)))
+    run, due = of_run(facts), {}
+    rows = {"calls": "all calls", "throughput": "programs that ended or failed, for each 1,000 calls", **{
+        name: f"processor: {said}" for name, said in (("running", "running"), ("overlapped", "running during a transfer"), ("held up", "finding a program held up"), ("idle", "idle"))}}
+    due.update({row: run[name] for name, row in rows.items()})
     for number, device in facts.devices.items():
-        due[f"device {number} {device.kind}{' (pool)' if device.is_of_pool else ''}: busy"] = device.busy
+        named = f"device {number} {device.kind}{' (pool)' if device.is_of_pool else ''}"
+        due.update({f"{named}: {name}": value for name, value in of_device(device, facts.calls).items() if name not in ("kind", "share busy")})
     for slot, program in facts.programs.items():
-        held = {what: sum(calls for cause, calls in program.held.items() if cause.startswith(what)) for what in ("device", "group", "pool")}
-        names = {"device": "held up by a device", "group": "held up by a group of words", "pool": "held up by the pool"}
-        due |= {f"program {slot}: running": program.running, f"program {slot}: ready": program.ready}
-        due |= {f"program {slot}: {names[what]}": calls for what, calls in held.items() if calls}
-        due |= {f"program {slot}: over": facts.calls - program.turnaround} if facts.calls > program.turnaround else {}
+        due.update({f"program {slot}: {name.replace('held', 'held up')}": value for name, value in of_program(program).items() if name != "state" and not name.startswith(HELD_BY)})
+        due.update({f"program {slot}: held up by {cause}": calls for cause, calls in program.held.items()})
     return due
 
 
@@ -76,9 +86,39 @@ def pictures_are_those_of_the_tool(shown):
         due, seen = sorted(title.text for title in drawn.iter(f"{SVG}title")), sorted([*shown.js(TITLES), next(drawn.iter(f"{SVG}title")).text])
         yield f"the picture of {name}", None if seen == due else f"{[each for each in seen if each not in due][:3]} in place of {[each for each in due if each not in seen][:3]}"
         sums = shown.js(SUMS)
-        yield f"the table of {name}", None if sums == rows_due(read) else f"{sums} in place of {rows_due(read)}"
+        yield f"the table of {name}", None if sums == rows_due(text) else f"{sums} in place of {rows_due(text)}"
         tried += 1
     yield "pictures are tried", None if tried > 20 else f"{tried}"
+
+
+def numbers_are_those_of_stats(shown):
+    """Each number that ./kdf9 stats tells of a job stands in the table, and each share beside its number; no other number does."""
+    for path in STATED:
+        text = path.read_text(encoding="ascii")
+        run = kdf9(["stats", "-", "--json"], text)
+        shown.write_job(text)
+        shown.run("run")
+        seen = {row: (float(value.replace(",", "")), share) for row, value, share in shown.js(CELLS)}
+        due = dict(numbers_due(json.loads(run.out)[0]))
+        wrong = [(row, seen.get(row), number) for row, number in due.items() if row not in seen or seen[row][0] != number[0] or number[1] is not None and abs(float(seen[row][1].rstrip(" %")) - 100 * number[1]) > 0.051]
+        yield f"the numbers of stats of {path.stem}", None if run.status == 0 and not wrong and {*seen} == {*due} else f"{wrong} {({*seen}) ^ ({*due})}"
+
+
+def numbers_due(record):
+    """The rows that a record of stats calls for, each with its number, and with its share if the record has one."""
+    rows = {"calls": "all calls", "running": "processor: running", "overlapped": "processor: running during a transfer", "held_up": "processor: finding a program held up",
+            "idle": "processor: idle", "throughput": "programs that ended or failed, for each 1,000 calls"}
+    for name, row in rows.items():
+        yield row, (record[name], record.get(f"share_{name}"))
+    for device in record["devices"]:
+        named = f"device {device['device']} {device['kind']}{' (pool)' if 'lent' in device else ''}"
+        for name in device.keys() - {"device", "kind", "share_busy"}:
+            yield f"{named}: {name.replace('_', ' ')}", (device[name], device.get(f"share_{name}"))
+    for slot in record["slots"]:
+        for name in slot.keys() - {"slot", "state", "held_by"}:
+            yield f"program {slot['slot']}: {name.replace('held', 'held up')}", (slot[name], None)
+        for cause, calls in slot["held_by"].items():
+            yield f"program {slot['slot']}: held up by {cause}", (calls, None)
 
 
 def pictures_are_taken_away(shown):
@@ -101,7 +141,7 @@ def pictures_are_taken_away(shown):
     size = struct.unpack(">II", png[16:24])
     yield "the PNG", None if png.startswith(b"\x89PNG") and size == tuple(2 * int(float(drawn.get(each))) for each in ("width", "height")) else f"{png} {size}"
     lines = shown.js("copied").split("\n")
-    yield "the table as CSV", None if lines[:2] == ['"","calls","share"', '"all calls",304,"100.0 %"'] else f"{lines[:2]}"
+    yield "the table as CSV", None if lines[:2] == ['"","number","share"', '"all calls",304,"100.0 %"'] else f"{lines[:2]}"
 
 
 def ways_lead_through_pictures(shown):
@@ -147,4 +187,4 @@ def pictures_of_a_million_calls(shown):
     yield "a click at a call of a million", None if at.startswith("500,0") else at
 
 
-SUITES = pictures_are_those_of_the_tool, pictures_are_taken_away, ways_lead_through_pictures, pictures_of_a_million_calls
+SUITES = pictures_are_those_of_the_tool, numbers_are_those_of_stats, pictures_are_taken_away, ways_lead_through_pictures, pictures_of_a_million_calls

@@ -4,6 +4,7 @@ import re
 
 from shown import id_of
 from slips import job, pooled
+from toolkit import ROOT, kdf9
 
 # A program that reads a tape three times, and then punches as often; each transfer takes 30 calls.
 BOTH = job("PROGRAM V1; V0 = Q3/32/33; V1 = Q5/32/33;\n  SET 2; SET 5; OUT; V0; =Q1; SET 1; SET 5; OUT; V1; =Q2;\n  PRQ1; E32; ERASE; PRQ1; E32; ERASE; PWQ2; E32; ERASE; ZERO; OUT; FINISH;",
@@ -12,6 +13,16 @@ BOTH = job("PROGRAM V1; V0 = Q3/32/33; V1 = Q5/32/33;\n  SET 2; SET 5; OUT; V0; 
 # Two programs, each of which takes a punch and a printer of the pool, but in another sequence.
 PAIR = pooled(*(f"PROGRAM; SET {one}; SET 5; OUT; SET {other}; SET 5; OUT; ZERO; OUT; FINISH;" for one, other in ((1, 3), (3, 1))))
 
+# A job, the set of speeds that is chosen, what is typed for devices in the two columns, and the words of the tool for the same.
+SPEEDY = [
+    (BOTH.replace("ORDERS 400", "ORDERS 400000"), "kdf9", {}, {}, ["--speeds", "kdf9"]),
+    (BOTH.replace("ORDERS 400", "ORDERS 400000"), "kdf9", {"3": "40"}, {}, ["3=40", "--speeds", "kdf9"]),
+    (BOTH.replace("ORDERS 400", "ORDERS 9000"), "kdf9", {"5": "20"}, {"5": "9", "3": "77"}, ["--speeds", "kdf9", "--speed", "5=20+9", "--speed", "3=0+77"]),
+    (BOTH, "", {"5": "13"}, {"3": "11"}, ["--after", "20", "5=13", "--speed", "3=0+11"]),
+    ((ROOT / "examples/study/day.job").read_text(encoding="ascii").replace("ORDERS 2000000\n", "ORDERS 60000\n"), "kdf9", {}, {}, ["--speeds", "kdf9"]),
+]
+
+EMPTY = "document.querySelectorAll('#delays input').forEach((it) => { it.value = ''; })"
 ROW = """Object.fromEntries([...document.querySelectorAll('#what-if .sums tbody tr')].map((row) => [row.cells[0].textContent, [...row.cells].slice(1).map((cell) => cell.textContent)]))"""
 OUTCOMES = "[...document.querySelectorAll('#outcomes details')].map((it) => [it.querySelector('summary').textContent, [...it.querySelectorAll('button')].map((each) => each.textContent)])"
 
@@ -52,6 +63,39 @@ def faster_devices_are_shown(shown):
     yield "no devices", None if shown.js("document.querySelector('#what-if').childElementCount") == 0 else "there is a question"
 
 
+def speeds_are_those_of_the_tool(shown):
+    """Devices have speeds by name, or calls and calls for each word: the schedule is the one that the tool writes, and its lines are folded."""
+    shown.view("parts")
+    for text, name, calls, words, asked in SPEEDY:
+        shown.write_job(text)
+        shown.view("parts")
+        shown.js(f"{id_of('after')}.value = '20'; {id_of('every')}.value = ''")
+        shown.choose("speeds", name)
+        shown.js(EMPTY)
+        for column, typed in (("device", calls), ("word", words)):
+            for device, number in typed.items():
+                shown.js(f"document.querySelector('#delays [data-{column}=\"{device}\"]').value = {json.dumps(number)}")
+        shown.click("schedule")
+        shown.idle()
+        due, got = kdf9(["schedule", "-", *asked], text).out, shown.js("kdf9.job()")
+        yield f"the schedule of {' '.join(asked)}", None if due and got == due else f"is {got[-200:]!r} in place of {due[-200:]!r} {shown.state()}"
+    lines, ends = got.partition("\nSCHEDULE\n")[2].split("\n")[:-2], got.count("\nEND ")
+    said, is_open = shown.js("[document.querySelector('.schedule summary').textContent, document.querySelector('.schedule details').open]")
+    yield "what is said of the schedule", None if f"60,000 calls, {len(lines)} lines, of them {ends} END" in said and not is_open else f"{said} {is_open}"
+    shown.write_job(BOTH.replace("ORDERS 400", "ORDERS 400\nEND x"))
+    shown.view("parts")
+    shown.run("run")
+    yield "a fault in the folded lines", None if shown.js("document.querySelector('.schedule details').open") else "they are folded"
+    shown.write_job(BOTH)
+    shown.view("parts")
+    for typed in ("a", "999999999"):
+        shown.js(f"document.querySelector('#delays [data-word=\"3\"]').value = {json.dumps(typed)}")
+        shown.click("schedule")
+        yield f"{typed} calls for each word", None if "aren't numbers of calls" in shown.state() else shown.state()
+    shown.choose("speeds", "")
+    shown.js(EMPTY)
+
+
 def many_schedules_are_tried(shown):
     """Many schedules by their seeds: how many end, and who waits for whom in those that don't; each seed opens the schedule of which that is said."""
     shown.write_job(PAIR)
@@ -88,4 +132,4 @@ def many_schedules_are_tried(shown):
     shown.js(f"{id_of('schedules')}.value = '100'")
 
 
-SUITES = faster_devices_are_shown, many_schedules_are_tried
+SUITES = faster_devices_are_shown, speeds_are_those_of_the_tool, many_schedules_are_tried

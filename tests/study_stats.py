@@ -3,9 +3,12 @@ import csv
 import io
 import json
 import random
+from collections import Counter
 from typing import Iterator, Optional, Tuple
 
 import random_jobs
+from kdf9 import library
+from kdf9.program import ENCODING
 from kdf9.spent import Facts, facts_of
 from kdf9.measures import as_csv, as_json, as_table, measures_of
 from kdf9.machine import machine
@@ -23,18 +26,36 @@ def cases(number: int, seed: int) -> Iterator[Case]:
         text = random_jobs.job(random.Random(seed))
         answer = machine()(["run"], text)
         if not answer.status:
-            yield f"stats of job {seed}", why_wrong(answer.text)
+            yield f"stats of job {seed}", why_wrong(text, answer.text)
             left -= 1
         seed += 1
 
 
-def why_wrong(report: str) -> Optional[str]:
-    """What is wrong with the facts of a report, or with how they are told; or None."""
+def why_wrong(text: str, report: str) -> Optional[str]:
+    """What is wrong with the facts of a job and its report, or with how they are told; or None."""
+    told = library.facts(text.encode(ENCODING))
     read = read_report(report, "the report")
-    facts, counts = facts_of(read, "the report"), Counts(report)
-    if Tally(read.entries, read.sections).facts() != facts:
-        return f"a study counts {Tally(read.entries, read.sections).facts()} and stats {facts}"
-    return why_other(facts, counts) or why_no_sum(facts) or why_told_otherwise(facts)
+    facts, counts = facts_of(told), Counts(report)
+    tally = Tally(read.entries, read.sections).facts()
+    journaled = facts._replace(devices={number: device._replace(words=None) for number, device in facts.devices.items()})
+    if tally != journaled:
+        return f"a study counts {tally} and stats {journaled}"
+    return why_other(facts, counts) or why_no_sum(facts) or why_untold(facts, told) or why_told_otherwise(facts)
+
+
+def why_untold(facts: Facts, told: dict) -> Optional[str]:
+    """Where what is added up isn't what the machine has counted."""
+    for each in told["calls"]:
+        held: Counter = Counter()
+        for cause, calls in facts.programs[each["slot"]].held.items():
+            held[cause.split(" ")[0]] += calls
+        if {**dict.fromkeys(each["calls"]["held"], 0), **held} != each["calls"]["held"]:
+            return f"the causes of slot {each['slot']} are {held}, and the machine counts {each['calls']['held']}"
+    words: Counter = Counter()
+    for transfer in told["transfers"]:
+        words[transfer["device"]] += transfer["moved"] if transfer["ended"] is None else transfer["words"]
+    due = {number: words[number] for number in facts.devices}
+    return None if {number: device.words for number, device in facts.devices.items()} == due else f"the words aren't {due}"
 
 
 def why_other(facts: Facts, counts: Counts) -> Optional[str]:

@@ -150,4 +150,13 @@ def lines_stand_in_the_table(read: Read, tables: dict) -> Cases:
     yield "the fields of entries", None if not wrong else f"{wrong} have as many as other words"
 
 
-CHECKS = (pages_are_made, orders_stand_in_their_groups, codes_stand_in_the_tables, lines_stand_in_the_table)
+def measures_stand_in_the_study(read: Read, tables: dict) -> Cases:
+    """Each measure of a run stands in docs/STUDY.md, below what it is of, with the sentence of the table, and stats has it."""
+    told = read("docs/STUDY.md").partition("## What stats tells\n")[2]
+    parts = dict(re.findall(r"^\| measure of (?:a |the )(\w+) \| \|\n\|---\|---\|\n((?:\|.*\n)+)", told, re.MULTILINE))
+    for row in tables["measures"]["measures"]:
+        found = re.search(rf"^\| `{row['name']}\b.*` \| (.*) \|$", parts.get(row["of"], ""), re.MULTILINE)
+        yield f"the measure {row['name']} of a {row['of']}", None if found and found[1] == row["says"] and f'"{row["name"]}' in read("tools/kdf9/measures.py") else "isn't in docs/STUDY.md or in stats as in the table"
+
+
+CHECKS = (pages_are_made, measures_stand_in_the_study, orders_stand_in_their_groups, codes_stand_in_the_tables, lines_stand_in_the_table)

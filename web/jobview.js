@@ -5,6 +5,7 @@ import { Editor } from "./editor.js";
 import { painted } from "./deck.js";
 import { haveNames } from "./shows.js";
 import { HEADER, KINDS, KINDS_OF_POOL, POOL, editedMedia, editedShows, linesOf, placedLines, readJob, readMedia, readShows, writeJob } from "./job.js";
+import { saidOfSchedule } from "./schedule.js";
 
 const NO_PARTS = "This text can't be shown by parts: it is more than a job, or one of its lines isn't allowed where it is. Here is the whole text.";
 const SERVED = "OUT 64 asks the installation's service";
@@ -39,6 +40,7 @@ export class JobView {
   constructor(element, { onchange, onremove, assist, addresses }) {
     Object.assign(this, { onchange, onremove, assist, addresses });
     this.isWhole = false;
+    this.isScheduleOpen = false;
     this.stops = [];
     this.controls = new Map();
     this.said = make("p", { class: "fault", id: freshId("fault") });
@@ -49,10 +51,11 @@ export class JobView {
     this.show(`${HEADER}\n`);
   }
 
-  /** Shows another job. */
+  /** Shows another job. The lines of its schedule are folded. */
   show(text) {
     this.text = text;
     this.stops = [];
+    this.isScheduleOpen = false;
     this.draw();
   }
 
@@ -269,12 +272,14 @@ export class JobView {
       make("div", { class: "fields" }, remove), this.drawDevices(pool, POOL, "the pool"));
   }
 
+  /** The schedule, in a sentence; its lines are folded. */
   drawSchedule() {
-    const heading = make("h3", { id: freshId("schedule") }, "Schedule");
+    const heading = make("h3", { id: freshId("schedule") }, "Schedule"), said = make("summary", {}, saidOfSchedule(this.job.schedule));
     const editor = new Editor({ label: "The lines of the schedule", text: this.job.schedule, paint: () => [],
-      onchange: (text) => { this.job.schedule = text; this.partChanged(); } });
+      onchange: (text) => { this.job.schedule = text; said.textContent = saidOfSchedule(text); this.partChanged(); } });
     this.controls.set("schedule", editor);
-    return make("section", { class: "slot", "aria-labelledby": heading.id }, heading, editor.element);
+    const lines = make("details", { open: this.isScheduleOpen, ontoggle: () => { this.isScheduleOpen = lines.open; } }, said, editor.element);
+    return make("section", { class: "slot schedule", "aria-labelledby": heading.id }, heading, lines);
   }
 
   /** Shows a fault where it is, with its sentence, a hint, a button that goes to it, and one that mends it if there is such a button. */
@@ -288,6 +293,8 @@ export class JobView {
     this.said.replaceChildren(`${where}${fault.name}${subject}. ${fault.said}${hint ? ` Hint: ${hint}.` : ""} `,
       button("Go to it", () => (control instanceof Editor ? control.goTo(place) : control.focus())), ...(mend ? [" ", mend] : []));
     (control instanceof Editor ? control.element : control.closest(".fields")).after(this.said);
+    const folded = this.said.closest("details");
+    if (folded) folded.open = true;
     if (control instanceof Editor) control.mark(place, end);
     element.setAttribute("aria-invalid", "true");
     element.setAttribute("aria-describedby", this.said.id);

@@ -29,7 +29,7 @@ export function saidOfOutcomes(found) {
 }
 
 /** A whole number that is typed into a control, or null if it isn't from `least` to `most`. */
-function typedNumber(name, least, most) {
+export function typedNumber(name, least, most) {
   const typed = byId(name).value.trim(), number = Number(typed);
   return /^\d+$/.test(typed) && number >= least && number <= most ? number : null;
 }
@@ -42,10 +42,11 @@ export class Many {
 
   /** Tries as many schedules as are asked for. If it is stopped, what was found so far stays. */
   async tryAll() {
-    const { ask, say, work, from, failures } = this.page, count = typedNumber("schedules", 1, MOST_TRIED), first = typedNumber("first-seed", 0, MOST_SEED - MOST_TRIED);
+    const { ask, say, work, isSound, from, failures } = this.page, count = typedNumber("schedules", 1, MOST_TRIED), first = typedNumber("first-seed", 0, MOST_SEED - MOST_TRIED);
     if (count === null || first === null) return say(`There can be 1 to ${MOST_TRIED} schedules, from seed 0 to ${MOST_SEED - MOST_TRIED} on.`, true);
     return work(`Trying ${many(count, "schedule")}.`, async () => {
       const text = from(), found = [];
+      if (!await isSound(text)) return;
       this.begin(count);
       try {
         for (let seed = first; seed < first + count; seed += 1) {

@@ -2,6 +2,7 @@
 
 import { byId, make } from "./dom.js";
 import { STATUSES } from "./engine.js";
+import { factsOfRun } from "./facts.js";
 import { Pictured, tableOfSums } from "./pictured.js";
 import { layoutsOf, readResult, resultsOf, shownText, storesOf } from "./results.js";
 import { Timeline } from "./timeline.js";
@@ -31,7 +32,9 @@ export async function outcomeOf(ask, job, answer, { isRun, failures }) {
   const isRead = answer.status === DONE && readResult(readWatch(answer.text)?.report ?? answer.text) !== null;
   const layouts = isRead ? await layoutsOf(ask, job) : new Map();
   const isAsked = isRead && isRun && answer.milliseconds < LONGEST_RUN && [...layouts.values()].some(({ addresses }) => addresses.length);
-  return { ...outcomeWith(layouts, job, answer.text, failures), stores: isAsked ? await storesOf(ask, job) : null };
+  const outcome = { ...outcomeWith(layouts, job, answer.text, failures), stores: isAsked ? await storesOf(ask, job) : null };
+  if (isRead && isRun) outcome.timeline.facts = await factsOfRun(ask, job);
+  return outcome;
 }
 
 /** What a text says that was recorded of a job. */
@@ -47,7 +50,7 @@ function callsDrawn({ entries, total }) {
 function pictureOf({ timeline, stops }, look, say) {
   const shown = callsDrawn(timeline), rest = timeline.total - shown;
   const { element } = new Pictured(timeline, { name: "The run at a glance", choose: look, shown, stops }).withButtons();
-  return [element, ...(rest ? [make("p", {}, `The ${rest.toLocaleString("en")} calls after these are idle.`)] : []), tableOfSums(timeline, { say })];
+  return [element, ...(rest ? [make("p", {}, `The ${rest.toLocaleString("en")} calls after these are idle.`)] : []), ...(timeline.facts ? [tableOfSums(timeline, { say })] : [])];
 }
 
 /** Shows what a command came to, or nothing if it is null. `look` shows a run call by call, `go` goes to a statement, and `change` changes the job; those that are null

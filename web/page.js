@@ -4,6 +4,7 @@ import { Assist } from "./assist.js";
 import { button, byId } from "./dom.js";
 import { Engine, Stopped, bytesOf, canRun, hasLongAddresses, unpacked } from "./engine.js";
 import { chooseFirst, chooseOwn, chosenJob, listJobs } from "./examples.js";
+import { Exploring } from "./explore.js";
 import { faultOf } from "./fault.js";
 import { hintOf } from "./hints.js";
 import { EMPTY_JOB, frontOf, placedLines, readJob, withLine } from "./job.js";
@@ -16,7 +17,7 @@ import { Many } from "./many.js";
 import { narrowed } from "./narrow.js";
 import { outcomeOf, outcomeOfRecord, saidOfAnswer, showOutcome } from "./outcome.js";
 import { Replay } from "./replay.js";
-import { NoSchedule, drawDelays, readDelays, scheduled } from "./schedule.js";
+import { NoSchedule, drawDelays, listSpeeds, readDelays, scheduled } from "./schedule.js";
 import { Breaks } from "./seek.js";
 import { haveNames, withAddresses } from "./shows.js";
 import { roomFor, withSize } from "./size.js";
@@ -56,11 +57,12 @@ let lastText = "";
 let lastRun = null; // what can be shown call by call: the job, its report, the layouts of its decks, and the stops of a watch if there was one
 let pause = 0;
 
-const ask = (words, job) => engine.ask(words, job);
+const ask = (words, job, isTold) => engine.ask(words, job, isTold);
 const replay = new Replay(byId("replay"), { ask, say, failed: (error) => sayFailed(error), breaks, caret: () => (lastRun?.text === view.text ? caret : null) });
 const theorem = new Theorem(byId("compared"), { ask, say });
 const variations = new Variations({ ask, say, work, view, theorem, keeping, changed, run: runAgain, lastRun: () => lastRun });
-const trials = new Many({ ask, say, work, from: () => variations.from(), open: (seed, from) => variations.open(seed, from), failures: () => texts.failures });
+const trials = new Many({ ask, say, work, isSound, from: () => variations.from(), open: (seed, from) => variations.open(seed, from), failures: () => texts.failures });
+const exploring = new Exploring({ ask, say, work, isSound, text: () => view.text, open: replaceAndRun });
 
 /** Says what has happened, in the line of the page that is read aloud. */
 function say(text, isWrong = false) {
@@ -158,7 +160,7 @@ async function offerPlaces() {
 
 /** Shows whether the machine is at work. */
 function setBusy(isBusy) {
-  for (const id of ["run", "schedule", "shuffle", "neighbours", "try"]) byId(id).disabled = isBusy || !engine;
+  for (const id of ["run", "schedule", "shuffle", "neighbours", "try", "explore"]) byId(id).disabled = isBusy || !engine;
   byId("compare-alone").disabled = isBusy || lastRun === null;
   byId("compare-before").disabled = isBusy || lastRun === null || theorem.before === null;
   byId("stop").disabled = !isBusy;
@@ -215,6 +217,13 @@ function sayAnswer(answer, fault, verdicts) {
   byId("state").dataset.status = answer.status;
 }
 
+/** Whether a job has no fault; if it has one, the page shows it. */
+async function isSound(text) {
+  const answer = await ask(["asm", "0"], text), fault = await showFault(answer, text);
+  if (fault) sayAnswer(answer, fault);
+  return !fault;
+}
+
 /** Goes to the statement at which a program stopped, if the job is still the one that was run. */
 function goToStop({ slot, statement }) {
   if (!view.goToStatement(slot, statement)) say(IS_CHANGED, true);
@@ -222,11 +231,15 @@ function goToStop({ slot, statement }) {
 
 /** Changes the job as a verdict proposes, if it is still the one that was run, and runs it again. */
 async function changeAndRun({ name, change }) {
+  return view.text === lastRun?.text ? replaceAndRun(change(view.text), name) : say(IS_CHANGED, true);
+}
+
+/** Puts another job in the place of the one that is shown, and runs it. `what` says what is new. */
+function replaceAndRun(text, what) {
   const before = view.text;
-  if (before !== lastRun?.text) return say(IS_CHANGED, true);
-  view.show(change(before));
+  view.show(text);
   changed();
-  keeping.offerUndo(`Changed: ${name}.`, before);
+  keeping.offerUndo(`Changed: ${what}.`, before);
   return work("Running.", runAgain);
 }
 
@@ -290,16 +303,15 @@ function stop() {
 }
 
 async function writeSchedule() {
-  const delays = readDelays();
+  const delays = readDelays(view.text);
   if (delays === null) return say("These aren't numbers of calls.", true);
   return work("Writing the schedule.", async () => {
-    const before = view.text, answer = await ask(["asm", "0"], before);
-    const fault = await showFault(answer, before);
-    if (fault) return sayAnswer(answer, fault);
+    const before = view.text;
+    if (!await isSound(before)) return;
     view.show(await scheduled(ask, before, delays));
     changed();
     keeping.offerUndo("The schedule was written anew.", before);
-    return say("The schedule is written. It can be changed like any other text.");
+    say("The schedule is written. It can be changed like any other text.");
   });
 }
 
@@ -314,7 +326,7 @@ function show(text, args) {
   stop();
   view.show(text);
   drawDelays(text);
-  byId("outcomes").replaceChildren();
+  for (const id of ["outcomes", "explored"]) byId(id).replaceChildren();
   byId("link-said").hidden = true;
   [byId("command").value, byId("value").value, byId("place").value] = [args[0], args[1] ?? "0", args[2] ?? "0"];
   chooseCommand();
@@ -402,6 +414,7 @@ function switchLecture() {
 
 function attend() {
   attendToKeys();
+  listSpeeds();
   byId("lecture").onclick = switchLecture;
   byId("example").onchange = chooseExample;
   byId("command").onchange = () => {
@@ -413,7 +426,9 @@ function attend() {
   byId("stop").onclick = stop;
   byId("schedule").onclick = writeSchedule;
   byId("try").onclick = () => trials.tryAll();
+  byId("explore").onclick = () => exploring.all();
   byId("scheduling").ontoggle = () => drawDelays(view.text);
+  byId("speeds").onchange = () => drawDelays(view.text);
   byId("look").onclick = () => look(0);
   byId("place").onfocus = offerPlaces;
   byId("shuffle").onclick = () => variations.shuffle();

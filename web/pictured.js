@@ -3,6 +3,7 @@
 import { button, make, table } from "./dom.js";
 import { saveFile } from "./link.js";
 import { HALF, View, drawn, fileOf } from "./picture.js";
+import { toldMeasures } from "./spent.js";
 
 /** How much closer a step is, the fewest calls that are shown, how much of the picture a step to a side is, and how far a pointer may move while it clicks. */
 const CLOSER = 2, FEWEST_CALLS = 10, TO_A_SIDE = 0.25, STILL = 4;
@@ -168,33 +169,21 @@ export class Pictured {
   }
 }
 
-const shareOf = (calls, all) => `${(100 * calls / Math.max(1, all)).toFixed(1)} %`;
+const shareOf = (value, whole) => (whole === null ? "" : `${(100 * value / Math.max(1, whole)).toFixed(1)} %`);
+const written = (value) => value.toLocaleString("en", { maximumFractionDigits: 4 });
 
-/** To what the calls of a run went: rows of a name, calls and their share. */
-function rowsOfSums({ sums, kinds, pool }) {
-  const { made, running, idle, programs, devices } = sums, row = (name, calls) => [name, calls, made];
-  return [
-    row("processor: running", running), row("processor: finding a program held up", made - running - idle), row("processor: idle", idle),
-    ...devices.map(({ device, busy }) => row(`device ${device} ${kinds.get(device)}${pool.has(device) ? " (pool)" : ""}: busy`, busy)),
-    ...programs.flatMap(({ slot, ...calls }) => [
-      ["running", "running"], ["ready", "ready"], ["device", "held up by a device"], ["group", "held up by a group of words"], ["pool", "held up by the pool"], ["over", "over"],
-    ].filter(([name]) => calls[name] || name === "running" || name === "ready").map(([name, words]) => row(`program ${slot}: ${words}`, calls[name]))),
-  ];
-}
+/** The rows of measures: each with its text, its sentence, and its value with the whole of which it is a share. */
+const rowsOfMeasures = (facts) => new Map(toldMeasures(facts).map(({ row, says, value, whole }) => [row, { says, value, whole }]));
 
 /** The table of what the calls of a run went to, with a button that copies it as CSV. If there is another timeline, each row has both runs and what changed. */
-export function tableOfSums(timeline, { other = null, say }) {
-  const now = rowsOfSums(timeline), before = other && rowsOfSums(other);
-  const names = [...new Set([...(before ?? []), ...now].map(([name]) => name))], found = (rows, name) => rows.find(([each]) => each === name) ?? [name, 0, rows[0][2]];
-  const all = [["all calls", timeline.total, timeline.total]], whole = other && [["all calls", other.total, other.total]];
-  const rows = ["all calls", ...names].map((name) => {
-    const [, calls, made] = found(name === "all calls" ? all : now, name), own = [name, calls.toLocaleString("en"), shareOf(calls, made)];
-    if (!other) return own;
-    const [, old, oldMade] = found(name === "all calls" ? whole : before, name), change = calls - old;
-    return [name, old.toLocaleString("en"), shareOf(old, oldMade), ...own.slice(1), `${change > 0 ? "+" : ""}${change.toLocaleString("en")}`];
+export function tableOfSums({ facts }, { other = null, say }) {
+  const now = rowsOfMeasures(facts), before = other && rowsOfMeasures(other.facts), nothing = { value: 0, whole: null }, cells = ({ value, whole }) => [written(value), shareOf(value, whole)];
+  const rows = [...new Set([...before?.keys() ?? [], ...now.keys()])].map((name) => {
+    const mine = now.get(name) ?? nothing, its = before?.get(name) ?? nothing, change = mine.value - its.value, title = (mine.says ?? its.says).replaceAll("`", "");
+    return [make("span", { title }, name), ...(other ? [...cells(its), ...cells(mine), `${change > 0 ? "+" : ""}${written(change)}`] : cells(mine))];
   });
-  const heads = other ? ["", "calls before", "share", "calls now", "share", "change"] : ["", "calls", "share"];
-  const csv = [heads, ...rows].map((cells) => cells.map((cell) => (/^[-+]?[\d,]+$/.test(cell) ? cell.replaceAll(",", "") : `"${cell}"`)).join(",")).join("\n");
+  const heads = other ? ["", "before", "share", "now", "share", "change"] : ["", "number", "share"], texts = rows.map(([name, ...rest]) => [name.textContent, ...rest]);
+  const csv = [heads, ...texts].map((line) => line.map((cell) => (/^[-+]?[\d,.]+$/.test(cell) ? cell.replaceAll(",", "") : `"${cell}"`)).join(",")).join("\n");
   const copy = button("Copy the table", () => copied(`${csv}\n`).then((isDone) => say(isDone ? "The table is copied, as CSV." : "The browser doesn't let the page copy.", !isDone)));
   return make("details", { class: "sums", open: true }, make("summary", {}, "To what the calls went"), table(other ? "The run before, and this run" : "This run", heads, rows), copy);
 }

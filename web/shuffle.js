@@ -2,9 +2,8 @@
 // Or other decks of its programs. A seed gives the same each time.
 
 import { readJob, writeJob } from "./job.js";
-import { callsOf, readReport } from "./report.js";
 import { layoutsOf } from "./results.js";
-import { NoSchedule, readSchedule, withTransfers, writeSchedule } from "./schedule.js";
+import { readSchedule, transfersOf, withTransfers, writeSchedule } from "./schedule.js";
 import { LINES } from "./tables.js";
 
 export const MOST_SEED = 999999;
@@ -49,11 +48,7 @@ function others(job, calls, seed) {
 /** The text of a job with another schedule. It has more calls than the job's own, so that a program comes as far if its transfers take longer. */
 export async function shuffled(ask, text, seed) {
   const job = readJob(text);
-  const { status, text: report } = await ask(["run"], text);
-  if (status) throw new NoSchedule(report.trim());
-  const { entries } = readReport(report);
-  const made = entries.reduce((sum, entry) => sum + callsOf(entry), 0), transfers = entries.filter(([kind]) => kind === "START").length;
-  const calls = Math.min(MOST_CALLS, readSchedule(job.schedule).calls + LONGEST_TRANSFER * transfers);
+  const { begun, calls: made } = await transfersOf(ask, text), calls = Math.min(MOST_CALLS, readSchedule(job.schedule).calls + LONGEST_TRANSFER * begun.length);
   const schedule = writeSchedule({ calls, events: others(job, made, seed) });
   return withTransfers(ask, writeJob({ ...job, schedule }), (transfer) => eventsOf(transfer, seed));
 }

@@ -28,6 +28,15 @@ export const ENTRIES = /* tables/entries.json */ null;
 /** What a picture of a run looks like, and what it says. */
 export const PICTURE = /* tables/picture.json */ null;
 
+/** The measures of a run. */
+export const MEASURES = /* tables/measures.json */ null;
+
+/** Sets of speeds of devices. */
+export const SPEEDS = /* tables/speeds.json */ null;
+
+/** How far a search through the schedules of a job goes, and what it says. */
+export const OUTCOMES = /* tables/outcomes.json */ null;
+
 /** A sentence of a table, with these values in the places of their names. */
 export const worded = (sentence, values) => sentence.replace(/\{(\w+)\}/g, (_, each) => values[each]);
 

@@ -88,15 +88,17 @@ class Delays:
 
     def events(self, transfer: Transfer, calls: int) -> Iterator[Event]:
         """The events of a transfer that come before this number of calls, in order."""
-        _, length = self._of(transfer)
-        for step in range(1, self._moves(transfer, calls) + 1):
-            yield Event(transfer.calls + step * length, f"MOVE {transfer.device} 1")
-        if self.end(transfer) < calls:
-            yield Event(self.end(transfer), f"END {transfer.device}")
+        steps, length = self._of(transfer)
+        if self._every:
+            for step in range(1, self._moves(transfer, calls) + 1):
+                yield Event(transfer.calls + step * length, f"MOVE {transfer.device} 1")
+        end = transfer.calls + steps * length
+        if end < calls:
+            yield Event(end, f"END {transfer.device}")
 
     def number_of_events(self, transfer: Transfer, calls: int) -> int:
         """How many events of a transfer come before this number of calls."""
-        return self._moves(transfer, calls) + (1 if self.end(transfer) < calls else 0)
+        return (self._moves(transfer, calls) if self._every else 0) + (1 if self.end(transfer) < calls else 0)
 
     def most_lines(self) -> int:
         """The most lines of a schedule that a transfer can take, including the ORDERS before them."""

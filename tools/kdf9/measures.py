@@ -5,11 +5,12 @@ import json
 from typing import Dict, Iterator, List, NamedTuple, Tuple, Union
 
 from kdf9.spent import DeviceFacts, Facts, ProgramFacts
+from kdf9.tables import table
 
 Value = Union[int, float, str]
 
 # How many digits a share has after its point, and of how many calls throughput is told.
-DIGITS, THROUGHPUT_CALLS = 4, 1000
+DIGITS, THROUGHPUT_CALLS = 4, table("measures")["throughput_calls"]
 
 # How the measure begins that has the calls for which one cause held a program up.
 HELD_BY = "held by "
@@ -68,8 +69,9 @@ def of_program(program: ProgramFacts) -> Dict[str, Value]:
 def of_device(device: DeviceFacts, calls: int) -> Dict[str, Value]:
     """The measures of a device."""
     lent = {"times lent": device.times_lent, "lent": device.lent} if device.is_of_pool else {}
+    words = {} if device.words is None else {"words": device.words}
     return {
-        "kind": device.kind, "transfers": device.transfers, "busy": device.busy, "share busy": share(device.busy, calls), "waited for": device.waited_for, **lent,
+        "kind": device.kind, "transfers": device.transfers, **words, "busy": device.busy, "share busy": share(device.busy, calls), "waited for": device.waited_for, **lent,
     }
 
 

@@ -1,15 +1,16 @@
-"""The facts of a run: how many calls went to what. This is the only place where the tool stats reads a run.
+"""The facts of a run: how many calls went to what, from what the machine tells of the run. This is the only place where the tool stats takes a run apart.
 
-All counts are of calls of the machine, but for those that say otherwise. A report doesn't tell which transfer locks out a group, so a program that is held up
-by one counts as held up until it goes on or the last transfer that it had under way has ended, as in a picture.
+All counts are of calls of the machine, but for those that say otherwise. The machine counts the calls of each program and the transfers, words and calls of each
+device; what is added up here is by which group, device or kind a program was held up, and for how long a device was lent.
 """
-from typing import Dict, NamedTuple
+from collections import Counter
+from typing import Any, Dict, Iterator, List, NamedTuple, Optional, Tuple
 
-from kdf9.journal import RAN, READY, Chart, Held
-from kdf9.report import Report
+# What the machine tells of a run, with the fields of docs/schema/facts.json.
+RunTold = Dict[str, Any]
 
-# A chart has as many columns; the counts don't depend on them.
-COLUMNS = 100
+# From how many calls on something was so, and up to how many.
+Stretch = Tuple[int, int]
 
 
 class ProgramFacts(NamedTuple):
@@ -26,13 +27,14 @@ class ProgramFacts(NamedTuple):
 
 
 class DeviceFacts(NamedTuple):
-    """What a device had: its kind, whether it is of the pool, its transfers, the calls at which it had one, those for which programs were held up by it,
-    how often it was lent, and the calls for which it was.
+    """What a device had: its kind, whether it is of the pool, its transfers, the words that they moved, or None where only the journal is known, the calls at which
+    it had one, those for which programs were held up by it, how often it was lent, and the calls for which it was.
     """
 
     kind: str
     is_of_pool: bool
     transfers: int
+    words: Optional[int]
     busy: int
     waited_for: int
     times_lent: int
@@ -53,46 +55,52 @@ class Facts(NamedTuple):
     devices: Dict[int, DeviceFacts]
 
 
-def facts_of(report: Report, name: str) -> Facts:
-    """The facts of the run of this report."""
-    chart = Chart(report, name, COLUMNS)
-    running = sum(entry[2] for entry in report.entries if entry[0] == "RAN")
-    idle = chart.idle.total()["idle"]
-    programs = {slot: of_program(chart, slot) for slot in chart.sections}
-    devices = {number: of_device(chart, number) for number in sorted(chart.devices)}
-    return Facts(chart.total, running, chart.total - running - idle, idle, overlapped(report), programs, devices)
+def facts_of(told: RunTold) -> Facts:
+    """The facts of the run that the machine told of."""
+    lent = {kind: list(without(told, kind)) for kind in ("TP", "LP")}
+    programs = {each["slot"]: of_program(told, each, lent) for each in told["programs"]}
+    used = {loan["device"] for loan in told["loans"]}
+    devices = {each["device"]: of_device(told, each, programs) for each in told["devices"] if each["slot"] is not None or each["device"] in used}
+    running, held_up = sum(program.running for program in programs.values()), len(told["holds"])
+    return Facts(told["made"], running, held_up, told["idle"], told["meanwhile"], programs, dict(sorted(devices.items())))
 
 
-def of_program(chart: Chart, slot: int) -> ProgramFacts:
+def of_program(told: RunTold, program: RunTold, lent: Dict[str, List[Stretch]]) -> ProgramFacts:
     """The facts of a program."""
-    total, section = chart.slot_lanes[slot].total(), chart.sections[slot]
-    held = {cause_of(reason): calls for reason, calls in total.items() if isinstance(reason, Held)}
-    return ProgramFacts(" ".join(section.state), section.orders, total[RAN], total[READY], dict(sorted(held.items())), sum(total.values()))
+    calls = next(each["calls"] for each in told["calls"] if each["slot"] == program["slot"])
+    state = " ".join(filter(None, (program["state"], program["failure"])))
+    turnaround = calls["running"] + calls["ready"] + sum(calls["held"].values())
+    return ProgramFacts(state, program["orders"], calls["running"], calls["ready"], held_by(told, program["slot"], lent), turnaround)
 
 
-def cause_of(reason: Held) -> str:
-    """What holds a program up, in a word and a number or a kind."""
-    return f"{reason.what} {reason.which}"
+def held_by(told: RunTold, slot: int, lent: Dict[str, List[Stretch]]) -> Dict[str, int]:
+    """The calls at which each cause held a program up."""
+    holds, held = [hold for hold in told["holds"] if hold["slot"] == slot], Counter()
+    for hold, following in zip(holds, [*holds[1:], {"call": None}]):
+        transfer = {} if hold["transfer"] is None else told["transfers"][hold["transfer"]]
+        ends = [transfer.get("ended"), hold["resumed"], following["call"], told["made"]]
+        until = min(end for end in ends if end is not None)
+        stretches = lent[hold["pool"]] if hold["by"] == "pool" else [(hold["call"], until)]
+        held[f"{hold['by']} {hold[hold['by']]}"] += sum(max(0, min(until, last) - max(hold["call"], first)) for first, last in stretches)
+    return {cause: calls for cause, calls in sorted(held.items()) if calls}
 
 
-def of_device(chart: Chart, number: int) -> DeviceFacts:
+def without(told: RunTold, kind: str) -> Iterator[Stretch]:
+    """The stretches in which each device of a kind of the pool has a holder, if there is one."""
+    devices = {each["device"] for each in told["devices"] if each["slot"] is None and each["kind"] == kind}
+    loans = [loan for loan in told["loans"] if loan["device"] in devices]
+    changes = sorted([(loan["taken"], 1) for loan in loans] + [(told["made"] if loan["given"] is None else loan["given"], -1) for loan in loans])
+    lent, since = 0, 0
+    for calls, more in changes:
+        if lent == len(devices) and calls > since:
+            yield since, calls
+        lent, since = lent + more, calls
+
+
+def of_device(told: RunTold, device: RunTold, programs: Dict[int, ProgramFacts]) -> DeviceFacts:
     """The facts of a device."""
-    waited_for = sum(lane.total()[Held("device", number)] for lane in chart.slot_lanes.values())
-    busy, lent = chart.device_lanes[number].total(), chart.lent_lanes.get(number)
-    return DeviceFacts(
-        chart.devices[number], number in chart.pool, chart.transfers[number], sum(busy.values()), waited_for,
-        lent.number_of_events() if lent else 0, sum(lent.total().values()) if lent else 0,
-    )
-
-
-def overlapped(report: Report) -> int:
-    """The calls at which an order was obeyed while a transfer went on."""
-    flying, calls = set(), 0
-    for kind, *numbers in report.entries:
-        if kind == "RAN" and flying:
-            calls += numbers[1]
-        elif kind == "START":
-            flying.add(numbers[1])
-        elif kind == "END":
-            flying.discard(numbers[0])
-    return calls
+    number = device["device"]
+    waited_for = sum(program.held.get(f"device {number}", 0) for program in programs.values())
+    loans = [loan for loan in told["loans"] if loan["device"] == number]
+    lent = sum((told["made"] if loan["given"] is None else loan["given"]) - loan["taken"] for loan in loans)
+    return DeviceFacts(device["kind"], device["slot"] is None, device["transfers"], device["words"], device["busy"], waited_for, len(loans), lent)

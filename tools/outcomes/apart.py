@@ -8,13 +8,14 @@ from typing import Dict, List, Optional
 
 from kdf9.journal import SLOTS, exchanged
 from kdf9.schedule import MOST_LINES, Event
+from kdf9.tables import table
 from outcomes.found import Found, Witness, least
 from outcomes.moments import Path
 from outcomes.runs import Job
 from outcomes.search import LATE, Limits, Search
 
 # How many joint outcomes are listed; the others are only counted.
-MOST_JOINT = 20
+MOST_JOINT = table("outcomes")["most_joint"]
 
 
 class Alone(Search):

@@ -2,8 +2,12 @@
 from typing import Dict, NamedTuple, Optional, Tuple
 
 from kdf9.program import BadInput
+from kdf9.tables import table
 from outcomes.moments import Circle, Moment, Path
 from outcomes.runs import Events, Job
+
+# What is said where what was found contradicts itself.
+SAYS = table("outcomes")["says"]
 
 # How a program that waits for good is told in a joint outcome.
 WAITS = "WAITS"
@@ -53,7 +57,7 @@ class Found:
         """Keeps the section of a program that is over, which depends on nothing but its answers."""
         if self.sections.setdefault((slot, result), section) != section:
             answers = " ".join(map(str, result.answers)) or "nothing"
-            raise BadInput(f"{self.job.source}: slot {slot} came to two sections though it was answered the same: {answers}; nothing is told of this job")
+            raise BadInput(f"{self.job.source}: {SAYS['two_sections'].format(slot=slot, answers=answers)}")
 
     def _look(self, moment: Moment, witness: Witness) -> None:
         for slot, state in moment.over.items():

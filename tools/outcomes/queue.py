@@ -5,11 +5,12 @@ import heapq
 import itertools
 from typing import Dict, List
 
+from kdf9.tables import table
 from outcomes.moments import Moment
 from outcomes.runs import Events, Job
 
 # How much nearer to a deadlock a program that waits is than a device that is lent.
-WAITING = 2
+WAITING = table("outcomes")["waiting"]
 
 
 class Queue:

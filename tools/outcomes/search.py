@@ -6,13 +6,14 @@ follows a moment needs to be searched only once.
 from typing import Dict, Iterator, List, Optional
 
 from kdf9.schedule import Event
+from kdf9.tables import table
 from outcomes.found import Found
 from outcomes.moments import Moment, Path, Turn
 from outcomes.queue import Queue
 from outcomes.runs import Job, Runner
 
 # How many nodes are run at a time.
-BATCH = 16
+BATCH = table("outcomes")["batch"]
 
 # Everywhere, and each schedule by itself; everywhere, but equal moments only once; or only where somebody can tell, and equal moments only once.
 NAIVE, MOMENTS, LATE = "naive", "moments", "late"

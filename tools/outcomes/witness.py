@@ -3,7 +3,7 @@ from typing import Callable, Dict, Tuple
 
 from kdf9.machine import answer_to
 from kdf9.program import BadInput
-from outcomes.found import WAITS, Found, Result, Witness
+from outcomes.found import SAYS, WAITS, Found, Result, Witness
 from outcomes.moments import Circle, Path
 from outcomes.runs import Job
 
@@ -41,7 +41,7 @@ class Shown:
 
     def _text(self, witness: Witness, is_so: Callable[[Path], bool]) -> str:
         if not is_so(self._path(witness)):
-            raise BadInput(f"{self._job.source}: the machine doesn't come to what the search found after {witness.calls} calls; nothing is told of this job")
+            raise BadInput(f"{self._job.source}: {SAYS['no_witness'].format(calls=witness.calls)}")
         return self._job.text(witness.events, witness.calls)
 
     def _path(self, witness: Witness) -> Path:
@@ -50,7 +50,7 @@ class Shown:
             text = self._job.text(witness.events, witness.calls)
             report = answer_to(["run"], text)
             if answer_to(["check"], text + report).split("\n")[1] != YES:
-                raise BadInput(f"{self._job.source}: check doesn't find a report to be that of its job; nothing is told of this job")
+                raise BadInput(f"{self._job.source}: {SAYS['not_checked']}")
             path = self._paths[witness] = Path(report, self._job.slots, witness.events)
             for slot, state in path.last.over.items():
                 self._found.keep_section(slot, Result(state, path.last.answers[slot]), path.sections[slot])

@@ -3,7 +3,7 @@
 The journals of the machine itself say when transfers begin. A schedule that is right up to some call has a journal that is right up to there (docs/PROOFS.md,
 `cut`), so each run shows more of what to write than the one before. What comes after that is guessed from earlier runs; where the guess is right, one run is enough.
 """
-from typing import Callable, Dict, List, NamedTuple, Sequence, Tuple
+from typing import Callable, Dict, List, NamedTuple, Optional, Sequence, Tuple
 
 from kdf9 import library
 from kdf9.delays import Delays, Transfer
@@ -88,7 +88,7 @@ class Search:
             schedule = self._with(self._found + guess.transfers, until)
             run = run_of(self._job.text(schedule), self._run)
             made = self._scene.note.calls + sum(map(length, run.entries[self._scene.note.index:]))
-            if not self._look(run.entries, guess, until) or until < self._total:
+            if not self._look(run, guess, until) or until < self._total:
                 self._scene = self._scene.follow(run.entries, self._right, self._words())
             if self._right >= made and (made < until or until == self._total):
                 return Settling(run, schedule, made < until)
@@ -98,17 +98,17 @@ class Search:
         room = MOST_LINES // self._delays.most_lines() - len(self._found)
         return Foresight(self._scene, self._ends, self._delays, self._swaps).guess(self._total, max(0, min(self._most, room)))
 
-    def _look(self, entries: Sequence[tuple], guess: Guess, until: int) -> bool:
+    def _look(self, run: Settled, guess: Guess, until: int) -> bool:
         """Keeps the transfers that began in a run that ended the guessed ones too, as far as it is right, and the calls up to which it is. Returns whether all that
         was guessed is right, so that there is nothing to learn.
         """
-        begun = self._begun(entries)
+        begun, words = self._begun(run.entries), Words(run.job)
         there, guessed = {(each.calls, each.device) for each in begun}, {(each.calls, each.device): each for each in guess.transfers}
         right, hits, before = min([until] + [self._delays.first(each) for place, each in guessed.items() if place not in there]), 0, len(self._found)
         for each in begun:
             if each.calls > right:
                 break
-            mine, transfer = guessed.get((each.calls, each.device)), self._transfer(each)
+            mine, transfer = guessed.get((each.calls, each.device)), self._transfer(each, words)
             self._keep(transfer)
             hits += mine == transfer
             if mine != transfer:
@@ -143,14 +143,14 @@ class Search:
         if self._events > MOST_LINES:
             raise BadInput(f"{self._source}: {TOO_LONG}")
 
-    def _transfer(self, begun: Begun) -> Transfer:
-        """A transfer that began, with its words if the time that it takes goes by them: the machine tells them of the run up to the order that began it."""
+    def _transfer(self, begun: Begun, words: "Words") -> Transfer:
+        """A transfer that began, with its words if the time that it takes goes by them."""
         transfer = Transfer(begun.calls, begun.device)
         if not self._delays.goes_by_words(begun.device):
             return transfer
         known, place = self._job.memories[begun.slot].words, (begun.answers, begun.order)
         if place not in known:
-            known[place] = words_begun(self._job.text(self._with(self._found, begun.calls)), begun.device)
+            known[place] = words.of(begun.calls, begun.device)
         return transfer._replace(words=known[place])
 
     def _words(self) -> Dict[Tuple[int, int], int]:
@@ -164,10 +164,19 @@ class Search:
         return Schedule(calls, sorted(events, key=at))
 
 
-def words_begun(text: str, device: int) -> int:
-    """The words of the transfer of a device that the last order of a job's run began."""
-    transfers = library.facts(text.encode(ENCODING))["transfers"]
-    return next(each["words"] for each in reversed(transfers) if each["device"] == device)
+class Words:
+    """How many words the transfers of the run of a job have. The machine tells those of all of them at once, if it is asked for one."""
+
+    def __init__(self, job: str) -> None:
+        self._job = job
+        self._told: Optional[Dict[Tuple[int, int], int]] = None
+
+    def of(self, calls: int, device: int) -> int:
+        """The words of the transfer of a device that had begun after this number of calls."""
+        if self._told is None:
+            transfers = library.facts(self._job.encode(ENCODING))["transfers"]
+            self._told = {(each["began"], each["device"]): each["words"] for each in transfers}
+        return self._told[calls, device]
 
 
 def run_of(text: str, run: Callable[[str], str]) -> Settled:

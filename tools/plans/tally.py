@@ -1,4 +1,8 @@
-"""The counts of a run for a row of a study: the facts of kdf9.spent, counted in one pass over the journal, without the columns of a picture."""
+"""The counts of a run for a row of a study: the facts of kdf9.spent, counted in one pass over the journal, which is quicker than to ask the machine for facts.
+
+A journal tells neither the words of a transfer nor which transfer locks out a group: a program that is held up by one counts as held up until it goes on, or the
+last transfer that it had in flight has ended.
+"""
 from collections import Counter
 from typing import Dict, Optional, Sequence, Set, Tuple
 
@@ -142,4 +146,4 @@ class Tally:
     def _of_device(self, number: int) -> DeviceFacts:
         waited_for = sum(program.calls[f"device {number}"] for program in self._programs.values())
         is_lent, kind = number in self._pool, self._pool.get(number) or self._kinds[number]
-        return DeviceFacts(kind, is_lent, self._transfers[number], self._busy[number], waited_for, self._times[number], self._lent_for[number])
+        return DeviceFacts(kind, is_lent, self._transfers[number], None, self._busy[number], waited_for, self._times[number], self._lent_for[number])
