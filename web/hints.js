@@ -1,8 +1,7 @@
-// What may have led to a fault of a job or of its deck.
+// What may have led to a fault of a job or of its deck, where the machine doesn't tell it.
 
 import { HEADER, linesOf } from "./job.js";
 import { lineAndColumn, statementAt, withoutComments } from "./deck.js";
-import { OF_POOL, isOfCharacters, kindAbove, signsOf, wordOfBadNumber } from "./fault.js";
 import { distanceIsOne, hasForm, hintOfName } from "./names.js";
 import { JOB, KINDS, LEFT_OUT, LINES, hint } from "./tables.js";
 
@@ -12,16 +11,29 @@ const PIECES = 16, FEW_PIECES = 4;
 /** How many blank lines before a job count as a slip. */
 const BLANK_LINES = 9;
 
+/** The bytes of a medium that aren't characters: any but those of the table. */
+const NO_CHARACTER = new RegExp(`[^${JOB.characters.replace(/[\]\\^-]/g, "\\$&")}]`);
+
+/** Whether a text has only characters. */
+const isOfCharacters = (text) => !NO_CHARACTER.test(text);
+
+/** What stands for a kind of device directly after the line POOL. */
+const OF_POOL = "POOL";
+
+/** The signs with which a line of a medium can begin, by the kind of its device: none if the device begins empty, as those of the pool do. */
+const signsOf = (kind) => KINDS[kind]?.signs ?? [];
+
 const spaced = (text) => text.trim().split(/[ \n]+/).join(" ");
 const listed = (words) => (words.length < 2 ? words.join("") : `${words.slice(0, -1).join(", ")} or ${words.at(-1)}`);
 
-/** A hint for a fault of the job with this text, or null. */
-export async function hintOf(ask, fault, text) {
-  return fault.deck === undefined ? hintOfJob(fault, linesOf(text)) : hintOfDeck(ask, fault);
+/** A hint for a fault of a text, or of one of its decks, or null. */
+export async function hintUntold(ask, fault, text, deck) {
+  if (fault.of === "deck") return hintOfDeck(ask, fault, deck);
+  return fault.of === "job" ? hintOfJob(fault, linesOf(text)) : null;
 }
 
 /** A hint for a fault of a deck, or null. */
-async function hintOfDeck(ask, { name, deck, place }) {
+async function hintOfDeck(ask, { name, offset: place }, deck) {
   if (name === "BadByte") return { 13: hint("byte_13"), 9: hint("tab") }[deck.charCodeAt(place)] ?? null;
   if (name === "Floating") return hint("floating");
   if (name === "UnknownOrder" || name === "ConstantRange") return hintOfStatement(ask, name, deck, place);
@@ -180,4 +192,17 @@ const isInDeck = (lines) => lines.lastIndexOf("DECK") > lines.lastIndexOf("ENDDE
 function isInPool(lines) {
   const after = lines.slice(lines.lastIndexOf("ENDDECK") + 1);
   return lines.includes("ENDDECK") && after.includes("POOL") && !after.includes("SCHEDULE") && !isInDeck(lines);
+}
+
+/** Which field of a line isn't a number in its range: the index of the first of them, or 0 if there is none. */
+function wordOfBadNumber(text) {
+  const [keyword, ...words] = text.split(" ");
+  const isWrong = ([least, most], at) => at < words.length && !(/^(0|[1-9]\d*)$/.test(words[at]) && least <= Number(words[at]) && Number(words[at]) <= most);
+  return 1 + (LINES[keyword]?.numbers ?? []).findIndex(isWrong);
+}
+
+/** The kind of the device to whose medium a line belongs, or POOL directly after that line. */
+function kindAbove(lines, line) {
+  const above = lines.slice(0, line).findLast((text) => text.startsWith("DEVICE ") || text === OF_POOL) ?? "";
+  return above === OF_POOL ? above : above.split(" ")[2] ?? "";
 }

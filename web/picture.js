@@ -2,7 +2,6 @@
 
 import { many } from "./report.js";
 import { PICTURE, worded } from "./tables.js";
-import { RAN, READY } from "./timeline.js";
 
 const NAMESPACE = "http://www.w3.org/2000/svg";
 const { sizes: SIZES, slots: SLOTS, shades: SHADES, says: SAYS, legend: LEGEND, signs: SHAPES } = PICTURE;
@@ -14,8 +13,6 @@ const SAVED = SIZES;
 
 /** The least pixels between two numbers on the axis. */
 const APART = 73;
-
-const SAID_OF_HOLDS = { BUSY: "by_device", LOV: "by_group", WAIT: "by_pool" };
 
 /** An element of a picture. */
 export function shape(name, attributes, ...children) {
@@ -102,7 +99,7 @@ function distanceOf(calls, most) {
   }
 }
 
-const keyOfProgram = ({ what, reason }) => (reason ? `${reason.kind} ${reason.number}` : what);
+const keyOfProgram = ({ what, hold }) => (hold ? `${hold.by} ${hold[hold.by]}` : what);
 const keyOfSlot = ({ slot }) => slot;
 const sumOf = (numbers) => numbers.reduce((sum, number) => sum + number, 0);
 
@@ -121,8 +118,8 @@ class Sheet {
   }
 
   get title() {
-    const { total, sums, transfers } = this.timeline;
-    return worded(SAYS.run, { calls: many(total, "call"), idle: sums.idle, transfers: many(transfers, "transfer") });
+    const { total, facts, transfers } = this.timeline;
+    return worded(SAYS.run, { calls: many(total, "call"), idle: facts.idle, transfers: many(transfers, "transfer") });
   }
 
   x(column) {
@@ -185,22 +182,22 @@ class Sheet {
   }
 
   programBar(slot, stretch) {
-    const { calls, first, end } = stretch, held = [...calls].filter(([key]) => key !== RAN && key !== READY), ran = calls.get(RAN) ?? 0;
-    const waits = sumOf(held.filter(([key]) => key.startsWith("WAIT")).map(([, number]) => number));
+    const { calls, first, end } = stretch, held = [...calls].filter(([key]) => key !== "ran" && key !== "ready"), ran = calls.get("ran") ?? 0;
+    const waits = sumOf(held.filter(([key]) => key.startsWith("pool")).map(([, number]) => number));
     const parts = [[ran, SLOTS[slot].shade, `slot-${slot}`], [sumOf(held.map(([, number]) => number)) - waits, SHADES.held, "held"], [waits, SHADES.waits, "waits"]];
     const boxes = this.stack(stretch, SIZES.slot, parts), left = Math.round(this.x(first));
     const line = { x: left, y: this.y + SIZES.slot - SIZES.ready, width: Math.max(1, Math.round(this.x(end)) - left), height: SIZES.ready, fill: SHADES.ready, class: "ready" };
     const digit = 2 * ran > sumOf([...calls.values()]) ? this.digit(slot, stretch, SIZES.slot) : [];
     const said = [
       ...(ran ? [worded(SAYS.obeyed, { orders: many(ran, "order") })] : []), ...held.sort(([, one], [, other]) => other - one).map((each) => this.saidOfHold(...each)),
-      ...(calls.has(READY) ? [worded(SAYS.ready, { calls: many(calls.get(READY), "call") })] : []),
+      ...(calls.has("ready") ? [worded(SAYS.ready, { calls: many(calls.get("ready"), "call") })] : []),
     ];
     this.bar(`slot ${slot}, ${this.view.when(first, end)}: ${said.join("; ")}`, first, [...(boxes.length ? boxes : [shape("rect", line)]), ...digit]);
   }
 
   saidOfHold(key, calls) {
-    const [kind, number] = key.split(" ");
-    return worded(SAYS[SAID_OF_HOLDS[kind]], { calls: many(calls, "call"), device: this.nameOf(Number(number)), group: number, kind: number });
+    const [by, number] = key.split(" ");
+    return worded(SAYS[`by_${by}`], { calls: many(calls, "call"), device: this.nameOf(Number(number)), group: number, kind: number });
   }
 
   /** A device by its number and its kind. */
@@ -258,7 +255,7 @@ class Sheet {
 
   idle() {
     const { timeline } = this;
-    this.row(SIZES.device, "idle", many(timeline.sums.idle, "call"));
+    this.row(SIZES.device, "idle", many(timeline.facts.idle, "call"));
     for (const stretch of stretchesOf(this.view, timeline.idle, () => "idle")) {
       const calls = stretch.calls.get("idle");
       const said = `${this.view.when(stretch.first, stretch.end)}: ${worded(SAYS.idle, { calls: many(calls, "call") })}`;

@@ -171,14 +171,16 @@ export class Pictured {
 const shareOf = (calls, all) => `${(100 * calls / Math.max(1, all)).toFixed(1)} %`;
 
 /** To what the calls of a run went: rows of a name, calls and their share. */
-function rowsOfSums({ sums, kinds, pool }) {
-  const { made, running, idle, programs, devices } = sums, row = (name, calls) => [name, calls, made];
+function rowsOfSums({ facts: { made, idle, holds, calls }, used }) {
+  const row = (name, number) => [name, number, made];
   return [
-    row("processor: running", running), row("processor: finding a program held up", made - running - idle), row("processor: idle", idle),
-    ...devices.map(({ device, busy }) => row(`device ${device} ${kinds.get(device)}${pool.has(device) ? " (pool)" : ""}: busy`, busy)),
-    ...programs.flatMap(({ slot, ...calls }) => [
-      ["running", "running"], ["ready", "ready"], ["device", "held up by a device"], ["group", "held up by a group of words"], ["pool", "held up by the pool"], ["over", "over"],
-    ].filter(([name]) => calls[name] || name === "running" || name === "ready").map(([name, words]) => row(`program ${slot}: ${words}`, calls[name]))),
+    row("processor: running", made - idle - holds.length), row("processor: finding a program held up", holds.length), row("processor: idle", idle),
+    ...used.map(({ device, kind, slot, busy }) => row(`device ${device} ${kind}${slot === null ? " (pool)" : ""}: busy`, busy)),
+    ...calls.flatMap(({ slot, calls: { running, ready, held: { device, group, pool }, over } }) => [
+      row(`program ${slot}: running`, running), row(`program ${slot}: ready`, ready),
+      ...[["held up by a device", device], ["held up by a group of words", group], ["held up by the pool", pool], ["over", over]].filter(([, number]) => number)
+        .map(([words, number]) => row(`program ${slot}: ${words}`, number)),
+    ]),
   ];
 }
 

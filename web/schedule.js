@@ -2,8 +2,8 @@
 // a schedule is right up to some call, its journal is right up to that call, so each run shows more of what to write than the one before.
 
 import { byId, labelled, make } from "./dom.js";
+import { factsFor } from "./facts.js";
 import { linesOf, readJob, textOf, writeJob } from "./job.js";
-import { callsOf, readReport, timed } from "./report.js";
 import { JOB } from "./tables.js";
 
 const MOST_LINES = JOB.most.lines_of_schedule;
@@ -62,14 +62,11 @@ export function writeSchedule({ calls, events }) {
   return textOf(lines);
 }
 
-/** The transfers that a journal records, each with its device, the number of transfers that the device had had before, and how many calls had been made when it had
- * begun; and the number of calls of the whole run. */
-function readTransfers(report) {
-  const entries = timed(readReport(report).entries), had = new Map();
-  const next = (device) => had.set(device, (had.get(device) ?? -1) + 1).get(device);
-  const begun = entries.filter(([, [kind]]) => kind === "START").map(([calls, [, , device]]) => ({ calls, device: `${device}`, index: next(device) }));
-  const [before, last] = entries.at(-1) ?? [0, []];
-  return { begun, calls: before + callsOf(last) };
+/** The transfers of a run, each with its device, the number of transfers that the device had had before, and how many calls had been made when it had begun; and the
+ * number of calls of the whole run. */
+function transfersOf({ transfers, made }) {
+  const had = new Map(), next = (device) => had.set(device, (had.get(device) ?? -1) + 1).get(device);
+  return { begun: transfers.map(({ device, began }) => ({ calls: began, device: `${device}`, index: next(device) })), calls: made };
 }
 
 /** The events of a transfer. It takes as many steps as `devices` says for its device, or else `after`. A step is one call; but if `every` isn't 0, it is that many
@@ -97,9 +94,9 @@ export async function withTransfers(ask, text, eventsFor) {
   let known = 0, window = USUAL_WINDOW;
   while (known < total) {
     const until = Math.min(total, known + window);
-    const { status, text: report } = await ask(["run"], writeJob({ ...job, slots: job.slots.map((slot) => ({ ...slot, shows: [] })), schedule: withEnds(until) }));
-    if (status) throw new NoSchedule(report.trim());
-    const journal = readTransfers(report);
+    const facts = await factsFor(ask, ["run"], writeJob({ ...job, schedule: withEnds(until) }));
+    if (facts.kind === "fault") throw new NoSchedule(`${facts.name}, line ${facts.line}`);
+    const journal = transfersOf(facts);
     const next = journal.begun.filter(({ calls }) => calls > known);
     const right = Math.min(until, ...next.map((transfer) => eventsFor(transfer)[0].calls));
     found.push(...next.filter(({ calls }) => calls <= right));

@@ -1,8 +1,8 @@
 // Another schedule of a job, by chance: transfers end and move at other calls, the clock shows its times at other calls, and programs exchange their priorities.
 // Or other decks of its programs. A seed gives the same each time.
 
+import { factsFor } from "./facts.js";
 import { readJob, writeJob } from "./job.js";
-import { callsOf, readReport } from "./report.js";
 import { layoutsOf } from "./results.js";
 import { NoSchedule, readSchedule, withTransfers, writeSchedule } from "./schedule.js";
 import { LINES } from "./tables.js";
@@ -49,11 +49,9 @@ function others(job, calls, seed) {
 /** The text of a job with another schedule. It has more calls than the job's own, so that a program comes as far if its transfers take longer. */
 export async function shuffled(ask, text, seed) {
   const job = readJob(text);
-  const { status, text: report } = await ask(["run"], text);
-  if (status) throw new NoSchedule(report.trim());
-  const { entries } = readReport(report);
-  const made = entries.reduce((sum, entry) => sum + callsOf(entry), 0), transfers = entries.filter(([kind]) => kind === "START").length;
-  const calls = Math.min(MOST_CALLS, readSchedule(job.schedule).calls + LONGEST_TRANSFER * transfers);
+  const { kind, name, line, made, transfers } = await factsFor(ask, ["run"], text);
+  if (kind === "fault") throw new NoSchedule(`${name}, line ${line}`);
+  const calls = Math.min(MOST_CALLS, readSchedule(job.schedule).calls + LONGEST_TRANSFER * transfers.length);
   const schedule = writeSchedule({ calls, events: others(job, made, seed) });
   return withTransfers(ask, writeJob({ ...job, schedule }), (transfer) => eventsOf(transfer, seed));
 }
