@@ -36,6 +36,9 @@ const IS_CHANGED = "The job has been changed since this run. Run it again.";
 /** How many milliseconds after the last key the page looks for a fault of the job. */
 const PAUSE = 700;
 
+/** After a run of more milliseconds its text is shown before the machine tells the facts of the run, for which it makes the run again. */
+const SOON = 500;
+
 /** A job of at most so many characters is read again after each key. */
 const SHORT = 20000;
 
@@ -195,6 +198,10 @@ async function runNow(asked) {
   showText(null);
   const answer = await ask(asked, text);
   const fault = await showFault(answer.status, asked, text);
+  if (answer.milliseconds > SOON) {
+    showText({ text: answer.text });
+    say("The run is made. The machine now tells what there is to know of it.");
+  }
   const outcome = await outcomeOf(ask, asked, text, answer, { job: jobOf(asked[0], text), failures: texts.failures });
   showText(outcome, { look: isRun ? look : null, go: goToStop, change: isRun ? changeAndRun : null, say });
   lastRun = isRun && outcome.timeline ? { ...outcome, text } : null;

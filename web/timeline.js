@@ -59,11 +59,12 @@ function withReady(made, spans, over) {
 export class Timeline {
   constructor(facts) {
     const { made, entries, programs, devices, transfers, loans, holds } = facts, of = (...names) => entries.filter(({ entry }) => names.includes(entry));
-    const lentEver = new Set(loans.map(({ device }) => device)), used = devices.filter(({ slot, device }) => slot !== null || lentEver.has(device));
+    const lentEver = new Set(loans.map(({ device }) => device)), ofPool = devices.filter(({ slot, device }) => slot === null && lentEver.has(device));
+    const used = [...devices.filter(({ slot }) => slot !== null), ...ofPool.sort((one, other) => one.device - other.device)];
     const slots = programs.map(({ slot }) => slot), numbers = used.map(({ device }) => device);
     Object.assign(this, { facts, total: made, transfers: transfers.length, used });
     this.kinds = new Map(used.map(({ device, kind }) => [device, kind]));
-    this.pool = new Map(used.filter(({ slot }) => slot === null).map(({ device, kind }) => [device, kind]));
+    this.pool = new Map(ofPool.map(({ device, kind }) => [device, kind]));
     this.states = new Map(programs.map(({ slot, state, failure, orders }) => [slot, { state: failure ? `${state} ${failure}` : state, orders }]));
     this.ends = grouped(of("FAIL", "ENDED").map(({ slot, call, kind }) => ({ slot, call, failure: kind })), ({ slot }) => slot, slots);
     this.devices = grouped(transfers.map(({ device, slot, began, ended }) => spanOf(made, began, ended, { device, slot })), ({ device }) => device, numbers);
