@@ -57,6 +57,7 @@ export class Layout {
   constructor(deck, facts) {
     const written = new Map(statementsOf(deck).map((statement) => [statement.start, statement])), { statements, references, words } = facts;
     this.words = words;
+    this.linesBefore = statements.length ? statements[0].line - lineAndColumn(deck, statements[0].offset).line : 0; // in the job
     this.stores = facts.stores ?? storesUntold(statements);
     this.orders = new Map(statements.filter(({ syllables }) => syllables).map(({ at, offset }) => [placeAt(at), written.get(offset)]));
     this.first = this.orders.get(placeAt(facts.start));

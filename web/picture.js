@@ -7,7 +7,7 @@ const NAMESPACE = "http://www.w3.org/2000/svg";
 const { sizes: SIZES, slots: SLOTS, shades: SHADES, says: SAYS, legend: LEGEND, signs: SHAPES } = PICTURE;
 
 /** The sizes of a picture that has half a window, of one that has a window, and of one that is saved. */
-export const HALF = { left: 150, width: 460, right: 14, key: 312 };
+export const HALF = { left: 150, width: 444, right: 30, key: 284 };
 export const WHOLE = { left: 150, width: 900, right: 14, key: 350 };
 const SAVED = SIZES;
 

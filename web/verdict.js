@@ -101,9 +101,13 @@ export class Verdicts {
     return { slot, program, kind, statement, ...about, causes: this.causesOf(program, kind) };
   }
 
-  /** What the machine tells of why a program failed or is live, besides what is said of it. */
-  causesOf({ why }, kind) {
-    return (why ?? []).slice(kind === "failed" ? 1 : 0).filter(({ what }) => !SAID_ALREADY[kind].includes(what)).map(({ sentence }) => `${sentence[0].toUpperCase()}${sentence.slice(1)}.`);
+  /** What the machine tells of why a program failed or is live, besides what is said of it. A place in its deck is told by its line in the job. */
+  causesOf({ slot, why }, kind) {
+    const before = this.layouts.get(slot)?.linesBefore ?? 0, isNew = ({ what, own }) => own || !SAID_ALREADY[kind].includes(what);
+    return (why ?? []).slice(kind === "failed" ? 1 : 0).filter(isNew).map(({ sentence, line, column }) => {
+      const said = sentence.replace(`${line}:${column}`, `line ${line - before}, column ${column} of its deck`);
+      return `${said[0].toUpperCase()}${said.slice(1)}.`;
+    });
   }
 
   /** Where a program is: at which statement of its deck. */
