@@ -150,7 +150,7 @@ export function answer(module, words, job) {
 /**
  * What the proved code tells of a job, which is bytes: as `answer`, and the text is that of the facts that the words of a command ask for.
  */
-export function telling(module, words, job) {
+export function textOfFacts(module, words, job) {
   return whole("kdf9_facts", module, words, job);
 }
 
@@ -159,6 +159,6 @@ export function telling(module, words, job) {
  * have more than 256 MiB or there was no memory; and the number of the status, the bytes of the facts, the milliseconds and the bytes of memory.
  */
 export function facts(module, words, job) {
-  const { text, ...rest } = telling(module, words, job);
+  const { text, ...rest } = textOfFacts(module, words, job);
   return { facts: text.length ? JSON.parse(new TextDecoder().decode(text)) : null, ...rest };
 }

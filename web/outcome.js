@@ -5,7 +5,7 @@ import { NOUGHT } from "./deck.js";
 import { STATUSES } from "./engine.js";
 import { Untold, factsFor } from "./facts.js";
 import { Pictured, tableOfSums } from "./pictured.js";
-import { sectionsRead } from "./report.js";
+import { readReport } from "./report.js";
 import { isReadable, layoutsOf, resultsOf, shownText } from "./results.js";
 import { Timeline } from "./timeline.js";
 import { Verdicts, drawVerdicts } from "./verdict.js";
@@ -36,7 +36,7 @@ export async function outcomeOf(ask, words, text, answer, { job, failures }) {
     const layouts = await layoutsOf(ask, job), hasNames = [...layouts.values()].some(({ addresses }) => addresses.length);
     const { facts, watch, wordsIn } = await factsAfter(ask, words, text, hasNames && milliseconds < LONGEST_RUN);
     const timeline = facts.kind === "run" ? new Timeline(facts) : null, stops = watch && stopsOf(watch, facts);
-    return { text: report, facts, sections: sectionsRead(report), layouts, wordsIn, timeline, stops, verdicts: new Verdicts(facts, { layouts, failures, text: job }) };
+    return { text: report, facts, ...readReport(report), layouts, wordsIn, timeline, stops, verdicts: new Verdicts(facts, { layouts, failures, text: job }) };
   } catch (error) {
     if (!(error instanceof Untold)) throw error;
     return { text: report, notice: `There is only the text: ${error.message}.` };
@@ -44,7 +44,7 @@ export async function outcomeOf(ask, words, text, answer, { job, failures }) {
 }
 
 /** What a text says that was recorded of a job. */
-export const outcomeOfRecord = (text) => (isReadable(text) ? { text, sections: sectionsRead(text), layouts: new Map() } : { text });
+export const outcomeOfRecord = (text) => (isReadable(text) ? { text, ...readReport(text), layouts: new Map() } : { text });
 
 /** Up to which call a run is drawn: not to its end if it only waits there. */
 function callsDrawn({ idle, total }) {

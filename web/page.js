@@ -23,6 +23,9 @@ import { Variations } from "./variations.js";
 import { NoPlace, watchable, wordOf } from "./watch.js";
 import { whatIf } from "./whatif.js";
 
+/** The words of the command that finds the faults of a job without running it. */
+const LISTS = ["asm", "0"];
+
 /** The statuses of a fault of a job, a deck or a snapshot. */
 const FAULTS = [2, 3, 8];
 
@@ -91,8 +94,8 @@ async function lookForFault() {
   }
   const { text } = view;
   try {
-    const job = jobOf(byId("command").value, text), { status } = await ask(["asm", "0"], job);
-    if (text === view.text) await showFault(status, ["asm", "0"], job);
+    const job = jobOf(byId("command").value, text), answer = await ask(LISTS, job);
+    if (text === view.text) await showFault(answer, job);
   } catch (error) {
     if (!(error instanceof Stopped)) sayFailed(error);
   }
@@ -109,8 +112,8 @@ function sayFailed(error) {
 /** The job of a text that a command reads. */
 const jobOf = (command, text) => (READ_MORE.includes(command) ? frontOf(text) : text);
 
-/** Marks the fault that a command finds in a text, if its status is that of one, and returns it; otherwise null. */
-async function showFault(status, words, text) {
+/** Marks the fault that a command finds in a text, if its answer has the status of one, and returns it; otherwise null. */
+async function showFault({ status }, text, words = LISTS) {
   const fault = FAULTS.includes(status) ? await faultFound(ask, words, text) : null;
   if (!fault) {
     view.forgetFault();
@@ -197,7 +200,7 @@ async function runNow(asked) {
   const { text } = view, isRun = RUN.includes(asked[0]);
   showText(null);
   const answer = await ask(asked, text);
-  const fault = await showFault(answer.status, asked, text);
+  const fault = await showFault(answer, text, asked);
   if (answer.milliseconds > SOON) {
     showText({ text: answer.text });
     say("The run is made. The machine now tells what there is to know of it.");
@@ -241,7 +244,7 @@ function takeSchedule(text, what) {
 }
 
 /** The fault of a job with its hint, as it is shown, or null if there is none. */
-const explain = (job) => faultFound(ask, ["asm", "0"], job);
+const explain = (job) => faultFound(ask, LISTS, job);
 
 /** Shows the last run call by call, first after this call. */
 function look(call) {
@@ -293,8 +296,8 @@ async function writeSchedule() {
   const delays = readDelays();
   if (delays === null) return say("These aren't numbers of calls.", true);
   return work("Writing the schedule.", async () => {
-    const before = view.text, answer = await ask(["asm", "0"], before);
-    const fault = await showFault(answer.status, ["asm", "0"], before);
+    const before = view.text, answer = await ask(LISTS, before);
+    const fault = await showFault(answer, before);
     if (fault) return sayAnswer(answer, fault);
     view.show(await scheduled(ask, before, delays));
     changed();

@@ -5,7 +5,7 @@ import { button, choice, labelled, make, table } from "./dom.js";
 import { readJob, withStore, writeJob } from "./job.js";
 import { saidOf, wordsOfGroup } from "./journal.js";
 import { mediumOf } from "./medium.js";
-import { NAMES_OF_POOL, numberOf, sectionsRead, stateOfStint } from "./report.js";
+import { NAMES_OF_POOL, numberOf, readReport, stateOfStint } from "./report.js";
 import { readSchedule, writeSchedule } from "./schedule.js";
 import { Seeker } from "./seek.js";
 import { WHOLE } from "./picture.js";
@@ -152,14 +152,14 @@ export class Replay {
   async sectionsOnly(call) {
     const { status, text } = await this.ask(["run"], cutJob(this.text, call, (slot) => ({ ...slot, shows: [] })));
     if (status) throw new Error(text.trim());
-    return sectionsRead(text);
+    return readReport(text).sections;
   }
 
   async sections(call) {
     if (this.last?.call === call && this.last.text === this.text) return this.last.sections;
     const { status, text } = await this.ask(["run"], cutJob(this.text, call));
     if (status) throw new Error(text.trim());
-    const sections = sectionsRead(text);
+    const { sections } = readReport(text);
     this.last = { call, text: this.text, sections };
     return sections;
   }

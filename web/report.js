@@ -42,7 +42,7 @@ const emptySection = (slot) => ({
 });
 
 /** The sections of a report, or of the text of a lone run. */
-export function sectionsRead(text) {
+export function readReport(text) {
   const sections = [], lines = text.split("\n");
   for (const line of lines.slice(lines.findIndex((each, at) => at > 0 && /^(SLOT |ENDREPORT$)/.test(each)))) {
     if (line === "ENDREPORT") break;
@@ -50,7 +50,7 @@ export function sectionsRead(text) {
     if (word === "SLOT") sections.push(emptySection(Number(rest)));
     else READERS[word](sections.at(-1), rest);
   }
-  return sections;
+  return { sections };
 }
 
 /** The value of a word of 16 octal digits, as a number with a sign. */

@@ -62,11 +62,13 @@ export function writeSchedule({ calls, events }) {
   return textOf(lines);
 }
 
-/** The transfers of a run, each with its device, the number of transfers that the device had had before, and how many calls had been made when it had begun; and the
- * number of calls of the whole run. */
-function transfersOf({ transfers, made }) {
-  const had = new Map(), next = (device) => had.set(device, (had.get(device) ?? -1) + 1).get(device);
-  return { begun: transfers.map(({ device, began }) => ({ calls: began, device: `${device}`, index: next(device) })), calls: made };
+/** The transfers of the run of a job, each with its device, its words, the number of transfers that the device had had before, and how many calls had been made when it
+ * had begun; and the number of calls of the whole run. The machine tells them. */
+export async function transfersOf(ask, text) {
+  const facts = await factsFor(ask, ["run"], text), had = new Map();
+  if (facts.kind === "fault") throw new NoSchedule(`${facts.name}, line ${facts.line}`);
+  const next = (device) => had.set(device, (had.get(device) ?? -1) + 1).get(device);
+  return { begun: facts.transfers.map(({ began, device, words }) => ({ calls: began, device: `${device}`, words, index: next(device) })), calls: facts.made };
 }
 
 /** The events of a transfer. It takes as many steps as `devices` says for its device, or else `after`. A step is one call; but if `every` isn't 0, it is that many
@@ -94,15 +96,13 @@ export async function withTransfers(ask, text, eventsFor) {
   let known = 0, window = USUAL_WINDOW;
   while (known < total) {
     const until = Math.min(total, known + window);
-    const facts = await factsFor(ask, ["run"], writeJob({ ...job, schedule: withEnds(until) }));
-    if (facts.kind === "fault") throw new NoSchedule(`${facts.name}, line ${facts.line}`);
-    const journal = transfersOf(facts);
-    const next = journal.begun.filter(({ calls }) => calls > known);
+    const run = await transfersOf(ask, writeJob({ ...job, slots: job.slots.map((slot) => ({ ...slot, shows: [] })), schedule: withEnds(until) }));
+    const next = run.begun.filter(({ calls }) => calls > known);
     const right = Math.min(until, ...next.map((transfer) => eventsFor(transfer)[0].calls));
     found.push(...next.filter(({ calls }) => calls <= right));
     window = next.length ? USUAL_WINDOW : 2 * window;
     known = right;
-    if (journal.calls < right) break;
+    if (run.calls < right) break;
   }
   return writeJob({ ...job, schedule: withEnds(total) });
 }

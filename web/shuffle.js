@@ -1,10 +1,9 @@
 // Another schedule of a job, by chance: transfers end and move at other calls, the clock shows its times at other calls, and programs exchange their priorities.
 // Or other decks of its programs. A seed gives the same each time.
 
-import { factsFor } from "./facts.js";
 import { readJob, writeJob } from "./job.js";
 import { layoutsOf } from "./results.js";
-import { NoSchedule, readSchedule, withTransfers, writeSchedule } from "./schedule.js";
+import { readSchedule, transfersOf, withTransfers, writeSchedule } from "./schedule.js";
 import { LINES } from "./tables.js";
 
 export const MOST_SEED = 999999;
@@ -49,9 +48,7 @@ function others(job, calls, seed) {
 /** The text of a job with another schedule. It has more calls than the job's own, so that a program comes as far if its transfers take longer. */
 export async function shuffled(ask, text, seed) {
   const job = readJob(text);
-  const { kind, name, line, made, transfers } = await factsFor(ask, ["run"], text);
-  if (kind === "fault") throw new NoSchedule(`${name}, line ${line}`);
-  const calls = Math.min(MOST_CALLS, readSchedule(job.schedule).calls + LONGEST_TRANSFER * transfers.length);
+  const { begun, calls: made } = await transfersOf(ask, text), calls = Math.min(MOST_CALLS, readSchedule(job.schedule).calls + LONGEST_TRANSFER * begun.length);
   const schedule = writeSchedule({ calls, events: others(job, made, seed) });
   return withTransfers(ask, writeJob({ ...job, schedule }), (transfer) => eventsOf(transfer, seed));
 }
