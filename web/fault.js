@@ -4,7 +4,11 @@ import { lineAndColumn, withoutComments } from "./deck.js";
 import { factsFor } from "./facts.js";
 import { hintUntold } from "./hints.js";
 import { frontOf, readJob } from "./job.js";
+import { hintOfStatement } from "./names.js";
 import { hint } from "./tables.js";
+
+/** The faults of a statement of which it is tried what may have been meant. */
+const TRIED = ["UnknownOrder", "ConstantRange"];
 
 /** Where the documents have the sentence of a fault. */
 const SOURCES = { job: () => "docs/JOB.md", snapshot: () => "docs/JOB.md", deck: ({ number }) => `docs/USERCODE.md, fault ${number}` };
@@ -34,5 +38,6 @@ export async function faultFound(ask, words, text) {
   if (facts.kind !== "fault" || facts.of === "text") return null;
   const fault = { ...facts, subject: subjectOf(facts), said: sentenceOf(facts) };
   const deck = facts.of === "deck" ? readJob(frontOf(text))?.slots.find(({ number }) => number === `${facts.slot}`)?.deck ?? "" : "";
-  return { ...fault, hint: facts.hint === undefined ? await hintUntold(ask, fault, text, deck) : hintTold(facts, deck) };
+  if (TRIED.includes(facts.name)) return { ...fault, hint: await hintOfStatement(ask, facts, deck) };
+  return { ...fault, hint: facts.hint === undefined ? hintUntold(facts, text, deck) : hintTold(facts, deck) };
 }
