@@ -2,6 +2,7 @@
 
 import { many } from "./report.js";
 import { PICTURE, worded } from "./tables.js";
+import { firstAfter } from "./timeline.js";
 
 const NAMESPACE = "http://www.w3.org/2000/svg";
 const { sizes: SIZES, slots: SLOTS, shades: SHADES, says: SAYS, legend: LEGEND, signs: SHAPES } = PICTURE;
@@ -49,17 +50,6 @@ export class View {
     const [first, last] = [this.start(column) + 1, this.start(end)];
     return worded(SAYS[first < last ? "several" : "one"], { first, last });
   }
-}
-
-/** The index of the first of these spans that ends after a call. */
-function firstAfter(spans, call) {
-  let [low, high] = [0, spans.length];
-  while (low < high) {
-    const middle = (low + high) >> 1;
-    if (spans[middle].end > call) high = middle;
-    else low = middle + 1;
-  }
-  return low;
 }
 
 /** What goes on in a row: for each column, how many of its calls went to what, and what happened in it. */
@@ -182,7 +172,7 @@ class Sheet {
   }
 
   programBar(slot, stretch) {
-    const { calls, first, end } = stretch, held = [...calls].filter(([key]) => key !== "ran" && key !== "ready"), ran = calls.get("ran") ?? 0;
+    const { calls, first, end } = stretch, held = [...calls].filter(([what]) => !["ran", "ready"].includes(what)), ran = calls.get("ran") ?? 0;
     const waits = sumOf(held.filter(([key]) => key.startsWith("pool")).map(([, number]) => number));
     const parts = [[ran, SLOTS[slot].shade, `slot-${slot}`], [sumOf(held.map(([, number]) => number)) - waits, SHADES.held, "held"], [waits, SHADES.waits, "waits"]];
     const boxes = this.stack(stretch, SIZES.slot, parts), left = Math.round(this.x(first));

@@ -13,11 +13,16 @@ const answersOf = ({ asks }, number) => new Map(asks.filter(({ slot }) => slot =
 
 /** What the same orders would be answered alone, if all before were answered so: 0, or the least device of the pool that the program hasn't got. */
 function loneAnswers({ asks, loans, devices }, number) {
-  const own = loans.filter(({ slot }) => slot === number), kinds = new Map(devices.filter(({ slot }) => slot === null).map(({ device, kind }) => [device, kind]));
+  const kinds = new Map(devices.filter(({ slot }) => slot === null).map(({ device, kind }) => [device, kind])), got = new Map();
+  const own = loans.filter(({ slot }) => slot === number).values();
+  let next = own.next().value;
   return new Map(asks.filter(({ slot }) => slot === number).map(({ order, call }) => {
-    const taken = own.find((loan) => loan.taken === call), got = own.filter((loan) => loan.taken < call && (loan.given ?? call) >= call).map(({ device }) => device);
-    const free = [...kinds].filter(([device, kind]) => taken && kind === kinds.get(taken.device) && !got.includes(device)).map(([device]) => device);
-    return [order, taken ? Math.min(...free) : 0];
+    for (const [device, given] of got) if (given !== null && given < call) got.delete(device);
+    if (next?.taken !== call) return [order, 0];
+    const { device: taken, given } = next, free = [...kinds].filter(([device, kind]) => kind === kinds.get(taken) && !got.has(device)).map(([device]) => device);
+    got.set(taken, given);
+    next = own.next().value;
+    return [order, Math.min(...free)];
   }));
 }
 

@@ -14,16 +14,36 @@ function grouped(values, keyOf, keys) {
   return groups;
 }
 
-/** From when until when all of the pool's devices of a kind were lent; null if they still are. */
-function stretchesLent({ devices, loans }, pool) {
+/** The index of the first of these spans that ends after a call. */
+export function firstAfter(spans, call) {
+  let [low, high] = [0, spans.length];
+  while (low < high) {
+    const middle = (low + high) >> 1;
+    if (spans[middle].end > call) high = middle;
+    else low = middle + 1;
+  }
+  return low;
+}
+
+/** The spans in which all of the pool's devices of a kind were lent. */
+function spansLent({ devices, loans, made }, pool) {
   const all = new Set(devices.filter(({ slot, kind }) => slot === null && kind === pool).map(({ device }) => device)), lent = loans.filter(({ device }) => all.has(device));
   const changes = [...lent.map(({ taken }) => [taken, 1]), ...lent.filter(({ given }) => given !== null).map(({ given }) => [given, -1])].sort((one, other) => one[0] - other[0]);
   const found = [];
-  let count = 0;
+  let count = 0, start = 0;
   for (const [call, by] of changes) {
     count += by;
-    if (by < 0 && count === all.size - 1) found.at(-1)[1] = call;
-    else if (count === all.size) found.push([call, null]);
+    if (count === all.size) start = call;
+    else if (by < 0 && count === all.size - 1) found.push(spanOf(made, start, call));
+  }
+  return all.size && count === all.size ? [...found, spanOf(made, start, null)] : found;
+}
+
+/** The spans that are within some calls, each as far as it is; `end` is null for the end of the run. */
+function spansWithin(made, spans, start, end, rest) {
+  const found = [];
+  for (let at = firstAfter(spans, start); at < spans.length && spans[at].start < (end ?? made); at += 1) {
+    found.push(spanOf(made, Math.max(start, spans[at].start), spans[at].isOpen ? end : firstOf(spans[at].end, end), rest));
   }
   return found;
 }
@@ -35,9 +55,7 @@ const firstOf = (...calls) => calls.reduce((first, call) => (call === null || ca
 function holdSpans(facts, holds, over, lent) {
   return holds.flatMap((hold, at) => {
     const end = firstOf(facts.transfers[hold.transfer]?.ended, hold.resumed, holds[at + 1]?.call, over);
-    if (hold.by !== "pool") return [spanOf(facts.made, hold.call, end, { what: "held", hold })];
-    return lent[hold.pool].filter(([from, until]) => (until ?? facts.made) > hold.call && from < (end ?? facts.made))
-      .map(([from, until]) => spanOf(facts.made, Math.max(from, hold.call), firstOf(until, end), { what: "waits", hold }));
+    return hold.by === "pool" ? spansWithin(facts.made, lent[hold.pool], hold.call, end, { what: "waits", hold }) : [spanOf(facts.made, hold.call, end, { what: "held", hold })];
   });
 }
 
@@ -79,7 +97,7 @@ export class Timeline {
   }
 
   spansOfSlots(slots) {
-    const { facts, total } = this, lent = { TP: stretchesLent(facts, "TP"), LP: stretchesLent(facts, "LP") }, ofSlot = ({ slot }) => slot;
+    const { facts, total } = this, lent = { TP: spansLent(facts, "TP"), LP: spansLent(facts, "LP") }, ofSlot = ({ slot }) => slot;
     const ran = grouped(facts.entries.filter(({ entry }) => entry === "RAN"), ofSlot, slots), holds = grouped(facts.holds, ofSlot, slots);
     return new Map(slots.map((slot) => {
       const over = this.ends.get(slot)[0]?.call ?? null, runs = ran.get(slot).map(({ call, orders }) => spanOf(total, call, call + orders, { what: "ran" }));
