@@ -2,7 +2,7 @@
 import json
 
 from shown import Shown, id_of
-from slips import RING, job
+from slips import RING, SLIPS, job
 from toolkit import ROOT
 
 READS = "PROGRAM V0; V0 = Q3/32/33;\n  SET 2; SET 5; OUT; V0; =Q1;\n  PRQ1; E32; ZERO; OUT; FINISH;"
@@ -105,6 +105,20 @@ def verdicts_are_on_all_examples(shown):
         yield f"the verdicts of {path.stem}", None if good else f"{seen} for {states}"
 
 
+def causes_are_shown(shown):
+    """Of each slip whose program failed, the page says the cause that the machine tells, and of one that is live whatever the sentence on it doesn't say."""
+    for what, text, _ in SLIPS:
+        facts = json.loads(shown.js(f"kdf9.ask(['run'], {json.dumps(text)}, true).then(({{ text }}) => text)"))
+        if not any(program.get("why") for program in facts.get("programs", [])):
+            continue
+        shown.write_job(text)
+        shown.run("run")
+        seen = [said for _, said in shown.js(VERDICTS)]
+        for program, said in zip(facts["programs"], seen):
+            due = [cause["sentence"] for cause in program["why"] or [] if "step" in cause or cause["what"] in ("loop", "turns")]
+            yield f"the causes of {what}", None if all(each[1:] in said for each in due) else f"{said} without {due}"
+
+
 def stores_are_enlarged(shown):
     """If a deck is too large for its store, the page says how many words it becomes, and writes the least store that has room."""
     text = job("Y99; PROGRAM; ZERO; OUT; FINISH;", "DEVICE 3 TR\n+AB\nSHOW 0 1\n")
@@ -119,4 +133,4 @@ def stores_are_enlarged(shown):
     yield "a larger store is written", None if good else f"{got} {shown.js('kdf9.job()')}"
 
 
-SUITES = stores_are_enlarged, verdicts_come_first, verdicts_change_the_job, verdicts_are_on_all_examples
+SUITES = stores_are_enlarged, causes_are_shown, verdicts_come_first, verdicts_change_the_job, verdicts_are_on_all_examples

@@ -1,69 +1,40 @@
-// What may have led to a fault of a job or of its deck.
+// What may have led to a fault of a job or of its deck: for an engine that doesn't tell it.
 
 import { HEADER, linesOf } from "./job.js";
-import { lineAndColumn, statementAt, withoutComments } from "./deck.js";
-import { OF_POOL, isOfCharacters, kindAbove, signsOf, wordOfBadNumber } from "./fault.js";
-import { distanceIsOne, hasForm, hintOfName } from "./names.js";
-import { JOB, KINDS, LEFT_OUT, LINES, hint } from "./tables.js";
-
-// A missing `;` is looked for after the first PIECES pieces of a statement. No valid statement has more pieces, and few have more than FEW_PIECES.
-const PIECES = 16, FEW_PIECES = 4;
+import { withoutComments } from "./deck.js";
+import { distanceIsOne, placeIn } from "./names.js";
+import { JOB, KINDS, LINES, hint } from "./tables.js";
 
 /** How many blank lines before a job count as a slip. */
 const BLANK_LINES = 9;
 
+/** The bytes of a medium that aren't characters: any but those of the table. */
+const NO_CHARACTER = new RegExp(`[^${JOB.characters.replace(/[\]\\^-]/g, "\\$&")}]`);
+
+/** Whether a text has only characters. */
+const isOfCharacters = (text) => !NO_CHARACTER.test(text);
+
+/** What stands for a kind of device directly after the line POOL. */
+const OF_POOL = "POOL";
+
+/** The signs with which a line of a medium can begin, by the kind of its device: none if the device begins empty, as those of the pool do. */
+const signsOf = (kind) => KINDS[kind]?.signs ?? [];
+
 const spaced = (text) => text.trim().split(/[ \n]+/).join(" ");
 const listed = (words) => (words.length < 2 ? words.join("") : `${words.slice(0, -1).join(", ")} or ${words.at(-1)}`);
 
-/** A hint for a fault of the job with this text, or null. */
-export async function hintOf(ask, fault, text) {
-  return fault.deck === undefined ? hintOfJob(fault, linesOf(text)) : hintOfDeck(ask, fault);
+/** A hint for a fault of a text, or of one of its decks, or null. */
+export function hintUntold(fault, text, deck) {
+  if (fault.of === "deck") return hintOfDeck(fault, deck);
+  return fault.of === "job" ? hintOfJob(fault, linesOf(text)) : null;
 }
 
 /** A hint for a fault of a deck, or null. */
-async function hintOfDeck(ask, { name, deck, place }) {
+function hintOfDeck({ name, offset: place }, deck) {
   if (name === "BadByte") return { 13: hint("byte_13"), 9: hint("tab") }[deck.charCodeAt(place)] ?? null;
   if (name === "Floating") return hint("floating");
-  if (name === "UnknownOrder" || name === "ConstantRange") return hintOfStatement(ask, name, deck, place);
   if (name === "NoSemicolon") return hint("semicolon_missing", { place: placeIn(deck, withoutComments(deck).trimEnd().length) });
   return null;
-}
-
-function placeIn(deck, place) {
-  const { line, column } = lineAndColumn(deck, place);
-  return `line ${line}, column ${column}`;
-}
-
-/** A hint for a statement that has no form. */
-async function hintOfStatement(ask, name, deck, place) {
-  const statement = statementAt(deck, place);
-  const leftOut = LEFT_OUT.find(([names]) => names.test(statement.text));
-  if (leftOut) return hint("left_out", { nearest: leftOut[1] });
-  const upper = statement.text.toUpperCase();
-  if (upper !== statement.text && await hasForm(ask, upper)) return hint("capitals", { text: statement.written.toUpperCase() });
-  return await lostSemicolon(ask, deck, statement) ?? (name === "UnknownOrder" ? hintOfName(ask, statement.text) : null);
-}
-
-/** Where a `;` is missing, if the text before a gap is a statement by itself and another statement begins after the gap; otherwise null. */
-async function lostSemicolon(ask, deck, { start, end }) {
-  const text = withoutComments(deck).slice(start, end);
-  const ends = endsOfPieces(text, PIECES).slice(0, -1);
-  for (const at of ends.reverse()) {
-    if (await hasForm(ask, text.slice(0, at)) && await beginsStatement(ask, text.slice(at))) {
-      return hint("semicolon_lost", { place: placeIn(deck, start + at), text: spaced(text.slice(0, at)) });
-    }
-  }
-  return null;
-}
-
-const endsOfPieces = (text, most) => [...text.matchAll(/[^ \n]+/g)].slice(0, most).map(({ 0: piece, index }) => index + piece.length);
-
-/** Whether the first pieces of a text are a statement that the machine knows. */
-async function beginsStatement(ask, text) {
-  for (const end of endsOfPieces(text, FEW_PIECES)) {
-    if (await hasForm(ask, text.slice(0, end))) return true;
-  }
-  return false;
 }
 
 /** What may have led to a text whose first line isn't that of a job, or null. */
@@ -180,4 +151,17 @@ const isInDeck = (lines) => lines.lastIndexOf("DECK") > lines.lastIndexOf("ENDDE
 function isInPool(lines) {
   const after = lines.slice(lines.lastIndexOf("ENDDECK") + 1);
   return lines.includes("ENDDECK") && after.includes("POOL") && !after.includes("SCHEDULE") && !isInDeck(lines);
+}
+
+/** Which field of a line isn't a number in its range: the index of the first of them, or 0 if there is none. */
+function wordOfBadNumber(text) {
+  const [keyword, ...words] = text.split(" ");
+  const isWrong = ([least, most], at) => at < words.length && !(/^(0|[1-9]\d*)$/.test(words[at]) && least <= Number(words[at]) && Number(words[at]) <= most);
+  return 1 + (LINES[keyword]?.numbers ?? []).findIndex(isWrong);
+}
+
+/** The kind of the device to whose medium a line belongs, or POOL directly after that line. */
+function kindAbove(lines, line) {
+  const above = lines.slice(0, line).findLast((text) => text.startsWith("DEVICE ") || text === OF_POOL) ?? "";
+  return above === OF_POOL ? above : above.split(" ")[2] ?? "";
 }

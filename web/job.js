@@ -161,8 +161,14 @@ export const withLine = (text, number, line) => text.split("\n").with(number - 1
 /** A slot of a job that shows its whole store. */
 export const withStore = (slot) => ({ ...slot, shows: [`0 ${slot.store - 1}`] });
 
-/** The text of a job that has nothing but the deck of a slot, in a store of this size. */
-export const jobOfDeck = (slot, ofWords = slot.store) => writeJob({ slots: [{ ...slot, store: `${ofWords}`, devices: [], shows: [] }], pool: null, schedule: "" });
+/** The text of a job that has nothing but the deck of a slot. */
+export const jobOfDeck = (slot) => writeJob({ slots: [{ ...slot, devices: [], shows: [] }], pool: null, schedule: "" });
+
+/** The text of a job with a store of another size for the program of a slot. */
+export function withSize(text, slot, size) {
+  const job = readJob(text);
+  return writeJob({ ...job, slots: job.slots.map((each) => (each.number === `${slot}` ? { ...each, store: `${size}` } : each)) });
+}
 
 /** The text of a job by parts. Its last line has no end if it had none when it was read. */
 export function writeJob(job) {

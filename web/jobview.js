@@ -2,7 +2,7 @@
 
 import { button, choice, freshId, labelled, make } from "./dom.js";
 import { Editor } from "./editor.js";
-import { painted } from "./deck.js";
+import { lineAndColumn, painted } from "./deck.js";
 import { haveNames } from "./shows.js";
 import { HEADER, KINDS, KINDS_OF_POOL, POOL, editedMedia, editedShows, linesOf, placedLines, readJob, readMedia, readShows, writeJob } from "./job.js";
 import { saidOfSchedule } from "./schedule.js";
@@ -340,10 +340,9 @@ export class JobView {
   /** The control that has a fault, and where the fault is in it. */
   placeOf(fault) {
     if (!this.isByParts) return this.placeInWhole(fault);
-    if (fault.deck !== undefined) {
-      const at = this.job.slots.findIndex(({ number }) => number === `${fault.slot}`);
-      const { place, lineOfDeck: line, column, deck } = fault;
-      return { control: this.controls.get(`deck ${at}`), place, line, column, end: endOfStatement(deck, place) };
+    if (fault.of === "deck") {
+      const at = this.job.slots.findIndex(({ number }) => number === `${fault.slot}`), { deck } = this.job.slots[at], { offset } = fault;
+      return { control: this.controls.get(`deck ${at}`), place: offset, ...lineAndColumn(deck, offset), end: endOfStatement(deck, offset) };
     }
     const { part, slot, device, line } = placedLines(this.job)[fault.line - 1] ?? { part: "schedule", line: linesOf(this.job.schedule).length };
     const field = /Label/.test(fault.name) ? "label" : fault.name === "PoolKind" ? "kind" : part;
@@ -361,7 +360,7 @@ export class JobView {
 
   placeInWhole(fault) {
     const found = this.placeInLine(this.whole, fault.line, fault.column);
-    return fault.deck === undefined ? found : { ...found, end: endOfStatement(this.text, found.place) };
+    return fault.of !== "deck" ? found : { ...found, end: endOfStatement(this.text, found.place) };
   }
 
   placeInLine(control, line, column) {

@@ -5,7 +5,8 @@ const PAGE = 65536;
 const SMALLEST = 16; // bytes in the smallest block
 const TEXT_TOO_LONG = 6; // the status of a text that the room is too small for
 
-// The bytes of the room that is tried first for a text, and of the largest.
+// The bytes of the room that is tried first for the text of each call, of the smallest and of the largest. A call that had too little room is made again.
+const FIRST_ROOMS = { kdf9_run: 1 << 20, kdf9_facts: 1 << 24 };
 const SMALLEST_ROOM = 1 << 20;
 const LARGEST_ROOM = 1 << 28;
 
@@ -101,8 +102,8 @@ function linesOf(words) {
   return new TextEncoder().encode(words.map((word) => `${word}\n`).join(""));
 }
 
-/** The answer of a call to the words of a command for a job, with a text of at most `room` bytes. */
-function answerWithin(call, module, words, job, room) {
+/** The answer of a call to the words of a command for a job, with a text of at most `most` bytes, or of fewer if there is no memory for that room. */
+function answerWithin(call, module, words, job, most) {
   const machine = {};
   const { exports } = new WebAssembly.Instance(module, { env: imports(machine) });
   machine.memory = exports.memory;
@@ -117,7 +118,7 @@ function answerWithin(call, module, words, job, room) {
     new Uint8Array(machine.memory.buffer).set(bytes, at);
     return [BigInt(at), BigInt(bytes.length)];
   };
-  const text = place(room), wanted = place(8);
+  const found = machine.heap.take(most), room = found ? most : SMALLEST_ROOM, text = found || place(room), wanted = place(8);
   const slices = [...handIn(linesOf(words)), ...handIn(job)];
   const began = performance.now();
   const status = exports[call](...slices, BigInt(text), BigInt(room), BigInt(wanted));
@@ -129,7 +130,7 @@ function answerWithin(call, module, words, job, room) {
 
 /** The answer of a call, with room for its whole text, unless that is too long. */
 function whole(call, module, words, job) {
-  const given = answerWithin(call, module, words, job, SMALLEST_ROOM);
+  const given = answerWithin(call, module, words, job, FIRST_ROOMS[call]);
   return given.status === TEXT_TOO_LONG && given.size <= LARGEST_ROOM ? answerWithin(call, module, words, job, given.size) : given;
 }
 

@@ -2,9 +2,9 @@
 
 import { button, byId, make } from "./dom.js";
 import { Stopped } from "./engine.js";
-import { many, readReport } from "./report.js";
+import { factsOfRun } from "./facts.js";
+import { many } from "./report.js";
 import { MOST_SEED, shuffled } from "./shuffle.js";
-import { Timeline } from "./timeline.js";
 import { Verdicts } from "./verdict.js";
 
 /** How many schedules are tried at most at once. */
@@ -15,9 +15,7 @@ const OUTCOMES = { failed: "failed", deadlock: "deadlock", held: "held up", cut:
 
 /** What came of the run of a job: the worst kind of verdict on its programs, and what is said of it. */
 async function outcomeOf(ask, text, failures) {
-  const { status, text: report } = await ask(["run"], text);
-  if (status) throw new Error(report.trim());
-  const read = readReport(report), verdicts = new Verdicts(read, new Timeline(read), { layouts: new Map(), failures, text });
+  const verdicts = new Verdicts(await factsOfRun(ask, text), { layouts: new Map(), failures, text });
   const kind = Object.keys(OUTCOMES).find((each) => verdicts.all.some((verdict) => verdict.kind === each));
   return { kind, said: verdicts.inShort(kind) };
 }

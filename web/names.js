@@ -1,6 +1,10 @@
-// The names that a statement can have, and which of them may have been meant by a statement that has no form.
+// What may have been meant by a statement that has no form. The machine is asked of others whether it knows them.
 
-import { ELSEWHERE, FAULTS, FORMS, LINES, hint } from "./tables.js";
+import { lineAndColumn, statementAt, withoutComments } from "./deck.js";
+import { ELSEWHERE, FAULTS, FORMS, LEFT_OUT, LINES, hint } from "./tables.js";
+
+// A missing `;` is looked for after the first PIECES pieces of a statement. No valid statement has more pieces, and few have more than FEW_PIECES.
+const PIECES = 16, FEW_PIECES = 4;
 
 /** The faults of a deck that say that a statement has no form. */
 const FORMLESS = FAULTS.deck.filter(({ formless }) => formless).map(({ name }) => name);
@@ -37,11 +41,49 @@ async function meant(ask, text) {
   return found;
 }
 
-/** A hint for a statement that has no form, or null. */
-export async function hintOfName(ask, text) {
+/** A hint for a name that no statement has, or null. */
+async function hintOfName(ask, text) {
   const elsewhere = ELSEWHERE.find(([names]) => names.test(text));
   if (elsewhere) return elsewhere[1];
   if (/^\d+:/.test(text)) return hint("reference_form", { text: text.split(":")[0] });
   const names = await meant(ask, text);
   return names.length ? hint("meant", { names: names.join(" or ") }) : null;
+}
+
+/** A place in a deck, in words. */
+export function placeIn(deck, place) {
+  const { line, column } = lineAndColumn(deck, place);
+  return `line ${line}, column ${column}`;
+}
+
+/** A hint for a statement that has no form, or null. */
+export async function hintOfStatement(ask, { name, offset }, deck) {
+  const statement = statementAt(deck, offset);
+  const leftOut = LEFT_OUT.find(([names]) => names.test(statement.text));
+  if (leftOut) return hint("left_out", { nearest: leftOut[1] });
+  const upper = statement.text.toUpperCase();
+  if (upper !== statement.text && await hasForm(ask, upper)) return hint("capitals", { text: statement.written.toUpperCase() });
+  return await lostSemicolon(ask, deck, statement) ?? (name === "UnknownOrder" ? hintOfName(ask, statement.text) : null);
+}
+
+/** Where a `;` is missing, if the text before a gap is a statement by itself and another statement begins after the gap; otherwise null. */
+async function lostSemicolon(ask, deck, { start, end }) {
+  const text = withoutComments(deck).slice(start, end);
+  const ends = endsOfPieces(text, PIECES).slice(0, -1);
+  for (const at of ends.reverse()) {
+    if (await hasForm(ask, text.slice(0, at)) && await beginsStatement(ask, text.slice(at))) {
+      return hint("semicolon_lost", { place: placeIn(deck, start + at), text: text.slice(0, at).trim().split(/[ \n]+/).join(" ") });
+    }
+  }
+  return null;
+}
+
+const endsOfPieces = (text, most) => [...text.matchAll(/[^ \n]+/g)].slice(0, most).map(({ 0: piece, index }) => index + piece.length);
+
+/** Whether the first pieces of a text are a statement that the machine knows. */
+async function beginsStatement(ask, text) {
+  for (const end of endsOfPieces(text, FEW_PIECES)) {
+    if (await hasForm(ask, text.slice(0, end))) return true;
+  }
+  return false;
 }

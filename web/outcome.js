@@ -1,15 +1,17 @@
-// What a command came to: what is read from the text that the machine wrote, and the part of the page that shows it.
+// What a command came to: the text that the machine wrote, what it tells, and the part of the page that shows both.
 
 import { byId, make } from "./dom.js";
+import { NOUGHT } from "./deck.js";
 import { STATUSES } from "./engine.js";
-import { factsOfRun } from "./facts.js";
+import { Untold, factsFor } from "./facts.js";
 import { Pictured, tableOfSums } from "./pictured.js";
-import { layoutsOf, readResult, resultsOf, shownText, storesOf } from "./results.js";
+import { readReport } from "./report.js";
+import { isReadable, layoutsOf, resultsOf, shownText } from "./results.js";
 import { Timeline } from "./timeline.js";
 import { Verdicts, drawVerdicts } from "./verdict.js";
-import { drawStops, readWatch, stopsOf } from "./watch.js";
+import { drawStops, stopsOf } from "./watch.js";
 
-// A run of more milliseconds isn't made again only to show the words that have names.
+// Of a run of more milliseconds it isn't asked what is in the stores, since the machine makes it once more for that.
 const LONGEST_RUN = 2000;
 
 const DONE = 0, SNAPSHOT_HAS_FAULT = 8, MEBIBYTE = 2 ** 20;
@@ -17,53 +19,57 @@ const DONE = 0, SNAPSHOT_HAS_FAULT = 8, MEBIBYTE = 2 ** 20;
 // If a run ends with idle calls that are more than half of it, this many of them are drawn at most.
 const IDLE_DRAWN = 40;
 
-/** What is read of a text that a command wrote for a job, if it is a report, or that of a lone run or a watch. */
-function outcomeWith(layouts, job, text, failures) {
-  const watch = readWatch(text), report = watch ? watch.report : text, read = readResult(report);
-  if (read === null) return { text, read };
-  const timeline = new Timeline(read);
-  const verdicts = new Verdicts(read, timeline, { layouts, failures, text: job });
-  return { text, report, read, layouts, timeline, stops: watch && stopsOf(watch, read), verdicts };
+/** What is told of a command whose text is shown: the facts of the run, or of the lone run, those of the watch, and what is in the stores, if that is asked. */
+async function factsAfter(ask, words, text, hasStores) {
+  const isRun = ["run", "watch"].includes(words[0]), asked = await factsFor(ask, isRun ? [hasStores ? "save" : "run"] : words, text);
+  const watch = words[0] === "watch" ? await factsFor(ask, words, text) : null;
+  if (asked.kind !== "snapshot") return { facts: asked, watch };
+  const stores = new Map(asked.words.map(([slot, address, octal]) => [`${slot} ${address}`, octal]));
+  return { facts: asked.run, watch, wordsIn: (slot) => (address) => stores.get(`${slot} ${address}`) ?? NOUGHT };
 }
 
-/** What an answer of the machine to a command for a job says. The decks are listed for the names of their words. After a run that was short, the words are asked for
- * that have names, too. */
-export async function outcomeOf(ask, job, answer, { isRun, failures }) {
-  const isRead = answer.status === DONE && readResult(readWatch(answer.text)?.report ?? answer.text) !== null;
-  const layouts = isRead ? await layoutsOf(ask, job) : new Map();
-  const isAsked = isRead && isRun && answer.milliseconds < LONGEST_RUN && [...layouts.values()].some(({ addresses }) => addresses.length);
-  const outcome = { ...outcomeWith(layouts, job, answer.text, failures), stores: isAsked ? await storesOf(ask, job) : null };
-  if (isRead && isRun) outcome.timeline.facts = await factsOfRun(ask, job);
-  return outcome;
+/** What an answer of the machine to the words of a command for a text says. The decks of its job are listed for the names of their words. */
+export async function outcomeOf(ask, words, text, answer, { job, failures }) {
+  const { status, text: report, milliseconds } = answer;
+  if (status !== DONE || !isReadable(report)) return { text: report };
+  try {
+    const layouts = await layoutsOf(ask, job), hasNames = [...layouts.values()].some(({ addresses }) => addresses.length);
+    const { facts, watch, wordsIn } = await factsAfter(ask, words, text, hasNames && milliseconds < LONGEST_RUN);
+    const timeline = facts.kind === "run" ? new Timeline(facts) : null, stops = watch && stopsOf(watch, facts);
+    return { text: report, facts, ...readReport(report), layouts, wordsIn, timeline, stops, verdicts: new Verdicts(facts, { layouts, failures, text: job }) };
+  } catch (error) {
+    if (!(error instanceof Untold)) throw error;
+    return { text: report, notice: `There is only the text: ${error.message}.` };
+  }
 }
 
 /** What a text says that was recorded of a job. */
-export const outcomeOfRecord = (job, text, failures) => outcomeWith(new Map(), job, text, failures);
+export const outcomeOfRecord = (text) => (isReadable(text) ? { text, ...readReport(text), layouts: new Map() } : { text });
 
 /** Up to which call a run is drawn: not to its end if it only waits there. */
-function callsDrawn({ entries, total }) {
-  const { calls, entry: [kind] } = entries.at(-1) ?? { calls: 0, entry: [] };
-  return kind === "IDLE" && calls < total / 2 ? Math.min(total, calls + IDLE_DRAWN) : total;
+function callsDrawn({ idle, total }) {
+  const { start, end } = idle.at(-1) ?? {};
+  return end === total && start < total / 2 ? Math.min(total, start + IDLE_DRAWN) : total;
 }
 
 /** The picture of a run, and to what its calls went. A click in the picture calls `look`. */
 function pictureOf({ timeline, stops }, look, say) {
   const shown = callsDrawn(timeline), rest = timeline.total - shown;
   const { element } = new Pictured(timeline, { name: "The run at a glance", choose: look, shown, stops }).withButtons();
-  return [element, ...(rest ? [make("p", {}, `The ${rest.toLocaleString("en")} calls after these are idle.`)] : []), ...(timeline.facts ? [tableOfSums(timeline, { say })] : [])];
+  return [element, ...(rest ? [make("p", {}, `The ${rest.toLocaleString("en")} calls after these are idle.`)] : []), tableOfSums(timeline, { say })];
 }
 
 /** Shows what a command came to, or nothing if it is null. `look` shows a run call by call, `go` goes to a statement, and `change` changes the job; those that are null
  * aren't offered. `say` says something. */
 export function showOutcome(outcome, { look, go, change, say } = {}) {
-  const { text = "", read = null, layouts, stores, timeline, stops, verdicts } = outcome ?? {}, shown = shownText(text);
-  byId("verdicts").replaceChildren(...(read ? drawVerdicts(verdicts, { go, change }) : []));
-  byId("pictured").replaceChildren(...(read && timeline.total ? pictureOf({ timeline, stops }, look, say) : []));
-  byId("sections").replaceChildren(...(stops ? [drawStops(stops, layouts.get(stops.slot), look)] : []), ...resultsOf(read, layouts, stores));
-  byId("text-details").open = !read;
+  const { text = "", notice = "", sections, layouts, timeline, stops, verdicts } = outcome ?? {}, shown = shownText(text);
+  byId("verdicts").replaceChildren(...(verdicts ? drawVerdicts(verdicts, { go, change }) : []));
+  byId("pictured").replaceChildren(...(timeline?.total ? pictureOf({ timeline, stops }, look, say) : []));
+  byId("sections").replaceChildren(...(stops ? [drawStops(stops, layouts.get(stops.slot), look)] : []), ...resultsOf(outcome ?? {}));
+  byId("text-details").open = !sections;
   byId("report").textContent = shown.text;
-  byId("rest").textContent = shown.rest;
-  byId("rest").hidden = shown.rest === "";
+  byId("rest").textContent = `${notice} ${shown.rest}`.trim();
+  byId("rest").hidden = byId("rest").textContent === "";
 }
 
 /** What an answer of the machine says in a line, and whether something is wrong: a fault, or a program that didn't end. */

@@ -5,9 +5,8 @@ import { button, byId } from "./dom.js";
 import { Engine, Stopped, bytesOf, canRun, hasLongAddresses, unpacked } from "./engine.js";
 import { chooseFirst, chooseOwn, chosenJob, listJobs } from "./examples.js";
 import { Exploring } from "./explore.js";
-import { faultOf } from "./fault.js";
-import { hintOf } from "./hints.js";
-import { EMPTY_JOB, frontOf, placedLines, readJob, withLine } from "./job.js";
+import { faultFound } from "./fault.js";
+import { EMPTY_JOB, frontOf, placedLines, readJob, withLine, withSize } from "./job.js";
 import { JobView } from "./jobview.js";
 import { Keeping } from "./keeping.js";
 import { timeOf } from "./kept.js";
@@ -20,13 +19,16 @@ import { Replay } from "./replay.js";
 import { NoSchedule, drawDelays, listSpeeds, readDelays, scheduled } from "./schedule.js";
 import { Breaks } from "./seek.js";
 import { haveNames, withAddresses } from "./shows.js";
-import { roomFor, withSize } from "./size.js";
 import { Theorem } from "./theorem.js";
 import { Variations } from "./variations.js";
 import { NoPlace, watchable, wordOf } from "./watch.js";
 import { whatIf } from "./whatif.js";
 
-const SNAPSHOT_HAS_FAULT = 8, FAULTS = [2, 3, SNAPSHOT_HAS_FAULT];
+/** The words of the command that finds the faults of a job without running it. */
+const LISTS = ["asm", "0"];
+
+/** The statuses of a fault of a job, a deck or a snapshot. */
+const FAULTS = [2, 3, 8];
 
 /** The commands that have a slot or a number, those that read a job with a snapshot or a report after it, and those whose run can be shown call by call. */
 const WITH_VALUE = ["watch", "alone", "asm", "make"], READ_MORE = ["resume", "check"], RUN = ["run", "watch"];
@@ -37,6 +39,9 @@ const IS_CHANGED = "The job has been changed since this run. Run it again.";
 
 /** How many milliseconds after the last key the page looks for a fault of the job. */
 const PAUSE = 700;
+
+/** After a run of more milliseconds its text is shown before the machine tells the facts of the run, for which it makes the run again. */
+const SOON = 500;
 
 /** A job of at most so many characters is read again after each key. */
 const SHORT = 20000;
@@ -91,8 +96,8 @@ async function lookForFault() {
   }
   const { text } = view;
   try {
-    const answer = await ask(["asm", "0"], jobOf(byId("command").value, text));
-    if (text === view.text) await showFault(answer, text);
+    const job = jobOf(byId("command").value, text), answer = await ask(LISTS, job);
+    if (text === view.text) await showFault(answer, job);
   } catch (error) {
     if (!(error instanceof Stopped)) sayFailed(error);
   }
@@ -109,17 +114,16 @@ function sayFailed(error) {
 /** The job of a text that a command reads. */
 const jobOf = (command, text) => (READ_MORE.includes(command) ? frontOf(text) : text);
 
-/** Marks the fault that the answer names, and returns it; null if it names none. */
-async function showFault({ status, text: answer }, job) {
-  if (!FAULTS.includes(status)) {
+/** Marks the fault that a command finds in a text, if its answer has the status of one, and returns it; otherwise null. */
+async function showFault({ status }, text, words = LISTS) {
+  const fault = FAULTS.includes(status) ? await faultFound(ask, words, text) : null;
+  if (!fault) {
     view.forgetFault();
     return null;
   }
-  const fault = faultOf(answer, job);
-  const hint = status === SNAPSHOT_HAS_FAULT ? null : await hintOf(ask, fault, job);
-  const room = fault.name === "TooLarge" ? await roomFor(ask, job, fault.slot) : null, show = await lineShow(fault, job);
-  const mend = room ? mending(`STORE ${room.size}`, withSize(job, fault.slot, room.size)) : show && mending(show, withLine(job, fault.line, show));
-  if (job === view.text) view.showFault(fault, room ? `the deck becomes ${room.words} words` : show ? "a line SHOW has addresses" : hint, mend);
+  const show = await lineShow(fault, text), { store, words: size } = fault, job = readJob(text);
+  const mend = store && job ? mending(`STORE ${store}`, withSize(text, fault.slot, store)) : show && mending(show, withLine(text, fault.line, show));
+  if (text === view.text) view.showFault(fault, store ? `the deck becomes ${size} words` : show ? "a line SHOW has addresses" : fault.hint, mend);
   return fault;
 }
 
@@ -198,10 +202,14 @@ async function runNow(asked) {
   const { text } = view, isRun = RUN.includes(asked[0]);
   showText(null);
   const answer = await ask(asked, text);
-  const fault = await showFault(answer, text);
-  const outcome = await outcomeOf(ask, jobOf(asked[0], text), answer, { isRun, failures: texts.failures });
+  const fault = await showFault(answer, text, asked);
+  if (answer.milliseconds > SOON) {
+    showText({ text: answer.text });
+    say("The run is made. The machine now tells what there is to know of it.");
+  }
+  const outcome = await outcomeOf(ask, asked, text, answer, { job: jobOf(asked[0], text), failures: texts.failures });
   showText(outcome, { look: isRun ? look : null, go: goToStop, change: isRun ? changeAndRun : null, say });
-  lastRun = isRun && outcome.read ? { ...outcome, text } : null;
+  lastRun = isRun && outcome.timeline ? { ...outcome, text } : null;
   if (lastRun) theorem.take(lastRun);
   if (text === view.text) view.showStops(outcome.verdicts?.all ?? []);
   byId("look").disabled = byId("see").disabled = lastRun === null;
@@ -249,12 +257,7 @@ function takeSchedule(text, what) {
 }
 
 /** The fault of a job with its hint, as it is shown, or null if there is none. */
-async function explain(job) {
-  const { status, text } = await ask(["asm", "0"], job);
-  if (!FAULTS.includes(status)) return null;
-  const fault = faultOf(text, job);
-  return { ...fault, hint: await hintOf(ask, fault, job) };
-}
+const explain = (job) => faultFound(ask, LISTS, job);
 
 /** Shows the last run call by call, first after this call. */
 function look(call) {
@@ -366,8 +369,8 @@ function chooseExample() {
 }
 
 /** Shows the report that was recorded of an example, if the machine can't run. */
-function showRecorded({ job, report }) {
-  if (report) showText(outcomeOfRecord(job, report, texts.failures), { say });
+function showRecorded({ report }) {
+  if (report) showText(outcomeOfRecord(report), { say });
 }
 
 async function openFile() {

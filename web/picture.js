@@ -2,20 +2,18 @@
 
 import { many } from "./report.js";
 import { PICTURE, worded } from "./tables.js";
-import { RAN, READY } from "./timeline.js";
+import { firstAfter } from "./timeline.js";
 
 const NAMESPACE = "http://www.w3.org/2000/svg";
 const { sizes: SIZES, slots: SLOTS, shades: SHADES, says: SAYS, legend: LEGEND, signs: SHAPES } = PICTURE;
 
 /** The sizes of a picture that has half a window, of one that has a window, and of one that is saved. */
-export const HALF = { left: 150, width: 460, right: 14, key: 312 };
+export const HALF = { left: 150, width: 444, right: 30, key: 284 };
 export const WHOLE = { left: 150, width: 900, right: 14, key: 350 };
 const SAVED = SIZES;
 
 /** The least pixels between two numbers on the axis. */
 const APART = 73;
-
-const SAID_OF_HOLDS = { BUSY: "by_device", LOV: "by_group", WAIT: "by_pool" };
 
 /** An element of a picture. */
 export function shape(name, attributes, ...children) {
@@ -52,17 +50,6 @@ export class View {
     const [first, last] = [this.start(column) + 1, this.start(end)];
     return worded(SAYS[first < last ? "several" : "one"], { first, last });
   }
-}
-
-/** The index of the first of these spans that ends after a call. */
-function firstAfter(spans, call) {
-  let [low, high] = [0, spans.length];
-  while (low < high) {
-    const middle = (low + high) >> 1;
-    if (spans[middle].end > call) high = middle;
-    else low = middle + 1;
-  }
-  return low;
 }
 
 /** What goes on in a row: for each column, how many of its calls went to what, and what happened in it. */
@@ -102,7 +89,7 @@ function distanceOf(calls, most) {
   }
 }
 
-const keyOfProgram = ({ what, reason }) => (reason ? `${reason.kind} ${reason.number}` : what);
+const keyOfProgram = ({ what, hold }) => (hold ? `${hold.by} ${hold[hold.by]}` : what);
 const keyOfSlot = ({ slot }) => slot;
 const sumOf = (numbers) => numbers.reduce((sum, number) => sum + number, 0);
 
@@ -121,8 +108,8 @@ class Sheet {
   }
 
   get title() {
-    const { total, sums, transfers } = this.timeline;
-    return worded(SAYS.run, { calls: many(total, "call"), idle: sums.idle, transfers: many(transfers, "transfer") });
+    const { total, facts, transfers } = this.timeline;
+    return worded(SAYS.run, { calls: many(total, "call"), idle: facts.idle, transfers: many(transfers, "transfer") });
   }
 
   x(column) {
@@ -185,22 +172,22 @@ class Sheet {
   }
 
   programBar(slot, stretch) {
-    const { calls, first, end } = stretch, held = [...calls].filter(([key]) => key !== RAN && key !== READY), ran = calls.get(RAN) ?? 0;
-    const waits = sumOf(held.filter(([key]) => key.startsWith("WAIT")).map(([, number]) => number));
+    const { calls, first, end } = stretch, held = [...calls].filter(([what]) => !["ran", "ready"].includes(what)), ran = calls.get("ran") ?? 0;
+    const waits = sumOf(held.filter(([key]) => key.startsWith("pool")).map(([, number]) => number));
     const parts = [[ran, SLOTS[slot].shade, `slot-${slot}`], [sumOf(held.map(([, number]) => number)) - waits, SHADES.held, "held"], [waits, SHADES.waits, "waits"]];
     const boxes = this.stack(stretch, SIZES.slot, parts), left = Math.round(this.x(first));
     const line = { x: left, y: this.y + SIZES.slot - SIZES.ready, width: Math.max(1, Math.round(this.x(end)) - left), height: SIZES.ready, fill: SHADES.ready, class: "ready" };
     const digit = 2 * ran > sumOf([...calls.values()]) ? this.digit(slot, stretch, SIZES.slot) : [];
     const said = [
       ...(ran ? [worded(SAYS.obeyed, { orders: many(ran, "order") })] : []), ...held.sort(([, one], [, other]) => other - one).map((each) => this.saidOfHold(...each)),
-      ...(calls.has(READY) ? [worded(SAYS.ready, { calls: many(calls.get(READY), "call") })] : []),
+      ...(calls.has("ready") ? [worded(SAYS.ready, { calls: many(calls.get("ready"), "call") })] : []),
     ];
     this.bar(`slot ${slot}, ${this.view.when(first, end)}: ${said.join("; ")}`, first, [...(boxes.length ? boxes : [shape("rect", line)]), ...digit]);
   }
 
   saidOfHold(key, calls) {
-    const [kind, number] = key.split(" ");
-    return worded(SAYS[SAID_OF_HOLDS[kind]], { calls: many(calls, "call"), device: this.nameOf(Number(number)), group: number, kind: number });
+    const [by, number] = key.split(" ");
+    return worded(SAYS[`by_${by}`], { calls: many(calls, "call"), device: this.nameOf(Number(number)), group: number, kind: number });
   }
 
   /** A device by its number and its kind. */
@@ -258,7 +245,7 @@ class Sheet {
 
   idle() {
     const { timeline } = this;
-    this.row(SIZES.device, "idle", many(timeline.sums.idle, "call"));
+    this.row(SIZES.device, "idle", many(timeline.facts.idle, "call"));
     for (const stretch of stretchesOf(this.view, timeline.idle, () => "idle")) {
       const calls = stretch.calls.get("idle");
       const said = `${this.view.when(stretch.first, stretch.end)}: ${worded(SAYS.idle, { calls: many(calls, "call") })}`;

@@ -3,11 +3,11 @@
 
 import { button, choice, labelled, make, table } from "./dom.js";
 import { readJob, withStore, writeJob } from "./job.js";
+import { saidOf, wordsOfGroup } from "./journal.js";
 import { mediumOf } from "./medium.js";
-import { NAMES_OF_POOL, callsOf, numberOf, readReport, saidOf, stateOfStint } from "./report.js";
+import { NAMES_OF_POOL, numberOf, readReport, stateOfStint } from "./report.js";
 import { readSchedule, writeSchedule } from "./schedule.js";
 import { Seeker } from "./seek.js";
-import { Timeline } from "./timeline.js";
 import { WHOLE } from "./picture.js";
 import { Pictured } from "./pictured.js";
 
@@ -36,11 +36,11 @@ export class Replay {
     this.element.addEventListener("keydown", (event) => this.press(event));
   }
 
-  /** Shows a run after a call, by its job, its report, the layouts of its decks, and the stops of a watch, or null. What is open already isn't drawn again. */
+  /** Shows a run after a call, by its job, its timeline, the layouts of its decks, and the stops of a watch, or null. What is open already isn't drawn again. */
   open(run, call) {
     if (run !== this.run) {
-      const { text, report, layouts, stops } = run;
-      Object.assign(this, { run, text, layouts, stops, job: readJob(text), timeline: new Timeline(readReport(report)), wanted: null, isAsking: false, last: null });
+      const { text, timeline, layouts, stops } = run;
+      Object.assign(this, { run, text, timeline, layouts, stops, job: readJob(text), wanted: null, isAsking: false, last: null });
       this.seeker = new Seeker({ ask: this.ask, text, timeline: this.timeline, layouts, report: (at, hasStores) => (hasStores ? this.sections(at) : this.sectionsOnly(at)) });
       this.draw();
       this.element.hidden = false;
@@ -184,24 +184,22 @@ export class Replay {
     }
     const state = section.state.split(" ")[0];
     if (state !== "LIVE") return `${name} ${state === "ENDED" ? "has ended" : "has failed"}`;
-    const reason = this.timeline.holdAfter(section.slot, call);
-    return reason ? `${name} has been ${this.saidOfHold(reason, section.slot, call)}` : `${name} can go on`;
+    const hold = this.timeline.holdAfter(section.slot, call);
+    return hold ? `${name} has been ${this.saidOfHold(hold, call)}` : `${name} can go on`;
   }
 
   /** What the order of a program did with a device of the pool in the call, in words. */
   exchangeOf(slot, call) {
-    const did = { TAKE: (device) => `took device ${device} from the pool`, GIVE: (device) => `gave device ${device} back to the pool` };
-    const found = this.timeline.entries.find(({ calls, entry: [kind, taker] }) => calls === call && kind in did && taker === slot);
-    return found ? ` and ${did[found.entry[0]](found.entry[2])}` : "";
+    const { loans } = this.timeline.facts, taken = loans.find((loan) => loan.slot === slot && loan.taken === call), given = loans.find((loan) => loan.slot === slot && loan.given === call);
+    return taken ? ` and took device ${taken.device} from the pool` : given ? ` and gave device ${given.device} back to the pool` : "";
   }
 
   /** Why a program is held up, and since when, in words. */
-  saidOfHold({ kind, number, since, devices }, slot, call) {
-    const held = `held up since call ${since}`;
-    if (kind === "BUSY") return `${held} by device ${number}, which has a transfer`;
-    if (kind === "WAIT") return `${held}: it waits for a ${NAMES_OF_POOL[number]} of the pool, and ${this.holdersOf(number, slot, call).join(", and ")}`;
-    const of = devices.length ? `, by the transfer of device ${devices.join(" or ")}` : "";
-    return `${held} by group ${number}, words ${32 * number} to ${32 * number + 31}${of}`;
+  saidOfHold({ slot, by, group, device, pool, transfer, call: begun }, call) {
+    const held = `held up since call ${begun + 1}`, of = this.timeline.facts.transfers[transfer]?.device;
+    if (by === "device") return `${held} by device ${device}, which has a transfer`;
+    if (by === "pool") return `${held}: it waits for a ${NAMES_OF_POOL[pool]} of the pool, and ${this.holdersOf(pool, slot, call).join(", and ")}`;
+    return `${held} by group ${group}, ${wordsOfGroup(group)}${of === undefined ? "" : `, by the transfer of device ${of}`}`;
   }
 
   /** Who has had each of the pool's devices of a kind, and since when, in words. The program in `slot` waits for one more, and may have some of them itself. */
@@ -214,10 +212,10 @@ export class Replay {
   }
 
   drawProgram(call, section, before) {
-    const layout = this.layouts.get(section.slot), reason = this.timeline.holdAfter(section.slot, call);
+    const layout = this.layouts.get(section.slot), hold = this.timeline.holdAfter(section.slot, call);
     const next = layout?.statementOf(...section.at);
-    const state = section.state === "LIVE" ? (reason ? this.saidOfHold(reason, section.slot, call) : "can go on") : section.state.toLowerCase();
-    return make("section", { class: `slot ${reason ? "held" : ""}`, "aria-label": `Program ${section.slot}` },
+    const state = section.state === "LIVE" ? (hold ? this.saidOfHold(hold, call) : "can go on") : section.state.toLowerCase();
+    return make("section", { class: `slot ${hold ? "held" : ""}`, "aria-label": `Program ${section.slot}` },
       make("h3", {}, `Program ${section.slot}: ${state}`),
       make("p", {}, `After ${section.orders} order${section.orders === 1 ? "" : "s"}. Next: ${nextOf(section, next)}.`),
       this.drawDeck(section, next), this.drawRegisters(section, before), this.drawWords(section, before, layout),
@@ -281,10 +279,9 @@ export class Replay {
 
   drawDevice(call, device, { isChanged, name, state, flight, media = [] }) {
     const { number, kind, place } = device;
-    const isMove = ({ calls, entry: [what, device] }) => what === "MOVE" && device === number && calls >= flight.start && calls <= call;
-    const moves = flight ? this.timeline.entries.filter(isMove) : [];
+    const moved = (this.timeline.moves.get(number) ?? []).reduce((sum, move) => sum + (flight?.start <= move.call && move.call <= call ? move.words : 0), 0);
     const said = `${isChanged ? CHANGED : ""}${name[0].toUpperCase()}${name.slice(1)}, ${kind}: ${state}, place ${place}`;
-    const transfer = flight ? `; a transfer since call ${flight.start}, ${moves.reduce((sum, { entry }) => sum + entry[2], 0)} words moved by MOVE` : "";
+    const transfer = flight ? `; a transfer since call ${flight.start}, ${moved} words moved by MOVE` : "";
     const lines = mediumOf(device, media), attributes = { class: "blocks", tabindex: "0", role: "group", "aria-label": `What is on ${name}` };
     return make("div", {}, make("p", {}, `${said}${transfer}.`), ...(lines.length ? [make("pre", attributes, lines.join("\n"))] : []));
   }
@@ -298,20 +295,20 @@ export class Replay {
       const had = holder ? `program ${holder.slot} has had it since call ${holder.start}` : "nobody has it";
       return `${isChanged ? CHANGED : ""}Device ${number}, ${kind}: ${had}.`;
     });
-    const waits = [...this.timeline.slots.keys()].map((slot) => [slot, this.timeline.holdAfter(slot, call)]).filter(([, reason]) => reason?.kind === "WAIT")
-      .map(([slot, { number, since }]) => `Program ${slot} has waited for a ${NAMES_OF_POOL[number]} since call ${since}.`);
+    const waits = [...this.timeline.slots.keys()].map((slot) => this.timeline.holdAfter(slot, call)).filter((hold) => hold?.by === "pool")
+      .map(({ slot, pool, call: begun }) => `Program ${slot} has waited for a ${NAMES_OF_POOL[pool]} since call ${begun + 1}.`);
     const items = [...devices, ...waits].map((line) => make("li", {}, line));
     return [make("section", { class: "slot", "aria-label": "Pool" }, make("h3", {}, "Pool"), make("ul", { class: "journal" }, ...items))];
   }
 
   /** The entries of the journal before and after the call. The entry for the call is marked. */
   drawJournal(call) {
-    const { entries } = this.timeline;
-    const at = entries.findLastIndex(({ calls, entry }) => calls < call || (calls === call && callsOf(entry) === 0));
+    const { total, facts: { entries } } = this.timeline, after = (index) => entries[index + 1]?.call ?? total;
+    const at = entries.findLastIndex((entry, index) => entry.call < call || (entry.call === call && after(index) === call));
     const first = Math.max(0, at - ENTRIES_AROUND);
-    const rows = entries.slice(first, at + ENTRIES_AROUND + 1).map(({ calls, entry }, index) => {
+    const rows = entries.slice(first, at + ENTRIES_AROUND + 1).map((entry, index) => {
       const isNow = first + index === at;
-      return make("li", isNow ? { "aria-current": "step" } : {}, `${isNow ? "▸ " : ""}after call ${calls}: ${saidOf(entry)}`);
+      return make("li", isNow ? { "aria-current": "step" } : {}, `${isNow ? "▸ " : ""}after call ${entry.call}: ${saidOf(entry)}`);
     });
     return make("section", { class: "slot", "aria-label": "Journal" }, make("h3", {}, "Journal"), make("ol", { class: "journal" }, ...rows));
   }

@@ -1,10 +1,11 @@
 // What came of a run: each program in words and tables, the journal in words, and the text itself.
 
 import { byId, make, table } from "./dom.js";
-import { Layout, readListing } from "./deck.js";
-import { readJob, withStore, writeJob } from "./job.js";
+import { layoutOf } from "./deck.js";
+import { readJob } from "./job.js";
+import { saidOf } from "./journal.js";
 import { choiceOfView, tableOfArray, tableOfWords } from "./words.js";
-import { LONGEST_READ, linesOfBlocks, many, numberOf, readReport, saidOf, stateOfStint, timed } from "./report.js";
+import { LONGEST_READ, linesOfBlocks, many, numberOf, stateOfStint } from "./report.js";
 
 const OUT_OF_SERVICE = 64n;
 const FLAGS = ["V, the overflow flag", "TR, the test register"];
@@ -15,30 +16,17 @@ const MOST_SHOWN = 100000, MOST_ENTRIES = 1000, MOST_WORDS = 1000;
 /** How many stores of one name are an array. */
 const FEWEST_IN_ARRAY = 10;
 
-/** The entries and sections of a report or of the text of a lone run; null for any other text, and for one that is too long to be read. */
-export const readResult = (text) => (text.length <= LONGEST_READ && /^KDF9 (REPORT|ALONE) /.test(text) ? readReport(text) : null);
+/** Whether a text is that of a report, after a watch or by itself, or of a lone run; one that is too long isn't read. */
+export const isReadable = (text) => text.length <= LONGEST_READ && /^KDF9 (REPORT|ALONE|WATCH) /.test(text);
 
-/** The layouts of the decks of a job by their slots, for the names of words. The machine lists each deck; a slot without a listing has no layout. */
+/** The layouts of the decks of a job by their slots, for the names of words. A slot whose deck can't be listed has none. */
 export async function layoutsOf(ask, text) {
   const layouts = new Map();
-  for (const slot of readJob(text)?.slots ?? []) {
-    const { status, text: listing } = await ask(["asm", slot.number], text);
-    const read = status === 0 ? readListing(listing) : null;
-    try {
-      if (read) layouts.set(Number(slot.number), new Layout(slot.deck, read));
-    } catch {
-      // The names are only a help: without them, a word is named by its address.
-    }
+  for (const { number } of readJob(text)?.slots ?? []) {
+    const layout = await layoutOf(ask, text, number);
+    if (layout) layouts.set(Number(number), layout);
   }
   return layouts;
-}
-
-/** The words of each program at the end of a run of a job, by their slots and addresses. The machine runs the job again, with the whole stores shown. */
-export async function storesOf(ask, text) {
-  const job = readJob(text);
-  const { status, text: report } = await ask(["run"], writeJob({ ...job, slots: job.slots.map(withStore) }));
-  const sections = status === 0 ? readResult(report)?.sections ?? [] : [];
-  return new Map(sections.map(({ slot, words }) => [slot, new Map(words.map(({ address, octal }) => [address, octal]))]));
 }
 
 /** What may have led to a failure, in words, or nothing. OUT 64 fails as OUT only in a slot that isn't served. */
@@ -59,12 +47,12 @@ function storyOf(section, layout) {
   return `Program ${slot} ${became}, after ${many(orders, "order")}. ${life === "ENDED" ? "" : stands}${hintOfOut(section)}`;
 }
 
-/** The words of a program: those that the run changed come first, and then those that the job shows. The others that have names are folded. An array has a table of its own. */
-function drawWords(section, layout, store) {
-  const shown = new Map(section.words.map(({ address, octal }) => [address, octal]));
-  const named = (layout?.addresses ?? []).filter((address) => store?.has(address));
+/** The words of a program: those that the run changed come first, and then those that the job shows. The others that have names are folded, if `wordIn` tells what is in
+ * the store. An array has a table of its own. */
+function drawWords(section, layout, wordIn) {
+  const shown = new Map(section.words.map(({ address, octal }) => [address, octal])), named = wordIn && layout ? layout.addresses : [];
   const isChanged = (address) => layout !== undefined && valueOf(address) !== layout.octalAt(address);
-  const valueOf = (address) => shown.get(address) ?? store.get(address);
+  const valueOf = (address) => shown.get(address) ?? wordIn(address);
   const wordAt = (address) => ({ name: layout?.nameOf(address) ?? `E${address}`, address, octal: valueOf(address), isChanged: isChanged(address) });
   const all = [...new Set([...shown.keys(), ...named])].sort((one, other) => one - other), there = new Set(all);
   const arrays = (layout?.groupsOf(FEWEST_IN_ARRAY) ?? []).filter((addresses) => addresses.every((address) => there.has(address)));
@@ -91,8 +79,8 @@ function drawArray(words) {
   return [tableOfArray(caption, words.slice(0, MOST_WORDS)), make("details", {}, make("summary", {}, `${name}, one to a line`), ...drawTable(name, words))];
 }
 
-function sectionOf(section, layout, store) {
-  const parts = [make("h3", {}, `Program ${section.slot}`), make("p", {}, storyOf(section, layout)), ...drawWords(section, layout, store)];
+function drawSection(section, layout, wordIn) {
+  const parts = [make("h3", {}, `Program ${section.slot}`), make("p", {}, storyOf(section, layout)), ...drawWords(section, layout, wordIn)];
   if (section.nest.length) parts.push(table("Nest, the top first", ["", "octal", "decimal"], section.nest.map((octal, at) => [`N${at + 1}`, ...wordCells(octal)])));
   if (section.qStores.length) {
     parts.push(table("Q-stores", ["", "counter", "increment", "modifier"], section.qStores.map(({ number, parts: [...cells] }) => [`Q${number}`, ...cells])));
@@ -114,20 +102,21 @@ function deviceOf(name, { kind, place, flag, blocks }, state) {
   return make("div", {}, said, make("pre", attributes, linesOfBlocks(blocks).join("\n")));
 }
 
-function journalOf(entries) {
-  const rows = timed(entries.slice(0, MOST_ENTRIES)).map(([calls, entry]) => [entry.join(" "), saidOf(entry), `${calls}`]);
+/** The entries of a journal: how the report has them, what they mean, and how many calls were before them. */
+function drawJournal({ entries }, text) {
+  const lines = text.split("\n"), first = lines.findIndex((line) => line.startsWith("KDF9 REPORT ")) + 1;
+  const rows = entries.slice(0, MOST_ENTRIES).map((entry, at) => [lines[first + at], saidOf(entry), `${entry.call}`]);
   const rest = entries.length > MOST_ENTRIES ? [make("p", {}, `${entries.length - MOST_ENTRIES} more entries are in the report.`)] : [];
   return make("details", {}, make("summary", {}, "The journal: what happened, in order"),
     table("Entries", ["entry", "what it says", "calls before it"], rows), ...rest);
 }
 
-/** What was read of a report or of the text of a lone run, as elements of the page; none if it is null. `stores` has the words of each program if they are known. */
-export function resultsOf(read, layouts, stores) {
-  if (read === null) return [];
-  const { entries, sections } = read;
-  const drawn = sections.map((section) => sectionOf(section, layouts.get(section.slot), stores?.get(section.slot)));
+/** What came of a run or of a lone run, as elements of the page; none if it wasn't read. `wordsIn` tells what is in the stores, if that is known. */
+export function resultsOf({ text, facts, sections, layouts, wordsIn }) {
+  if (!sections) return [];
+  const drawn = sections.map((section) => drawSection(section, layouts.get(section.slot), wordsIn?.(section.slot)));
   const hasWords = drawn.some((section) => section.querySelector(".words, .array"));
-  return [...(hasWords ? [choiceOfView(byId("sections"))] : []), ...drawn, ...(entries.length ? [journalOf(entries)] : [])];
+  return [...(hasWords ? [choiceOfView(byId("sections"))] : []), ...drawn, ...(facts?.entries?.length ? [drawJournal(facts, text)] : [])];
 }
 
 /** The text as it is shown: all of it, or its beginning if it is long. */

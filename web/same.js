@@ -1,53 +1,34 @@
 // Whether a program comes to the same in two worlds: in two runs, or in a run and alone. Its states are the machine's own reports, with the whole store shown.
 
+import { factsOfRun } from "./facts.js";
 import { readJob, withStore, writeJob } from "./job.js";
-import { callsOfOrders, readReport } from "./report.js";
+import { callsOfOrders } from "./journal.js";
 import { readSchedule, writeSchedule } from "./schedule.js";
 
 const count = (number, what) => `${number} ${what}${number === 1 ? "" : "s"}`;
 const listed = (words) => (words.length > 1 ? `${words.slice(0, -1).join(", ")} and ${words.at(-1)}` : words[0]);
 
-/** The entries of a program's orders that asked, or gave back a device of the pool, each with the number of its order. */
-function* askedBy(entries, slot) {
-  let obeyed = 0;
-  for (const [kind, number, value] of entries) {
-    if (number !== slot) continue;
-    if (kind === "RAN") obeyed += value;
-    else if (["ANSWER", "TAKE", "GIVE"].includes(kind)) yield [obeyed, kind, value];
-  }
-}
-
 /** What a program was answered, by the number of the order that asked. The device that it took from the pool is an answer. */
-function answersOf(entries, slot) {
-  return new Map([...askedBy(entries, slot)].filter(([, kind]) => kind !== "GIVE").map(([order, , value]) => [order, value]));
-}
+const answersOf = ({ asks }, number) => new Map(asks.filter(({ slot }) => slot === number).map(({ order, answer }) => [order, answer]));
 
 /** What the same orders would be answered alone, if all before were answered so: 0, or the least device of the pool that the program hasn't got. */
-function loneAnswers(entries, slot, pool) {
-  const answers = new Map(), got = new Set();
-  for (const [order, kind, value] of askedBy(entries, slot)) {
-    if (kind === "TAKE") {
-      const free = [...pool].filter(([device, what]) => what === pool.get(value) && !got.has(device)).map(([device]) => device);
-      answers.set(order, Math.min(...free));
-      got.add(value);
-    } else if (kind === "GIVE") {
-      got.delete(value);
-    } else {
-      answers.set(order, 0);
-    }
-  }
-  return answers;
+function loneAnswers({ asks, loans, devices }, number) {
+  const kinds = new Map(devices.filter(({ slot }) => slot === null).map(({ device, kind }) => [device, kind])), got = new Map();
+  const own = loans.filter(({ slot }) => slot === number).values();
+  let next = own.next().value;
+  return new Map(asks.filter(({ slot }) => slot === number).map(({ order, call }) => {
+    for (const [device, given] of got) if (given !== null && given < call) got.delete(device);
+    if (next?.taken !== call) return [order, 0];
+    const { device: taken, given } = next, free = [...kinds].filter(([device, kind]) => kind === kinds.get(taken) && !got.has(device)).map(([device]) => device);
+    got.set(taken, given);
+    next = own.next().value;
+    return [order, Math.min(...free)];
+  }));
 }
 
-/** The devices that have a transfer for this slot at the end of a journal. */
-function inFlight(entries, slot) {
-  const flying = new Map();
-  for (const [kind, first, second] of entries) {
-    if (kind === "START") flying.set(second, first);
-    else if (kind === "END") flying.delete(first);
-  }
-  return [...flying].filter(([, owner]) => owner === slot).map(([device]) => device);
-}
+/** The devices that have a transfer for this slot after so many calls. */
+const flyingAfter = ({ transfers }, number, calls) => transfers.filter(({ slot, began, ended }) => slot === number && began <= calls && (ended === null || ended >= calls))
+  .map(({ device }) => device);
 
 /** The first words of the lines of which a section has several. */
 const NUMBERED = ["Q", "WORD", "DEVICE", "POOL"];
@@ -81,8 +62,7 @@ export class Whole {
     Object.assign(whole, { ask, name, job: readJob(job) });
     whole.schedule = readSchedule(whole.job.schedule);
     whole.text = await whole.run(whole.schedule);
-    Object.assign(whole, readReport(whole.text));
-    whole.pool = new Map((whole.job.pool?.devices ?? []).map(({ number, kind }) => [Number(number), kind]));
+    whole.facts = await factsOfRun(ask, job);
     return whole;
   }
 
@@ -117,15 +97,15 @@ export class Whole {
 /** A program in a run: how many orders it obeyed, what it was answered, and its state after any of them. */
 export class Shared {
   constructor(whole, number) {
-    const section = whole.sections.find(({ slot }) => slot === number);
-    Object.assign(this, { whole, number, name: whole.name, orders: section.orders, isOver: section.state !== "LIVE" });
-    this.answers = answersOf(whole.entries, number);
+    const { orders, state } = whole.facts.programs.find(({ slot }) => slot === number);
+    Object.assign(this, { whole, number, name: whole.name, orders, isOver: state !== "LIVE" });
+    this.answers = answersOf(whole.facts, number);
   }
 
   async state(orders) {
-    const { whole, number } = this;
-    const text = orders < this.orders ? await whole.runTo(callsOfOrders(whole.entries, number, [orders])[0]) : whole.text;
-    return { lines: linesOfSections(text).get(number), flying: inFlight(readReport(text).entries, number) };
+    const { whole, number } = this, isPart = orders < this.orders, calls = isPart ? callsOfOrders(whole.facts, number, [orders])[0] : whole.facts.made;
+    const text = isPart ? await whole.runTo(calls) : whole.text, flying = flyingAfter(whole.facts, number, isPart ? calls : Infinity);
+    return { lines: linesOfSections(text).get(number), flying };
   }
 }
 
@@ -133,7 +113,7 @@ export class Shared {
 export class Alone {
   constructor({ whole, number, orders, isOver }) {
     Object.assign(this, { whole, number, name: "alone", orders, isOver });
-    this.answers = loneAnswers(whole.entries, number, whole.pool);
+    this.answers = loneAnswers(whole.facts, number);
   }
 
   async state(orders) {

@@ -1,8 +1,8 @@
 // Finding a call of a run: at which a program comes to a statement, and at which a word got the value that it has. All is read from the machine's own reports.
 
 import { SYLLABLES } from "./deck.js";
-import { callsOfOrders, readReport } from "./report.js";
-import { readWatch } from "./watch.js";
+import { factsFor } from "./facts.js";
+import { callsOfOrders } from "./journal.js";
 
 /** How many orders a statement is looked for that doesn't begin a word, and over how many calls a change is looked for one by one. */
 const FARTHEST = 2000, NEAR = 100;
@@ -41,7 +41,7 @@ export class Seeker {
 
   /** The place of a statement that begins at this offset of a deck, as a word and a syllable; null if it wrote no order. */
   placeOf(slot, start) {
-    const found = [...this.layouts.get(slot)?.orders ?? []].find(([, statement]) => statement.start === start);
+    const found = [...this.layouts.get(slot)?.orders ?? []].find(([, statement]) => statement?.start === start);
     return found ? [Math.floor(found[0] / SYLLABLES), found[0] % SYLLABLES] : null;
   }
 
@@ -49,8 +49,8 @@ export class Seeker {
   async callsAt(slot, word) {
     const key = `${slot} ${word}`;
     if (!this.watched.has(key)) {
-      const { status, text } = await this.ask(["watch", `${slot}`, `${word}`], this.text), watch = status === 0 ? readWatch(text) : null;
-      this.watched.set(key, watch ? callsOfOrders(readReport(watch.report).entries, slot, watch.orders) : []);
+      const { stops } = await factsFor(this.ask, ["watch", `${slot}`, `${word}`], this.text);
+      this.watched.set(key, callsOfOrders(this.timeline.facts, slot, stops));
     }
     return this.watched.get(key);
   }

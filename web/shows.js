@@ -1,6 +1,6 @@
 // The words that a job shows, as somebody types them: by their addresses, or by the names of stores, which the lines SHOW don't know.
 
-import { Layout, readListing } from "./deck.js";
+import { layoutOf } from "./deck.js";
 import { jobOfDeck } from "./job.js";
 
 const STORES = /^(V|Y[A-Z]?)(\d+)?(?:P(\d+))?$/, ADDRESS = /^E?(\d+)$/;
@@ -15,7 +15,7 @@ export const haveNames = (shows) => shows.some((show) => /[A-Za-z]/.test(show));
 function addressesOf(piece, layout) {
   const number = ADDRESS.exec(piece)?.[1], [, before, index, part] = STORES.exec(piece) ?? [];
   if (number !== undefined) return [number, number];
-  const found = layout.names.find((names) => names.before === before && names.behind === (Number(part) ? `P${Number(part)}` : ""));
+  const found = layout.storesNamed(before, Number(part ?? 0));
   if (!found || Number(index) >= found.count) throw new NoAddress(`this deck has no store ${piece}`);
   return index === undefined ? [found.address, found.address + found.count - 1] : [found.address + Number(index), found.address + Number(index)];
 }
@@ -31,9 +31,7 @@ function rangeOf(show, layout) {
 /** The ranges with addresses in the places of the names of a slot's stores. The machine lists the deck to find them. */
 export async function withAddresses(ask, slot, shows) {
   if (!haveNames(shows)) return shows;
-  const { status, text } = await ask(["asm", slot.number], jobOfDeck(slot));
-  const listing = status === 0 ? readListing(text) : null;
-  if (!listing) throw new NoAddress("the deck or its store has a fault, so nobody knows yet where its stores are");
-  const layout = new Layout(slot.deck, listing);
+  const layout = await layoutOf(ask, jobOfDeck(slot), slot.number);
+  if (!layout) throw new NoAddress("the deck or its store has a fault, so nobody knows yet where its stores are");
   return shows.map((show) => rangeOf(show, layout));
 }

@@ -22,9 +22,6 @@ export const ENTRIES_OF_FORMS = Object.fromEntries(ORDERS.orders.flatMap(({ name
 export const LINES = Object.fromEntries(JOB.lines.map((line) => [line.word, line]));
 export const KINDS = Object.fromEntries(JOB.kinds.map((kind) => [kind.kind, kind]));
 
-/** The entries of a journal. */
-export const ENTRIES = /* tables/entries.json */ null;
-
 /** What a picture of a run looks like, and what it says. */
 export const PICTURE = /* tables/picture.json */ null;
 

@@ -3,9 +3,10 @@
 import { aligned } from "./aligned.js";
 import { make, table } from "./dom.js";
 import { linesOf } from "./job.js";
+import { callsOfOrders, saidOf } from "./journal.js";
 import { WHOLE } from "./picture.js";
 import { Pictured } from "./pictured.js";
-import { HOLDS, callsOf, callsOfOrders, many, numberOf, saidOf } from "./report.js";
+import { many, numberOf } from "./report.js";
 import { Alone, Shared, Whole, compare } from "./same.js";
 import { Timeline } from "./timeline.js";
 
@@ -35,7 +36,7 @@ export class Theorem {
   async withAlone() {
     const whole = await Whole.of(this.ask, this.last.text, THIS_RUN);
     const found = [];
-    for (const { slot } of whole.sections) {
+    for (const { slot } of whole.facts.programs) {
       const shared = new Shared(whole, slot);
       found.push({ slot, name: `Program ${slot}`, ...await compare(shared, new Alone(shared)) });
     }
@@ -46,7 +47,7 @@ export class Theorem {
   async withBefore(said = "Here is this run beside the run before.") {
     const [whole, other] = [await Whole.of(this.ask, this.last.text, THIS_RUN), await Whole.of(this.ask, this.before.text, RUN_BEFORE)];
     const found = [];
-    for (const { slot } of whole.sections) {
+    for (const { slot } of whole.facts.programs) {
       const like = other.like(whole, slot);
       const name = like === undefined || like === slot ? `Program ${slot}` : `Program ${slot}, which was program ${like} in the run before`;
       const compared = like === undefined ? { said: NOT_BEFORE, isDue: true } : await compare(new Shared(whole, slot), new Shared(other, like));
@@ -97,32 +98,33 @@ export class Theorem {
 
 /** What two runs look like over time, where their journals part, and their schedules. */
 function drawRuns(whole, other) {
-  const runs = [["The run before", new Timeline(other)], ["This run", new Timeline(whole)]], calls = Math.max(...runs.map(([, { total }]) => total));
+  const runs = [["The run before", new Timeline(other.facts)], ["This run", new Timeline(whole.facts)]], calls = Math.max(...runs.map(([, { total }]) => total));
   const pictures = runs.map(([name, timeline]) => make("div", {}, make("h3", {}, `${name}: ${many(timeline.total, "call")}`),
     new Pictured(timeline, { name: `${name} over time`, calls, size: WHOLE }).element));
-  const journals = sideBySide("Both journals", [other, whole].map(({ entries }) => entries), saidOf);
+  const journals = sideBySide("Both journals", [other, whole].map(({ facts }) => facts.entries), saidOf);
   const schedules = sideBySide("Both schedules", [other, whole].map(({ job }) => linesOf(job.schedule)), (line) => line);
-  return [...pictures, make("p", {}, saidOfJournals(other.entries, whole.entries)), journals, schedules];
+  return [...pictures, make("p", {}, saidOfJournals(other.facts, whole.facts)), journals, schedules];
 }
 
 /** How a run went for a program, and how the run before: in how many stretches it ran, until when, and how often it was held up. */
 function changesOf(whole, slot, other, like) {
   const told = ([run, number]) => {
-    const own = run.entries.filter(([, owner]) => owner === number), section = run.sections.find((each) => each.slot === number);
-    const stretches = own.filter(([kind]) => kind === "RAN").length, holds = own.filter(([kind]) => HOLDS.includes(kind)).length;
-    const last = section.orders ? `, the last at call ${callsOfOrders(run.entries, number, [section.orders])[0].toLocaleString("en")}` : "";
-    return `it obeyed ${many(section.orders, "order")} in ${many(stretches, "stretch", "stretches")}${last}, and was held up ${many(holds, "time")}`;
+    const isOwn = ({ slot: owner }) => owner === number, { entries, programs } = run.facts, { orders } = programs.find(isOwn), holds = run.facts.holds.filter(isOwn).length;
+    const stretches = entries.filter((each) => each.entry === "RAN" && isOwn(each)).length;
+    const last = orders ? `, the last at call ${callsOfOrders(run.facts, number, [orders])[0].toLocaleString("en")}` : "";
+    return `it obeyed ${many(orders, "order")} in ${many(stretches, "stretch", "stretches")}${last}, and was held up ${many(holds, "time")}`;
   };
   const [before, now] = [[other, like], [whole, slot]].map(told);
   return before === now ? `In both runs ${now}.` : `In the run before ${before}. In this run ${now}.`;
 }
 
 /** Where two journals part, in words. */
-function saidOfJournals(before, now) {
-  const at = Array.from({ length: Math.max(before.length, now.length) }).findIndex((_, index) => `${before[index]}` !== `${now[index]}`);
+function saidOfJournals({ entries: before }, { entries: now, made }) {
+  const textAt = (entries, at) => JSON.stringify(entries[at]);
+  const at = Array.from({ length: Math.max(before.length, now.length) }).findIndex((_, index) => textAt(before, index) !== textAt(now, index));
   if (at < 0) return `The journal is the same: ${many(now.length, "entry", "entries")}.`;
   const said = (entries) => (entries[at] ? saidOf(entries[at]) : "nothing more happened");
-  const calls = now.slice(0, at).reduce((sum, entry) => sum + callsOf(entry), 0);
+  const calls = now[at]?.call ?? made;
   const alike = at ? `Up to call ${calls.toLocaleString("en")} it is the same. Then` : "At first";
   const lengths = `${many(before.length, "entry", "entries")} before, and ${now.length.toLocaleString("en")} now`;
   return `The journal differs: ${lengths}. ${alike}, in the run before, ${said(before)}; in this run, ${said(now)}.`;

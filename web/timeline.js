@@ -1,205 +1,138 @@
-// A journal over time: what each program did, which transfers each device had, and to whom the pool lent its devices. Time is counted in calls of the machine.
+// A run over time, as its facts tell it: what each program did, which transfers each device had, and to whom the pool lent its devices. Time is counted in calls of
+// the machine.
 
 import { many } from "./report.js";
 import { PICTURE, worded } from "./tables.js";
 
-export const RAN = "ran";
-export const HELD = "held";
-export const WAITS = "waits";
-export const READY = "ready";
-export const FLYING = "flying";
-export const LENT = "lent";
+/** What goes on from one call to another. It is open if it goes on when the run stops: its end, which is null then, is that of the run. */
+const spanOf = (made, start, end, rest) => ({ start, end: end ?? made, isOpen: end === null, ...rest });
 
-/** What is known of a program while its journal is read. */
-const program = () => ({ does: READY, since: 0, reason: null, waitsFor: new Set(), wait: null });
+/** The values by their key. */
+function grouped(values, keyOf, keys) {
+  const groups = new Map(keys.map((key) => [key, []]));
+  for (const value of values) groups.get(keyOf(value))?.push(value);
+  return groups;
+}
 
-/** How each entry is taken. The others change nothing that is shown over time. */
-const TAKERS = {
-  RAN: (timeline, slot, orders) => timeline.ran(slot, orders),
-  IDLE: (timeline, calls) => timeline.pass(calls),
-  MOVE: (timeline, device, words) => timeline.move(device, words),
-  CLOCK: (timeline, time) => timeline.clock.push({ call: timeline.total, time }),
-  SWAP: (timeline, slot, other) => timeline.exchange(slot, other),
-  LOV: (timeline, slot, group) => timeline.hold("LOV", slot, group),
-  BUSY: (timeline, slot, device) => timeline.hold("BUSY", slot, device),
-  WAIT: (timeline, slot, kind) => timeline.wait(slot, kind),
-  START: (timeline, slot, device) => timeline.start(slot, device),
-  END: (timeline, device) => timeline.end(device),
-  TAKE: (timeline, slot, device) => timeline.lend(slot, device),
-  GIVE: (timeline, slot, device) => timeline.takeBack([device]),
-  FAIL: (timeline, slot, failure) => timeline.stop(slot, failure),
-  ENDED: (timeline, slot) => timeline.stop(slot),
-};
+/** The index of the first of these spans that ends after a call. */
+export function firstAfter(spans, call) {
+  let [low, high] = [0, spans.length];
+  while (low < high) {
+    const middle = (low + high) >> 1;
+    if (spans[middle].end > call) high = middle;
+    else low = middle + 1;
+  }
+  return low;
+}
 
-/** A run over time. Each slot and each device has its spans, each with the number of calls before its beginning and before its end. A span is open if it
- * goes on when the run stops. The devices of the pool also have the spans for which they were lent; a report has only those that were taken. There are also
- * the calls after which something happened (`events`), those that found a program held up (`holds`), the entries, each with the number of calls before it, and what is
- * drawn besides: idle calls, the ends of programs, words that were moved, the clock, and exchanges of priorities. `sums` says to what all calls went. */
+/** The spans in which all of the pool's devices of a kind were lent. */
+function spansLent({ devices, loans, made }, pool) {
+  const all = new Set(devices.filter(({ slot, kind }) => slot === null && kind === pool).map(({ device }) => device)), lent = loans.filter(({ device }) => all.has(device));
+  const changes = [...lent.map(({ taken }) => [taken, 1]), ...lent.filter(({ given }) => given !== null).map(({ given }) => [given, -1])].sort((one, other) => one[0] - other[0]);
+  const found = [];
+  let count = 0, start = 0;
+  for (const [call, by] of changes) {
+    count += by;
+    if (count === all.size) start = call;
+    else if (by < 0 && count === all.size - 1) found.push(spanOf(made, start, call));
+  }
+  return all.size && count === all.size ? [...found, spanOf(made, start, null)] : found;
+}
+
+/** The spans that are within some calls, each as far as it is; `end` is null for the end of the run. */
+function spansWithin(made, spans, start, end, rest) {
+  const found = [];
+  for (let at = firstAfter(spans, start); at < spans.length && spans[at].start < (end ?? made); at += 1) {
+    found.push(spanOf(made, Math.max(start, spans[at].start), spans[at].isOpen ? end : firstOf(spans[at].end, end), rest));
+  }
+  return found;
+}
+
+/** The first of some numbers of calls, of which those that are null or absent never come; null if none does. */
+const firstOf = (...calls) => calls.reduce((first, call) => (call === null || call === undefined || (first !== null && first < call) ? first : call), null);
+
+/** The spans in which a program was held up, each with its hold. While it waits for the pool, it is held up only where all devices of the kind are lent. */
+function holdSpans(facts, holds, over, lent) {
+  return holds.flatMap((hold, at) => {
+    const end = firstOf(facts.transfers[hold.transfer]?.ended, hold.resumed, holds[at + 1]?.call, over);
+    return hold.by === "pool" ? spansWithin(facts.made, lent[hold.pool], hold.call, end, { what: "waits", hold }) : [spanOf(facts.made, hold.call, end, { what: "held", hold })];
+  });
+}
+
+/** Spans in their sequence, with those between them, in which a program could go on, up to the end of the program, which is null if it goes on. */
+function withReady(made, spans, over) {
+  const found = [];
+  let call = 0;
+  for (const each of spans.filter(({ start, end }) => start < end).sort((one, other) => one.start - other.start)) {
+    if (call < each.start) found.push(spanOf(made, call, each.start, { what: "ready" }));
+    found.push(each);
+    call = each.end;
+  }
+  return call < (over ?? made) ? [...found, spanOf(made, call, over, { what: "ready" })] : found;
+}
+
+/** A run over time. Each slot and each device has its spans, each with the number of calls before its beginning and before its end. The devices of the pool also have
+ * the spans for which they were lent. There are also the calls after which something happened (`events`), those that found a program held up (`holds`), and what is drawn
+ * besides: idle calls, the ends of programs, words that were moved, the clock, and exchanges of priorities. */
 export class Timeline {
-  constructor({ entries, sections }) {
-    const own = sections.flatMap(({ devices }) => devices), stints = sections.flatMap(({ stints: each }) => each);
-    this.total = 0;
-    this.entries = [];
-    this.pool = new Map(stints.map(({ number, kind }) => [number, kind]).sort(([one], [other]) => one - other));
-    this.slots = new Map(sections.map(({ slot }) => [slot, []]));
-    this.devices = new Map([...own.map(({ number }) => number), ...this.pool.keys()].map((number) => [number, []]));
-    this.lendings = new Map([...this.pool.keys()].map((number) => [number, []]));
-    this.kinds = new Map([...own, ...stints].map(({ number, kind }) => [number, kind]));
-    this.states = new Map(sections.map(({ slot, state, orders }) => [slot, { state, orders }]));
-    this.ends = new Map(sections.map(({ slot }) => [slot, []]));
-    this.moves = new Map([...this.devices.keys()].map((number) => [number, []]));
-    this.order = sections.map(({ slot }) => slot);
-    this.priorities = [0, 1, 2, 3];
-    Object.assign(this, { idle: [], clock: [], swaps: [], transfers: 0 });
-    this.events = [];
-    this.holds = [];
-    this.programs = new Map(sections.map(({ slot }) => [slot, program()]));
-    this.flying = new Map();
-    this.lent = new Map();
-    this.isOver = false;
-    for (const entry of entries) {
-      this.entries.push({ calls: this.total, entry });
-      this.take(entry);
-    }
-    this.isOver = true;
-    for (const slot of this.programs.keys()) this.turn(slot, null);
-    for (const device of [...this.flying.keys()]) this.land(device);
-    this.takeBack([...this.lent.keys()]);
-    this.sums = this.sumUp();
+  constructor(facts) {
+    const { made, entries, programs, devices, transfers, loans, holds } = facts, of = (...names) => entries.filter(({ entry }) => names.includes(entry));
+    const lentEver = new Set(loans.map(({ device }) => device)), ofPool = devices.filter(({ slot, device }) => slot === null && lentEver.has(device));
+    const used = [...devices.filter(({ slot }) => slot !== null), ...ofPool.sort((one, other) => one.device - other.device)];
+    const slots = programs.map(({ slot }) => slot), numbers = used.map(({ device }) => device);
+    Object.assign(this, { facts, total: made, transfers: transfers.length, used });
+    this.kinds = new Map(used.map(({ device, kind }) => [device, kind]));
+    this.pool = new Map(ofPool.map(({ device, kind }) => [device, kind]));
+    this.states = new Map(programs.map(({ slot, state, failure, orders }) => [slot, { state: failure ? `${state} ${failure}` : state, orders }]));
+    this.ends = grouped(of("FAIL", "ENDED").map(({ slot, call, kind }) => ({ slot, call, failure: kind })), ({ slot }) => slot, slots);
+    this.devices = grouped(transfers.map(({ device, slot, began, ended }) => spanOf(made, began, ended, { device, slot })), ({ device }) => device, numbers);
+    this.lendings = grouped(loans.map(({ device, slot, taken, given }) => spanOf(made, taken, given, { device, slot })), ({ device }) => device, [...this.pool.keys()]);
+    this.moves = grouped(this.movesOf(entries), ({ device }) => device, numbers);
+    this.idle = of("IDLE").map(({ call, calls }) => ({ start: call, end: call + calls }));
+    this.clock = of("CLOCK");
+    this.swaps = this.swapsOf(of("SWAP"), slots);
+    this.events = entries.flatMap(({ entry }, at) => (entry === "RAN" || entry === "IDLE" ? [] : [entries[at + 1]?.call ?? made]));
+    this.holds = holds.map(({ call }) => call + 1);
+    this.slots = this.spansOfSlots(slots);
   }
 
-  /** What goes on from a number of calls to now. */
-  span(start, what, rest) {
-    return { start, end: this.total, isOpen: this.isOver, what, ...rest };
+  spansOfSlots(slots) {
+    const { facts, total } = this, lent = { TP: spansLent(facts, "TP"), LP: spansLent(facts, "LP") }, ofSlot = ({ slot }) => slot;
+    const ran = grouped(facts.entries.filter(({ entry }) => entry === "RAN"), ofSlot, slots), holds = grouped(facts.holds, ofSlot, slots);
+    return new Map(slots.map((slot) => {
+      const over = this.ends.get(slot)[0]?.call ?? null, runs = ran.get(slot).map(({ call, orders }) => spanOf(total, call, call + orders, { what: "ran" }));
+      return [slot, withReady(total, [...runs, ...holdSpans(facts, holds.get(slot), over, lent)], over)];
+    }));
   }
 
-  /** The program does something else from now on; null if it is over. */
-  turn(slot, does, reason = null) {
-    const it = this.programs.get(slot);
-    if (it.does && this.total > it.since) this.slots.get(slot).push(this.span(it.since, it.does, { reason: it.reason }));
-    Object.assign(it, { does, since: this.total, reason });
-  }
-
-  take([kind, ...numbers]) {
-    TAKERS[kind]?.(this, ...numbers);
-    if (kind !== "RAN" && kind !== "IDLE") this.events.push(this.total);
-  }
-
-  ran(slot, orders) {
-    this.turn(slot, READY);
-    this.slots.get(slot).push({ start: this.total, end: this.total + orders, what: RAN });
-    this.total += orders;
-    Object.assign(this.programs.get(slot), { since: this.total, wait: null });
-  }
-
-  pass(calls) {
-    this.idle.push({ start: this.total, end: this.total + calls });
-    this.total += calls;
-  }
-
-  /** A MOVE changes nothing if the device has no transfer. */
-  move(device, words) {
-    if (this.flying.has(device)) this.moves.get(device)?.push({ call: this.total, words });
-  }
-
-  exchange(slot, other) {
-    this.priorities = this.priorities.map((each) => (each === slot ? other : each === other ? slot : each));
-    this.swaps.push({ call: this.total, slots: [slot, other], after: this.priorities.filter((each) => this.order.includes(each)) });
-  }
-
-  /** A program that a group holds up counts as held up until it goes on, or until the last of its transfers in flight has ended. */
-  hold(kind, slot, number) {
-    const own = [...this.flying].filter(([device, flight]) => (kind === "BUSY" ? device === number : flight.slot === slot)).map(([device]) => device);
-    this.turn(slot, HELD, { kind, number, since: this.total + 1, devices: own });
-    this.programs.get(slot).waitsFor = new Set(own);
-    this.countHold();
-  }
-
-  wait(slot, kind) {
-    const reason = { kind: "WAIT", number: kind, since: this.total + 1 };
-    this.turn(slot, WAITS, reason);
-    this.programs.get(slot).wait = reason;
-    this.countHold();
-  }
-
-  start(slot, device) {
-    this.flying.set(device, { start: this.total, slot });
-    this.transfers += 1;
-  }
-
-  countHold() {
-    this.total += 1;
-    this.holds.push(this.total);
-  }
-
-  end(device) {
-    const flight = this.flying.get(device);
-    if (!flight) return;
-    this.land(device);
-    const it = this.programs.get(flight.slot);
-    it.waitsFor.delete(device);
-    if (it.does === HELD && it.waitsFor.size === 0) this.turn(flight.slot, READY);
-  }
-
-  land(device) {
-    const { start, slot } = this.flying.get(device);
-    this.flying.delete(device);
-    this.devices.get(device)?.push(this.span(start, FLYING, { slot }));
-  }
-
-  lend(slot, device) {
-    this.lent.set(device, { start: this.total, slot });
-    this.lookAtWaits();
-  }
-
-  /** These devices of the pool have no holder from now on. */
-  takeBack(devices) {
-    for (const device of devices) {
-      const { start, slot } = this.lent.get(device);
-      this.lent.delete(device);
-      this.lendings.get(device).push(this.span(start, LENT, { slot }));
-    }
-    this.lookAtWaits();
-  }
-
-  /** A program waits for the pool while all devices of the kind have holders, also after another was quicker to take one that was given back. */
-  lookAtWaits() {
-    for (const [slot, { does, wait }] of this.programs) {
-      if (!does || !wait) continue;
-      const isHeld = [...this.pool].every(([device, kind]) => kind !== wait.number || this.lent.has(device));
-      if (isHeld !== (does === WAITS)) this.turn(slot, isHeld ? WAITS : READY, isHeld ? wait : null);
-    }
-  }
-
-  /** A program that is over holds nothing of the pool. */
-  stop(slot, failure = null) {
-    this.turn(slot, null);
-    this.ends.get(slot)?.push({ call: this.total, failure });
-    this.takeBack([...this.lent].filter(([, lending]) => lending.slot === slot).map(([device]) => device));
-  }
-
-  /** To what the calls went: those in all, those in which an order was obeyed and those that found all programs held up; of each program those in which it ran, was
-   * ready, was held up by each cause, and was over; and of each device its transfers and how long it had one. */
-  sumUp() {
-    const lengths = (spans, is = () => true) => spans.filter(is).reduce((sum, { start, end }) => sum + end - start, 0);
-    const programs = [...this.slots].map(([slot, spans]) => {
-      const running = lengths(spans, ({ what }) => what === RAN), ready = lengths(spans, ({ what }) => what === READY);
-      const [device, group, pool] = ["BUSY", "LOV", "WAIT"].map((kind) => lengths(spans, ({ reason }) => reason?.kind === kind));
-      return { slot, running, ready, device, group, pool, over: this.total - running - ready - device - group - pool };
+  /** The lines MOVE, each with its call. One changes nothing if its device has no transfer. */
+  movesOf(entries) {
+    const flying = new Set();
+    return entries.filter(({ entry, device }) => {
+      if (entry === "START") flying.add(device);
+      else if (entry === "END") flying.delete(device);
+      return entry === "MOVE" && flying.has(device);
     });
-    const devices = [...this.devices].map(([device, spans]) => ({ device, busy: lengths(spans), transfers: spans.length, lent: this.lendings.get(device)?.length ?? 0 }));
-    return { made: this.total, running: programs.reduce((sum, { running }) => sum + running, 0), idle: lengths(this.idle), programs, devices };
+  }
+
+  /** The exchanges of priorities, each with those that the slots of the run have after it. */
+  swapsOf(entries, slots) {
+    let priorities = [0, 1, 2, 3];
+    return entries.map(({ call, slot, other }) => {
+      priorities = priorities.map((each) => (each === slot ? other : each === other ? slot : each));
+      return { call, slots: [slot, other], after: priorities.filter((each) => slots.includes(each)) };
+    });
   }
 
   /** What became of a program in all, in words. */
   saidOfSums(slot) {
-    const { ready, device, group, pool } = this.sums.programs.find((each) => each.slot === slot);
+    const { ready, held: { device, group, pool } } = this.facts.calls.find((each) => each.slot === slot).calls;
     return worded(PICTURE.says.sums, { orders: many(this.states.get(slot).orders, "order"), held: many(device + group + pool, "call"), ready });
   }
 
   /** How many transfers a device had, how many lines MOVE moved words of them, and how often the pool lent it, in words. */
   saidOfDevice(device) {
-    const { transfers, lent } = this.sums.devices.find((each) => each.device === device), moves = this.moves.get(device).length;
+    const transfers = this.devices.get(device).length, lent = this.lendings.get(device)?.length, moves = this.moves.get(device).length;
     return [many(transfers, "transfer"), ...(moves ? [many(moves, "MOVE")] : []), ...(lent ? [`lent ${many(lent, "time")}`] : [])].join(", ");
   }
 
@@ -222,22 +155,22 @@ export class Timeline {
     return this.spanAfter(this.lendings.get(device), call);
   }
 
-  /** What holds a program up after a call, or null. */
+  /** The hold in which a program is after a call, or null. */
   holdAfter(slot, call) {
-    const reason = this.spanAfter(this.slots.get(slot), call)?.reason;
-    return reason && reason.since <= call ? reason : null;
+    const hold = this.spanAfter(this.slots.get(slot), call)?.hold;
+    return hold && hold.call < call ? hold : null;
   }
 
   /** The next call in which a program obeys an order, or the last call if there is none. */
   nextOrder(slot, call) {
-    const span = this.slots.get(slot)?.find(({ what, end }) => what === RAN && end > call);
-    return span ? Math.max(span.start, call) + 1 : this.total;
+    const found = this.slots.get(slot)?.find(({ what, end }) => what === "ran" && end > call);
+    return found ? Math.max(found.start, call) + 1 : this.total;
   }
 
   /** The call before this one in which a program obeyed an order; null if there is none. */
   orderBefore(slot, call) {
-    const span = this.slots.get(slot)?.findLast(({ what, start }) => what === RAN && start + 1 < call);
-    return span ? Math.min(span.end, call - 1) : null;
+    const found = this.slots.get(slot)?.findLast(({ what, start }) => what === "ran" && start + 1 < call);
+    return found ? Math.min(found.end, call - 1) : null;
   }
 
   /** The first of these calls, which are in ascending sequence, that is after `call`; the last call of the run if there is none. */
@@ -250,4 +183,3 @@ export class Timeline {
     return calls.findLast((each) => each < call) ?? 0;
   }
 }
-

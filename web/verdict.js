@@ -1,15 +1,22 @@
-// What came of each program of a run, in a sentence: whether it has ended, why it failed, what it waits for, or that no calls are left; and the changes of the
-// job that let it go on.
+// What came of each program of a run, in a sentence: whether it has ended, why it failed, what it waits for, or that no calls are left; what the machine tells of the
+// causes; and the changes of the job that let it go on.
 
 import { lineAndColumn } from "./deck.js";
 import { button, make } from "./dom.js";
 import { readJob, writeJob } from "./job.js";
-import { NAMES_OF_POOL, many, numberOf } from "./report.js";
+import { wordsOfGroup } from "./journal.js";
+import { NAMES_OF_POOL, many } from "./report.js";
 import { readSchedule, writeSchedule } from "./schedule.js";
 import { JOB, LINES } from "./tables.js";
 
 /** The sign of each kind of verdict. */
 const SIGNS = { ended: "✓", failed: "✗", held: "‖", deadlock: "↻", cut: "…" };
+
+/** The kinds of verdicts on programs that aren't live. */
+const KINDS_OF_STATES = { ENDED: "ended", FAILED: "failed" };
+
+/** A word of the nest as a number with a sign. */
+const signed = (word) => BigInt.asIntN(48, BigInt(word));
 
 /** What each kind of verdict says in short of one program, and of several. */
 const IN_SHORT = {
@@ -37,13 +44,16 @@ export function withMoreCalls(text) {
   return writeJob({ ...job, schedule: writeSchedule({ calls: moreCalls(calls), events }) });
 }
 
-/** What came of the programs of a run. `failures` has what the documents say of each kind of failure. */
+/** What the machine tells of causes that the sentence on a program says already, by the kind of the verdict. */
+const SAID_ALREADY = { held: ["state", "group", "transfer"], deadlock: ["state", "loan", "deadlock"], cut: ["state", "transfer", "calls", "no turn"], failed: [], ended: [] };
+
+/** What came of the programs of a run, or of one alone, from its facts. `failures` has what the documents say of each kind of failure. */
 export class Verdicts {
-  constructor({ sections }, timeline, { layouts, failures, text }) {
-    Object.assign(this, { timeline, layouts, failures, job: readJob(text) });
+  constructor(facts, { layouts, failures, text }) {
+    Object.assign(this, { facts, layouts, failures, job: readJob(text) });
     this.calls = this.job ? readSchedule(this.job.schedule).calls : 0;
-    this.waiting = this.findCircle(sections);
-    this.all = sections.map((section) => this.verdictOn(section));
+    const programs = facts.programs ?? (facts.program ? [{ slot: facts.slot, ...facts.program }] : []);
+    this.all = programs.map((program) => this.verdictOn(program));
   }
 
   /** Whether every program has ended. */
@@ -59,34 +69,17 @@ export class Verdicts {
     }).filter((said) => said !== "").join(" ");
   }
 
-  /** What holds a program up at the end of the run, or null. */
-  holdOf(slot) {
-    return this.timeline.holdAfter(slot, this.timeline.total);
-  }
-
-  /** Who has a device of the pool at the end of the run, or undefined. */
-  holderOf(device) {
-    return this.timeline.lendingAfter(device, this.timeline.total);
-  }
-
-  devicesOfKind(kind) {
-    return [...this.timeline.pool].filter(([, each]) => each === kind).map(([device]) => device);
-  }
-
-  /** The programs that wait for devices of the pool that only they have. None of them can go on. */
-  findCircle(sections) {
-    let waiting = sections.map(({ slot }) => slot).filter((slot) => this.holdOf(slot)?.kind === "WAIT");
-    const isStuck = (slot) => this.devicesOfKind(this.holdOf(slot).number).every((device) => waiting.includes(this.holderOf(device)?.slot));
-    while (!waiting.every(isStuck)) waiting = waiting.filter(isStuck);
-    return waiting;
+  /** What holds a program up at the end of the run, or undefined. */
+  holdOf({ hold }) {
+    return this.facts.holds?.[hold];
   }
 
   /** What came of the first program with this kind of verdict, in a few words; of a deadlock, who waits for whom. */
   inShort(kind) {
-    const { slot, section } = this.all.find((verdict) => verdict.kind === kind), hold = this.holdOf(slot);
+    const { slot, program } = this.all.find((verdict) => verdict.kind === kind), hold = this.holdOf(program);
     if (kind === "deadlock") return this.circleFrom(slot);
-    if (kind === "failed") return `program ${slot}: ${section.state.split(" ")[1]}`;
-    if (kind === "held") return `program ${slot} by ${hold.kind === "LOV" ? "group" : hold.kind === "BUSY" ? "device" : "the pool, of kind"} ${hold.number}`;
+    if (kind === "failed") return `program ${slot}: ${program.failure}`;
+    if (kind === "held") return `program ${slot} by ${hold.by === "pool" ? "the pool, of kind" : hold.by} ${hold[hold.by]}`;
     return `program ${slot}`;
   }
 
@@ -95,25 +88,26 @@ export class Verdicts {
     const seen = [], parts = [];
     for (let at = slot; !seen.includes(at);) {
       seen.push(at);
-      const { number } = this.holdOf(at), [device] = this.devicesOfKind(number), { slot: holder } = this.holderOf(device);
-      parts.push(`waits for ${NAMES_OF_POOL[number]} ${device}, held by ${holder}`);
+      const { program } = this.all.find((verdict) => verdict.slot === at), [{ device, slot: holder }] = program.lacks.holders;
+      parts.push(`waits for ${NAMES_OF_POOL[this.holdOf(program).pool]} ${device}, held by ${holder}`);
       at = holder;
     }
     return `program ${slot} ${parts.join(", which ")}`;
   }
 
-  verdictOn(section) {
-    return { section, ...this.judge(section) };
+  verdictOn(program) {
+    const { slot, state, lacks, at } = program, kind = KINDS_OF_STATES[state] ?? (lacks?.deadlock ? "deadlock" : (lacks?.what ?? "calls") === "calls" ? "cut" : "held");
+    const statement = kind === "ended" ? undefined : this.layouts.get(slot)?.statementOf(...at), about = { offers: [], ...this[kind](program, this.placeOf(slot, statement)) };
+    return { slot, program, kind, statement, ...about, causes: this.causesOf(program, kind) };
   }
 
-  judge(section) {
-    const { slot, state, at } = section, [life, failure] = state.split(" ");
-    const statement = this.layouts.get(slot)?.statementOf(...at), hold = this.holdOf(slot);
-    if (life === "ENDED") return { slot, kind: "ended", said: `Program ${slot} has ended, after ${many(section.orders, "order")}.`, offers: [] };
-    if (life === "FAILED") return { slot, kind: "failed", statement, said: this.saidOfFailure(section, failure, statement), offers: [] };
-    if (this.waiting.includes(slot)) return { slot, kind: "deadlock", statement, said: this.saidOfDeadlock(slot), offers: [] };
-    if (hold) return { slot, kind: "held", statement, ...this.held(slot, hold, statement) };
-    return { slot, kind: "cut", statement, ...this.cut(section, statement) };
+  /** What the machine tells of why a program failed or is live, besides what is said of it. A place in its deck is told by its line in the job. */
+  causesOf({ slot, why }, kind) {
+    const before = this.layouts.get(slot)?.linesBefore ?? 0, isNew = ({ what, own }) => own || !SAID_ALREADY[kind].includes(what);
+    return (why ?? []).slice(kind === "failed" ? 1 : 0).filter(isNew).map(({ sentence, line, column }) => {
+      const said = sentence.replace(`${line}:${column}`, `line ${line - before}, column ${column} of its deck`);
+      return `${said[0].toUpperCase()}${said.slice(1)}.`;
+    });
   }
 
   /** Where a program is: at which statement of its deck. */
@@ -122,75 +116,69 @@ export class Verdicts {
     return statement && deck !== undefined ? `at ${statement.written}, line ${lineAndColumn(deck, statement.start).line} of its deck` : "";
   }
 
-  saidOfFailure(section, failure, statement) {
-    const place = this.placeOf(section.slot, statement) || `at word ${section.at[0]}, syllable ${section.at[1]}, where no statement wrote an order`;
-    return `Program ${section.slot} failed ${place}. ${failure}: ${this.failures[failure]}. ${this.why(section, statement)}`;
+  ended({ slot, orders }) {
+    return { said: `Program ${slot} has ended, after ${many(orders, "order")}.` };
   }
 
-  /** Why a program failed. This is the one place where the page says it: here it names the operands, and what the facts of a run say of the cause belongs here. */
-  why(section, statement) {
-    return `Here ${this.operandsOf(section, statement)}.`;
+  failed(program, place) {
+    const { slot, failure, at, why } = program, where = place || `at word ${at[0]}, syllable ${at[1]}, where no statement wrote an order`;
+    return { said: `Program ${slot} failed ${where}. ${failure}: ${this.failures[failure]}. Here ${why?.[0]?.sentence ?? this.operandsOf(program)}.` };
   }
 
-  /** The registers that a statement has to do with. */
-  operandsOf({ slot, nest, qStores }, statement) {
-    const named = [...new Set([...statement?.text.matchAll(/[QMCI](\d+)/g) ?? []].map(([, number]) => number))];
-    const parts = new Map(qStores.map(({ number, parts: three }) => [number, three.join("/")]));
-    const top = nest.length ? `, and N1 is ${numberOf(nest[0]).toLocaleString("en")}` : "";
+  /** The registers that the statement at which a program failed has to do with. It is what is said where the machine doesn't tell why. */
+  operandsOf({ slot, nest, q, at }) {
+    const named = [...new Set([...this.layouts.get(slot)?.statementOf(...at)?.text.matchAll(/[QMCI](\d+)/g) ?? []].map(([, number]) => number))];
+    const top = nest.length ? `, and N1 is ${signed(nest[0]).toLocaleString("en")}` : "";
     const store = this.job?.slots.find(({ number }) => number === `${slot}`)?.store;
-    return [...named.map((number) => `Q${number} is ${parts.get(number) ?? "0/0/0"}`), `the nest has ${many(nest.length, "word")}${top}`,
+    return [...named.map((number) => `Q${number} is ${q[number].join("/")}`), `the nest has ${many(nest.length, "word")}${top}`,
       ...(store ? [`the store has words 0 to ${store - 1}`] : [])].join("; ");
   }
 
   /** What a program waits for in the pool, and who has it. */
-  saidOfWait(slot, { number, since }) {
-    const holders = this.devicesOfKind(number).map((device) => {
-      const { slot: holder, start } = this.holderOf(device);
-      return `${holder === slot ? "it has itself" : `program ${holder} has`} had device ${device} since call ${start}`;
+  saidOfWait({ slot, lacks, hold }) {
+    const { pool, call } = this.facts.holds[hold], holders = lacks.holders.map(({ device, slot: holder }) => {
+      const { taken } = this.facts.loans.find((loan) => loan.device === device && loan.given === null);
+      return `${holder === slot ? "it has itself" : `program ${holder} has`} had device ${device} since call ${taken}`;
     });
-    return `Program ${slot} has waited since call ${since} for a ${NAMES_OF_POOL[number]} of the pool, and ${holders.join(", and ")}`;
+    return `Program ${slot} has waited since call ${call + 1} for a ${NAMES_OF_POOL[pool]} of the pool, and ${holders.join(", and ")}`;
   }
 
-  saidOfDeadlock(slot) {
-    const others = this.waiting.filter((each) => each !== slot).map((each) => `program ${each}`);
+  deadlock(program) {
+    const others = this.facts.programs.filter(({ slot, lacks }) => lacks?.deadlock && slot !== program.slot).map(({ slot }) => `program ${slot}`);
     const circle = others.length ? `it and ${others.join(" and ")} wait for each other's devices` : "it waits for itself";
-    return `${this.saidOfWait(slot, this.holdOf(slot))}. This is a deadlock: ${circle}, so no schedule lets it go on from here.`;
+    return { said: `${this.saidOfWait(program)}. This is a deadlock: ${circle}, so no schedule lets it go on from here.` };
   }
 
-  /** What holds a program up, with the lines END that are missing. */
-  held(slot, hold, statement) {
-    if (hold.kind === "WAIT") return { said: `${this.saidOfWait(slot, hold)}.`, offers: [] };
-    const devices = (hold.kind === "BUSY" ? [hold.number] : hold.devices).filter((device) => this.timeline.flightAfter(device, this.timeline.total));
-    const flights = devices.map((device) => [device, this.timeline.flightAfter(device, this.timeline.total).start]);
-    const [first, last] = [32 * hold.number, 32 * hold.number + 31];
-    const by = hold.kind === "BUSY" ? `device ${hold.number}, which has a transfer` : `words ${first} to ${last}, which a transfer has locked out`;
-    const missing = flights.map(([device, start]) => ` The schedule has no END ${device} after call ${start}, when the transfer began.`);
-    const offers = this.job ? flights.map(([device, start]) => ({ name: `Write END ${device}`, change: (text) => withEnd(text, device, start) })) : [];
-    const place = this.placeOf(slot, statement);
-    return { said: `Program ${slot} is held up ${place ? `${place}, ` : ""}since call ${hold.since} by ${by}.${missing.join("")}`, offers };
+  /** What holds a program up, with the line END that is missing. */
+  held(program, place) {
+    if (program.lacks.what === "pool") return { said: `${this.saidOfWait(program)}.` };
+    const { slot, lacks: { device } } = program, { by, group, call, transfer } = this.holdOf(program), { began } = this.facts.transfers[transfer];
+    const cause = by === "device" ? `device ${device}, which has a transfer` : `${wordsOfGroup(group)}, which a transfer has locked out`;
+    const missing = `The schedule has no END ${device} after call ${began}, when the transfer began.`;
+    const offers = this.job ? [{ name: `Write END ${device}`, change: (text) => withEnd(text, device, began) }] : [];
+    return { said: `Program ${slot} is held up ${place ? `${place}, ` : ""}since call ${call + 1} by ${cause}. ${missing}`, offers };
   }
 
   /** A program that could go on if there were more calls. */
-  cut(section, statement) {
-    const { slot, orders } = section, place = this.placeOf(slot, statement), used = this.timeline.total.toLocaleString("en");
-    const isAt = place ? ` It is ${place}.` : "";
-    if (this.timeline.total === 0) return { said: `Program ${slot} isn't over, after ${many(orders, "order")}.${isAt}`, offers: [] };
+  cut({ slot, orders }, place) {
+    const { made = 0 } = this.facts, isAt = place ? ` It is ${place}.` : "";
+    if (made === 0) return { said: `Program ${slot} isn't over, after ${many(orders, "order")}.${isAt}` };
     const came = orders ? `it obeyed ${many(orders, "order")}` : "it never had a turn, since others were always before it";
     const offer = { name: `Give the run ${moreCalls(this.calls).toLocaleString("en")} calls`, change: withMoreCalls };
     const offers = this.job && moreCalls(this.calls) > this.calls ? [offer] : [];
-    return { said: `Program ${slot} isn't over: the ${used} calls of the schedule are used up, in which ${came}.${isAt}`, offers };
+    return { said: `Program ${slot} isn't over: the ${made.toLocaleString("en")} calls of the schedule are used up, in which ${came}.${isAt}`, offers };
   }
 }
 
 /** The verdicts as a list, and how many calls were made if the schedule has more. `go` goes to the statement of a verdict in the job, and `change` changes the job and runs it again; neither is offered if it is null. */
-export function drawVerdicts({ all, timeline, calls }, { go, change }) {
+export function drawVerdicts({ all, facts, calls }, { go, change }) {
   const items = all.map((verdict) => {
-    const { kind, said, statement, offers } = verdict;
+    const { kind, said, statement, offers, causes } = verdict;
     const show = statement && go ? [" ", button("Go to it", () => go(verdict))] : [];
     const changes = change ? offers.flatMap((offer) => [" ", button(offer.name, () => change(offer))]) : [];
-    return make("li", { class: kind }, make("span", { class: "sign", "aria-hidden": "true" }, SIGNS[kind]), make("span", {}, said, ...show, ...changes));
+    return make("li", { class: kind }, make("span", { class: "sign", "aria-hidden": "true" }, SIGNS[kind]), make("span", {}, said, ...show, ...changes, ...causes.map((cause) => make("span", { class: "cause" }, cause))));
   });
-  const used = timeline.total, isFew = calls > used;
+  const used = facts.made ?? 0, isFew = calls > used;
   const list = make("ul", { class: "verdicts", "aria-label": "What came of each program" }, ...items);
   const said = `The run made ${used.toLocaleString("en")} of the ${calls.toLocaleString("en")} calls of its schedule.`;
   return [list, ...(used && isFew ? [make("p", { class: "used" }, said)] : [])];

@@ -4,7 +4,7 @@ import { button, choice, labelled, make } from "./dom.js";
 import { factsOfRun } from "./facts.js";
 import { readJob } from "./job.js";
 import { Pictured, tableOfSums } from "./pictured.js";
-import { many, readReport } from "./report.js";
+import { many } from "./report.js";
 import { withTransfers } from "./schedule.js";
 import { Timeline } from "./timeline.js";
 
@@ -55,9 +55,7 @@ export function whatIf({ text, timeline }, { ask, say, work, take }) {
     const factor = Number(times.value);
     if (!(factor >= LEAST_TIMES && factor <= MOST_TIMES)) return say(`How many times as fast a device is has to be a number from ${LEAST_TIMES} to ${MOST_TIMES}: 2, or 0.5.`, true);
     return work("Running with another speed.", async () => {
-      const other = await withSpeed(ask, text, timeline, Number(device.value), factor), { status, text: report } = await ask(["run"], other);
-      if (status) throw new Error(report.trim());
-      const now = Object.assign(new Timeline(readReport(report)), { facts: await factsOfRun(ask, other) }), name = device.selectedOptions[0].textContent;
+      const other = await withSpeed(ask, text, timeline, Number(device.value), factor), now = new Timeline(await factsOfRun(ask, other)), name = device.selectedOptions[0].textContent;
       shown.replaceChildren(...drawBoth(timeline, now, { name, factor, say }), button("Put this schedule into the job", () => take(other, `${name} is ${factor} times as fast`)));
       say(`If ${name} were ${factor} times as fast, ${saidOfEnds(now)}; here ${saidOfEnds(timeline)}.`);
     });
