@@ -52,13 +52,14 @@ export class Engine {
     this.worker.onerror = (event) => this.giveUp(new Error(event.message || "the worker failed"));
   }
 
-  /** The answer to the words of a command for a job, which is a text or bytes: the status, the text, the milliseconds that it took, and the bytes of memory. */
-  ask(words, job) {
+  /** The answer to the words of a command for a job, which is a text or bytes: the status, the text, the milliseconds that it took, and the bytes of memory. If
+   * `isTold`, the text is that of the facts. */
+  ask(words, job, isTold = false) {
     const number = ++this.last;
     const bytes = typeof job === "string" ? new TextEncoder().encode(job) : job;
     return new Promise((resolve, reject) => {
       this.waiting.set(number, { resolve, reject });
-      this.worker.postMessage({ number, module: this.module, words, job: bytes });
+      this.worker.postMessage({ number, module: this.module, words, job: bytes, isTold });
     });
   }
 

@@ -27,7 +27,7 @@ const KEYS = [
 
 /** The places to which F6 goes, one after another. From them a few tabs lead to all that can be used. */
 const STATIONS = [
-  "#lecture", "#example", "#editors textarea", "#scheduling > summary", "#try", "#command", "#run", ".timeline > [tabindex]", ".sums > summary", ".what-if > summary",
+  "#lecture", "#exercise", "#check", "#questions > summary", "#hand-in > summary", "#teacher > summary", "#example", "#editors textarea", "#scheduling > summary", "#try", "#command", "#run", ".timeline > [tabindex]", ".sums > summary", ".what-if > summary",
   "#sections summary", "#sections .blocks", "#report", "#replay input", "#replay [tabindex]", "#compare-alone", "#compared summary",
 ].join();
 

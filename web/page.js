@@ -56,11 +56,17 @@ let lastText = "";
 let lastRun = null; // what can be shown call by call: the job, its report, the layouts of its decks, and the stops of a watch if there was one
 let pause = 0;
 
-const ask = (words, job) => engine.ask(words, job);
+const ask = (words, job, isTold) => engine.ask(words, job, isTold);
 const replay = new Replay(byId("replay"), { ask, say, failed: (error) => sayFailed(error), breaks, caret: () => (lastRun?.text === view.text ? caret : null) });
 const theorem = new Theorem(byId("compared"), { ask, say });
 const variations = new Variations({ ask, say, work, view, theorem, keeping, changed, run: runAgain, lastRun: () => lastRun });
 const trials = new Many({ ask, say, work, from: () => variations.from(), open: (seed, from) => variations.open(seed, from), failures: () => texts.failures });
+
+/** What the page can do for a course, and what a course does when something happens: when the page begins, was opened, shows a job, has a changed one, or is at work (course.js). */
+export const page = {
+  ask, say, work, begin, view, keeping, showRun, canRun: () => engine !== null,
+  first: openFirst, opened: () => {}, shown: () => {}, changed: () => {}, busy: () => {},
+};
 
 /** Says what has happened, in the line of the page that is read aloud. */
 function say(text, isWrong = false) {
@@ -72,6 +78,7 @@ function say(text, isWrong = false) {
 /** The user has changed the job. */
 function changed() {
   keeping.changed();
+  page.changed();
   chooseOwn();
   byId("link-said").hidden = true;
   byId("stale").hidden = lastText === "";
@@ -162,6 +169,7 @@ function setBusy(isBusy) {
   byId("compare-alone").disabled = isBusy || lastRun === null;
   byId("compare-before").disabled = isBusy || lastRun === null || theorem.before === null;
   byId("stop").disabled = !isBusy;
+  page.busy(isBusy);
   byId("results").setAttribute("aria-busy", `${isBusy}`);
 }
 
@@ -249,6 +257,17 @@ function look(call) {
   goTo("replay");
 }
 
+/** Shows the run of a job that isn't in the editor: at its end, or at the call with which a word of a slot got its value. */
+function showRun(text, at) {
+  return work("Running.", async () => {
+    const answer = await ask(["run"], text), outcome = await outcomeOf(ask, text, answer, { isRun: true, failures: texts.failures });
+    if (!outcome.read) return;
+    await replay.open({ ...outcome, text }, outcome.timeline.total);
+    goTo("replay");
+    if (at) await replay.goToWord(at.slot, at.word);
+  });
+}
+
 /** Shows the run at the next call at which a program comes to a statement. A job that was changed is run first. */
 async function runTo(slot, { start }) {
   if (lastRun?.text !== view.text) await run();
@@ -313,6 +332,7 @@ function begin(text, args) {
 function show(text, args) {
   stop();
   view.show(text);
+  page.shown(text);
   drawDelays(text);
   byId("outcomes").replaceChildren();
   byId("link-said").hidden = true;
@@ -480,9 +500,10 @@ async function open() {
   const own = keeping.own();
   if (own) await openOwn(own);
   else if (!await openLink()) {
-    await openFirst();
+    await page.first();
     if (hasJob(location.hash)) say(NO_LINK, true);
   }
+  await page.opened();
   if (lack) say(lack, true);
 }
 

@@ -1,0 +1,22 @@
+// A page that has a course: an exercise is beside the editor, and is checked here.
+
+import { byId } from "./dom.js";
+import { CourseView } from "./courseview.js";
+import { bytesOf, unpacked } from "./engine.js";
+import { page } from "./page.js";
+
+let view = null;
+
+/** The course, once it is unpacked and drawn. */
+const loaded = unpacked(bytesOf(byId("course-data").textContent)).then((bytes) => {
+  view = new CourseView(JSON.parse(new TextDecoder().decode(bytes)), page);
+  return view;
+});
+
+Object.assign(page, {
+  first: async () => (await loaded).begin(),
+  opened: async () => (await loaded).opened(),
+  shown: (text) => view?.shown(text),
+  changed: () => view?.changed(),
+  busy: (isBusy) => view?.busy(isBusy),
+});
