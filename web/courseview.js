@@ -2,6 +2,7 @@
 
 import { Coursework, hasWork } from "./coursework.js";
 import { button, byId, choice, labelled, make, table } from "./dom.js";
+import { chooseOwn } from "./examples.js";
 import { judged, runsOf } from "./exercise.js";
 import { packedJob, saveFile } from "./link.js";
 import { keyOf, opened } from "./opened.js";
@@ -104,6 +105,7 @@ export class CourseView {
 
   /** Puts the job of the exercise into the editor, as it was when somebody worked at it last, or its starting job. */
   begin() {
+    chooseOwn();
     this.page.begin(this.work.job, ["run"]);
     this.page.say(`Exercise ${this.exercise.number}: ${this.exercise.title}. The task is beside the editor; Check says how it does.`);
   }
@@ -170,7 +172,7 @@ export class CourseView {
     if (!missed) return `✓ ${right} of ${many(of, "run")} right.`;
     const where = [missed.case, missed.plan].filter(Boolean).join(", ");
     const what = missed.isShown ? `${missed.came}${missed.due ? `; due: ${missed.due}` : ""}.` : "something else came than was due. You don't see this case.";
-    return `✗ ${right} of ${many(of, "run")} right. ${where ? `On ${where}: ` : ""}${what}`;
+    return `✗ ${right} of ${many(of, "run")} right. ${where ? `On ${where}: ${what}` : `${what[0].toUpperCase()}${what.slice(1)}`}`;
   }
 
   drawResult(result) {

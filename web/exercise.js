@@ -20,6 +20,12 @@ class NotRun extends Error {
 
 const refuse = (said) => { throw new NotRun(said, { why: said }); };
 
+/** Refuses a hand-in for the fault that the machine tells. */
+function refuseFault({ of, slot, name, text, sentence }) {
+  const said = sentence.replaceAll("`", "").replace(/\.$/, "");
+  throw new NotRun(`${of === "deck" ? `the deck of slot ${slot}` : "the job"} has a fault, ${name}: ${text}. ${said}`, { fault: [name, text] });
+}
+
 /** How many runs of an exercise the page makes. */
 export const runsOf = ({ cases }) => cases.reduce((sum, { runs }) => sum + runs.length, 0);
 
@@ -59,7 +65,7 @@ function filled({ job, own, constants }, { decks }, addresses, schedule) {
 /** Refuses a hand-in with a fault, or one that breaks a rule. */
 async function refuseFaulty(ask, { cases: [first], rules }, handed) {
   const job = filled(first, handed, new Map(), ""), told = await factsFor(ask, ["asm", "0"], job);
-  if (told.kind === "fault") throw new NotRun(`${told.name}: ${told.text}. ${told.sentence.replaceAll("`", "")}`, { fault: [told.name, told.text] });
+  if (told.kind === "fault") refuseFault(told);
   const used = [...handed.decks.values()].flatMap((deck) => statementsOf(deck).map(({ text }) => text));
   const isUsed = ({ pattern }) => used.some((text) => new RegExp(`^(?:${pattern})$`).test(text));
   const broken = rules.uses.find((rule) => !isUsed(rule)) ?? rules.avoids.find(isUsed);
@@ -159,7 +165,7 @@ async function ofRun(ask, exercise, each, run, { handed, addresses }) {
   const text = filled(each, handed, addresses, run.schedule ?? handed.schedule), { orders } = exercise.rules;
   const job = run.after === null ? text : await scheduled(ask, text, { after: run.after, every: 0, devices: new Map() });
   const { status, text: report } = await ask(["run"], job);
-  if (status) await refuseFault(ask, job);
+  if (status) refuseFault(await factsFor(ask, ["asm", "0"], job));
   const dues = run.dues.map((at) => each.dues[at]), facts = dues.some(({ kind }) => kind === "measure") ? await factsFor(ask, ["run"], job) : null;
   const { sections } = readReport(report), came = dues.map((due) => ({ due, ...cameOf(due, { sections, facts, addresses }) }));
   if (orders) came.push(cameOfOrders(exercise, sections));
@@ -174,15 +180,8 @@ function cameOfOrders({ slots, rules: { orders } }, sections) {
   return most <= orders.most ? { came: null } : { came: true, said: [worded(orders.said, { came: most }), orders.due] };
 }
 
-async function refuseFault(ask, job) {
-  const told = await factsFor(ask, ["asm", "0"], job);
-  throw new NotRun(`${told.name}: ${told.text}. ${told.sentence.replaceAll("`", "")}`, { fault: [told.name, told.text] });
-}
-
 /** The remark of the wrong solution that comes to the same in all runs, or null. */
-function remarkOf({ wrong }, isSame) {
-  return wrong.find(isSame)?.remark ?? null;
-}
+const remarkOf = ({ wrong }, isSame) => wrong.find(isSame)?.remark ?? null;
 
 /** How a job does in an exercise: how many of how many runs are right, what was missed first, and the teacher's remark if a wrong solution does so in all runs. `tell` is told how many
  * runs were made. */

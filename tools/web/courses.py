@@ -1,8 +1,8 @@
 """The course that a page has: its exercises as tables, their prose, their questions, and what a teacher's word opens."""
 import pathlib
-import re
 
 from courses import machine, paged, reading
+from courses.dues import BLOCKS
 from kdf9.program import BadInput
 from quizzes.kinds import question
 from quizzes.written import title
@@ -54,8 +54,8 @@ def shown(case):
 
 def texts(due):
     """What is due, as a case has it; of several blocks, each on its own."""
-    head = re.match(r"(?:slot \d )?(?:device \d+|pool \w+|stream \d) ", due.text)
-    return [f"{head[0]}+{block}" for block in due.value] if head and due.value else [due.text]
+    head = due.text.partition("+")[0]
+    return [f"{head}+{block}" for block in due.value] if due.kind in BLOCKS and due.value else [due.text]
 
 
 def questions(exercise):
