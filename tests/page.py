@@ -8,6 +8,7 @@ import tempfile
 
 import browser
 from browser import Browser
+from page_course import courses_in_pages
 from page_firefox import page_in_firefox
 from page_help import SUITES as HELP, caret_at
 from page_kept import SUITES as KEPT, reloads_lose_nothing
@@ -382,6 +383,7 @@ def cases(file):
         yield from nothing_is_fetched(running, address)
         yield from pages_are_made_with_jobs(opened, file)
     yield from page_in_firefox(address)
+    yield from courses_in_pages(file.parent)
 
 
 def take_pictures(opened, address):

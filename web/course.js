@@ -3,6 +3,7 @@
 import { byId } from "./dom.js";
 import { CourseView } from "./courseview.js";
 import { bytesOf, unpacked } from "./engine.js";
+import { judged } from "./exercise.js";
 import { page } from "./page.js";
 
 let view = null;
@@ -12,6 +13,9 @@ const loaded = unpacked(bytesOf(byId("course-data").textContent)).then((bytes) =
   view = new CourseView(JSON.parse(new TextDecoder().decode(bytes)), page);
   return view;
 });
+
+// For use from the browser's console, and by the tests: how a text does in the exercise of a number.
+globalThis.kdf9.check = async (number, text) => judged(page.ask, (await loaded).course.exercises.find((each) => each.number === number), text, () => {});
 
 Object.assign(page, {
   first: async () => (await loaded).begin(),

@@ -42,7 +42,7 @@ function show() {
 
 /** Goes to the next station after what has the focus, or to the one before; from the last to the first. */
 function goOn(isBack) {
-  const at = document.activeElement, all = [...document.querySelectorAll(STATIONS)].filter((each) => each.checkVisibility());
+  const at = document.activeElement, all = [...document.querySelectorAll(STATIONS)].filter((each) => each.checkVisibility() && !each.disabled);
   const side = isBack ? Node.DOCUMENT_POSITION_PRECEDING : Node.DOCUMENT_POSITION_FOLLOWING, rest = all.filter((each) => each !== at && at.compareDocumentPosition(each) & side);
   const next = isBack ? rest.at(-1) ?? all.at(-1) : rest[0] ?? all[0];
   next.focus();
