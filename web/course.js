@@ -9,17 +9,17 @@ import { page } from "./page.js";
 let view = null;
 
 /** The course, once it is unpacked and drawn. */
-const loaded = unpacked(bytesOf(byId("course-data").textContent)).then((bytes) => {
+const drawn = unpacked(bytesOf(byId("course-data").textContent)).then((bytes) => {
   view = new CourseView(JSON.parse(new TextDecoder().decode(bytes)), page);
   return view;
 });
 
 // For use from the browser's console, and by the tests: how a text does in the exercise of a number.
-globalThis.kdf9.check = async (number, text) => judged(page.ask, (await loaded).course.exercises.find((each) => each.number === number), text, () => {});
+globalThis.kdf9.check = async (number, text) => judged(page.ask, (await drawn).course.exercises.find((each) => each.number === number), text, () => {});
 
 Object.assign(page, {
-  first: async () => (await loaded).begin(),
-  opened: async () => (await loaded).opened(),
+  first: async () => (await drawn).begin(),
+  opened: async () => (await drawn).opened(),
   shown: (text) => view?.shown(text),
   changed: () => view?.changed(),
   busy: (isBusy) => view?.busy(isBusy),

@@ -13,7 +13,7 @@ import { many } from "./report.js";
 const ELSEWHERE = "The editor has another job than that of this exercise.", DAMAGED = "The link is damaged, or has the work of another course.";
 
 /** How an exercise stands, in a few signs. */
-const stateOf = ({ right, of }) => (of === 0 ? "" : right === of ? " ✓" : ` (${right} of ${of})`);
+const standOf = ({ right, of }) => (of === 0 ? "" : right === of ? " ✓" : ` (${right} of ${of})`);
 
 export class CourseView {
   constructor(course, page) {
@@ -38,7 +38,7 @@ export class CourseView {
     this.progress = make("p", { id: "progress" });
     this.away = make("p", { class: "notice", hidden: true }, `${ELSEWHERE} `, button("Back to the exercise", () => this.begin()));
     this.task = make("article", { id: "task", "aria-label": "The task" });
-    this.check = button("Check", () => this.checkNow(), { id: "check", class: "main", disabled: true });
+    this.checks = ["check", "check-here"].map((id) => button("Check", () => this.checkNow(), { id, class: "main", disabled: true }));
     this.found = make("div", { id: "judged", role: "group", "aria-label": "What came of the check" });
     this.hints = make("ol", { class: "hints" });
     this.more = button("Open a hint", () => this.openHint(), { id: "hint" });
@@ -47,8 +47,9 @@ export class CourseView {
     const again = button("Begin again", () => this.beginAgain());
     const section = make("section", { id: "course", "aria-labelledby": "course-heading", tabindex: "-1" }, make("h2", { id: "course-heading" }, `Course: ${this.course.title}`),
       make("div", { class: "bar", role: "group", "aria-label": "Exercises" }, labelled("Exercise", this.list), this.progress), this.away, this.task,
-      make("div", { class: "bar", role: "group", "aria-label": "Checking" }, this.check, again, this.more), this.found, this.hints, this.questions, this.drawHandIn(), this.drawTeacher());
+      make("div", { class: "bar", role: "group", "aria-label": "Checking" }, this.checks[0], again, this.more), this.found, this.hints, this.questions, this.drawHandIn(), this.drawTeacher());
     document.querySelector("main").prepend(section);
+    byId("stop").after(this.checks[1]);
     document.body.classList.add("with-course");
     this.drawExercise();
   }
@@ -75,7 +76,7 @@ export class CourseView {
 
   drawProgress() {
     const { exercises } = this.course, work = exercises.map((each) => this.coursework.of(each)), right = work.filter(({ right: mine, of }) => of && mine === of).length;
-    exercises.forEach(({ number, title }, at) => { this.list.options[at].text = `${number} ${title}${stateOf(work[at])}`; });
+    exercises.forEach(({ number, title }, at) => { this.list.options[at].text = `${number} ${title}${standOf(work[at])}`; });
     this.progress.textContent = `${right} of ${many(exercises.length, "exercise")} right`;
   }
 
@@ -91,7 +92,7 @@ export class CourseView {
     this.coursework.set(this.exercise, { hints: open });
     this.drawHints();
     this.page.say(`Hint ${open} of ${hints.length}: ${this.hints.lastChild.textContent}`);
-    if (this.more.disabled) this.check.focus();
+    if (this.more.disabled) this.checks[0].focus();
   }
 
   /** Chooses another exercise. The work at the one that was there stays kept. */
@@ -151,7 +152,7 @@ export class CourseView {
   }
 
   busy(isBusy) {
-    this.check.disabled = isBusy || !this.page.canRun();
+    for (const check of this.checks) check.disabled = isBusy || !this.page.canRun();
   }
 
   /** Makes the runs of the exercise, and says how many are right. */
@@ -186,7 +187,7 @@ export class CourseView {
 
   /** Shows the run that wasn't right, call by call: at the call with which the word got its value, or at the end. */
   showRun({ job, about }) {
-    return this.page.showRun(job, about?.kind === "word" ? { slot: about.slot, word: about.subject } : null);
+    return this.page.showOther(job, about?.kind === "word" ? { slot: about.slot, word: about.subject } : null);
   }
 
   drawHandIn() {

@@ -16,7 +16,7 @@ function storage() {
 const isWork = (it) => typeof it?.job === "string";
 
 /** The work of a text that was kept or packed; null if it isn't of this course. */
-function read(text, course) {
+function workIn(text, course) {
   try {
     const found = JSON.parse(text);
     if (found.course !== course) return null;
@@ -34,7 +34,7 @@ export class Coursework {
   constructor(course) {
     this.course = course;
     this.key = `kdf9.course.${course}`;
-    const kept = read(storage()?.getItem(this.key) ?? "", course);
+    const kept = workIn(storage()?.getItem(this.key) ?? "", course);
     Object.assign(this, kept ?? { at: 0, work: {}, tries: {} });
   }
 
@@ -69,7 +69,7 @@ export class Coursework {
 
   /** Takes the work of a link. Returns the jobs that were there and are others now; null if the link is damaged or of another course. */
   async take(hash) {
-    const text = await unpackedText(hash.slice(PREFIX.length)), found = text === null ? null : read(text, this.course);
+    const text = await unpackedText(hash.slice(PREFIX.length)), found = text === null ? null : workIn(text, this.course);
     if (!found) return null;
     const replaced = Object.entries(found.work).filter(([number, { job }]) => this.work[number] && this.work[number].job !== job).map(([number]) => this.work[number].job);
     Object.assign(this, { at: found.at, work: { ...this.work, ...found.work }, tries: { ...this.tries, ...found.tries } });

@@ -18,7 +18,7 @@ class NotRun extends Error {
   }
 }
 
-const refuse = (said) => { throw new NotRun(said, { why: said }); };
+const refuseFor = (said) => { throw new NotRun(said, { why: said }); };
 
 /** Refuses a hand-in for the fault that the machine tells. */
 function refuseFault({ of, slot, name, text, sentence }) {
@@ -32,13 +32,13 @@ export const runsOf = ({ cases }) => cases.reduce((sum, { runs }) => sum + runs.
 /** The decks that a job hands in, by their slots, and its schedule. */
 function handedIn({ slots, rules, takes_schedule: takesSchedule }, text) {
   const job = readJob(text), decks = new Map(), isOne = slots.length === 1 && job?.slots.length === 1;
-  if (!job) refuse("this text isn't a job whose parts can be told");
+  if (!job) refuseFor("this text isn't a job whose parts can be told");
   for (const slot of slots) {
     const found = job.slots.find(({ number }) => number === `${slot}`) ?? (isOne ? job.slots[0] : null);
-    if (!found) refuse(rules.no_deck[slot]);
+    if (!found) refuseFor(rules.no_deck[slot]);
     decks.set(slot, found.deck);
   }
-  if (takesSchedule && readSchedule(job.schedule).calls > rules.calls.most) refuse(rules.calls.said);
+  if (takesSchedule && readSchedule(job.schedule).calls > rules.calls.most) refuseFor(rules.calls.said);
   return { decks, schedule: job.schedule };
 }
 
@@ -50,12 +50,12 @@ function withConstant(deck, { name, value, there, opening, said }) {
     return `${deck.slice(0, found[1].length)}${name}=${value}${"\n".repeat(lines)}${deck.slice(end)}`;
   }
   const opened = new RegExp(opening).exec(bare);
-  if (!opened || Number(opened[2]) < Number(name.slice(1))) refuse(said);
+  if (!opened || Number(opened[2]) < Number(name.slice(1))) refuseFor(said);
   return `${deck.slice(0, opened[1].length)} ${name}=${value};${deck.slice(opened[1].length)}`;
 }
 
 /** The job of a case with the decks of a hand-in, with these addresses of words, and with the lines of a schedule. */
-function filled({ job, own, constants }, { decks }, addresses, schedule) {
+function withParts({ job, own, constants }, { decks }, addresses, schedule) {
   const ofCase = new Map(decks);
   if (decks.has(own)) ofCase.set(own, constants.reduce(withConstant, decks.get(own)));
   const shown = job.replace(/SHOW \{(\d \S+)\} .*\n/g, (_, name) => (addresses.has(name) ? `SHOW ${addresses.get(name)} ${addresses.get(name)}\n` : ""));
@@ -64,21 +64,21 @@ function filled({ job, own, constants }, { decks }, addresses, schedule) {
 
 /** Refuses a hand-in with a fault, or one that breaks a rule. */
 async function refuseFaulty(ask, { cases: [first], rules }, handed) {
-  const job = filled(first, handed, new Map(), ""), told = await factsFor(ask, ["asm", "0"], job);
+  const job = withParts(first, handed, new Map(), ""), told = await factsFor(ask, ["asm", "0"], job);
   if (told.kind === "fault") refuseFault(told);
   const used = [...handed.decks.values()].flatMap((deck) => statementsOf(deck).map(({ text }) => text));
   const isUsed = ({ pattern }) => used.some((text) => new RegExp(`^(?:${pattern})$`).test(text));
   const broken = rules.uses.find((rule) => !isUsed(rule)) ?? rules.avoids.find(isUsed);
-  if (broken) refuse(broken.said);
+  if (broken) refuseFor(broken.said);
   for (const slot of rules.words ? handed.decks.keys() : []) {
     const { words } = await factsFor(ask, ["asm", `${slot}`], job);
-    if (words.length > rules.words.most) refuse(worded(rules.words.said, { words: words.length }));
+    if (words.length > rules.words.most) refuseFor(worded(rules.words.said, { words: words.length }));
   }
 }
 
 /** The addresses of the words that are due in a case, by slot and name; those that the deck doesn't have are left out. */
 async function addressesOf(ask, each, handed) {
-  const { slots } = readJob(filled(each, handed, new Map(), "")), addresses = new Map();
+  const { slots } = readJob(withParts(each, handed, new Map(), "")), addresses = new Map();
   for (const { slot, subject } of each.dues.filter(({ kind }) => kind === "word")) {
     const program = slots.find(({ number }) => number === `${slot}`);
     try {
@@ -94,7 +94,7 @@ async function addressesOf(ask, each, handed) {
 const textsOfBlocks = (blocks) => blocks.map(({ text }) => text.trimEnd());
 
 /** What came in the place of what was due, in the texts that the machine writes, by the kind of what was due; nothing of a word that the deck doesn't have. */
-const READ = {
+const TEXTS_OF = {
   word: ({ section, address }) => (address === undefined ? [] : [section.words.find((word) => word.address === Number(address)).octal]),
   q: ({ section, subject }) => [section.qStores.find(({ number }) => `Q${number}` === subject)?.parts.join("/") ?? "0/0/0"],
   nest: ({ section }) => section.nest,
@@ -105,7 +105,7 @@ const READ = {
   stream: ({ section, subject }) => section.spools.filter((spool) => spool.split(" ")[0] === subject).map((spool) => spool.slice(subject.length + 1).trimEnd()),
 };
 
-const IN_ORDER = { is: (value, due) => value === due, "at most": (value, due) => value <= due, "at least": (value, due) => value >= due };
+const COMPARED = { is: (value, due) => value === due, "at most": (value, due) => value <= due, "at least": (value, due) => value >= due };
 
 /** The sum of the values at some paths of facts. */
 const sumAt = (facts, paths) => paths.reduce((sum, path) => sum + path.reduce((value, step) => valueAt(value, step), facts), 0);
@@ -124,7 +124,7 @@ function firstOther(came, due) {
 }
 
 /** What a measure came to: its value, and whether that is right. */
-const measured = (due, facts) => ({ value: sumAt(facts, due.paths), isRight: IN_ORDER[due.compare](sumAt(facts, due.paths), due.value) });
+const measured = (due, facts) => ({ value: sumAt(facts, due.paths), isRight: COMPARED[due.compare](sumAt(facts, due.paths), due.value) });
 
 /** What came of something that was due: null if it is right, true for a measure, or the texts that came; with what is said of it. */
 function cameOf(due, run) {
@@ -133,7 +133,7 @@ function cameOf(due, run) {
     return isRight ? { came: null } : { came: true, said: [worded(due.said, { came: value }), due.due] };
   }
   const section = run.sections.find(({ slot }) => slot === due.slot);
-  const came = READ[due.kind]({ section, sections: run.sections, subject: due.subject, address: run.addresses.get(`${due.slot} ${due.subject}`) });
+  const came = TEXTS_OF[due.kind]({ section, sections: run.sections, subject: due.subject, address: run.addresses.get(`${due.slot} ${due.subject}`) });
   return firstOther(came, due.texts) < 0 ? { came: null } : { came, said: saidOfOther(due, came) };
 }
 
@@ -161,8 +161,8 @@ function isAlike(due, mine, theirs) {
 }
 
 /** What comes of one run of a case: what came of each that is due, and the first that isn't right, with the job that shows it. */
-async function ofRun(ask, exercise, each, run, { handed, addresses }) {
-  const text = filled(each, handed, addresses, run.schedule ?? handed.schedule), { orders } = exercise.rules;
+async function madeOf(ask, exercise, each, run, { handed, addresses }) {
+  const text = withParts(each, handed, addresses, run.schedule ?? handed.schedule), { orders } = exercise.rules;
   const job = run.after === null ? text : await scheduled(ask, text, { after: run.after, every: 0, devices: new Map() });
   const { status, text: report } = await ask(["run"], job);
   if (status) refuseFault(await factsFor(ask, ["asm", "0"], job));
@@ -193,7 +193,7 @@ export async function judged(ask, exercise, text, tell) {
     for (const each of exercise.cases) {
       const addresses = await addressesOf(ask, each, handed);
       for (const run of each.runs) {
-        all.push(await ofRun(ask, exercise, each, run, { handed, addresses }));
+        all.push(await madeOf(ask, exercise, each, run, { handed, addresses }));
         tell(all.length);
       }
     }

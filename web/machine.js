@@ -149,7 +149,7 @@ export function answer(module, words, job) {
 /**
  * What the proved code tells of a job, which is bytes: as `answer`, and the text is that of the facts that the words of a command ask for.
  */
-export function told(module, words, job) {
+export function telling(module, words, job) {
   return whole("kdf9_facts", module, words, job);
 }
 
@@ -158,6 +158,6 @@ export function told(module, words, job) {
  * have more than 256 MiB or there was no memory; and the number of the status, the bytes of the facts, the milliseconds and the bytes of memory.
  */
 export function facts(module, words, job) {
-  const { text, ...rest } = told(module, words, job);
+  const { text, ...rest } = telling(module, words, job);
   return { facts: text.length ? JSON.parse(new TextDecoder().decode(text)) : null, ...rest };
 }

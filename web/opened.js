@@ -2,7 +2,7 @@
 
 import { bytesOf } from "./engine.js";
 
-const BLOCK = 64, CHECK = 16;
+const MIXED = 64, SEAL = 16;
 
 /** The first bits of the fractions of the roots of the first primes, as SHA-256 has them. */
 function bitsOfRoots(count, root) {
@@ -26,11 +26,11 @@ const turned = (word, by) => (word >>> by) | (word << (32 - by));
 
 /** The SHA-256 of some bytes. A page that comes from a server without a certificate has no other. */
 export function hashOf(bytes) {
-  const length = BLOCK * Math.ceil((bytes.length + 9) / BLOCK), data = new DataView(new ArrayBuffer(length)), state = [...START];
+  const length = MIXED * Math.ceil((bytes.length + 9) / MIXED), data = new DataView(new ArrayBuffer(length)), state = [...START];
   bytes.forEach((byte, at) => data.setUint8(at, byte));
   data.setUint8(bytes.length, 0x80);
   data.setUint32(length - 4, 8 * bytes.length);
-  for (let at = 0; at < length; at += BLOCK) mix(state, data, at);
+  for (let at = 0; at < length; at += MIXED) mix(state, data, at);
   const hash = new DataView(new ArrayBuffer(32));
   state.forEach((word, at) => hash.setUint32(4 * at, word));
   return new Uint8Array(hash.buffer);
@@ -63,6 +63,6 @@ export function opened(sealed, key) {
   for (let at = 0; at < bytes.length; at += 32) {
     hashOf(bytesOfText(`${key} ${at / 32}`)).forEach((byte, offset) => { if (at + offset < bytes.length) bytes[at + offset] ^= byte; });
   }
-  const data = bytes.slice(CHECK), check = hashOf(data);
-  return bytes.slice(0, CHECK).every((byte, at) => byte === check[at]) ? JSON.parse(new TextDecoder().decode(data)) : null;
+  const data = bytes.slice(SEAL), check = hashOf(data);
+  return bytes.slice(0, SEAL).every((byte, at) => byte === check[at]) ? JSON.parse(new TextDecoder().decode(data)) : null;
 }

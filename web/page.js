@@ -64,7 +64,7 @@ const trials = new Many({ ask, say, work, from: () => variations.from(), open: (
 
 /** What the page can do for a course, and what a course does when something happens: when the page begins, was opened, shows a job, has a changed one, or is at work (course.js). */
 export const page = {
-  ask, say, work, begin, view, keeping, showRun, canRun: () => engine !== null,
+  ask, say, work, begin, view, keeping, showOther, canRun: () => engine !== null,
   first: openFirst, opened: () => {}, shown: () => {}, changed: () => {}, busy: () => {},
 };
 
@@ -258,7 +258,7 @@ function look(call) {
 }
 
 /** Shows the run of a job that isn't in the editor: at its end, or at the call with which a word of a slot got its value. */
-function showRun(text, at) {
+function showOther(text, at) {
   return work("Running.", async () => {
     const answer = await ask(["run"], text), outcome = await outcomeOf(ask, text, answer, { isRun: true, failures: texts.failures });
     if (!outcome.read) return;

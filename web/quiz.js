@@ -3,14 +3,14 @@
 import { button, labelled, make } from "./dom.js";
 import { nodesOf } from "./prose.js";
 
-const bare = (text) => text.trim().toLowerCase().replace(/[\s,;]+/g, " ");
+const simplified = (text) => text.trim().toLowerCase().replace(/[\s,;]+/g, " ");
 
 /** A question with its texts, a place for the answer, and the answer once it was tried. `page` begins a job, `tries` has what was answered by the titles of questions, and `keep` keeps that. */
 export function drawQuestion(question, { page, tries, keep }) {
   const { title, task, texts, asked, answer, why } = question;
   const mine = make("input", { type: "text", size: "30", autocomplete: "off", spellcheck: "false" }), said = make("p", { class: "said", role: "status", hidden: true });
   const tell = () => {
-    const typed = tries[title], isRight = bare(typed) === bare(answer);
+    const typed = tries[title], isRight = simplified(typed) === simplified(answer);
     said.replaceChildren(isRight ? `✓ ${typed}: that is what the machine does.` : `✗ ${typed}: the machine does something else.`);
     said.hidden = false;
     show.disabled = false;
