@@ -343,7 +343,21 @@ def page_is_so() -> Cases:
         yield "the fault of docs/COURSE.md", None if why_refused(path) == f"{path}:{line}: {said}" else why_refused(path)
 
 
-SUITES: List[Callable[[], Cases]] = [class_gets_its_marks, hostile_cost_themselves, faulty_are_refused, students_get_no_solution, page_is_so, *QUIZZES]
+# A step of the lecture in docs/TEACHING.md: its number, the example to choose, the command, and what that shows.
+STEP = re.compile(r"^(\d+)\. Choose `([\w-]+)`.*? Say: \".+\"\n +`\./kdf9 (\w+) (\S+)` shows `(.+?)`", re.MULTILINE)
+
+
+def lecture_is_so() -> Cases:
+    """The lecture of docs/TEACHING.md has ten steps, each with an example that the page has, and its command shows what it says."""
+    steps, listed = STEP.findall(document("TEACHING.md")), document("EXAMPLES.md")
+    yield "the steps of the lecture", None if [step[0] for step in steps] == [str(number) for number in range(1, 11)] else f"{[step[0] for step in steps]}"
+    for number, example, tool, job, shows in steps:
+        run = kdf9([tool, job], "")
+        is_there = f"`{example}`" in listed and job == f"examples/{example}.job"
+        yield f"step {number} of the lecture", None if is_there and shows in run.out + run.err else f"{run}"
+
+
+SUITES: List[Callable[[], Cases]] = [class_gets_its_marks, hostile_cost_themselves, faulty_are_refused, students_get_no_solution, page_is_so, lecture_is_so, *QUIZZES]
 
 
 def main(words: List[str]) -> int:

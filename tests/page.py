@@ -8,7 +8,7 @@ import tempfile
 
 import browser
 from browser import Browser
-from page_course import courses_in_pages
+from page_course import courses_in_pages, take_picture
 from page_firefox import page_in_firefox
 from page_help import SUITES as HELP, caret_at
 from page_kept import SUITES as KEPT, reloads_lose_nothing
@@ -474,6 +474,7 @@ def main(words):
         if words == ["--pictures"]:
             with Browser() as running:
                 take_pictures(running.open, f"file://{file}")
+                take_picture(running.open, file.with_name("course.html"), ROOT / "docs" / "page-course.png")
             return 0
         all_cases = list(cases(file))
     faults = [(what, why) for what, why in all_cases if why]

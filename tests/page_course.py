@@ -272,6 +272,21 @@ def course_in_firefox(file):
         yield "Firefox: the teacher's word", None if shown.js("document.querySelectorAll('#teacher h4').length") > 1 else shown.state()
 
 
+def take_picture(opened, file, picture):
+    """Takes the picture of docs/PAGE.md: the first exercise after Check."""
+    first = reading.course("machine")[0]
+    with open(file, "wb") as written:
+        subprocess.run([ROOT / "kdf9", "page", "--course", "machine"], stdout=written, check=True)
+    shown = Shown(opened(f"file://{file}", width=1200, height=900))
+    shown.page.wait(f"!{id_of('check')}.disabled")
+    shown.type_into(".slot textarea", paged.as_job(first, first.wrong[0].text).partition("DECK\n")[2].partition("ENDDECK\n")[0])
+    shown.click("check")
+    shown.idle()
+    shown.click("hint")
+    shown.page.picture(picture)
+    shown.page.close()
+
+
 def courses_in_pages(folder):
     """All cases of the courses, whose pages are made in this folder."""
     os.environ.setdefault("KDF9", str(ROOT / "kdf9"))

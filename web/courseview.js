@@ -40,6 +40,7 @@ export class CourseView {
     this.task = make("article", { id: "task", "aria-label": "The task" });
     this.checks = ["check", "check-here"].map((id) => button("Check", () => this.checkNow(), { id, class: "main", disabled: true }));
     this.found = make("div", { id: "judged", role: "group", "aria-label": "What came of the check" });
+    this.made = make("progress", { "aria-label": "Runs of this check", hidden: true });
     this.hints = make("ol", { class: "hints" });
     this.more = button("Open a hint", () => this.openHint(), { id: "hint" });
     this.questions = make("details", { id: "questions" });
@@ -47,7 +48,7 @@ export class CourseView {
     const again = button("Begin again", () => this.beginAgain());
     const section = make("section", { id: "course", "aria-labelledby": "course-heading", tabindex: "-1" }, make("h2", { id: "course-heading" }, `Course: ${this.course.title}`),
       make("div", { class: "bar", role: "group", "aria-label": "Exercises" }, labelled("Exercise", this.list), this.progress), this.away, this.task,
-      make("div", { class: "bar", role: "group", "aria-label": "Checking" }, this.checks[0], again, this.more), this.found, this.hints, this.questions, this.drawHandIn(), this.drawTeacher());
+      make("div", { class: "bar", role: "group", "aria-label": "Checking" }, this.checks[0], again, this.more, this.made), this.found, this.hints, this.questions, this.drawHandIn(), this.drawTeacher());
     document.querySelector("main").prepend(section);
     byId("stop").after(this.checks[1]);
     document.body.classList.add("with-course");
@@ -159,7 +160,8 @@ export class CourseView {
   checkNow() {
     const { page, exercise } = this, { view: { text } } = page, of = runsOf(exercise);
     return page.work(`Checking: ${many(of, "run")}.`, async () => {
-      const result = await judged(page.ask, exercise, text, (made) => page.say(`Checking: ${made} of ${many(of, "run")}.`));
+      Object.assign(this.made, { max: of, value: 0, hidden: false });
+      const result = await judged(page.ask, exercise, text, (made) => { this.made.value = made; }).finally(() => { this.made.hidden = true; });
       if (exercise !== this.exercise) return;
       this.coursework.set(exercise, { right: result.right, of, ...(this.isOwn ? {} : { job: text }) });
       this.shown(page.view.text);
