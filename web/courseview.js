@@ -12,6 +12,9 @@ import { many } from "./report.js";
 
 const ELSEWHERE = "The editor has another job than that of this exercise.", DAMAGED = "The link is damaged, or has the work of another course.";
 
+/** What is said in place of a remark if nothing was changed: a remark would be on a mistake that nobody made. */
+const UNCHANGED = "This is still the starting job.";
+
 /** How an exercise stands, in a few signs. */
 const standOf = ({ right, of }) => (of === 0 ? "" : right === of ? " ✓" : ` (${right} of ${of})`);
 
@@ -166,7 +169,7 @@ export class CourseView {
       this.coursework.set(exercise, { right: result.right, of, ...(this.isOwn ? {} : { job: text }) });
       this.shown(page.view.text);
       this.drawProgress();
-      this.drawResult(result);
+      this.drawResult(text === exercise.job && result.missed ? { ...result, remark: UNCHANGED } : result);
     });
   }
 
