@@ -32,6 +32,9 @@ SOLVING = {
     "time-sharing": ["ArrowDown", "ArrowDown", "ArrowDown", "Home", "Shift End", "Delete", "ArrowDown", "ArrowDown", "ArrowDown", "Home", ("E32; =Y0;",)],
 }
 
+# The places of a course to which F6 leads.
+STATIONS = ["#exercise", "#check", "#questions > summary", "#hand-in > summary", "#teacher > summary"]
+
 RESULT = f"{id_of('judged')}.textContent"
 
 
@@ -218,8 +221,9 @@ def courses_look_well(shown, course):
     yield f"{course}: names", None if nameless == [] else f"are missing: {nameless}"
     twice = shown.js("[...document.querySelectorAll('[id]')].map((it) => it.id).filter((it, at, all) => all.indexOf(it) !== at)")
     yield f"{course}: ids", None if twice == [] else f"stand twice: {twice}"
-    far = shown.js(f"""(() => {{ const all = {USABLE}.filter((it) => it.closest('#course')), places = ['#exercise', '#check', '#questions > summary', '#hand-in > summary', '#teacher > summary']
-        .map((it) => all.indexOf(document.querySelector(it))); return all.filter((it, at) => Math.min(...places.map((place) => Math.abs(place - at))) > 12).map((it) => it.textContent); }})()""")
+    far = shown.js(f"""(() => {{ const all = {USABLE}.filter((it) => it.closest('#course'));
+        const places = {json.dumps(STATIONS)}.map((it) => all.indexOf(document.querySelector(it)));
+        return all.filter((it, at) => Math.min(...places.map((place) => Math.abs(place - at))) > 12).map((it) => it.textContent); }})()""")
     yield f"{course}: what is far away", None if far == [] else f"{far}"
     window(shown, TELEPHONE)
     width = shown.js("document.documentElement.scrollWidth")

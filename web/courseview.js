@@ -60,9 +60,9 @@ export class CourseView {
 
   /** Draws the exercise that is chosen. */
   drawExercise() {
-    const { exercise } = this, { title, number, prose, limits, shown } = exercise;
+    const { exercise } = this, { title, number, prose, limits, shown } = exercise, counts = limits.map((each) => make("li", {}, each));
     this.list.value = `${this.at}`;
-    this.task.replaceChildren(make("h3", {}, `${number}. ${title}`), ...nodesOf(prose), make("h4", {}, "What counts"), make("ul", {}, ...limits.map((each) => make("li", {}, each))),
+    this.task.replaceChildren(make("h3", {}, `${number}. ${title}`), ...nodesOf(prose), make("h4", {}, "What counts"), make("ul", {}, ...counts),
       this.tableOfCases("Cases that you see", shown));
     this.found.replaceChildren();
     this.drawHints();

@@ -157,8 +157,8 @@ def told_of_q(due: Due) -> Table:
 
 def told_of_nest(due: Due) -> Table:
     """The nest."""
-    written = dues.written_of(due)
-    return {"texts": [octal(word) for word in due.value], "like": [each[0] for each in written.split()], "said": kept(due), "due": written or dues.EMPTY_NEST}  # type: ignore[attr-defined]
+    written, words = dues.written_of(due), list(due.value)  # type: ignore[call-overload]
+    return {"texts": [octal(word) for word in words], "like": [each[0] for each in written.split()], "said": kept(due), "due": written or dues.EMPTY_NEST}
 
 
 def told_of_state(due: Due) -> Table:
@@ -247,8 +247,12 @@ def blocks_in(due: Due, seen: Seen, slot: int) -> List[str]:
 
 
 def as_job(exercise: Exercise, text: str) -> str:
-    """The starting job with the decks and the schedule of a solution in it."""
-    own, lines, slot, is_deck = taken.take(text, exercise), [], None, False
+    """The starting job with the decks and the schedule of a solution in it; the text itself if nothing can be taken from it."""
+    try:
+        own = taken.take(text, exercise)
+    except Unfit:
+        return text
+    lines, slot, is_deck = [], None, False
     for line in exercise.job:
         if not is_deck and line.startswith("SLOT "):
             slot = int(line[5:])

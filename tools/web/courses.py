@@ -1,8 +1,10 @@
 """The course that a page has: its exercises as tables, their prose, their questions, and what a teacher's word opens."""
 import pathlib
+from typing import Dict, Iterator, List
 
 from courses import machine, paged, reading
-from courses.dues import BLOCKS
+from courses.dues import BLOCKS, Due
+from courses.exercise import Case, Exercise
 from kdf9.program import BadInput
 from quizzes.kinds import question
 from quizzes.written import title
@@ -13,7 +15,7 @@ from web.sealed import sealed
 QUESTIONS, SEEDS = 3, 100
 
 
-def course_in_page(name):
+def course_in_page(name: str) -> Dict[str, object]:
     """The course of this name, or in this folder, as the page has it."""
     machine.answer_here()
     exercises = reading.course(name)
@@ -24,7 +26,7 @@ def course_in_page(name):
     return {"name": folder, "title": folder[:1].upper() + folder[1:].replace("-", " "), "exercises": [of_exercise(each) for each in exercises]}
 
 
-def of_exercise(exercise):
+def of_exercise(exercise: Exercise) -> Dict[str, object]:
     """An exercise as the page has it."""
     return {
         **paged.table_of(exercise), "prose": elements(exercise.sheet), "hints": [inline(hint) for hint in exercise.hints], "limits": limits(exercise),
@@ -33,7 +35,7 @@ def of_exercise(exercise):
     }
 
 
-def limits(exercise):
+def limits(exercise: Exercise) -> List[str]:
     """What counts, in sentences."""
     rules = exercise.rules
     parts = [f"the deck of slot {slot}" for slot in rules.slots] + (["the schedule"] if rules.takes_schedule else [])
@@ -44,7 +46,7 @@ def limits(exercise):
     return [*said, f"Schedules: {', '.join(dict.fromkeys(plan.text for case in exercise.cases for plan in case.plans))}. At most {rules.calls} calls."]
 
 
-def shown(case):
+def shown(case: Case) -> Dict[str, object]:
     """A case in words: its name, what it gives and what is due."""
     given = case.given
     gives = [f"{name} = {value}" for name, value in given.constants.items()]
@@ -52,23 +54,25 @@ def shown(case):
     return {"name": case.name, "gives": gives, "dues": [text for due in case.dues for text in texts(due)]}
 
 
-def texts(due):
+def texts(due: Due) -> List[str]:
     """What is due, as a case has it; of several blocks, each on its own."""
-    head = due.text.partition("+")[0]
-    return [f"{head}+{block}" for block in due.value] if due.kind in BLOCKS and due.value else [due.text]
+    head, is_named = due.text.partition("+")[0], due.slot is None or due.text.startswith("slot ")
+    if due.kind in BLOCKS and due.value:
+        return [f"{head}+{block}" for block in due.value]
+    return [due.text if is_named else f"slot {due.slot} {due.text}"]
 
 
-def questions(exercise):
+def questions(exercise: Exercise) -> Iterator[Dict[str, object]]:
     """The questions beside an exercise, with their answers."""
     for kind in exercise.rules.questions:
         for seed in range(SEEDS * exercise.number + 1, SEEDS * exercise.number + 1 + QUESTIONS):
             made = question(kind, seed)
             yield {
-                "kind": kind, "seed": seed, "title": title(made), "task": inline(made.task), "texts": made.texts, "asked": made.asked, "answer": made.answer, "why": inline(made.why),
+                "title": title(made), "task": inline(made.task), "texts": made.texts, "asked": made.asked, "answer": made.answer, "why": inline(made.why),
             }
 
 
-def kept_back(exercise):
+def kept_back(exercise: Exercise) -> Dict[str, object]:
     """What students don't see."""
     return {
         "solution": paged.as_job(exercise, exercise.solution), "answers": inline(exercise.answers), "cases": [shown(case) for case in exercise.cases if not case.is_shown],

@@ -1,5 +1,6 @@
 """The prose of an exercise as the page draws it: a list of elements, each with its name and what is in it."""
 import re
+from typing import List, Optional, Union
 
 # The blocks of an exercise that aren't prose, and the headings under which nothing is.
 NO_PROSE, OTHER_CHAPTERS = ("job", "rules", "case"), ("Hints",)
@@ -10,10 +11,14 @@ INLINE = re.compile(r"`([^`]+)`|\*\*([^*]+)\*\*")
 # A heading of the second level is one of the fourth in the page, below that of the exercise.
 HEADING = "h4"
 
+# A text, or an element: its name, and a list of what is in it.
+Node = Union[str, list]
 
-def elements(text):
+
+def elements(text: str) -> List[Node]:
     """The elements of some prose in Markdown, without its title."""
-    lines, found, is_told = text.split("\n"), [], True
+    lines, is_told = text.split("\n"), True
+    found: List[Optional[list]] = []
     while lines:
         line = lines.pop(0)
         fence = FENCE.fullmatch(line)
@@ -33,7 +38,7 @@ def elements(text):
     return [each for each in found if each]
 
 
-def add(found, line):
+def add(found: List[Optional[list]], line: str) -> None:
     """Adds a line of prose to the elements: it begins an item of a list or a paragraph, or goes on with one."""
     item = re.match(r"[-*] +(.*)", line)
     if item and found and found[-1] and found[-1][0] == "ul":
@@ -48,9 +53,10 @@ def add(found, line):
         found.append(["p", inline(line.strip())])
 
 
-def inline(text):
+def inline(text: str) -> List[Node]:
     """A line as texts and elements."""
-    parts, at = [], 0
+    parts: List[Node] = []
+    at = 0
     for mark in INLINE.finditer(text):
         parts += [text[at:mark.start()]] if mark.start() > at else []
         parts.append(["code", [mark[1]]] if mark[1] else ["strong", [mark[2]]])
