@@ -65,7 +65,7 @@ _kdf9() {
         picture) places=() options='--help --text' with_word='' ;;
         json) places=() options='--help' with_word='' ;;
         report) places=() options='--help' with_word='' ;;
-        page) places=() options='--help' with_word='' ;;
+        page) places=() options='--help --course' with_word='--course' ;;
         replay) places=(job) options='--help' with_word='' ;;
         lsp) places=() options='--help --faults' with_word='--faults' ;;
         dap) places=() options='--help' with_word='' ;;

@@ -43,7 +43,7 @@ function __kdf9_at
     for word in (commandline -opc)[3..-1]
         if test $is_of_option = yes
             set is_of_option no
-        else if contains -- $word --at --watch --after --every --speed --speeds --calls --runs --out --part --join --dask --job --hand-out --seeds --seed --faults
+        else if contains -- $word --at --watch --after --every --speed --speeds --calls --runs --out --part --join --dask --job --hand-out --seeds --seed --course --faults
             set is_of_option yes
         else if not string match -q -- '-?*' $word
             set places (math $places + 1)
@@ -74,7 +74,7 @@ complete -c kdf9 -n __kdf9_first -a quiz -d 'Writes a question of homework that 
 complete -c kdf9 -n __kdf9_first -a picture -d 'Draws the journal of a report, as SVG or, with --text, for a terminal.'
 complete -c kdf9 -n __kdf9_first -a json -d 'Writes a report as JSON.'
 complete -c kdf9 -n __kdf9_first -a report -d 'Writes the report that a JSON text is.'
-complete -c kdf9 -n __kdf9_first -a page -d 'Writes the machine, an editor and the examples as one page for a browser.'
+complete -c kdf9 -n __kdf9_first -a page -d 'Writes the machine, an editor and the examples as one page for a browser; with a course, also its exercises.'
 complete -c kdf9 -n __kdf9_first -a replay -d 'Writes the same page with a job in it, which opens at the run of that job.'
 complete -c kdf9 -n __kdf9_first -a lsp -d 'Serves editors: faults as they are typed, help, names and form of decks and jobs; or, with --faults, writes the faults of files.'
 complete -c kdf9 -n __kdf9_first -a dap -d 'Serves editors that debug a job: breakpoints, steps forward and back, watched words.'
@@ -153,6 +153,7 @@ complete -c kdf9 -n '__kdf9_is picture' -l text -d 'draws it in characters, for 
 complete -c kdf9 -n '__kdf9_is json' -l help -d 'says this, and ends'
 complete -c kdf9 -n '__kdf9_is report' -l help -d 'says this, and ends'
 complete -c kdf9 -n '__kdf9_is page' -l help -d 'says this, and ends'
+complete -c kdf9 -n '__kdf9_is page' -l course -x -d 'puts a course into the page: a folder, or the name of one in courses/ (docs/COURSE.md)'
 complete -c kdf9 -n '__kdf9_at replay 0' -k -a '(__fish_complete_suffix .job)'
 complete -c kdf9 -n '__kdf9_is replay' -l help -d 'says this, and ends'
 complete -c kdf9 -n '__kdf9_is lsp' -l help -d 'says this, and ends'

@@ -49,7 +49,7 @@ _kdf9() {
         'picture:Draws the journal of a report, as SVG or, with --text, for a terminal.'
         'json:Writes a report as JSON.'
         'report:Writes the report that a JSON text is.'
-        'page:Writes the machine, an editor and the examples as one page for a browser.'
+        'page:Writes the machine, an editor and the examples as one page for a browser; with a course, also its exercises.'
         'replay:Writes the same page with a job in it, which opens at the run of that job.'
         'lsp:Serves editors: faults as they are typed, help, names and form of decks and jobs; or, with --faults, writes the faults of files.'
         'dap:Serves editors that debug a job: breakpoints, steps forward and back, watched words.'
@@ -85,7 +85,7 @@ _kdf9() {
                 picture) _arguments '--help[says this, and ends]' '--text[draws it in characters, for a terminal]' ;;
                 json) _arguments '--help[says this, and ends]' ;;
                 report) _arguments '--help[says this, and ends]' ;;
-                page) _arguments '--help[says this, and ends]' ;;
+                page) _arguments '--help[says this, and ends]' '--course[puts a course into the page, a folder, or the name of one in courses/ (docs/COURSE.md)]:COURSE: ' ;;
                 replay) _arguments '1:job:_files -g "*.job"' '--help[says this, and ends]' ;;
                 lsp) _arguments '--help[says this, and ends]' '--faults[writes the faults of these jobs and decks, and serves nobody; - is standard input]:FILE: ' ;;
                 dap) _arguments '--help[says this, and ends]' ;;

@@ -94,6 +94,11 @@ def link_of(job: str) -> str:
     return "file:///home/me/kdf9.html#job=" + base64.urlsafe_b64encode(gzip.compress(job.encode("ascii"))).decode("ascii").rstrip("=")
 
 
+def work_link(work: object) -> str:
+    """The link that the page makes of the work at a course."""
+    return "file:///home/me/course.html#work=" + base64.urlsafe_b64encode(gzip.compress(json.dumps(work).encode("ascii"))).decode("ascii").rstrip("=")
+
+
 def class_gets_its_marks() -> Cases:
     """The class gets its marks, and some of it in each form."""
     exercises, due = reading.course(str(SHEET)), (SHEET / "marks.csv").read_text(encoding="ascii").split("\n")[:-1]
@@ -179,6 +184,13 @@ HOSTILE: List[Tuple[str, Callable[[pathlib.Path], None], str]] = [
     ("a pipe", piped, "nothing was handed in"),
     ("a damaged link", in_file(f"1 {link_of(SUM.decode())[:-9]}\n"), "link is damaged"),
     ("no base 64", in_file("1 file:///kdf9.html#job=%%%\n"), "link is damaged"),
+    ("work", in_file(f"{work_link({'course': 'machine', 'work': {'1': {'job': SUM.decode()}}})}\n"), ""),
+    ("damaged work", in_file(f"{work_link({'work': {'1': {'job': SUM.decode()}}})[:-9]}\n"), "link is damaged"),
+    ("work of numbers", in_file(f"{work_link({'work': {'1': {'job': 7}}})}\n"), "link is damaged"),
+    ("no work", in_file(f"{work_link([[]])}\n"), "link is damaged"),
+    ("deep work", in_file("#work=" + base64.b64encode(gzip.compress(b"[" * 500_000)).decode() + "\n"), "link is damaged"),
+    ("a bomb of work", in_file("#work=" + base64.b64encode(gzip.compress(BOMB)).decode() + "\n"), "more than 1048576 bytes"),
+    ("a long deck of work", in_file(f"{work_link({'work': {'1': {'job': SUM.decode() * 2000}}})}\n"), "more than 65536 bytes"),
     ("a bomb of a link", in_file("1 #job=" + base64.b64encode(gzip.compress(BOMB)).decode() + "\n"), "more than 65536 bytes"),
     ("a link", in_file(f"1. {link_of(SUM.decode())}\n\n"), ""),
     ("two", in_folder(("01.deck", SUM), ("1 new.deck", SUM)), "2 texts for this exercise"),
@@ -232,21 +244,24 @@ FAULTY: List[Tuple[str, str, int, str]] = [
     ("orders at most 10", "hand in decks", 25, "deck 0 to deck 3"),
     ("orders at most 10", "hand in schedule\nschedules after 5", 26, "own is the only one"),
     ("never use SET 12", "never use ADD", 26, "isn't an order"),
-    ("due V2 = 12", "due V2 = twelve", 32, "isn't a constant"),
-    ("due V2 = 12", "due V2 is 12", 32, "can be due"),
-    ("due V2 = 12", "due cals at most 5", 32, "can be due"),
-    ("due V2 = 12", "give V2 = 12", 29, "nothing is due"),
-    ("give V0 = 5\ngive V1 = 7", "give V0 5", 30, "can't be given"),
-    ("give V0 = 5\ngive V1 = 7", "take V0 = 5", 30, "begins with give"),
-    ("```case a number below zero", "```case 5 and 7", 35, "another case"),
-    ("```\n\n## Hints", "\n## Hints", 35, "has no ``` at its end"),
-    ("## Hints", "## Hint", 41, "isn't a heading here"),
-    ("- A store by itself", "A store by itself", 43, "a hint begins"),
-    ("## Solution", "## Answers", 49, "can't stand here"),
-    ("(your orders come here) =>", "(your orders) =>", 50, "0 times"),
-    ("V0; V1; +; => SET 5; SET 7; +;", "V0; V1; +; SET 5; SET 7; +;", 63, "OLD => NEW"),
-    ("Usercode writes + for an addition.", "", 76, "no remark"),
-    ("## Wrong: fetches the sum", "## Wrong:", 68, "isn't a heading here"),
+    ("questions nest", "questions chess", 27, "isn't a kind of questions"),
+    ("```word\nef7d", "```word\nXf7d", 50, "64 hexadecimal digits"),
+    ("```word", "```case x\ndue V2 = 1\n```\n```word\n```\n```word", 55, "a second block word"),
+    ("due V2 = 12", "due V2 = twelve", 33, "isn't a constant"),
+    ("due V2 = 12", "due V2 is 12", 33, "can be due"),
+    ("due V2 = 12", "due cals at most 5", 33, "can be due"),
+    ("due V2 = 12", "give V2 = 12", 30, "nothing is due"),
+    ("give V0 = 5\ngive V1 = 7", "give V0 5", 31, "can't be given"),
+    ("give V0 = 5\ngive V1 = 7", "take V0 = 5", 31, "begins with give"),
+    ("```case a number below zero", "```case 5 and 7", 36, "another case"),
+    ("```\n\n## Hints", "\n## Hints", 36, "has no ``` at its end"),
+    ("## Hints", "## Hint", 42, "isn't a heading here"),
+    ("- A store by itself", "A store by itself", 44, "a hint begins"),
+    ("## Solution", "## Answers", 50, "can't stand here"),
+    ("(your orders come here) =>", "(your orders) =>", 55, "0 times"),
+    ("V0; V1; +; => SET 5; SET 7; +;", "V0; V1; +; SET 5; SET 7; +;", 68, "OLD => NEW"),
+    ("Usercode writes + for an addition.", "", 81, "no remark"),
+    ("## Wrong: fetches the sum", "## Wrong:", 73, "isn't a heading here"),
     ("KDF9 JOB 1", "KDF9 JOB 2", 8, "Header"),
     ("STORE 32", "STORE 33", 10, "SizeNotGroups"),
     ("ZERO; OUT;\nFINISH;", "ZER; OUT;\nFINISH;", 15, "UnknownOrder"),
@@ -328,7 +343,21 @@ def page_is_so() -> Cases:
         yield "the fault of docs/COURSE.md", None if why_refused(path) == f"{path}:{line}: {said}" else why_refused(path)
 
 
-SUITES: List[Callable[[], Cases]] = [class_gets_its_marks, hostile_cost_themselves, faulty_are_refused, students_get_no_solution, page_is_so, *QUIZZES]
+# A step of the lecture in docs/TEACHING.md: its number, the example to choose, the command, and what that shows.
+STEP = re.compile(r"^(\d+)\. Choose `([\w-]+)`.*? Say: \".+\"\n +`\./kdf9 (\w+) (\S+)` shows `(.+?)`", re.MULTILINE)
+
+
+def lecture_is_so() -> Cases:
+    """The lecture of docs/TEACHING.md has ten steps, each with an example that the page has, and its command shows what it says."""
+    steps, listed = STEP.findall(document("TEACHING.md")), document("EXAMPLES.md")
+    yield "the steps of the lecture", None if [step[0] for step in steps] == [str(number) for number in range(1, 11)] else f"{[step[0] for step in steps]}"
+    for number, example, tool, job, shows in steps:
+        run = kdf9([tool, job], "")
+        is_there = f"`{example}`" in listed and job == f"examples/{example}.job"
+        yield f"step {number} of the lecture", None if is_there and shows in run.out + run.err else f"{run}"
+
+
+SUITES: List[Callable[[], Cases]] = [class_gets_its_marks, hostile_cost_themselves, faulty_are_refused, students_get_no_solution, page_is_so, lecture_is_so, *QUIZZES]
 
 
 def main(words: List[str]) -> int:

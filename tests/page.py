@@ -8,6 +8,7 @@ import tempfile
 
 import browser
 from browser import Browser
+from page_course import courses_in_pages, take_picture
 from page_explore import SUITES as EXPLORED
 from page_firefox import page_in_firefox
 from page_help import SUITES as HELP, caret_at
@@ -383,6 +384,7 @@ def cases(file):
         yield from nothing_is_fetched(running, address)
         yield from pages_are_made_with_jobs(opened, file)
     yield from page_in_firefox(address)
+    yield from courses_in_pages(file.parent)
 
 
 def take_pictures(opened, address):
@@ -491,6 +493,7 @@ def main(words):
         if words == ["--pictures"]:
             with Browser() as running:
                 take_pictures(running.open, f"file://{file}")
+                take_picture(running.open, file.with_name("course.html"), ROOT / "docs" / "page-course.png")
             return 0
         all_cases = list(cases(file))
     faults = [(what, why) for what, why in all_cases if why]

@@ -7,7 +7,7 @@ from typing import Iterator, Optional, Tuple
 
 from toolkit import ROOT
 
-SHIPPED = ROOT / "dist" / "kdf9.html"
+DIST = ROOT / "dist"
 
 # A part of the page that is compressed.
 PACKED = re.compile(r'(<script type="text/plain" id="\w+">)([A-Za-z0-9+/=]+)(?=</script>)')
@@ -18,9 +18,10 @@ def unpacked(file: pathlib.Path) -> str:
     return PACKED.sub(lambda part: part[1] + gzip.decompress(base64.b64decode(part[2])).hex(), file.read_text(encoding="utf-8"))
 
 
-def shipped_page_is_current(file: pathlib.Path) -> Iterator[Tuple[str, Optional[str]]]:
-    """Whether dist/kdf9.html has what the page in this file has."""
-    if not SHIPPED.is_file():
-        yield "dist/kdf9.html", "is missing; ./kdf9 page > dist/kdf9.html makes it"
+def shipped_page_is_current(file: pathlib.Path, name: str = "kdf9.html", made_by: str = "./kdf9 page") -> Iterator[Tuple[str, Optional[str]]]:
+    """Whether the page of this name in dist/ has what the page in this file has, which was made by a command."""
+    shipped = DIST / name
+    if not shipped.is_file():
+        yield f"dist/{name}", f"is missing; {made_by} > dist/{name} makes it"
     else:
-        yield "dist/kdf9.html", None if unpacked(SHIPPED) == unpacked(file) else "isn't the page that is made here; ./kdf9 page > dist/kdf9.html makes it"
+        yield f"dist/{name}", None if unpacked(shipped) == unpacked(file) else f"isn't the page that is made here; {made_by} > dist/{name} makes it"

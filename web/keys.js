@@ -27,7 +27,8 @@ const KEYS = [
 
 /** The places to which F6 goes, one after another. From them a few tabs lead to all that can be used. */
 const STATIONS = [
-  "#lecture", "#example", "#editors textarea", "#scheduling > summary", "#try", "#exploring > summary", "#explored summary", "#command", "#run", ".timeline > [tabindex]", ".sums > summary", ".what-if > summary",
+  "#lecture", "#exercise", "#check", "#questions > summary", "#hand-in > summary", "#teacher > summary", "#example", "#editors textarea", "#scheduling > summary", "#try", "#exploring > summary",
+  "#explored summary", "#command", "#run", ".timeline > [tabindex]", ".sums > summary", ".what-if > summary",
   "#sections summary", "#sections .blocks", "#report", "#replay input", "#replay [tabindex]", "#compare-alone", "#compared summary",
 ].join();
 
@@ -42,7 +43,7 @@ function show() {
 
 /** Goes to the next station after what has the focus, or to the one before; from the last to the first. */
 function goOn(isBack) {
-  const at = document.activeElement, all = [...document.querySelectorAll(STATIONS)].filter((each) => each.checkVisibility());
+  const at = document.activeElement, all = [...document.querySelectorAll(STATIONS)].filter((each) => each.checkVisibility() && !each.disabled);
   const side = isBack ? Node.DOCUMENT_POSITION_PRECEDING : Node.DOCUMENT_POSITION_FOLLOWING, rest = all.filter((each) => each !== at && at.compareDocumentPosition(each) & side);
   const next = isBack ? rest.at(-1) ?? all.at(-1) : rest[0] ?? all[0];
   next.focus();

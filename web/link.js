@@ -6,21 +6,27 @@ import { bytesOf, unpacked } from "./engine.js";
 const PREFIX = "#job=";
 
 /** The text of a job, packed as the end of a link. */
-export async function packedJob(text) {
+export const packedJob = (text) => packedText(PREFIX, text);
+
+/** The job that the end of a link has, or null if it is damaged. */
+export const jobOfLink = (hash) => unpackedText(hash.slice(PREFIX.length));
+
+/** A text, packed as the end of a link that begins so. */
+export async function packedText(prefix, text) {
   const stream = new Blob([text]).stream().pipeThrough(new CompressionStream("gzip"));
   const bytes = new Uint8Array(await new Response(stream).arrayBuffer());
   let characters = "";
   for (const byte of bytes) characters += String.fromCharCode(byte);
-  return PREFIX + btoa(characters).replaceAll("+", "-").replaceAll("/", "_").replace(/=+$/, "");
+  return prefix + btoa(characters).replaceAll("+", "-").replaceAll("/", "_").replace(/=+$/, "");
 }
 
 /** Whether the end of a link has a job. */
 export const hasJob = (hash) => hash.startsWith(PREFIX);
 
-/** The job that the end of a link has, or null if it is damaged. */
-export async function jobOfLink(hash) {
+/** The text that was packed so, or null if it is damaged. */
+export async function unpackedText(characters) {
   try {
-    const bytes = bytesOf(hash.slice(PREFIX.length).replaceAll("-", "+").replaceAll("_", "/"));
+    const bytes = bytesOf(characters.replaceAll("-", "+").replaceAll("_", "/"));
     return new TextDecoder("utf-8", { fatal: true }).decode(await unpacked(bytes));
   } catch {
     return null;

@@ -69,6 +69,12 @@ const variations = new Variations({ ask, say, work, view, theorem, keeping, chan
 const trials = new Many({ ask, say, work, isSound, from: () => variations.from(), open: (seed, from) => variations.open(seed, from), failures: () => texts.failures });
 const exploring = new Exploring({ ask, say, work, isSound, text: () => view.text, open: replaceAndRun });
 
+/** What the page can do for a course, and what a course does when something happens: when the page begins, was opened, shows a job, has a changed one, or is at work (course.js). */
+export const page = {
+  ask, say, work, begin, view, keeping, showOther, canRun: () => engine !== null,
+  first: openFirst, opened: () => {}, shown: () => {}, changed: () => {}, busy: () => {},
+};
+
 /** Says what has happened, in the line of the page that is read aloud. */
 function say(text, isWrong = false) {
   byId("state").textContent = isWrong ? `▸ ${text}` : text;
@@ -79,6 +85,7 @@ function say(text, isWrong = false) {
 /** The user has changed the job. */
 function changed() {
   keeping.changed();
+  page.changed();
   chooseOwn();
   byId("link-said").hidden = true;
   byId("stale").hidden = lastText === "";
@@ -168,6 +175,7 @@ function setBusy(isBusy) {
   byId("compare-alone").disabled = isBusy || lastRun === null;
   byId("compare-before").disabled = isBusy || lastRun === null || theorem.before === null;
   byId("stop").disabled = !isBusy;
+  page.busy(isBusy);
   byId("results").setAttribute("aria-busy", `${isBusy}`);
 }
 
@@ -265,6 +273,17 @@ function look(call) {
   goTo("replay");
 }
 
+/** Shows the run of a job that isn't in the editor: at its end, or at the call with which a word of a slot got its value. */
+function showOther(text, at) {
+  return work("Running.", async () => {
+    const answer = await ask(["run"], text), outcome = await outcomeOf(ask, ["run"], text, answer, { job: text, failures: texts.failures });
+    if (!outcome.timeline) return;
+    await replay.open({ ...outcome, text }, outcome.timeline.total);
+    goTo("replay");
+    if (at) await replay.goToWord(at.slot, at.word);
+  });
+}
+
 /** Shows the run at the next call at which a program comes to a statement. A job that was changed is run first. */
 async function runTo(slot, { start }) {
   if (lastRun?.text !== view.text) await run();
@@ -328,6 +347,7 @@ function begin(text, args) {
 function show(text, args) {
   stop();
   view.show(text);
+  page.shown(text);
   drawDelays(text);
   for (const id of ["outcomes", "explored"]) byId(id).replaceChildren();
   byId("link-said").hidden = true;
@@ -498,9 +518,10 @@ async function open() {
   const own = keeping.own();
   if (own) await openOwn(own);
   else if (!await openLink()) {
-    await openFirst();
+    await page.first();
     if (hasJob(location.hash)) say(NO_LINK, true);
   }
+  await page.opened();
   if (lack) say(lack, true);
 }
 

@@ -120,6 +120,12 @@ export class Replay {
     return undefined;
   }
 
+  /** Goes to the call with which a word of a slot got the value that it has. */
+  goToWord(slot, name) {
+    [this.slot.value, this.word.value] = [`${slot}`, name];
+    return this.go("w");
+  }
+
   /** The call with which the word that is typed got the value that it has, or why there is none. */
   async lastChange() {
     const slot = Number(this.slot.value), layout = this.layouts.get(slot), name = this.word.value.trim().toUpperCase(), number = /^E?(\d+)$/.exec(name)?.[1];

@@ -16,6 +16,12 @@ const charactersOf = (octal) => partsOf(octal, BITS.character).map((code) => JOB
 const qStoreOf = (octal) => partsOf(octal, BITS.part).join("/");
 const halvesOf = (octal) => partsOf(octal, BITS.half).map((half) => BigInt.asIntN(24, half).toLocaleString("en")).join(", ");
 
+/** A word as a constant is written that begins with this character: octal digits, characters, a Q-store, or a number. */
+export function asWritten(octal, first) {
+  const forms = { B: () => BigInt(`0o${octal}`).toString(8), P: () => charactersOf(octal).trimEnd(), Q: () => qStoreOf(octal) };
+  return forms[first] ? `${first}${forms[first]()}` : `${numberOf(octal)}`;
+}
+
 /** What a word can be shown as besides octal and decimal, by the name of the column. */
 const VIEWS = { characters: charactersOf, "Q-store": qStoreOf, halves: halvesOf };
 

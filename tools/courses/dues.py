@@ -10,6 +10,9 @@ from kdf9.words import count
 # The most characters of a text that are shown of what came.
 MOST_SHOWN = 60
 
+# The kinds of failures.
+FAILURES = ("LIV", "NOUV", "RESET", "CLAIM", "OUT")
+
 NAME = r"(?:V\d+(?:P\d+)?|Y[A-Z]?\d+|E\d+)"
 COMPARISONS: Dict[str, Callable[[float, float], bool]] = {
     "is": lambda value, due: value == due, "at most": lambda value, due: value <= due, "at least": lambda value, due: value >= due,
@@ -25,7 +28,7 @@ FORMS = {
     "word": rf"(?:slot (?P<slot>[0-3]) )?(?P<subject>{NAME}) = (?P<value>\S+)",
     "q": r"(?:slot (?P<slot>[0-3]) )?(?P<subject>Q\d+) = (?P<value>-?\d+/-?\d+/-?\d+)",
     "nest": r"(?:slot (?P<slot>[0-3]) )?nest (?P<value>empty|\S+(?: \S+)*)",
-    "state": r"(?:slot (?P<slot>[0-3]) )?(?P<value>ended|live|failed (?:LIV|NOUV|RESET|CLAIM|OUT))",
+    "state": rf"(?:slot (?P<slot>[0-3]) )?(?P<value>ended|live|failed (?:{'|'.join(FAILURES)}))",
     "overflow": r"(?:slot (?P<slot>[0-3]) )?overflow (?P<value>[01])",
     "device": r"device (?P<subject>\d+) (?P<value>empty|\+.*)",
     "pool": r"(?:slot (?P<slot>[0-3]) )?pool (?P<subject>TP|LP) (?P<value>empty|\+.*)",
@@ -125,21 +128,47 @@ def missed(due: Due, seen: Seen, slot: int) -> Optional[Tuple[str, str]]:
     return CHECKS[due.kind](due, seen, slot if due.slot is None else due.slot)
 
 
-def of_slot(due: Due, slot: int) -> str:
+# What is said of what came, by the kind of what was due. The page says the same (courses/paged.py).
+CAME = {
+    "word": "{of}{subject} = {came}", "q": "{of}{subject} = {came}", "nest": "{of}the nest, top first, is {came}", "overflow": "{of}V is {came}",
+    "measure": "{subject}: {came}",
+}
+LACKS = "{of}the deck has no {subject}"
+OF_BLOCKS = {
+    "none": "{name} has nothing", "fewer": "{name} has {count}", "more": "{name} has {count}, and block {at} is {came}", "other": "block {at} of {name} is {came}",
+    "only": "{name} is {came}",
+}
+
+
+def of_slot(due: Due) -> str:
     """How a sentence on something of a slot begins, if the line named the slot."""
-    return "" if due.slot is None else f"slot {slot}: "
+    return "" if due.slot is None else f"slot {due.slot}: "
+
+
+def said_of(due: Due, sentence: str, **values: str) -> str:
+    """A sentence on what came in place of something that was due."""
+    return sentence.format(of=of_slot(due), subject=due.subject, **values)
+
+
+def name_of_blocks(due: Due) -> str:
+    """What blocks are of."""
+    return {"device": f"device {due.subject}", "pool": f"{of_slot(due)}the pool's {due.subject}", "stream": f"{of_slot(due)}stream {due.subject}"}[due.kind]
+
+
+def written_of(due: Due) -> str:
+    """What was due of a word, a Q-store, V or a nest, as it is written; of an empty nest, nothing."""
+    return "" if due.text.endswith("empty") else due.text.partition("nest ")[2] if due.kind == "nest" else due.text.rsplit(" ", 1)[1]
 
 
 def missed_word(due: Due, seen: Seen, slot: int):
     """Compares a word."""
-    address, written = seen.names[slot, due.subject], due.text.rsplit(" ", 1)[1]
+    address, written = seen.names[slot, due.subject], written_of(due)
     if address is None:
-        return f"{of_slot(due, slot)}the deck has no {due.subject}", f"{due.subject} = {written}"
+        return said_of(due, LACKS), f"{due.subject} = {written}"
     word = seen.section(slot).words.get(address)
     if word == due.value:
         return None
-    came = "no word" if word is None else like(word, written)
-    return f"{of_slot(due, slot)}{due.subject} = {came}", written
+    return said_of(due, CAME[due.kind], came="no word" if word is None else like(word, written)), written
 
 
 def like(word: int, written: str) -> str:
@@ -157,27 +186,40 @@ def like(word: int, written: str) -> str:
 def missed_q(due: Due, seen: Seen, slot: int):
     """Compares a Q-store."""
     parts = seen.section(slot).q_stores.get(int(due.subject[1:]), (0, 0, 0))
-    return None if parts == due.value else (f"{of_slot(due, slot)}{due.subject} = {'/'.join(map(str, parts))}", due.text.rsplit(" ", 1)[1])
+    return None if parts == due.value else (said_of(due, CAME[due.kind], came="/".join(map(str, parts))), written_of(due))
 
 
 def missed_nest(due: Due, seen: Seen, slot: int):
     """Compares the nest."""
-    nest, written = seen.section(slot).nest, [] if due.text.endswith("empty") else due.text.partition("nest ")[2].split(" ")
+    nest, written = seen.section(slot).nest, written_of(due).split()
     if nest == due.value:
         return None
     shown = " ".join(like(word, written[at] if at < len(written) else "0") for at, word in enumerate(nest)) or "empty"
-    return f"{of_slot(due, slot)}the nest, top first, is {shown}", " ".join(written) or "an empty nest"
+    return said_of(due, CAME[due.kind], came=shown), " ".join(written) or EMPTY_NEST
 
 
 def missed_state(due: Due, seen: Seen, slot: int):
     """Compares how a program came to its end."""
-    state = " ".join(seen.section(slot).state)
-    wanted = "FAILED" + str(due.value)[6:] if str(due.value).startswith("failed") else str(due.value).upper()
-    if state == wanted:
-        return None
-    return f"{of_slot(due, slot)}{SAID_OF_STATE.get(state, f'the program failed: {state[7:]}')}", WANTED_STATE.get(wanted, f"a failure, {wanted[7:]}")
+    state, wanted = " ".join(seen.section(slot).state), wanted_state(due)
+    return None if state == wanted else (f"{of_slot(due)}{said_of_state(state)}", said_of_wanted_state(wanted))
 
 
+def wanted_state(due: Due) -> str:
+    """The state that is due, as a report has it."""
+    return "FAILED" + str(due.value)[6:] if str(due.value).startswith("failed") else str(due.value).upper()
+
+
+def said_of_state(state: str) -> str:
+    """How a program came to its end, in words."""
+    return SAID_OF_STATE.get(state, f"the program failed: {state[7:]}")
+
+
+def said_of_wanted_state(state: str) -> str:
+    """How a program had to come to its end, in words."""
+    return WANTED_STATE.get(state, f"a failure, {state[7:]}")
+
+
+EMPTY_NEST = "an empty nest"
 SAID_OF_STATE = {"LIVE": "the program didn't come to its end", "ENDED": "the program ended"}
 WANTED_STATE = {"LIVE": "that it goes on for ever", "ENDED": "that it ends"}
 
@@ -185,7 +227,7 @@ WANTED_STATE = {"LIVE": "that it goes on for ever", "ENDED": "that it ends"}
 def missed_overflow(due: Due, seen: Seen, slot: int):
     """Compares V."""
     flag = seen.section(slot).flags[0]
-    return None if flag == due.value else (f"{of_slot(due, slot)}V is {flag}", f"{due.value}")
+    return None if flag == due.value else (said_of(due, CAME[due.kind], came=flag), written_of(due))
 
 
 def missed_device(due: Due, seen: Seen, slot: int):
@@ -193,34 +235,50 @@ def missed_device(due: Due, seen: Seen, slot: int):
     for section in machine.sections(seen.report):
         for device in section.devices:
             if device.number == int(due.subject):
-                return missed_blocks(f"device {due.subject}", device.blocks, due.value)
+                return missed_blocks(due, device.blocks)
     return f"the job has no device {due.subject}", due.text
 
 
 def missed_pool(due: Due, seen: Seen, slot: int):
     """Compares the blocks that a program wrote on devices of the pool, in the order of taking."""
     stints: List[Device] = [stint for stint in seen.section(slot).stints if stint.kind == due.subject]
-    return missed_blocks(f"{of_slot(due, slot)}the pool's {due.subject}", [block for stint in stints for block in stint.blocks], due.value)
+    return missed_blocks(due, [block for stint in stints for block in stint.blocks])
 
 
 def missed_stream(due: Due, seen: Seen, slot: int):
     """Compares what was spooled to a stream."""
     spools = [spool.partition(" ")[2] for spool in seen.section(slot).spools if spool.partition(" ")[0] == due.subject]
-    return missed_blocks(f"{of_slot(due, slot)}stream {due.subject}", spools, due.value)
+    return missed_blocks(due, spools)
 
 
-def missed_blocks(name: str, blocks: Sequence[str], due: Sequence[str]):
+def missed_blocks(due: Due, blocks: Sequence[str]):
     """Compares blocks, without the spaces at their ends."""
-    came = [block.rstrip() for block in blocks]
-    at = next((at for at, (one, other) in enumerate(zip(came, due)) if one != other), min(len(came), len(due)))
-    if at == len(came) == len(due):
+    came, wanted, name = [block.rstrip() for block in blocks], blocks_of(due), name_of_blocks(due)
+    at = next((at for at, (one, other) in enumerate(zip(came, wanted)) if one != other), min(len(came), len(wanted)))
+    if at == len(came) == len(wanted):
         return None
-    which = f"block {at + 1} of {name}" if max(len(came), len(due)) > 1 else name
     if at == len(came):
-        return f"{name} has {count(len(came), 'block')}" if came else f"{name} has nothing", f"{brief(due[at])} as block {at + 1}" if len(due) > 1 else brief(due[at])
-    if at == len(due):
-        return f"{name} has {count(len(came), 'block')}, and block {at + 1} is {brief(came[at])}", count(len(due), "block") if due else "nothing"
-    return f"{which} is {brief(came[at])}", brief(due[at])
+        return OF_BLOCKS["fewer" if came else "none"].format(name=name, count=count(len(came), "block")), missing_block(due, at)
+    if at == len(wanted):
+        return OF_BLOCKS["more"].format(name=name, count=count(len(came), "block"), at=at + 1, came=brief(came[at])), no_more_blocks(due)
+    which = "other" if max(len(came), len(wanted)) > 1 else "only"
+    return OF_BLOCKS[which].format(name=name, at=at + 1, came=brief(came[at])), brief(wanted[at])
+
+
+def blocks_of(due: Due) -> List[str]:
+    """The blocks that are due."""
+    return list(due.value)  # type: ignore[call-overload]
+
+
+def missing_block(due: Due, at: int) -> str:
+    """What was due where there is no block of this number, from 0."""
+    wanted = blocks_of(due)
+    return f"{brief(wanted[at])} as block {at + 1}" if len(wanted) > 1 else brief(wanted[at])
+
+
+def no_more_blocks(due: Due) -> str:
+    """What was due where there are too many blocks."""
+    return count(len(blocks_of(due)), "block") if due.value else "nothing"
 
 
 def brief(text: str) -> str:
@@ -231,7 +289,7 @@ def brief(text: str) -> str:
 def missed_results(due: Due, seen: Seen, slot: int):
     """Compares the number of results of a program over every schedule."""
     number = (seen.results or {}).get(slot, 0)
-    return None if number == due.value else (f"{of_slot(due, slot)}over all schedules there {'is' if number == 1 else 'are'} {count(number, 'result')}", f"{due.value}")
+    return None if number == due.value else (f"{of_slot(due)}over all schedules there {'is' if number == 1 else 'are'} {count(number, 'result')}", f"{due.value}")
 
 
 def missed_deadlock(due: Due, seen: Seen, slot: int):
@@ -246,7 +304,12 @@ def missed_measure(due: Due, seen: Seen, slot: int):
     value = machine.measures(seen.report).get(due.subject, 0)
     if isinstance(value, (int, float)) and COMPARISONS[due.compare](value, due.value):
         return None
-    return f"{due.subject}: {value}", f"{due.compare.replace('is', '').strip()} {due.value:g}".strip()
+    return said_of(due, CAME[due.kind], came=value), written_of_measure(due)
+
+
+def written_of_measure(due: Due) -> str:
+    """What was due of a measure, as it is said."""
+    return f"{due.compare.replace('is', '').strip()} {due.value:g}".strip()
 
 
 CHECKS: Dict[str, Callable[[Due, Seen, int], Optional[Tuple[str, str]]]] = {

@@ -7,7 +7,8 @@ from courses.schedules import Plan
 
 class Rules(NamedTuple):
     """What is taken from a hand-in, the decks of some slots and perhaps the schedule; the marks; the calls of a run; the most words of an image and the most
-    orders that a program may obey, if there is such a limit; the orders that a deck has to use and those that it mustn't, by name; and the schedules.
+    orders that a program may obey, if there is such a limit; the orders that a deck has to use and those that it mustn't, by name; the schedules; and the kinds
+    of questions that the page has beside it.
     """
 
     slots: Tuple[int, ...]
@@ -19,6 +20,7 @@ class Rules(NamedTuple):
     uses: Tuple[str, ...]
     avoids: Tuple[str, ...]
     plans: Tuple[Plan, ...]
+    questions: Tuple[str, ...] = ()
 
 
 class Given(NamedTuple):
@@ -51,7 +53,8 @@ class Wrong(NamedTuple):
 
 class Exercise(NamedTuple):
     """An exercise: its file, number, name and title; the part that students get; the lines of its starting job, and the line before them; its rules, cases and
-    hints; its solution, the line where that begins, what is said of it; and the wrong solutions. What was handed out has no solution.
+    hints; its solution, the line where that begins, what is said of it; the wrong solutions; and the SHA-256 of the word that opens the solution in a page, if
+    there is one. What was handed out has no solution.
     """
 
     path: str
@@ -68,6 +71,7 @@ class Exercise(NamedTuple):
     solution_line: int = 1
     answers: str = ""
     wrong: Tuple[Wrong, ...] = ()
+    opens: str = ""
 
     @property
     def runs(self) -> int:

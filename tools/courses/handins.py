@@ -1,5 +1,6 @@
 """What a class handed in: of each student a folder, a zip file or a file of links. Whatever is in there, it costs nobody but that student."""
 import base64
+import json
 import os
 import pathlib
 import re
@@ -15,8 +16,16 @@ from kdf9.words import count
 # What a hand-in may have: bytes of a deck or job, bytes of a zip file, files of a student, and folders in each other.
 MOST_BYTES, MOST_PACKED, MOST_FILES, MOST_DEPTH = 1 << 16, 1 << 22, 400, 3
 
-# How a link has its job, as web/link.js packs it.
-LINK = re.compile(r"(?:(\d{1,3})[.:]?\s+)?(\S*#job=(\S*))")
+# The most bytes that the work of a link may have: that of all exercises.
+MOST_WORK = 1 << 20
+
+# How a link has its job, as web/link.js packs it, or all work at a course, as web/coursework.js does.
+LINK = re.compile(r"(?:(\d{1,3})[.:]?\s+)?(\S*#(job|work)=(\S*))")
+
+# The number of an exercise.
+NUMBER = re.compile(r"[0-9]{1,3}")
+
+DAMAGED_LINK = "this link is damaged: copy all of it, to its last letter"
 
 # Files that systems leave behind.
 LEFTOVERS = re.compile(r"\..*|__MACOSX|desktop\.ini|Thumbs\.db", re.IGNORECASE)
@@ -109,22 +118,43 @@ def links_of(text: str) -> Optional[List[Tuple[Optional[int], HandIn]]]:
     found = [LINK.fullmatch(line) for line in lines]
     if not found or not all(found):
         return None
-    return [(int(link[1]) if link[1] else None, job_of_link(link[3])) for link in found if link]
+    told: List[Tuple[Optional[int], HandIn]] = []
+    for link in found:
+        if link and link[3] == "work":
+            told += work_of_link(link[4])
+        elif link:
+            told.append((int(link[1]) if link[1] else None, job_of_link(link[4])))
+    return told
 
 
 def job_of_link(packed: str) -> HandIn:
     """The job that the end of a link has."""
     try:
-        data = base64.b64decode(packed.replace("-", "+").replace("_", "/") + "=" * (-len(packed) % 4), validate=True)
-        unpacking = zlib.decompressobj(31)
-        text = unpacking.decompress(data, MOST_BYTES + 1)
-        if len(text) > MOST_BYTES:
-            return too_large()
-        if not unpacking.eof:
-            raise ValueError
-        return HandIn(text.decode(ENCODING))
+        return of_bytes(unpacked_link(packed, MOST_BYTES))
     except (ValueError, zlib.error):
-        return HandIn(None, "this link is damaged: copy all of it, to its last letter")
+        return HandIn(None, DAMAGED_LINK)
+
+
+def unpacked_link(packed: str, most: int) -> bytes:
+    """The bytes that the end of a link has, and one more than `most` if there are more. ValueError or zlib.error if it is damaged."""
+    data = base64.b64decode(packed.replace("-", "+").replace("_", "/") + "=" * (-len(packed) % 4), validate=True)
+    unpacking = zlib.decompressobj(31)
+    text = unpacking.decompress(data, most + 1)
+    if len(text) <= most and not unpacking.eof:
+        raise ValueError
+    return text
+
+
+def work_of_link(packed: str) -> List[Tuple[Optional[int], HandIn]]:
+    """The jobs of all exercises that the end of a link has, each with the number of its exercise. Damaged if it can't be read."""
+    try:
+        text = unpacked_link(packed, MOST_WORK)
+        if len(text) > MOST_WORK:
+            raise Damaged(f"this link has more than {MOST_WORK} bytes")
+        work = json.loads(text.decode("utf-8"))["work"]
+        return [(int(number), of_bytes(each["job"].encode("utf-8"))) for number, each in work.items() if NUMBER.fullmatch(number)]
+    except (ValueError, zlib.error, LookupError, TypeError, AttributeError, RecursionError) as why:
+        raise Damaged(DAMAGED_LINK) from why
 
 
 def too_large() -> HandIn:

@@ -10,9 +10,10 @@ from courses.schedules import EVERY, OWN, Plan, plan_of
 from kdf9.fault import fault_of
 from kdf9.job import join_lines
 from kdf9.program import ROOT, BadInput
+from quizzes.kinds import KINDS
 
 # The blocks that mean something, and where: before the solution, in it, and in a wrong solution.
-IN_SHEET, IN_SOLUTION, IN_WRONG = ("job", "rules", "case"), ("deck", "job", "change", "case"), ("deck", "job", "change")
+IN_SHEET, IN_SOLUTION, IN_WRONG = ("job", "rules", "case"), ("deck", "job", "change", "case", "word"), ("deck", "job", "change")
 
 KNOWN = {*IN_SHEET, *IN_SOLUTION}
 
@@ -24,6 +25,9 @@ FENCE = re.compile(r"(`{3,}|~{3,})\s*(.*)")
 USUAL_MARKS, USUAL_CALLS, MOST_MARKS, MOST_CALLS = 10, 2000, 1000, 200000
 USUAL_SCHEDULES = "at once, after 20, seed 1"
 FILE = re.compile(r"(\d+)-[a-z0-9-]+\.md")
+
+# The SHA-256 of a teacher's word, in hexadecimal digits.
+HASHED = re.compile(r"[0-9a-f]{64}")
 
 
 class Faulty(BadInput):
@@ -107,7 +111,15 @@ class Reader:
         answer = self._only([solution], "deck", "job", "change")
         solved = self._text(answer, join_lines(of.job), "the starting job")
         wrong = tuple(self._wrong(chapter, solved) for chapter in others if chapter.heading.startswith(WRONG))
-        return of._replace(solution=solved, solution_line=answer.line, answers=prose(solution), wrong=wrong)
+        return of._replace(solution=solved, solution_line=answer.line, answers=prose(solution), wrong=wrong, opens=self._word(solution))
+
+    def _word(self, solution: Chapter) -> str:
+        """The hash of the teacher's word, or nothing."""
+        block = self._only([solution], "word", is_needed=False)
+        told = list(lines_of(block)) if block else []
+        if block and not (len(told) == 1 and HASHED.fullmatch(told[0][1])):
+            self.fail(block.line, "a block word has the SHA-256 of the teacher's word: 64 hexadecimal digits, as sha256sum writes them")
+        return told[0][1] if told else ""
 
     def _sound(self, job: Block) -> None:
         """Refuses a starting job that has a fault."""
@@ -227,8 +239,18 @@ class Reader:
         return Rules(
             slots, takes_schedule, self._number(told, "marks", 1, MOST_MARKS) or USUAL_MARKS, self._number(told, "calls", 1, MOST_CALLS) or USUAL_CALLS,
             self._number(told, "words at most", 1, 8192), self._number(told, "orders at most", 1, MOST_CALLS),
-            self._orders(told.get("use", [])), self._orders(told.get("never use", [])), plans[0],
+            self._orders(told.get("use", [])), self._orders(told.get("never use", [])), plans[0], self._questions(told.get("questions", [])),
         )
+
+    def _questions(self, told: List[Tuple[int, str]]) -> Tuple[str, ...]:
+        """The kinds of questions of a rule."""
+        for at, text in told:
+            kinds = [word.strip() for word in text.split(",")]
+            for kind in kinds:
+                if kind not in KINDS:
+                    self.fail(at, f"{kind or 'nothing'} isn't a kind of questions: {', '.join(KINDS)}")
+            return tuple(kinds)
+        return ()
 
     def _number(self, told: dict, key: str, least: int, most: int) -> Optional[int]:
         """The number of a rule, or None."""
@@ -356,7 +378,7 @@ class Reader:
 
 
 # How the rules begin, and those of which there can be several.
-RULES = ("hand in", "marks", "calls", "words at most", "orders at most", "use", "never use", "schedules")
+RULES = ("hand in", "marks", "calls", "words at most", "orders at most", "use", "never use", "schedules", "questions")
 OFTEN = ("use", "never use")
 
 

@@ -21,6 +21,9 @@ MOST_RUNS = 400
 # The calls of a run that shows why a program goes on for ever, and the rounds in which its transfers end.
 SHORT, SHORT_ROUNDS = 600, 20
 
+# What is said of a hand-in that has too much of something. The page says the same (courses/paged.py).
+TOO_LARGE, TOO_LONG = "the image has {words} words, and the exercise allows {most}", "the schedule has more than {calls} calls, which this exercise allows"
+ORDERS, AT_MOST = "the program obeyed {came} orders", "at most {most}"
 
 # The addresses of words by slot and name; None for one that the deck doesn't have.
 Addresses = Dict[Tuple[int, str], Optional[int]]
@@ -152,7 +155,7 @@ def too_large(exercise: Exercise, names: Names) -> Optional[str]:
     """That an image has too many words, in words; or None."""
     most = exercise.rules.words
     large = [names.words(slot) for slot in exercise.rules.slots if most is not None and names.words(slot) > most]
-    return f"the image has {large[0]} words, and the exercise allows {most}" if large else None
+    return TOO_LARGE.format(words=large[0], most=most) if large else None
 
 
 def of_plan(exercise: Exercise, taken: Taken, case: Case, plan: Plan, names: Addresses) -> Tuple[List[str], Optional[Missed]]:
@@ -185,7 +188,7 @@ def schedule_for(exercise: Exercise, taken: Taken, case: Case, plan: Plan) -> st
     if taken.schedule is not None:
         calls = [line[7:] for line in taken.schedule if line.startswith("ORDERS ")]
         if sum(int(each) for each in calls if each.isdigit() and len(each) < 9) > rules.calls:
-            raise Unfit(f"the schedule has more than {rules.calls} calls, which this exercise allows")
+            raise Unfit(TOO_LONG.format(calls=rules.calls))
         return join_lines(taken.schedule)
     given = tuple(sorted(case.given.events))
     if plan.kind == OWN:
@@ -213,7 +216,7 @@ def judged(exercise: Exercise, dues: Sequence[Due], seen: Seen, plan: Plan) -> T
     if most is not None and plan.kind != EVERY:
         orders = max((seen.section(each).orders for each in exercise.rules.slots), default=0)
         came.append("orders" if orders > most else "")
-        first = first or (First(f"the program obeyed {orders} orders", f"at most {most}", None) if orders > most else None)
+        first = first or (First(ORDERS.format(came=orders), AT_MOST.format(most=most), None) if orders > most else None)
     return came, first
 
 

@@ -1,10 +1,10 @@
 """What is taken from the text of a hand-in: its decks and perhaps its schedule. All else in it, such as stores and devices, is that of the exercise."""
 import functools
 import re
-from typing import Dict, Iterator, List, NamedTuple, Optional, Set, Tuple
+from typing import Dict, Iterator, List, NamedTuple, Optional, Tuple
 
 from courses.exercise import Exercise
-from kdf9.deck import OPENING
+from kdf9.deck import without_comments
 from kdf9.job import HEADER
 from kdf9.statements import statements
 from kdf9.tables import table
@@ -12,7 +12,8 @@ from kdf9.tables import table
 # The bytes that some editors write first, as their characters.
 BYTE_ORDER_MARK = "\xef\xbb\xbf"
 
-NUMBER = re.compile(r"[+-]?\d+")
+# A number of a statement as a pattern, and what may stand between the characters of a statement once comments are spaces.
+NUMBER, GAP = r"[+-]?[0-9]+", r"[ \n]*"
 
 
 class Unfit(Exception):
@@ -49,8 +50,13 @@ def take(text: str, exercise: Exercise) -> Taken:
         found = {rules.slots[0]: next(iter(decks.values()))}
     missing = [slot for slot in rules.slots if slot not in found]
     if missing:
-        raise Unfit(f"this job has no deck in slot {missing[0]}")
+        raise Unfit(said_of_no_deck(missing[0]))
     return Taken(found, *schedule_of(lines)) if rules.takes_schedule else Taken(found)
+
+
+def said_of_no_deck(slot: int) -> str:
+    """What is said of a job that has no deck in a slot."""
+    return f"this job has no deck in slot {slot}"
 
 
 def needs_job(slots: Tuple[int, ...]) -> Taken:
@@ -90,43 +96,68 @@ def schedule_of(lines: List[str]) -> Tuple[List[str], int]:
 
 
 @functools.lru_cache(maxsize=None)
-def names_of_forms() -> Dict[str, str]:
-    """The name of the order that each form of a statement means, with 0 for each number."""
-    return {form: order["name"] for order in table("orders")["orders"] for form in order["forms"]}
+def forms_of_names() -> Dict[str, List[str]]:
+    """The forms of the statements that each order has, by its name, with 0 for each number."""
+    return {order["name"]: list(order["forms"]) for order in table("orders")["orders"]}
 
 
-def name_of(statement: str) -> Optional[str]:
-    """The name of the order that a statement without spaces means, or None."""
-    return names_of_forms().get(NUMBER.sub("0", statement)) or names_of_forms().get(re.sub(r"\d+", "0", statement))
+@functools.lru_cache(maxsize=None)
+def pattern_of(name: str) -> str:
+    """The pattern of the statements, without spaces, that a rule means by a name: those of the order of this name, and the statement itself."""
+    forms = [re.escape(form).replace("0", NUMBER) for form in forms_of_names().get(name, [])]
+    return "|".join([*forms, re.escape(name.replace(" ", ""))])
 
 
 def is_order(name: str) -> bool:
     """Whether a rule can name an order so: by its name, or as a statement."""
-    return name in names_of_forms().values() or name_of(name.replace(" ", "")) is not None
+    statement = name.replace(" ", "")
+    return name in forms_of_names() or any(re.fullmatch(pattern_of(each), statement) for each in forms_of_names())
 
 
-def orders_of(deck: str) -> Set[str]:
-    """The orders of a deck, by their names and as their statements."""
-    found: Set[str] = set()
-    for statement in statements(deck):
-        name = name_of(statement.text)
-        if name:
-            found |= {name, statement.text}
-    return found
+def said_of_wanted(name: str) -> str:
+    """What is said of an order that isn't used."""
+    return f"the exercise wants {name}, which isn't used"
+
+
+def said_of_avoided(name: str) -> str:
+    """What is said of an order that is used."""
+    return f"{name} is used, which this exercise doesn't allow"
 
 
 def broken_rule(exercise: Exercise, taken: Taken) -> Optional[str]:
     """Which rule on orders a hand-in breaks, in words; or None."""
-    used: Set[str] = set()
-    for deck in taken.decks.values():
-        used |= orders_of(deck.text)
-    for name in exercise.rules.uses:
-        if name.replace(" ", "") not in used:
-            return f"the exercise wants {name}, which isn't used"
-    for name in exercise.rules.avoids:
-        if name.replace(" ", "") in used:
-            return f"{name} is used, which this exercise doesn't allow"
-    return None
+    used = {statement.text for deck in taken.decks.values() for statement in statements(deck.text)}
+
+    def is_used(name: str) -> bool:
+        return any(re.fullmatch(pattern_of(name), statement) for statement in used)
+
+    wanted = next((name for name in exercise.rules.uses if not is_used(name)), None)
+    avoided = next((name for name in exercise.rules.avoids if is_used(name)), None)
+    return said_of_wanted(wanted) if wanted is not None else said_of_avoided(avoided) if avoided is not None else None
+
+
+class Place(NamedTuple):
+    """Where the main part has a constant, or would have it, as two patterns of a deck whose comments are spaces. In each the first group is what stands before
+    that. In `there` the second group is the constant, and in `opening` the number of the last V-store. The page reads the same patterns.
+    """
+
+    there: str
+    opening: str
+
+
+def place_of(name: str) -> Place:
+    """The place of a constant, such as V0."""
+    program = GAP.join("PROGRAM")
+    before = f"(?:[^;]*;)*?[* \\n]*{program}"
+    return Place(
+        f"^({before}[^;]*;(?:(?![* \\n]*P{GAP}[0-9R])[^;]*;)*?[* \\n]*)({GAP.join(f'{name}=')}[^;]*)",
+        f"^({before}{GAP}V{GAP}([0-9]{{1,5}}){GAP};)",
+    )
+
+
+def said_of_missing(name: str) -> str:
+    """What is said of a deck that has no place for a constant."""
+    return f"the main part has no {name}, which the exercise sets"
 
 
 def with_constants(deck: str, constants: Dict[str, str]) -> str:
@@ -138,17 +169,12 @@ def with_constants(deck: str, constants: Dict[str, str]) -> str:
 
 def with_constant(deck: str, name: str, value: str) -> str:
     """A deck whose main part has this constant."""
-    opening = None
-    for statement in statements(deck):
-        found = OPENING.match(statement.text)
-        if found and opening:
-            break
-        if found and found[1] is None:
-            opening = (statement, found[2])
-        elif opening and statement.text.startswith(f"{name}="):
-            between = deck[statement.start:statement.end]
-            return deck[:statement.start] + f"{name}={value}" + "\n" * between.count("\n") + deck[statement.end:]
-    if opening is None or opening[1] is None or len(opening[1]) > 5 or int(opening[1]) < int(name[1:]):
-        raise Unfit(f"the main part has no {name}, which the exercise sets")
-    after = deck.find(";", opening[0].end) + 1
-    return f"{deck[:after]} {name}={value};{deck[after:]}"
+    bare, place = without_comments(deck), place_of(name)
+    there = re.match(place.there, bare)
+    if there:
+        start, end = there.span(2)
+        return deck[:start] + f"{name}={value}" + "\n" * deck.count("\n", start, end) + deck[end:]
+    opening = re.match(place.opening, bare)
+    if not opening or int(opening[2]) < int(name[1:]):
+        raise Unfit(said_of_missing(name))
+    return f"{deck[:opening.end(1)]} {name}={value};{deck[opening.end(1):]}"

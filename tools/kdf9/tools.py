@@ -97,8 +97,8 @@ TOOLS = {tool.name: tool for tool in (
         "./kdf9 json < examples/adds-5-and-7.report | ./kdf9 report",
     ),
     Tool(
-        "page", "> FILE",
-        "Writes the machine, an editor and the examples as one page for a browser.",
+        "page", "[--course COURSE] > FILE",
+        "Writes the machine, an editor and the examples as one page for a browser; with a course, also its exercises.",
         "./kdf9 page > kdf9.html",
     ),
     Tool(

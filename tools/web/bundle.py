@@ -6,8 +6,8 @@ import re
 
 from web.documents import failures, help_of_statements, jobs_of_examples, jobs_of_first_hour, read
 
-# The main script, which imports the others.
-MAIN = "page"
+# The main script, which imports the others, and that of a page with a course, which imports it.
+MAIN, WITH_COURSE = "page", "course"
 IMPORT = re.compile(r'^import (\{[^}]*\}) from "\./(\w+)\.js";\n', re.MULTILINE)
 TABLE = re.compile(r"/\* (tables/\w+\.json) \*/ null")
 EXPORT = re.compile(r"^export ((?:async )?(?:function|class|const) )(\w+)", re.MULTILINE)
@@ -58,10 +58,10 @@ def packed(data):
     return base64.b64encode(gzip.compress(data, 9, mtime=0)).decode("ascii")
 
 
-def page(module, start=None):
-    """The page, made from the bytes of the module. If there is a job, it runs when the page opens."""
+def page(module, start=None, course=None):
+    """The page, made from the bytes of the module. If there is a job, it runs when the page opens; if there is a course, as the page has it, its exercises are there too."""
     parts = {
         "STYLE": read("web/page.css"), "WORKER": script("worker"), "TEXTS": packed(texts(start)), "MODULE": packed(module),
-        "HELP": packed(json_of(help_of_statements())), "SCRIPT": script(),
+        "HELP": packed(json_of(help_of_statements())), "COURSE": packed(json_of(course)) if course else "", "SCRIPT": script(WITH_COURSE if course else MAIN),
     }
     return re.sub(r"/\* ([A-Z]+) \*/", lambda mark: parts[mark[1]], read("web/page.html"))

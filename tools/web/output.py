@@ -8,14 +8,16 @@ from kdf9.program import BadInput
 from web.bundle import page
 
 
-def write_page(command, job=None):
-    """Writes the page and returns the status. If there is a job, it runs when the page opens. `command` is what was typed."""
+def write_page(command, job=None, course=None):
+    """Writes the page and returns the status. If there is a job, it runs when the page opens; if there is a course, its exercises are in the page. `command` is what was
+    typed.
+    """
     if sys.stdout.isatty():
         raise BadInput(f"kdf9: the page is a file: {command} > kdf9.html")
     if signal.getsignal(signal.SIGINT) is signal.SIG_DFL:
         signal.signal(signal.SIGINT, signal.default_int_handler)
     try:
-        sys.stdout.buffer.write(page(engine(), job).encode("utf-8"))
+        sys.stdout.buffer.write(page(engine(), job, course).encode("utf-8"))
     except NoEngine as why:
         raise BadInput(f"kdf9: {why}") from why
     except KeyboardInterrupt:
