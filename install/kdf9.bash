@@ -74,7 +74,7 @@ _kdf9() {
         package) places=(folder) options='--help' with_word='' ;;
     esac
     if [ "$COMP_CWORD" = 1 ]; then
-        _kdf9_place 'run alone asm make save resume check watch explain steps listing schedule same explore stats study mark quiz picture json report page replay lsp dap lib clean package --help --version'
+        _kdf9_place 'run alone asm make save resume check watch explain steps listing schedule same explore stats study mark quiz picture json report page replay lsp dap lib clean package --help --version --proved'
         return
     fi
     for ((at = 2; at < COMP_CWORD; at++)); do

@@ -83,6 +83,7 @@ complete -c kdf9 -n __kdf9_first -a clean -d 'Gives back the disk that only make
 complete -c kdf9 -n __kdf9_first -a package -d 'Makes packages of the program, the tools and the documents, as a .tar.gz and a .deb.'
 complete -c kdf9 -n __kdf9_first -a --help -d 'Lists the commands and the tools; after the name of one, it says more of that.'
 complete -c kdf9 -n __kdf9_first -a --version -d 'Says the version, the commit, the kit, and whether this program was proved on this machine.'
+complete -c kdf9 -n __kdf9_first -a --proved -d 'Before a command: waits until the program is proved and built, where something else would answer first; by itself it says --version then.'
 complete -c kdf9 -n '__kdf9_is run' -l help -d 'says how it is used, and ends'
 complete -c kdf9 -n '__kdf9_at alone 0' -k -a '(__kdf9_slots)'
 complete -c kdf9 -n '__kdf9_is alone' -l help -d 'says how it is used, and ends'

@@ -58,6 +58,7 @@ _kdf9() {
         'package:Makes packages of the program, the tools and the documents, as a .tar.gz and a .deb.'
         '--help:Lists the commands and the tools; after the name of one, it says more of that.'
         '--version:Says the version, the commit, the kit, and whether this program was proved on this machine.'
+        '--proved:Before a command: waits until the program is proved and built, where something else would answer first; by itself it says --version then.'
     )
     _arguments -C '1:command:->name' '*::argument:->argument' && return
     case $state in

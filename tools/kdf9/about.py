@@ -23,6 +23,7 @@ KIT = re.compile(r"^Proved with `([^`]*)`", re.MULTILINE)
 OPTIONS = {
     "--help": "Lists the commands and the tools; after the name of one, it says more of that.",
     "--version": "Says the version, the commit, the kit, and whether this program was proved on this machine.",
+    "--proved": "Before a command: waits until the program is proved and built, where something else would answer first; by itself it says --version then.",
 }
 
 FIRST = f"{NAME} run < examples/adds-5-and-7.job"
