@@ -116,7 +116,7 @@ def tools_are_listed() -> Cases:
     built = re.findall(r"building the program: (\d+) crates|is proved: 1 of (\d+) ", document("TOOLS.md"))
     yield "the crates of docs/TOOLS.md", None if {int(one or other) for one, other in built} == {len(read_crates())} else f"are {built}"
     there = {path.name for path in (ROOT / "tools").iterdir() if path.is_file() and os.access(path, os.X_OK)}
-    yield "the files of the tools", None if there == {*TOOLS, "about", "build", "editors", "kit_line", "manual"} else f"{there}"
+    yield "the files of the tools", None if there == {*TOOLS, "about", "build", "editors", "first", "kit_line", "manual", "shipped"} else f"{there}"
 
 
 def wrong_words_are_refused() -> Cases:
