@@ -28,6 +28,16 @@ print(end="<module " + pathlib.Path(folder, "kdf9.wasm").read_text() + ">" + "".
 sys.exit(3)
 """
 
+# Starts ./kdf9 of a folder in which nothing can be written any more.
+READ_ONLY = """
+set -e
+mount --bind "$1" "$1"
+mount -o remount,ro,bind "$1"
+folder=$1
+shift
+exec bash "$folder/kdf9" "$@"
+"""
+
 # So many tenths of a second a build in the background is waited for.
 PATIENCE = 1200
 
@@ -162,6 +172,32 @@ def streams_fail(fresh: Fresh) -> Cases:
         yield f"run {stream}", None if good else f"{done}"
 
 
+def read_only_folders(fresh: Fresh) -> Cases:
+    """In a folder where nothing can be written, something answers all the same; a line says that nothing is proved there, and --proved ends with one."""
+    words = ["unshare", "-r", "-m", "bash", "-c", READ_ONLY, "enter", str(fresh.folder)]
+    if subprocess.run(["unshare", "-r", "-m", "true"], capture_output=True, check=False).returncode:
+        print("install: this machine makes no namespaces, so no folder is tried in which nothing can be written")
+        return
+    variables = {"PATH": f"{fresh.folder}/commands:{os.environ['PATH']}", "KDF9_JOBS": "2", "KDF9_DISK": "0"}
+    for more, status, out, said in ((["make", "7"], 42, "<tried><first><make><7>", ("can't be written, so nothing is proved here", OF_KIT)), (["--proved", "make", "7"], 1, "", ("could not be built: ",))):
+        done = subprocess.run([*words, *more], env=variables, stdin=subprocess.DEVNULL, capture_output=True, text=True, check=False)
+        lines = [line for line in done.stderr.splitlines() if BUILDING not in line]
+        good = (done.returncode, done.stdout) == (status, out) and len(lines) == len(said) and all(part in line for part, line in zip(said, lines))
+        yield " ".join(more), None if good else f"{done}"
+
+
+def surroundings_lack_something() -> Cases:
+    """Without HOME, without a terminal, and with no place for files of a moment, the program and a tool do what they do."""
+    job = (ROOT / "examples/adds-5-and-7.job").read_bytes()
+    due = Run(0, example_report("adds-5-and-7"), "")
+    for what, without in (("HOME", {"HOME"}), ("TERM and LANG", {"TERM", "LANG", "LC_ALL"}), ("any variable but PATH", set(ENVIRONMENT) - {"PATH", "KDF9_PROVED"})):
+        env = {name: value for name, value in ENVIRONMENT.items() if name not in without}
+        for words in (["run"], ["explain", "-"]):
+            done = subprocess.run([ROOT / "kdf9", *words], env=env, cwd="/", input=job, start_new_session=True, capture_output=True, check=False)
+            run = Run(done.returncode, done.stdout.decode("utf-8"), done.stderr.decode("utf-8"))
+            yield f"{words[0]} without {what}", None if run == due else f"{run}"
+
+
 def shipped_module_answers() -> Cases:
     """The module of the page that is shipped answers as the program, where node is there; its checksums are those of dist/kdf9.sums."""
     done = subprocess.run(["tools/shipped"], cwd=ROOT, env=ENVIRONMENT, capture_output=True, text=True, check=False)
@@ -178,7 +214,7 @@ def shipped_module_answers() -> Cases:
 
 def first_starts() -> Cases:
     """Each case in a clone of its own. Builds that are still going on are stopped."""
-    for case in (kit_answers, program_follows, page_answers, page_answers_without_rt, waits_where_asked, faults_are_said, streams_fail):
+    for case in (kit_answers, program_follows, page_answers, page_answers_without_rt, waits_where_asked, faults_are_said, read_only_folders, streams_fail):
         with tempfile.TemporaryDirectory() as folder:
             fresh = Fresh(folder)
             yield from ((f"{case.__name__.replace('_', ' ')}: {what}", why) for what, why in case(fresh))
@@ -197,4 +233,4 @@ def stop(fresh: Fresh) -> None:
     fresh.waits_until(False)
 
 
-SUITES = (first_starts, shipped_module_answers)
+SUITES = (first_starts, shipped_module_answers, surroundings_lack_something)

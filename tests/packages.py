@@ -176,7 +176,7 @@ def clean_root_lacks() -> Optional[str]:
 def clean_root_runs(work: pathlib.Path, deb: pathlib.Path) -> Cases:
     """The .deb is installed by dpkg in the smallest root of Debian, with the Python that it asks for; there it runs, and it goes without leaving anything."""
     root = work / "smallest-root"
-    lacks, words = clean_root_lacks(), ["debootstrap", "--variant=minbase", "--include=python3", RELEASE, str(root), MIRROR]
+    lacks, words = clean_root_lacks(), ["timeout", "1200", "debootstrap", "--variant=minbase", "--include=python3", RELEASE, str(root), MIRROR]
     path = f"{os.environ['PATH']}:/usr/sbin:/sbin"
     made = None if lacks else run(words, work, PATH=path)
     if made and made.status:
