@@ -93,8 +93,10 @@ def kit_answers(fresh: Fresh) -> Cases:
     yield "a first start", differs(fresh.go("run", text="job\n"), 42, "<tried><first><run>job\n", BEHIND, OF_KIT)
     yield "a second start", differs(fresh.go("make", "7"), 42, "<tried><first><make><7>", "kdf9: in the background: ", OF_KIT)
     yield "their builds", None if fresh.log().count("begins kdf_word") == 1 else f"{fresh.log()}"
-    record = (fresh.folder / f"{PROGRAM}.proved").exists()
-    yield "--version meanwhile", None if not record and "not built yet" in fresh.go("--version")[1] else "the program is said to be proved"
+    yield "--version meanwhile", None if "program: not built yet; a build of it is going on\n" in fresh.go("--version")[1] else "says something else"
+    log = (fresh.folder / "crates/kdf9/out/build.log").read_text().splitlines()
+    subprocess.run(["bash", "-c", log[0].partition(": ")[2]], check=True)
+    yield "the build as its log says how to stop it", None if fresh.waits_until(False) and not (fresh.folder / PROGRAM).exists() else f"{log}"
 
 
 def program_follows(fresh: Fresh) -> Cases:

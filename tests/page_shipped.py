@@ -21,6 +21,6 @@ def unpacked(file: pathlib.Path) -> str:
 def shipped_page_is_current(file: pathlib.Path) -> Iterator[Tuple[str, Optional[str]]]:
     """Whether dist/kdf9.html has what the page in this file has."""
     if not SHIPPED.is_file():
-        yield "dist/kdf9.html", "is missing; ./kdf9 page > dist/kdf9.html makes it"
+        yield "dist/kdf9.html", "is missing; tools/shipped --write makes it"
     else:
-        yield "dist/kdf9.html", None if unpacked(SHIPPED) == unpacked(file) else "isn't the page that is made here; ./kdf9 page > dist/kdf9.html makes it"
+        yield "dist/kdf9.html", None if unpacked(SHIPPED) == unpacked(file) else "isn't the page that is made here; tools/shipped --write makes it"
