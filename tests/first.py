@@ -23,7 +23,7 @@ BEHIND, OF_PAGE, OF_KIT = f"kdf9: in the background: {BUILDING[6:]}", "this answ
 # A node that shows what it is asked: the module, the words and the text.
 NODE = """#!{python}
 import pathlib, sys
-folder, *words = sys.argv[2:]
+folder, *words = sys.argv[3:]
 print(end="<module " + pathlib.Path(folder, "kdf9.wasm").read_text() + ">" + "".join("<" + it + ">" for it in words) + sys.stdin.read())
 sys.exit(3)
 """

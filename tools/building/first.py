@@ -25,6 +25,9 @@ MODULE = re.compile(rb'<script type="text/plain" id="module">([A-Za-z0-9+/=]+)</
 # Where the module finds the rest of the machine, by the names that Node takes for modules.
 ANSWER, SCRIPTS = pathlib.Path(__file__).with_name("answer.mjs"), ("machine", "narrow")
 
+# The status by which the module says that it has no room for so long a text.
+TOO_LONG = 6
+
 # The last line of a run by the kit that came to its end, and the seconds that such a run may take.
 ENDED = re.compile(rb"^run=ended status=(\d+) .*proved=no\n\Z", re.MULTILINE)
 SECONDS = "3600"
@@ -75,8 +78,8 @@ def answer_of_page(words: List[str], text: bytes) -> Optional[Answer]:
         pathlib.Path(folder, "kdf9.wasm").write_bytes(module)
         for name in SCRIPTS:
             shutil.copy(ROOT / "web" / f"{name}.js", f"{folder}/{name}.mjs")
-        done = subprocess.run(["node", ANSWER, folder, *words], input=text, stdout=subprocess.PIPE, stderr=subprocess.PIPE, check=False)
-    return None if done.stderr or done.returncode < 0 else Answer(done.returncode, done.stdout)
+        done = subprocess.run(["node", "--no-warnings", ANSWER, folder, *words], input=text, stdout=subprocess.PIPE, stderr=subprocess.PIPE, check=False)
+    return None if done.stderr or done.returncode < 0 or done.returncode == TOO_LONG else Answer(done.returncode, done.stdout)
 
 
 def kit_lacks(_words: List[str]) -> Optional[str]:
