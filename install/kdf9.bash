@@ -53,10 +53,10 @@ _kdf9() {
         check) places=() options='--help' with_word='' ;;
         watch) places=(slot '') options='--help' with_word='' ;;
         explain) places=(job 'run resume check') options='--help --strict' with_word='' ;;
-        steps) places=(job slot '' '') options='--help --run --at --watch' with_word='--at --watch' ;;
-        listing) places=(job slot) options='--help' with_word='' ;;
+        steps) places=(job slot '' '') options='--help --json --run --at --watch' with_word='--at --watch' ;;
+        listing) places=(job slot) options='--help --json' with_word='' ;;
         schedule) places=(job '') options='--help --after --every --speed --speeds' with_word='--after --every --speed --speeds' ;;
-        same) places=(job job) options='--help' with_word='' ;;
+        same) places=(job job) options='--help --json' with_word='' ;;
         explore) places=(job) options='--help --calls --runs --swap --mode --out' with_word='--calls --runs --out' ;;
         stats) places=(job job) options='--help --json --csv' with_word='' ;;
         study) places=('') options='--help --out --plot --part --join --dask --job' with_word='--out --part --join --dask --job' ;;
@@ -70,11 +70,11 @@ _kdf9() {
         lsp) places=() options='--help --faults' with_word='--faults' ;;
         dap) places=() options='--help' with_word='' ;;
         lib) places=(folder) options='--help' with_word='' ;;
-        clean) places=() options='--help --show' with_word='' ;;
+        clean) places=() options='--help --json --show' with_word='' ;;
         package) places=(folder) options='--help' with_word='' ;;
     esac
     if [ "$COMP_CWORD" = 1 ]; then
-        _kdf9_place 'run alone asm make save resume check watch explain steps listing schedule same explore stats study mark quiz picture json report page replay lsp dap lib clean package --help --version'
+        _kdf9_place 'run alone asm make save resume check watch explain steps listing schedule same explore stats study mark quiz picture json report page replay lsp dap lib clean package --help --version --proved'
         return
     fi
     for ((at = 2; at < COMP_CWORD; at++)); do

@@ -58,6 +58,7 @@ _kdf9() {
         'package:Makes packages of the program, the tools and the documents, as a .tar.gz and a .deb.'
         '--help:Lists the commands and the tools; after the name of one, it says more of that.'
         '--version:Says the version, the commit, the kit, and whether this program was proved on this machine.'
+        '--proved:Before a command: waits until the program is proved and built, where something else would answer first; by itself it says --version then.'
     )
     _arguments -C '1:command:->name' '*::argument:->argument' && return
     case $state in
@@ -73,10 +74,10 @@ _kdf9() {
                 check) _arguments '--help[says how it is used, and ends]' ;;
                 watch) _arguments '1:slot:_kdf9_slots' '2:: ' '--help[says how it is used, and ends]' ;;
                 explain) _arguments '1:job:_files -g "*.job"' '2:word:(run resume check)' '--help[says this, and ends]' '--strict[ends with status 1 if a program failed or can’t go on, or if a report isn’t that of its job]' ;;
-                steps) _arguments '1:job:_files -g "*.job"' '2:slot:_kdf9_slots' '3:: ' '4:: ' '--help[says this, and ends]' '--run[shows the program as it ran under Director, and not by itself]' '--at[shows each time that the program came to this, a reference such as 1 or 3P2, a part such as P2, or a word and a syllable such as 12/3]:STATEMENT:_kdf9_labels' '--watch[shows this word each time, by its name in the deck or as En; more than one may be watched]:WORD: ' ;;
-                listing) _arguments '1:job:_files -g "*.job"' '2:slot:_kdf9_slots' '--help[says this, and ends]' ;;
+                steps) _arguments '1:job:_files -g "*.job"' '2:slot:_kdf9_slots' '3:: ' '4:: ' '--help[says this, and ends]' '--json[writes JSON, an object for each order, time or stretch between]' '--run[shows the program as it ran under Director, and not by itself]' '--at[shows each time that the program came to this, a reference such as 1 or 3P2, a part such as P2, or a word and a syllable such as 12/3]:STATEMENT:_kdf9_labels' '--watch[shows this word each time, by its name in the deck or as En; more than one may be watched]:WORD: ' ;;
+                listing) _arguments '1:job:_files -g "*.job"' '2:slot:_kdf9_slots' '--help[says this, and ends]' '--json[writes JSON, the statements with their images, and the names of the words]' ;;
                 schedule) _arguments '1:job:_files -g "*.job"' '2:: ' '--help[says this, and ends]' '--after[each transfer ends N steps after it began; 20 if it is left out]:N: ' '--every[a step is N calls, after which one word of the transfer moves; if it is left out, a step is a call]:N: ' '--speed[each transfer of this device ends A calls after it began, and B more for each word of its area; it can be given for several devices]:DEVICE=A+B: ' '--speeds[a speed for each device by its kind, kdf9 is what the KDF9’s devices did, at 6 microseconds an order]:NAME: ' ;;
-                same) _arguments '1:job:_files -g "*.job"' '2:job:_files -g "*.job"' '--help[says this, and ends]' ;;
+                same) _arguments '1:job:_files -g "*.job"' '2:job:_files -g "*.job"' '--help[says this, and ends]' '--json[writes JSON, of each program what is said, and whether that is as it has to be]' ;;
                 explore) _arguments '1:job:_files -g "*.job"' '--help[says this, and ends]' '--calls[the calls of a schedule; 60 if it is left out]:T: ' '--runs[the most runs of a search; 2000 if it is left out]:N: ' '--swap[priorities may be exchanged at any moment]' '--mode[naive runs each schedule by itself, to be compared with]' '--out[writes a job for each outcome to this folder, which has to be new or empty]:FOLDER: ' ;;
                 stats) _arguments '1:job:_files -g "*.job"' '2:job:_files -g "*.job"' '--help[says this, and ends]' '--json[writes JSON]' '--csv[writes CSV, with a line for each measure]' ;;
                 study) _arguments '1:: ' '--help[says this, and ends]' '--out[keeps the rows; it has to be new, or to have rows of the same plan. Without it the rows are only written]:FOLDER: ' '--plot[draws the plots of the plan into the folder, by matplotlib]' '--part[does only each N-th run, from the I-th on, for one of several machines]:I/N: ' '--join[makes no run, but takes the rows of the parts in this folder; it can be given for several folders]:FOLDER: ' '--dask[makes the runs on the workers of the scheduler of Dask at this address]:ADDRESS: ' '--job[makes no study, but writes the job of run N]:N: ' ;;
@@ -90,7 +91,7 @@ _kdf9() {
                 lsp) _arguments '--help[says this, and ends]' '--faults[writes the faults of these jobs and decks, and serves nobody; - is standard input]:FILE: ' ;;
                 dap) _arguments '--help[says this, and ends]' ;;
                 lib) _arguments '1:folder:_files -/' '--help[says this, and ends]' ;;
-                clean) _arguments '--help[says this, and ends]' '--show[only says what would be given back]' ;;
+                clean) _arguments '--help[says this, and ends]' '--json[writes JSON, the folders with their bytes, and what is kept]' '--show[only says what would be given back]' ;;
                 package) _arguments '1:folder:_files -/' '--help[says this, and ends]' ;;
             esac ;;
     esac

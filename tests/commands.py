@@ -1,4 +1,5 @@
 """Tries how the tools begin and end: what they say of themselves, wrong arguments, input that is no text of theirs, and streams that fail."""
+import json
 import os
 import pathlib
 import re
@@ -116,7 +117,7 @@ def tools_are_listed() -> Cases:
     built = re.findall(r"building the program: (\d+) crates|is proved: 1 of (\d+) ", document("TOOLS.md"))
     yield "the crates of docs/TOOLS.md", None if {int(one or other) for one, other in built} == {len(read_crates())} else f"are {built}"
     there = {path.name for path in (ROOT / "tools").iterdir() if path.is_file() and os.access(path, os.X_OK)}
-    yield "the files of the tools", None if there == {*TOOLS, "about", "build", "editors", "kit_line", "manual"} else f"{there}"
+    yield "the files of the tools", None if there == {*TOOLS, "about", "build", "editors", "first", "kit_line", "manual", "shipped"} else f"{there}"
 
 
 def wrong_words_are_refused() -> Cases:
@@ -225,7 +226,30 @@ def fuzz_finds_nothing() -> Cases:
     yield "tools over texts that chance makes", None if done.returncode == 0 else done.stdout + done.stderr
 
 
-SUITES = (
+# What writes lines, and how many of them are the head. With --json there is an object for each of the others.
+LINES = [
+    (["steps", "examples/reads-tape.job", "0", "1", "5"], 1), (["steps", "examples/adds-cards-while-a-tape-is-copied.job", "--run"], 1), (["steps", "examples/stops-at-a-loop.job", "--at", "1"], 2),
+    (["same", "examples/adds-cards-while-a-tape-is-copied.job"], 0),
+]
+
+
+def lines_are_json_too() -> Cases:
+    """With --json a tool that writes lines or a table writes an object for each, with the same in it."""
+    for words, head in LINES:
+        lines, made = kdf9(words, "").out.splitlines()[head:], json.loads(kdf9([*words, "--json"], "").out)
+        last = list(made[-1].values())
+        said = last[-1] if isinstance(last[-1], str) else last[1]
+        good = len(lines) == len(made) and all(str(part) in lines[-1] for part in (last[0], said) if not isinstance(part, list))
+        yield f"{' '.join(words)} --json", None if good else f"{made} in place of {lines}"
+    words = ["listing", "examples/walks-over-a-table.job"]
+    made, text = json.loads(kdf9([*words, "--json"], "").out), kdf9(words, "").out
+    lines = {f"{it['line']:>6}  {it['at']:>6}  {it['image']:<17}  {it['statement']};" for it in made["statements"]}
+    yield "listing --json", None if made["slot"] == 0 and made["names"] and lines <= set(text.splitlines()) and len(lines) > 9 else f"{made}"
+    made = json.loads(kdf9(["clean", "--show", "--json"], "").out)
+    yield "clean --show --json", None if set(made) == {"given_back", "folders", "kept"} and made["given_back"] is False else f"{made}"
+
+
+SUITES = (lines_are_json_too, 
     tools_say_what_they_are_for, examples_of_tools_work, tools_are_listed, wrong_words_are_refused, no_texts_are_refused, names_of_no_files_are_refused,
     streams_that_fail_are_said, want_of_memory_is_said, interrupts_are_silent, fuzz_finds_nothing,
 )

@@ -2,12 +2,13 @@
 import sys
 
 from editors_debug import SUITES as DEBUG
+from editors_eglot import SUITES as EGLOT
 from editors_grammar import SUITES as GRAMMAR
 from editors_inside import LEFT_OUT
 from editors_inside import SUITES as INSIDE
 from editors_server import SUITES as SERVER
 
-SUITES = (*GRAMMAR, *INSIDE, *SERVER, *DEBUG)
+SUITES = (*GRAMMAR, *INSIDE, *SERVER, *EGLOT, *DEBUG)
 
 
 def main() -> int:

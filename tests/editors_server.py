@@ -5,7 +5,7 @@ import pathlib
 import random
 import subprocess
 import time
-from typing import Callable, Iterator, Optional, Tuple
+from typing import Callable, Dict, Iterator, Optional, Tuple
 
 from editors_client import DECK, LanguageClient, command_in, in_folder, jobs
 from editors_inside import LEFT_OUT
@@ -76,7 +76,7 @@ BAD_PARAMETERS = [
 ]
 
 # How long an answer may take, in seconds of a processor, over a deck of 10,000 bytes and over one of 1 MB; a slow machine takes some times as long.
-QUICK, LONG, SLOWER = 0.05, 1.0, 3
+SIZES, SLOWER = {10_000: 0.05, 1_000_000: 1.0}, 3
 
 VIMRC = """set rtp^={root}/editors/vim
 let g:kdf9 = "{command}"
@@ -284,23 +284,26 @@ def long_deck(size: int) -> str:
     return "Y9;\nPROGRAM V3;\n" + (row + 9 * few) * rows + "1; J1; ZERO; OUT;\nFINISH;\n"
 
 
+def times_over(client: LanguageClient, size: int) -> Dict[str, float]:
+    """How many seconds of a processor each answer takes over a deck of this many bytes, of which nothing is known: the median of a few."""
+    uri, deck = f"file:///{size}.usercode", long_deck(size)
+    client.open(uri, deck)
+    client.faults(uri)
+    middle, span = deck.count("\n") // 20 * 10, {"start": {"line": 0, "character": 0}, "end": {"line": 60, "character": 0}}
+    asked = {
+        "faults": lambda: client.faults(uri), "hover": lambda: client.at("hover", uri, middle + 2, 8), "definition": lambda: client.at("definition", uri, deck.count("\n") - 2, 4),
+        "references": lambda: client.at("references", uri, middle + 2, 3, context={"includeDeclaration": True}), "completion": lambda: client.at("completion", uri, middle + 2, 2),
+        "tokens": lambda: client.ask("textDocument/semanticTokens/range", textDocument={"uri": uri}, range=span),
+        "outline": lambda: client.ask("textDocument/documentSymbol", textDocument={"uri": uri}), "form": lambda: client.ask("textDocument/formatting", textDocument={"uri": uri}),
+    }
+    return {name: sorted(busy(client, lambda: (edit(client, uri), ask())) for _ in range(3))[1] for name, ask in asked.items()}
+
+
 def answers_are_quick() -> Cases:
     """An answer over a deck of 10,000 bytes takes 50 ms of a processor, and over one of 1 MB a second; what is measured is the median of a few."""
     client = LanguageClient()
-    for size, bound in ((10_000, QUICK), (1_000_000, LONG)):
-        uri, deck = f"file:///{size}.usercode", long_deck(size)
-        client.open(uri, deck)
-        client.faults(uri)
-        middle, span = deck.count("\n") // 20 * 10, {"start": {"line": 0, "character": 0}, "end": {"line": 60, "character": 0}}
-        asked = {
-            "faults": lambda: client.faults(uri), "hover": lambda: client.at("hover", uri, middle + 2, 8), "definition": lambda: client.at("definition", uri, deck.count("\n") - 2, 4),
-            "references": lambda: client.at("references", uri, middle + 2, 3, context={"includeDeclaration": True}), "completion": lambda: client.at("completion", uri, middle + 2, 2),
-            "tokens": lambda: client.ask("textDocument/semanticTokens/range", textDocument={"uri": uri}, range=span),
-            "outline": lambda: client.ask("textDocument/documentSymbol", textDocument={"uri": uri}), "form": lambda: client.ask("textDocument/formatting", textDocument={"uri": uri}),
-        }
-        times = {name: sorted(busy(client, lambda: (edit(client, uri), ask())) for _ in range(3))[1] for name, ask in asked.items()}
-        if os.environ.get("KDF9_SHOW_TIMES"):
-            print(f"editors: a deck of {len(deck)} bytes:", ", ".join(f"{name} {1000 * seconds:.0f} ms" for name, seconds in times.items()))
+    for size, bound in SIZES.items():
+        times = times_over(client, size)
         late = {name: round(seconds, 3) for name, seconds in times.items() if seconds > SLOWER * bound}
         yield f"how long it takes over {size} bytes", f"{late}" if late else None
     client.shut_down()

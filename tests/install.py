@@ -1,4 +1,4 @@
-"""Tries what a user installs and asks first: --help and --version, the manual page, the completions, the list of changes and the package."""
+"""Tries what a user installs and asks first: --help and --version, the manual page, the completions, the list of changes, the first start and the package."""
 import re
 import shutil
 import subprocess
@@ -6,6 +6,7 @@ import sys
 from typing import Iterator, Optional, Tuple
 
 from completions import shells
+from first import SUITES as FIRST
 from packages import packages_are_made
 from toolkit import ENVIRONMENT, ROOT, document, kdf9
 
@@ -77,7 +78,7 @@ def manual_is_current() -> Cases:
     yield "the manual page", None if done.returncode == 0 and not done.stderr and not missing else f"{missing} {done.stderr}"
 
 
-SUITES = (commands_are_those_of_the_program, help_is_given, changes_are_listed, manual_is_current, shells, packages_are_made)
+SUITES = (commands_are_those_of_the_program, help_is_given, changes_are_listed, manual_is_current, shells, *FIRST, packages_are_made)
 
 
 def main() -> int:

@@ -39,7 +39,7 @@ class Checkout:
         shutil.copy(ROOT / "tools/build", self.folder / "tools")
         shutil.copytree(ROOT / "tools/building", self.folder / "tools/building")
         shutil.copytree(ROOT / "tools/kdf9", self.folder / "tools/kdf9")
-        for tool in ("about", "clean"):
+        for tool in ("about", "clean", "first"):
             shutil.copy(ROOT / "tools" / tool, self.folder / "tools")
         shutil.copy(ROOT / "CHANGELOG.md", self.folder)
         self.write("docs/PROOFS.md", "# Proofs\n\nProved with `a kit that stands in` (and so on).\n")
@@ -79,7 +79,7 @@ class Checkout:
     def begin(self, *words, variables=(), **streams):
         """A start of ./kdf9 by these words."""
         pipes = {"stdin": subprocess.DEVNULL, "stdout": subprocess.PIPE, "stderr": subprocess.PIPE, **streams}
-        variables = {"PATH": str(self.folder / "commands"), "KDF9_JOBS": "2", "KDF9_DISK": "0", **dict(variables)}
+        variables = {"PATH": str(self.folder / "commands"), "KDF9_JOBS": "2", "KDF9_DISK": "0", "KDF9_PROVED": "1", **dict(variables)}
         # Named as a program, the copy can't be started while a process that another thread begins has it open still.
         return subprocess.Popen([shutil.which("bash"), self.folder / "kdf9", *words], env=variables, text=True, **pipes)
 

@@ -2,6 +2,7 @@
 root in which only it and the system's own commands are.
 """
 import hashlib
+import os
 import pathlib
 import re
 import shutil
@@ -9,6 +10,7 @@ import subprocess
 import sys
 import tarfile
 import tempfile
+import urllib.request
 from typing import Iterator, List, Optional, Tuple
 
 from launcher import COMMANDS
@@ -26,6 +28,9 @@ INSTALLED = (
 
 # The system's own Python, which a package uses.
 PYTHON = "/usr/bin/python3"
+
+# The release of Debian whose smallest root the .deb is installed in, and the mirror, which has to answer within so many seconds.
+RELEASE, MIRROR, PATIENCE = "bookworm", "http://deb.debian.org/debian", 20
 
 # What a package of another kind of machine says.
 FOREIGN = re.compile(r"kdf9: this package is for vax, and this machine is \w+: .*\n")
@@ -77,6 +82,7 @@ def packages_are_made() -> Cases:
         debs = [it for it in made[0] if it.name.endswith(".deb")]
         if debs:
             yield from installed_runs(work, debs[0])
+            yield from clean_root_runs(work, debs[0])
             yield from lintian_finds_nothing(debs[0])
         else:
             print("install: dpkg-deb isn't on this machine, so no .deb is made and tried")
@@ -152,6 +158,43 @@ def installed_runs(work: pathlib.Path, deb: pathlib.Path) -> Cases:
     for script, due in scripts.items():
         done = run(["unshare", "-r", "-m", "bash", "-c", ENTER, "enter", str(root), modules, script], work)
         yield f"{script} where the .deb is installed", None if done == Run(0, due, "") else f"{done}"
+
+
+def clean_root_lacks() -> Optional[str]:
+    """Why no smallest root of Debian can be made here, or None."""
+    if os.geteuid() != 0:
+        return "only root may make one"
+    if not shutil.which("debootstrap", path=f"{os.environ['PATH']}:/usr/sbin"):
+        return "debootstrap isn't on this machine"
+    try:
+        with urllib.request.urlopen(f"{MIRROR}/dists/{RELEASE}/Release", timeout=PATIENCE):
+            return None
+    except OSError as why:
+        return f"{MIRROR} doesn't answer: {why}"
+
+
+def clean_root_runs(work: pathlib.Path, deb: pathlib.Path) -> Cases:
+    """The .deb is installed by dpkg in the smallest root of Debian, with the Python that it asks for; there it runs, and it goes without leaving anything."""
+    root = work / "smallest-root"
+    lacks, words = clean_root_lacks(), ["timeout", "1200", "debootstrap", "--variant=minbase", "--include=python3", RELEASE, str(root), MIRROR]
+    path = f"{os.environ['PATH']}:/usr/sbin:/sbin"
+    made = None if lacks else run(words, work, PATH=path)
+    if made and made.status:
+        lacks = f"debootstrap ended with: {(made.err or made.out).strip().splitlines()[-1:]}"
+    if lacks:
+        print(f"install: the .deb isn't installed in the smallest root of Debian: {lacks}")
+        return
+    shutil.copy(deb, root / "kdf9.deb")
+    examples = "/usr/share/doc/kdf9/examples"
+    scripts = {
+        "command -v rt; dpkg -i /kdf9.deb > /dev/null && dpkg -s kdf9 | sed -n 's/^Status: //p'": "install ok installed\n",
+        f"kdf9 run < {examples}/{FIRST}.job": example_report(FIRST), f"kdf9 explain {examples}/{FIRST}.job": example_report(FIRST), "kdf9 --version | head -1": f"kdf9 {version(deb)}\n",
+        "dpkg -r kdf9 > /dev/null && command -v kdf9; ls -d /usr/lib/kdf9 /usr/share/doc/kdf9 2> /dev/null": "",
+    }
+    for script, due in scripts.items():
+        enter = ["chroot", str(root), "/usr/bin/env", "-i", "PATH=/usr/sbin:/usr/bin:/sbin:/bin", "HOME=/root", "DEBIAN_FRONTEND=noninteractive", "bash", "-c", script]
+        done = run(enter, work, PATH=path)
+        yield f"{script} in the smallest root of Debian", None if (done.out, done.err) == (due, "") else f"{done}"
 
 
 def linked(path: pathlib.Path, root: pathlib.Path) -> bool:

@@ -239,7 +239,7 @@ def course_in_page(opened, file, course):
     """All cases of a course in the page of a file."""
     size = file.stat().st_size
     yield f"{course}: the size of the page", None if size <= MOST_BYTES else f"is {size}"
-    yield from shipped_page_is_current(file, f"course-{course}.html", f"./kdf9 page --course {course}")
+    yield from shipped_page_is_current(file, f"course-{course}.html")
     shown = Shown(opened(f"file://{file}"))
     yield from exercises_are_done_by_keys(shown, course)
     yield from work_is_kept(shown, course)

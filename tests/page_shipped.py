@@ -18,10 +18,10 @@ def unpacked(file: pathlib.Path) -> str:
     return PACKED.sub(lambda part: part[1] + gzip.decompress(base64.b64decode(part[2])).hex(), file.read_text(encoding="utf-8"))
 
 
-def shipped_page_is_current(file: pathlib.Path, name: str = "kdf9.html", made_by: str = "./kdf9 page") -> Iterator[Tuple[str, Optional[str]]]:
-    """Whether the page of this name in dist/ has what the page in this file has, which was made by a command."""
+def shipped_page_is_current(file: pathlib.Path, name: str = "kdf9.html") -> Iterator[Tuple[str, Optional[str]]]:
+    """Whether the page of this name in dist/ has what the page in this file has."""
     shipped = DIST / name
     if not shipped.is_file():
-        yield f"dist/{name}", f"is missing; {made_by} > dist/{name} makes it"
+        yield f"dist/{name}", "is missing; tools/shipped --write makes it"
     else:
-        yield f"dist/{name}", None if unpacked(shipped) == unpacked(file) else f"isn't the page that is made here; {made_by} > dist/{name} makes it"
+        yield f"dist/{name}", None if unpacked(shipped) == unpacked(file) else "isn't the page that is made here; tools/shipped --write makes it"

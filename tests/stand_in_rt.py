@@ -67,10 +67,23 @@ def prove(name, uses):
     print("logic=proved")
 
 
+def tries():
+    """Runs the source without a proof, as rt try does: it shows that, its arguments and its input. A source that is silent gives no answer."""
+    source, words = source_of(OWN).strip(), sys.argv[sys.argv.index("--") + 1:]
+    if "silent" in source:
+        print("checked: no-answer\nrun=none proved=no", file=sys.stderr)
+        sys.exit(6)
+    print(end="".join(f"<{word}>" for word in ["tried", source, *words]) + sys.stdin.read())
+    print("checked: ended status=42\nrun=ended status=42 runners=1 proved=no", file=sys.stderr)
+    sys.exit(42)
+
+
 def main():
     if sys.argv[1:] == ["version"]:
         print("a kit that stands in")
         return
+    if sys.argv[1] == "try":
+        tries()
     lines = (CRATES.parent / "crates.txt").read_text().splitlines()
     uses = {name: libraries.split() for name, _, libraries in (line.partition(":") for line in lines)}
     names = [*below(OWN, uses), OWN]

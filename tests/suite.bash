@@ -1,5 +1,7 @@
 # What the scripts of this folder share: they count the cases that passed and that failed, and end with a line that tells both.
 suite=$(basename "$0")
+# Each start waits for the program that is proved.
+export KDF9_PROVED=1
 passed=0
 failed=0
 work=$(mktemp -d) || exit 1

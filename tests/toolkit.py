@@ -9,8 +9,10 @@ from concurrent.futures import ThreadPoolExecutor
 ROOT = pathlib.Path(__file__).resolve().parent.parent
 Run = collections.namedtuple("Run", "status out err")
 
-# The tools are tried with the python3 that runs this, which keeps their compiled modules as it does for a user.
-ENVIRONMENT = {**os.environ, "PATH": os.path.dirname(sys.executable) + os.pathsep + os.environ["PATH"], "PYTHONDONTWRITEBYTECODE": ""}
+# The tools are tried with the python3 that runs this, which keeps their compiled modules as it does for a user. Each start waits for the program that is proved.
+ENVIRONMENT = {
+    **os.environ, "PATH": os.path.dirname(sys.executable) + os.pathsep + os.environ["PATH"], "PYTHONDONTWRITEBYTECODE": "", "KDF9_PROVED": "1",
+}
 
 PLAIN = "PROGRAM; 1; J1; FINISH;"
 HEAD = f"KDF9 JOB 1\nSLOT 0\nSTORE 64\nDECK\n{PLAIN}\nENDDECK\n"

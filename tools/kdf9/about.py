@@ -5,6 +5,7 @@ import shutil
 import subprocess
 from typing import Iterable, List, NamedTuple, Optional
 
+from building.first import is_building
 from building.record import read_record, sum_of
 from kdf9.commands import COMMANDS
 from kdf9.program import ROOT
@@ -23,6 +24,7 @@ KIT = re.compile(r"^Proved with `([^`]*)`", re.MULTILINE)
 OPTIONS = {
     "--help": "Lists the commands and the tools; after the name of one, it says more of that.",
     "--version": "Says the version, the commit, the kit, and whether this program was proved on this machine.",
+    "--proved": "Before a command: waits until the program is proved and built, where something else would answer first; by itself it says --version then.",
 }
 
 FIRST = f"{NAME} run < examples/adds-5-and-7.job"
@@ -99,7 +101,7 @@ def proof(program: pathlib.Path, state: State) -> str:
     if said is not None:
         return f"from a package, which proves nothing; where that was made, {f'it was {said}' if said else 'nobody wrote down where it was proved'}"
     if not state.is_there:
-        return "not built yet; the next start of a command builds it"
+        return f"not built yet; {'a build of it is going on' if is_building() else 'the next start of a command builds it'}"
     if state.newer:
         return f"older than {state.newer}; the next start of a command builds it again"
     record = read_record()

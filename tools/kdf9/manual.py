@@ -51,6 +51,7 @@ def page() -> str:
         f'.TH KDF9 1 "" "kdf9 {version()}" "User Commands"',
         ".SH NAME", f"kdf9 \\- {NAME}",
         ".SH SYNOPSIS", ".B kdf9", ".I COMMAND", "\\&..", ".br", ".B kdf9", ".I TOOL", "\\&..", ".br", ".B kdf9 \\-\\-help", "|", ".B \\-\\-version",
+        ".br", ".B kdf9 \\-\\-proved", ".I COMMAND", "\\&..",
         ".SH DESCRIPTION", "A job has up to four programs in Usercode, what they share, and a schedule. A command reads it from standard input.",
         "A tool asks the program, or reads what it wrote; JOB is a file, or \\- for standard input.",
         ".SH COMMANDS", *(line for it in commands for line in section_of(it)),

@@ -23,7 +23,7 @@ HTML = "kdf9.html"
 
 # The folders and files of the repository that a package has, and the tools that only a clone needs.
 FOLDERS, FILES = ("docs", "examples", "courses", "tables", "tools", "web", "install", "editors"), ("kdf9", "README.md", "CHANGELOG.md", "crates.txt")
-OF_A_CLONE = ("build", "build-times.txt", "editors", "kit_line", "manual", "__pycache__")
+OF_A_CLONE = ("build", "build-times.txt", "editors", "first", "kit_line", "manual", "shipped", "__pycache__")
 
 # Where the files go that a system looks for in places of its own, and where it has the rest.
 OWN, DOCUMENTS = pathlib.Path("usr/lib/kdf9"), pathlib.Path("usr/share/doc/kdf9")

@@ -37,12 +37,12 @@ TOOLS = {tool.name: tool for tool in (
         "./kdf9 explain examples/adds-to-nothing.job",
     ),
     Tool(
-        "steps", "JOB [SLOT [FROM [TO]]] [--run] [--at STATEMENT] [--watch WORD ..]",
+        "steps", "JOB [SLOT [FROM [TO]]] [--run] [--at STATEMENT] [--watch WORD ..] [--json]",
         "Writes each order of a program as it is obeyed, with its statement and what it changed; or, with --at, each time that the program comes to a statement.",
         "./kdf9 steps examples/reads-tape.job 0 2",
     ),
     Tool(
-        "listing", "JOB [SLOT]",
+        "listing", "JOB [SLOT] [--json]",
         "Writes the image of a deck next to its text, with the names of its words.",
         "./kdf9 listing examples/walks-over-a-table.job",
     ),
@@ -52,7 +52,7 @@ TOOLS = {tool.name: tool for tool in (
         "./kdf9 schedule examples/adds-cards.job --after 7 4=30",
     ),
     Tool(
-        "same", "JOB [OTHER]",
+        "same", "JOB [OTHER] [--json]",
         "Says of each program of a job whether it comes to the same alone, or in another job.",
         "./kdf9 same examples/adds-cards-while-a-tape-is-copied.job",
     ),
@@ -122,7 +122,7 @@ TOOLS = {tool.name: tool for tool in (
         "./kdf9 lib kdf9-library",
     ),
     Tool(
-        "clean", "[--show]",
+        "clean", "[--show] [--json]",
         "Gives back the disk that only makes the next proof shorter; the program and the page stay.",
         "./kdf9 clean --show",
     ),
