@@ -12,7 +12,7 @@ const STATEMENT = /\*(?:[* \n]*\*)?|[^*; \n][^;]*/g;
 export const OPENING = /^(?:PROGRAM|P(\d+))(?:V(\d+))?$/;
 
 /** The number of syllables before a syllable of a word. */
-export const placeAt = ([word, syllable]) => SYLLABLES * word + syllable;
+export const syllableNumber = ([word, syllable]) => SYLLABLES * word + syllable;
 
 /** The deck with spaces instead of its comments, so that offsets stay the same. */
 export const withoutComments = (deck) => deck.replace(COMMENT, (comment) => " ".repeat(comment.length));
@@ -59,8 +59,8 @@ export class Layout {
     this.words = words;
     this.linesBefore = statements.length ? statements[0].line - lineAndColumn(deck, statements[0].offset).line : 0; // in the job
     this.stores = facts.stores ?? storesUntold(statements);
-    this.orders = new Map(statements.filter(({ syllables }) => syllables).map(({ at, offset }) => [placeAt(at), written.get(offset)]));
-    this.first = this.orders.get(placeAt(facts.start));
+    this.orders = new Map(statements.filter(({ syllables }) => syllables).map(({ at, offset }) => [syllableNumber(at), written.get(offset)]));
+    this.first = this.orders.get(syllableNumber(facts.start));
     const parts = facts.parts ?? partsUntold(statements);
     this.targets = new Map([...parts.map(({ part, at }) => [`P${part}`, at]), ...references.map(({ part, reference, at }) => [`${reference}P${part}`, at])]);
   }
@@ -100,6 +100,6 @@ export class Layout {
 
   /** The statement of the order at a syllable of a word, or undefined where no statement wrote it. */
   statementOf(word, syllable) {
-    return this.orders.get(placeAt([word, syllable]));
+    return this.orders.get(syllableNumber([word, syllable]));
   }
 }

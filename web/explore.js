@@ -3,7 +3,7 @@
 import { button, byId, make } from "./dom.js";
 import { Asunder } from "./lone.js";
 import { typedNumber } from "./many.js";
-import { Contradiction, Exploration, Tried } from "./search.js";
+import { Contradiction, Exploration, ExploredJob } from "./search.js";
 import { Telling } from "./telling.js";
 import { OUTCOMES, worded } from "./tables.js";
 
@@ -23,7 +23,7 @@ export class Exploring {
     const { say, work, text, ask, isSound } = this.page, calls = typedNumber("explored-calls", 1, LONGEST), runs = typedNumber("explored-runs", 1, MOST_RUNS_HERE);
     if (calls === null || runs === null) return say(`A schedule can have 1 to ${LONGEST} calls here, and a search 1 to ${MOST_RUNS_HERE} runs; the tool explore goes further.`, true);
     return work("Looking for all that can come of the job.", async () => {
-      const from = text() === this.opened ? this.from : text(), tried = Tried.of(ask, from);
+      const from = text() === this.opened ? this.from : text(), tried = ExploredJob.of(ask, from);
       byId("explored").replaceChildren();
       if (!await isSound(from)) return;
       if (!tried) {

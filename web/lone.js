@@ -52,7 +52,7 @@ class Lone extends Exploration {
 }
 
 /** A schedule, and then another as if the calls began anew. */
-const behind = (first, then) => ({ calls: first.calls + then.calls, events: [...first.events, ...then.events.map(({ calls, line }) => ({ calls: calls + first.calls, line }))] });
+const inSequence = (first, then) => ({ calls: first.calls + then.calls, events: [...first.events, ...then.events.map(({ calls, line }) => ({ calls: calls + first.calls, line }))] });
 
 const NOTHING = { calls: 0, events: [] };
 
@@ -84,14 +84,14 @@ export class Asunder {
   /** Adds the results of a program, behind the shortest runs of those that have to make way for it, and whether it starves. */
   combine(found, slot) {
     const before = this.before(slot), firsts = this.lone.get(slot).found.results.get(slot);
-    if (before) for (const { what, schedule } of firsts.all.values()) found.results.get(slot).keep(what, behind(before, schedule));
+    if (before) for (const { what, schedule } of firsts.all.values()) found.results.get(slot).keep(what, inSequence(before, schedule));
     const endless = this.order.slice(0, this.order.indexOf(slot)).find((other) => this.lone.get(other).endless), start = endless !== undefined && this.before(endless);
-    if (start) found.starved.keep(slot, behind(start, this.lone.get(endless).endless));
+    if (start) found.starved.keep(slot, inSequence(start, this.lone.get(endless).endless));
   }
 
   /** The shortest beginning of a schedule that gives a program its turn; null if there is none. */
   before(slot) {
-    return this.order.slice(0, this.order.indexOf(slot)).reduce((before, other) => (before && this.lone.get(other).way ? behind(before, this.lone.get(other).way) : null), NOTHING);
+    return this.order.slice(0, this.order.indexOf(slot)).reduce((before, other) => (before && this.lone.get(other).way ? inSequence(before, this.lone.get(other).way) : null), NOTHING);
   }
 
   /** Counts the joint outcomes, which are all combinations, and lists the first of them. */
@@ -100,7 +100,7 @@ export class Asunder {
     found.jointCount = mine.reduce((product, all) => product * all.length, 1);
     found.joint = new Firsts();
     for (const combination of first(OUTCOMES.most_joint, product(mine))) {
-      const schedule = combination.reduce((before, { schedule: own }) => behind(before, own), NOTHING);
+      const schedule = combination.reduce((before, { schedule: own }) => inSequence(before, own), NOTHING);
       found.joint.keep(this.tried.slots.map((slot) => combination[this.order.indexOf(slot)].what), schedule);
     }
   }

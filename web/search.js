@@ -14,7 +14,7 @@ const { batch: IN_A_BATCH, waiting: NEARER_BY_A_WAIT } = OUTCOMES;
 export const FOR_GOOD = "WAITS";
 
 /** A job of which schedules are tried: of its own schedule, it keeps the exchanges before the first call, and the times of the clock. */
-export class Tried {
+export class ExploredJob {
   constructor(ask, job) {
     const { events } = readSchedule(job.schedule), numbers = (line) => Number(line.split(" ")[1]);
     Object.assign(this, { ask, job, slots: job.slots.map(({ number }) => Number(number)).sort((one, other) => one - other) });
@@ -26,12 +26,12 @@ export class Tried {
   /** The job of a text, or null if it has no parts. */
   static of(ask, text) {
     const job = readJob(text);
-    return job && new Tried(ask, job);
+    return job && new ExploredJob(ask, job);
   }
 
   /** The job of the program of one slot, without a pool and a schedule. */
   alone(slot) {
-    return new Tried(this.ask, { slots: this.job.slots.filter(({ number }) => Number(number) === slot), pool: null, schedule: "" });
+    return new ExploredJob(this.ask, { slots: this.job.slots.filter(({ number }) => Number(number) === slot), pool: null, schedule: "" });
   }
 
   /** The text of the job with these events in this number of calls, behind its own exchanges. */
