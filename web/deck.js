@@ -2,7 +2,6 @@
 
 import { factsFor } from "./facts.js";
 import { readJob } from "./job.js";
-import { partsUntold, storesUntold } from "./untold.js";
 
 export const SYLLABLES = 6; // in a word
 export const NOUGHT = "0".repeat(16); // a word that is zero
@@ -55,13 +54,11 @@ export async function layoutOf(ask, text, slot) {
 /** A deck next to what the machine tells of it: where its orders, parts, references and stores are. */
 export class Layout {
   constructor(deck, facts) {
-    const written = new Map(statementsOf(deck).map((statement) => [statement.start, statement])), { statements, references, words } = facts;
-    this.words = words;
+    const written = new Map(statementsOf(deck).map((statement) => [statement.start, statement])), { statements, references, parts, words, stores } = facts;
+    Object.assign(this, { words, stores });
     this.linesBefore = statements.length ? statements[0].line - lineAndColumn(deck, statements[0].offset).line : 0; // in the job
-    this.stores = facts.stores ?? storesUntold(statements);
     this.orders = new Map(statements.filter(({ syllables }) => syllables).map(({ at, offset }) => [syllableNumber(at), written.get(offset)]));
     this.first = this.orders.get(syllableNumber(facts.start));
-    const parts = facts.parts ?? partsUntold(statements);
     this.targets = new Map([...parts.map(({ part, at }) => [`P${part}`, at]), ...references.map(({ part, reference, at }) => [`${reference}P${part}`, at])]);
   }
 

@@ -2,7 +2,6 @@
 
 import { lineAndColumn, withoutComments } from "./deck.js";
 import { factsFor } from "./facts.js";
-import { hintUntold } from "./hints.js";
 import { frontOf, readJob } from "./job.js";
 import { hintOfStatement } from "./names.js";
 import { hint } from "./tables.js";
@@ -39,5 +38,5 @@ export async function faultFound(ask, words, text) {
   const fault = { ...facts, subject: subjectOf(facts), said: sentenceOf(facts) };
   const deck = facts.of === "deck" ? readJob(frontOf(text))?.slots.find(({ number }) => number === `${facts.slot}`)?.deck ?? "" : "";
   if (HINTED_HERE.includes(facts.name)) return { ...fault, hint: await hintOfStatement(ask, facts, deck) };
-  return { ...fault, hint: facts.hint === undefined ? hintUntold(facts, text, deck) : hintTold(facts, deck) };
+  return { ...fault, hint: hintTold(facts, deck) };
 }

@@ -12,14 +12,14 @@ const [[, LARGEST_STORE]] = LINES.STORE.numbers;
 const MOST_MEANT = 3;
 
 /** Whether the machine knows a statement with this text, in whatever sequence it comes and whatever stores the deck has. */
-export async function hasForm(ask, statement) {
+async function hasForm(ask, statement) {
   const job = `KDF9 JOB 1\nSLOT 0\nSTORE ${LARGEST_STORE}\nDECK\nPROGRAM;\n${statement};\nFINISH;\nENDDECK\nSCHEDULE\nENDJOB\n`;
   const { status, text } = await ask(["asm", "0"], job);
   return status === 0 || (status === 3 && !FORMLESS.includes(text.split(" ")[2]));
 }
 
 /** Whether two texts differ by one letter too many, too few or wrong, or by two neighbouring letters exchanged. */
-export function distanceIsOne(one, other) {
+function distanceIsOne(one, other) {
   if (Math.abs(one.length - other.length) > 1 || one === other) return false;
   let at = 0;
   while (at < one.length && at < other.length && one[at] === other[at]) at += 1;
@@ -51,7 +51,7 @@ async function hintOfName(ask, text) {
 }
 
 /** A place in a deck, in words. */
-export function placeIn(deck, place) {
+function placeIn(deck, place) {
   const { line, column } = lineAndColumn(deck, place);
   return `line ${line}, column ${column}`;
 }

@@ -18,9 +18,8 @@ export const FORMS = [...ORDERS.orders.flatMap(({ forms }) => Object.keys(forms)
 /** The name of the order that each form of a statement means. */
 export const ENTRIES_OF_FORMS = Object.fromEntries(ORDERS.orders.flatMap(({ name, forms }) => Object.keys(forms).map((form) => [form, name])));
 
-/** The lines of a job by the word with which each begins, and the kinds of devices by their names in a job. */
+/** The lines of a job by the word with which each begins. */
 export const LINES = Object.fromEntries(JOB.lines.map((line) => [line.word, line]));
-export const KINDS = Object.fromEntries(JOB.kinds.map((kind) => [kind.kind, kind]));
 
 /** What a picture of a run looks like, and what it says. */
 export const PICTURE = /* tables/picture.json */ null;
