@@ -13,6 +13,7 @@ sys.path.insert(0, str(ROOT / "tools"))
 from kdf9.drawing import svg  # noqa: E402
 from kdf9.spent import facts_of  # noqa: E402
 from kdf9.journal import Chart  # noqa: E402
+from kdf9.machine import sound_facts  # noqa: E402
 from kdf9.report import read_report  # noqa: E402
 
 # How many columns a picture has, whether it is the page's or the tool's.
@@ -46,9 +47,9 @@ def examples_of_runs():
                 yield path.stem, deck.read_text(encoding="latin-1"), report
 
 
-def rows_due(report):
+def rows_due(job):
     """The rows of the table that a report has to have, as the tools reckon them."""
-    facts = facts_of(report, "the report")
+    facts = facts_of(sound_facts(job))
     due = {"all calls": facts.calls, "processor: running": facts.running, "processor: finding a program held up": facts.held_up, "processor: idle": facts.idle}
     for number, device in facts.devices.items():
         due[f"device {number} {device.kind}{' (pool)' if device.is_of_pool else ''}: busy"] = device.busy
@@ -76,7 +77,7 @@ def pictures_are_those_of_the_tool(shown):
         due, seen = sorted(title.text for title in drawn.iter(f"{SVG}title")), sorted([*shown.js(TITLES), next(drawn.iter(f"{SVG}title")).text])
         yield f"the picture of {name}", None if seen == due else f"{[each for each in seen if each not in due][:3]} in place of {[each for each in due if each not in seen][:3]}"
         sums = shown.js(SUMS)
-        yield f"the table of {name}", None if sums == rows_due(read) else f"{sums} in place of {rows_due(read)}"
+        yield f"the table of {name}", None if sums == rows_due(text) else f"{sums} in place of {rows_due(text)}"
         tried += 1
     yield "pictures are tried", None if tried > 20 else f"{tried}"
 

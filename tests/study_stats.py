@@ -6,12 +6,11 @@ import random
 from typing import Iterator, Optional, Tuple
 
 import random_jobs
-from kdf9.spent import Facts, facts_of
+from kdf9.machine import sound_facts
 from kdf9.measures import as_csv, as_json, as_table, measures_of
-from kdf9.machine import machine
-from kdf9.report import read_report
+from kdf9.program import ask
+from kdf9.spent import Facts, facts_of
 from plain_counts import Counts, held_by, waited_for
-from plans.tally import Tally
 
 Case = Tuple[str, Optional[str]]
 
@@ -21,19 +20,16 @@ def cases(number: int, seed: int) -> Iterator[Case]:
     left = number
     while left:
         text = random_jobs.job(random.Random(seed))
-        answer = machine()(["run"], text)
+        answer = ask(["run"], text)
         if not answer.status:
-            yield f"stats of job {seed}", why_wrong(answer.text)
+            yield f"stats of job {seed}", why_wrong(text, answer.text)
             left -= 1
         seed += 1
 
 
-def why_wrong(report: str) -> Optional[str]:
-    """What is wrong with the facts of a report, or with how they are told; or None."""
-    read = read_report(report, "the report")
-    facts, counts = facts_of(read, "the report"), Counts(report)
-    if Tally(read.entries, read.sections).facts() != facts:
-        return f"a study counts {Tally(read.entries, read.sections).facts()} and stats {facts}"
+def why_wrong(job: str, report: str) -> Optional[str]:
+    """What is wrong with what is reckoned of a job by its report, or with how it is told; or None."""
+    facts, counts = facts_of(sound_facts(job)), Counts(report)
     return why_other(facts, counts) or why_no_sum(facts) or why_told_otherwise(facts)
 
 

@@ -1,16 +1,13 @@
 """What is taken from the text of a hand-in: its decks and perhaps its schedule. All else in it, such as stores and devices, is that of the exercise."""
-import functools
 import re
 from typing import Dict, Iterator, List, NamedTuple, Optional, Set, Tuple
 
 from courses.exercise import Exercise
 from kdf9.deck import OPENING
+from kdf9.fault import BYTE_ORDER_MARK
 from kdf9.job import HEADER
 from kdf9.statements import statements
-from kdf9.tables import table
-
-# The bytes that some editors write first, as their characters.
-BYTE_ORDER_MARK = "\xef\xbb\xbf"
+from kdf9.tables import names_of_forms
 
 NUMBER = re.compile(r"[+-]?\d+")
 
@@ -87,12 +84,6 @@ def schedule_of(lines: List[str]) -> Tuple[List[str], int]:
         raise Unfit("this job has no line SCHEDULE, and the exercise takes its schedule")
     end = next((at for at in range(starts[-1], len(lines)) if lines[at].rstrip() == "ENDJOB"), len(lines))
     return [line.rstrip() for line in lines[starts[-1] + 1:end] if line.strip()], starts[-1] + 1
-
-
-@functools.lru_cache(maxsize=None)
-def names_of_forms() -> Dict[str, str]:
-    """The name of the order that each form of a statement means, with 0 for each number."""
-    return {form: order["name"] for order in table("orders")["orders"] for form in order["forms"]}
 
 
 def name_of(statement: str) -> Optional[str]:

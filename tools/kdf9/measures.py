@@ -46,6 +46,11 @@ def measures_of(facts: Facts) -> Iterator[Measure]:
         yield from (Measure("device", number, name, value) for name, value in of_device(device, facts.calls).items())
 
 
+def by_name(facts: Facts) -> Dict[str, Value]:
+    """All measures of a run by the names that docs/STUDY.md gives them."""
+    return {said(measure.what): measure.value for measure in measures_of(facts)}
+
+
 def of_run(facts: Facts) -> Dict[str, Value]:
     """The measures of the processor."""
     over = sum(program.state != "LIVE" for program in facts.programs.values())

@@ -1,15 +1,13 @@
-"""The facts of a run: how many calls went to what. This is the only place where the tool stats reads a run.
+"""What the calls of a run went to: for the processor, for each program and for each device. All of it is reckoned from the facts of the run.
 
-All counts are of calls of the machine, but for those that say otherwise. A report doesn't tell which transfer locks out a group, so a program that is held up
-by one counts as held up until it goes on or the last transfer that it had under way has ended, as in a picture.
+All counts are of calls of the machine, but for those that say otherwise.
 """
-from typing import Dict, NamedTuple
+from collections import Counter
+from itertools import accumulate
+from typing import Any, Dict, List, NamedTuple, Optional, Tuple
 
-from kdf9.journal import RAN, READY, Chart, Held
-from kdf9.report import Report
-
-# A chart has as many columns; the counts don't depend on them.
-COLUMNS = 100
+# The facts of a run, as `kdf9.library.facts` tells them.
+Run = Dict[str, Any]
 
 
 class ProgramFacts(NamedTuple):
@@ -41,7 +39,7 @@ class DeviceFacts(NamedTuple):
 
 class Facts(NamedTuple):
     """What a run had: its calls, those at which an order was obeyed, those that found a program held up, those that found all held up, and those at which an
-    order was obeyed while a transfer went on; its programs by slot, and its devices by number.
+    order was obeyed while a transfer went on; its programs by slot, and its devices by number, without those of the pool that nobody took.
     """
 
     calls: int
@@ -53,46 +51,58 @@ class Facts(NamedTuple):
     devices: Dict[int, DeviceFacts]
 
 
-def facts_of(report: Report, name: str) -> Facts:
-    """The facts of the run of this report."""
-    chart = Chart(report, name, COLUMNS)
-    running = sum(entry[2] for entry in report.entries if entry[0] == "RAN")
-    idle = chart.idle.total()["idle"]
-    programs = {slot: of_program(chart, slot) for slot in chart.sections}
-    devices = {number: of_device(chart, number) for number in sorted(chart.devices)}
-    return Facts(chart.total, running, chart.total - running - idle, idle, overlapped(report), programs, devices)
+def facts_of(run: Run) -> Facts:
+    """What the calls of this run went to."""
+    running, held = sum(each["calls"]["running"] for each in run["calls"]), held_by_cause(run)
+    lent: Dict[int, List[int]] = {}
+    for loan in run["loans"]:
+        lent.setdefault(loan["device"], []).append(end_of(loan["given"], run) - loan["taken"])
+    programs = {each["slot"]: of_program(each, of["calls"], held[each["slot"]]) for each, of in zip(run["programs"], run["calls"])}
+    there = sorted((each["device"], each) for each in run["devices"] if each["slot"] is not None or each["device"] in lent)
+    devices = {number: of_device(each, sum(mine[f"device {number}"] for mine in held.values()), lent.get(number, [])) for number, each in there}
+    return Facts(run["made"], running, run["made"] - running - run["idle"], run["idle"], run["meanwhile"], programs, devices)
 
 
-def of_program(chart: Chart, slot: int) -> ProgramFacts:
-    """The facts of a program."""
-    total, section = chart.slot_lanes[slot].total(), chart.sections[slot]
-    held = {cause_of(reason): calls for reason, calls in total.items() if isinstance(reason, Held)}
-    return ProgramFacts(" ".join(section.state), section.orders, total[RAN], total[READY], dict(sorted(held.items())), sum(total.values()))
+def of_program(program: Dict[str, Any], calls: Dict[str, Any], held: "Counter[str]") -> ProgramFacts:
+    """What a program had, with what became of the calls for it and what held it up."""
+    state = " ".join(filter(None, (program["state"], program["failure"])))
+    turnaround = calls["running"] + calls["ready"] + sum(calls["held"].values())
+    return ProgramFacts(state, program["orders"], calls["running"], calls["ready"], dict(sorted(held.items())), turnaround)
 
 
-def cause_of(reason: Held) -> str:
-    """What holds a program up, in a word and a number or a kind."""
-    return f"{reason.what} {reason.which}"
+def of_device(device: Dict[str, Any], waited_for: int, lent: List[int]) -> DeviceFacts:
+    """What a device had, with the calls for which programs were held up by it, and those of each loan."""
+    return DeviceFacts(device["kind"], device["slot"] is None, device["transfers"], device["busy"], waited_for, len(lent), sum(lent))
 
 
-def of_device(chart: Chart, number: int) -> DeviceFacts:
-    """The facts of a device."""
-    waited_for = sum(lane.total()[Held("device", number)] for lane in chart.slot_lanes.values())
-    busy, lent = chart.device_lanes[number].total(), chart.lent_lanes.get(number)
-    return DeviceFacts(
-        chart.devices[number], number in chart.pool, chart.transfers[number], sum(busy.values()), waited_for,
-        lent.number_of_events() if lent else 0, sum(lent.total().values()) if lent else 0,
-    )
+def held_by_cause(run: Run) -> Dict[int, "Counter[str]"]:
+    """The calls for which each cause held up the program of each slot. A hold by a transfer is over with that."""
+    held: Dict[int, "Counter[str]"] = {each["slot"]: Counter() for each in run["programs"]}
+    scarce = {kind: times_without(kind, run) for kind in {hold["pool"] for hold in run["holds"] if hold["by"] == "pool"}}
+    for hold in run["holds"]:
+        by, first = hold["by"], hold["call"]
+        if by == "pool":
+            end = end_of(hold["resumed"], run)
+            calls = sum(max(0, min(end, until) - max(first, since)) for since, until in scarce[hold["pool"]])
+        else:
+            calls = end_of(run["transfers"][hold["transfer"]]["ended"], run) - first
+        held[hold["slot"]][f"{by} {hold[by]}"] += calls
+    return held
 
 
-def overlapped(report: Report) -> int:
-    """The calls at which an order was obeyed while a transfer went on."""
-    flying, calls = set(), 0
-    for kind, *numbers in report.entries:
-        if kind == "RAN" and flying:
-            calls += numbers[1]
-        elif kind == "START":
-            flying.add(numbers[1])
-        elif kind == "END":
-            flying.discard(numbers[0])
-    return calls
+def times_without(kind: str, run: Run) -> List[Tuple[int, int]]:
+    """When all devices of a kind in the pool were lent: after how many calls each of these times began and ended."""
+    devices = {each["device"] for each in run["devices"] if each["slot"] is None and each["kind"] == kind}
+    changes: "Counter[int]" = Counter()
+    for loan in run["loans"]:
+        if loan["device"] in devices:
+            changes[loan["taken"]] += 1
+            changes[end_of(loan["given"], run)] -= 1
+    times = sorted(changes)
+    lent = accumulate(changes[time] for time in times)
+    return [(since, until) for since, until, number in zip(times, times[1:], lent) if number == len(devices)]
+
+
+def end_of(calls: Optional[int], run: Run) -> int:
+    """After how many calls something was over that ended after these, or else went on to the end of the run."""
+    return run["made"] if calls is None else calls

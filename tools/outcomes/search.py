@@ -2,7 +2,7 @@
 
 By the law `cut`, one run of a schedule shows each moment up to its end, so it serves all schedules that begin as it does.
 """
-from typing import Dict, Iterator, List, Optional
+from typing import Dict, Iterator, List
 
 from kdf9.schedule import Event
 from outcomes.found import Found
