@@ -169,7 +169,7 @@ def entries_of(text):
     return read_entries(read_lines(text[:text.index("\nSLOT ") + 1])[1:], "the report")
 
 
-def lines_of_sections(text):
+def lines_by_slot(text):
     """The lines of each section of a sound report by its slot, without its first."""
     sections = {}
     for line in read_lines(text[text.index("\nSLOT ") + 1:])[:-1]:

@@ -2,7 +2,7 @@
 from typing import Dict, List, NamedTuple, Optional, Sequence, Tuple
 
 from kdf9.journal import SLOTS, exchanged
-from kdf9.report import entries_of, lines_of_sections
+from kdf9.report import entries_of, lines_by_slot
 from kdf9.schedule import Event
 
 # What a program is held up by: LOV, BUSY or WAIT, and the group, the device or the kind of a device.
@@ -109,7 +109,7 @@ class Path:
         self.begun: List[Tuple[int, int]] = []
         for entry in entries_of(report):
             self._take(*entry)
-        self.sections = {slot: tuple(lines) for slot, lines in lines_of_sections(report).items()}
+        self.sections = {slot: tuple(lines) for slot, lines in lines_by_slot(report).items()}
 
     @property
     def start(self) -> int:

@@ -1,6 +1,6 @@
-"""The run of a job whose transfers take as long as they are to take: its schedule, and its report.
+"""The run of a job whose transfers take as long as they are to take: its schedule, and the facts of the run.
 
-The journals of the machine itself say when transfers begin. A schedule that is right up to some call has a journal that is right up to there (docs/PROOFS.md,
+The machine tells when transfers begin, and how many words they have. A schedule that is right up to some call has a journal that is right up to there (docs/PROOFS.md,
 `cut`), so each run shows more of what to write than the one before. What comes after that is guessed from earlier runs; where the guess is right, one run is enough.
 """
 from typing import Any, Callable, Dict, List, NamedTuple, Sequence, Tuple
