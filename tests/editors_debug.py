@@ -34,7 +34,8 @@ NOT_LAUNCHED = [
 
 # Requests that can't be done once a job is launched.
 NOT_DONE = [
-    ("no", {}), ("stackTrace", {}), ("stackTrace", {"threadId": 9}), ("variables", {"variablesReference": "x"}), ("variables", {}), ("evaluate", {"expression": "Q"}), ("evaluate", {}),
+    ("no", {}), ("stackTrace", {}), ("stackTrace", {"threadId": 9}), ("next", {}), ("stepIn", {"threadId": 9}), ("stepBack", {"threadId": 0}), ("pause", {}),
+    ("variables", {"variablesReference": "x"}), ("variables", {}), ("evaluate", {"expression": "Q"}), ("evaluate", {}),
     ("setDataBreakpoints", {"breakpoints": [{"dataId": "x"}]}), ("setBreakpoints", {"breakpoints": [{}]}), ("scopes", {"frameId": None}),
 ]
 

@@ -10,12 +10,11 @@ from slips import job
 from toolkit import ROOT, kdf9
 
 sys.path.insert(0, str(ROOT / "tools"))
-from kdf9 import library  # noqa: E402
 from kdf9.drawing import svg  # noqa: E402
 from kdf9.measures import HELD_BY, of_device, of_program, of_run  # noqa: E402
-from kdf9.program import ENCODING  # noqa: E402
 from kdf9.spent import facts_of  # noqa: E402
 from kdf9.journal import Chart  # noqa: E402
+from kdf9.machine import sound_facts  # noqa: E402
 from kdf9.report import read_report  # noqa: E402
 
 # How many columns a picture has, whether it is the page's or the tool's.
@@ -57,7 +56,7 @@ def examples_of_runs():
 
 def rows_due(text):
     """The rows of the table that a job has to have, as the tool stats reckons them."""
-    facts = facts_of(library.facts(text.encode(ENCODING)))
+    facts = facts_of(sound_facts(text))
     run, due = of_run(facts), {}
     rows = {"calls": "all calls", "throughput": "programs that ended or failed, for each 1,000 calls", **{
         name: f"processor: {said}" for name, said in (("running", "running"), ("overlapped", "running during a transfer"), ("held up", "finding a program held up"), ("idle", "idle"))}}

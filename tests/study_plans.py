@@ -16,10 +16,12 @@ import random_jobs
 import small_jobs
 from kdf9.delays import Delays, Transfer, speeds_of_kinds
 from kdf9.job import join_lines, kinds_of, read_lines, read_pool, read_slots
-from kdf9.machine import answer_to
-from kdf9.program import BadInput, ask
-from kdf9.report import read_report
+from kdf9.machine import sound_facts
+from kdf9.program import BadInput, answer_to, ask
+from kdf9.records import line_of_entry
+from kdf9.report import read_report, sections_of
 from kdf9.schedule import read_schedule, start_of
+from kdf9.spent import facts_of
 from plans import workload
 from plans.plan import Plan, Run, Source
 from plans.variant import Variants
@@ -117,8 +119,10 @@ def why_wrong(text: str, values: dict) -> Optional[str]:
     for run, more in ((1, {}), (2, {"schedule": read_schedule(lines).calls or 1}), (1, {})):
         settled = variants.settled(Run(run, {**values, **more}))
         report = answer_to(["run"], settled.job)
-        if read_lines(report) != settled.report:
-            return f"run {run} has another report than its job:\n{settled.job}"
+        if [line_of_entry(each) for each in settled.run["entries"]] != read_lines(report)[1:1 + len(settled.run["entries"])]:
+            return f"run {run} has another journal than its job:\n{settled.job}"
+        if facts_of(settled.run) != facts_of(sound_facts(settled.job)):
+            return f"run {run} has other counts than its job:\n{settled.job}"
         wrong = due.setdefault(run, settled.job) != settled.job or wrong_ends(settled.job, report, values)
         if wrong:
             return f"{wrong} in run {run} of\n{settled.job}"
@@ -236,7 +240,7 @@ def workloads_are_made() -> Iterator[Case]:
     for computing in (10, 90):
         text = join_lines(workload.lines_of({"seed": 5, "degree": 1, "kinds": "TR TP CR LP MT", "shared": "TP LP", "computing": computing}))
         settled = Variants(Source(read_lines(text), False, {}, {})).settled(Run(1, {"after": 10}))
-        section = read_report("\n".join(settled.report) + "\n", "the report").sections[0]
+        section = sections_of(answer_to(["run"], settled.job))[0]
         orders[computing] = section.orders if section.state == ["ENDED"] else 0
     yield "more computing", None if 0 < orders[10] < orders[90] else f"{orders}"
 

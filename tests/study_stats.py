@@ -7,14 +7,11 @@ from collections import Counter
 from typing import Iterator, Optional, Tuple
 
 import random_jobs
-from kdf9 import library
-from kdf9.program import ENCODING
-from kdf9.spent import Facts, facts_of
+from kdf9.machine import sound_facts
 from kdf9.measures import as_csv, as_json, as_table, measures_of
-from kdf9.machine import machine
-from kdf9.report import read_report
+from kdf9.program import ask
+from kdf9.spent import Facts, facts_of
 from plain_counts import Counts, held_by, waited_for
-from plans.tally import Tally
 
 Case = Tuple[str, Optional[str]]
 
@@ -24,7 +21,7 @@ def cases(number: int, seed: int) -> Iterator[Case]:
     left = number
     while left:
         text = random_jobs.job(random.Random(seed))
-        answer = machine()(["run"], text)
+        answer = ask(["run"], text)
         if not answer.status:
             yield f"stats of job {seed}", why_wrong(text, answer.text)
             left -= 1
@@ -33,13 +30,8 @@ def cases(number: int, seed: int) -> Iterator[Case]:
 
 def why_wrong(text: str, report: str) -> Optional[str]:
     """What is wrong with the facts of a job and its report, or with how they are told; or None."""
-    told = library.facts(text.encode(ENCODING))
-    read = read_report(report, "the report")
+    told = sound_facts(text)
     facts, counts = facts_of(told), Counts(report)
-    tally = Tally(read.entries, read.sections).facts()
-    journaled = facts._replace(devices={number: device._replace(words=None) for number, device in facts.devices.items()})
-    if tally != journaled:
-        return f"a study counts {tally} and stats {journaled}"
     return why_other(facts, counts) or why_no_sum(facts) or why_untold(facts, told) or why_told_otherwise(facts)
 
 

@@ -55,10 +55,11 @@ class Due(NamedTuple):
 
 
 class Seen(NamedTuple):
-    """What was seen of a run: its report; the addresses of words by slot and name; the number of results of each slot and of deadlocks, if every schedule was
+    """What was seen of a run: its job and its report; the addresses of words by slot and name; the number of results of each slot and of deadlocks, if every schedule was
     searched. With `names` an address is None where the deck has no such word.
     """
 
+    job: str
     report: str
     names: Dict[Tuple[int, str], Optional[int]]
     results: Optional[Dict[int, int]] = None
@@ -301,7 +302,7 @@ def missed_deadlock(due: Due, seen: Seen, slot: int):
 
 def missed_measure(due: Due, seen: Seen, slot: int):
     """Compares a measure."""
-    value = machine.measures(seen.report).get(due.subject, 0)
+    value = machine.measures_of(seen.job).get(due.subject, 0)
     if isinstance(value, (int, float)) and COMPARISONS[due.compare](value, due.value):
         return None
     return said_of(due, CAME[due.kind], came=value), written_of_measure(due)

@@ -52,7 +52,7 @@ class Wrong(NamedTuple):
 
 
 class Exercise(NamedTuple):
-    """An exercise: its file, number, name and title; the part that students get; the lines of its starting job, and the line before them; its rules, cases and
+    """An exercise: its file, number, name and title; the part that students get; the lines of its starting job; its rules, cases and
     hints; its solution, the line where that begins, what is said of it; the wrong solutions; and the SHA-256 of the word that opens the solution in a page, if
     there is one. What was handed out has no solution.
     """
@@ -63,7 +63,6 @@ class Exercise(NamedTuple):
     title: str
     sheet: str
     job: Tuple[str, ...]
-    job_line: int
     rules: Rules
     cases: Tuple[Case, ...]
     hints: Tuple[str, ...]

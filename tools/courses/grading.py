@@ -7,6 +7,7 @@ from courses.exercise import Exercise
 from courses.handins import Student
 from courses.marking import Prints, Verdict
 from kdf9.command import slip
+from kdf9.machine import processors
 
 # How many processes share the work at most.
 MOST_PROCESSES = 2
@@ -61,7 +62,7 @@ def of_exercise(exercise: Exercise, handed: Dict[int, handins.HandIn], prints: P
 
 def table(exercises: Sequence[Exercise], students: Sequence[Student]) -> List[Row]:
     """The rows of a class, in the order of its students."""
-    number = machine.processors(MOST_PROCESSES)
+    number = min(processors(), MOST_PROCESSES)
     context = multiprocessing.get_context("fork")
     with context.Pool(number, begin, (exercises, [])) as workers:
         prints = workers.map(prints_of, exercises, 1)

@@ -1,20 +1,17 @@
 """What courses and quizzes ask of the machine: the only place of theirs that starts it. If the library is made, it answers in this process."""
 import contextlib
 import functools
-import importlib.machinery
-import importlib.util
 import io
-import os
 import tempfile
 from argparse import Namespace
-from types import ModuleType
 from typing import Dict, List, Tuple
 
-from kdf9 import library, program
-from kdf9.spent import facts_of
+from kdf9 import library, measures, program, told
+from kdf9.entries import module_of
 from kdf9.job import lone_job, Slot
-from kdf9.measures import measures_of, said
-from kdf9.report import Section, read_report, read_section
+from kdf9.machine import sound_facts
+from kdf9.report import Section, read_section
+from kdf9.spent import facts_of
 from kdf9.tables import lines, table
 from outcomes import runs
 
@@ -40,13 +37,8 @@ def ask(words: List[str], job: str) -> program.Answer:
     return program.ask(words, job)
 
 
-@functools.lru_cache(maxsize=None)
-def tool(name: str) -> ModuleType:
-    """The tool of this name as a module."""
-    loader = importlib.machinery.SourceFileLoader(f"tool_{name}", str(program.ROOT / "tools" / name))
-    module = importlib.util.module_from_spec(importlib.util.spec_from_loader(loader.name, loader))
-    loader.exec_module(module)
-    return module
+# The tool of a name as a module.
+tool = functools.lru_cache(maxsize=None)(module_of)
 
 
 def explained(job: str) -> List[str]:
@@ -63,17 +55,16 @@ def explained(job: str) -> List[str]:
 @functools.lru_cache(maxsize=None)
 def word_of(constant: str) -> int:
     """The word that a constant of Usercode is; ValueError where it is none."""
-    answer = ask(["asm", "0"], lone_job(Slot(0, LARGEST_STORE, 5, f"PROGRAM V0;\nV0 = {constant};\nFINISH;\n", []), 0))
-    words = [line for line in answer.text.split("\n") if line.startswith("WORD 1 ")]
-    if answer.status or not words or ";" in constant:
+    listing = told.listing_in(lone_job(Slot(0, LARGEST_STORE, 5, f"PROGRAM V0;\nV0 = {constant};\nFINISH;\n", []), 0), 0)
+    if told.is_fault(listing) or ";" in constant:
         raise ValueError(constant)
-    return int(words[0].split(" ")[2], 8)
+    return int(listing.words[1], 8)
 
 
 @functools.lru_cache(maxsize=4)
-def measures(text: str) -> Dict[str, object]:
-    """The measures of the run of a report, by the names that docs/STUDY.md gives them."""
-    return {said(measure.what): measure.value for measure in measures_of(facts_of(read_report(text, "the report"), "the report"))}
+def measures_of(job: str) -> Dict[str, object]:
+    """The measures of the run of a job, by the names that docs/STUDY.md gives them."""
+    return measures.by_name(facts_of(sound_facts(job)))
 
 
 @functools.lru_cache(maxsize=16)
@@ -85,11 +76,6 @@ def section(text: str, slot: int) -> Section:
 def sections(text: str) -> List[Section]:
     """The sections of a report, of which nothing else is read."""
     return [section(text, slot) for slot in range(MOST_SLOTS) if f"\nSLOT {slot}\n" in text]
-
-
-def processors(most: int) -> int:
-    """How many processes share the work: as many as there are processors, up to some number."""
-    return max(1, min(most, len(os.sched_getaffinity(0)) if hasattr(os, "sched_getaffinity") else os.cpu_count() or 1))
 
 
 def parts_of_line(line: str) -> Tuple[int, int, str]:

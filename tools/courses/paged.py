@@ -213,7 +213,7 @@ def came_in(exercise: Exercise, own: Taken, run: Planned, names: Names) -> list:
     answer = machine.ask(["run"], job)
     if answer.status:
         raise Fault(answer.text, job)
-    seen, came = Seen(answer.text, addresses), []
+    seen, came = Seen(job, answer.text, addresses), []
     for due in (run.case.dues[at] for at in run.dues):
         is_right = dues.missed(due, seen, slot) is None
         came.append(None if is_right else True if due.kind in COUNTED else texts_of(due, seen, slot_of(exercise, due)))

@@ -166,7 +166,7 @@ def of_plan(exercise: Exercise, taken: Taken, case: Case, plan: Plan, names: Add
     answer = machine.ask(["run"], job)
     if answer.status:
         raise Fault(answer.text, job)
-    came, first = judged(exercise, case.dues, Seen(answer.text, names), plan)
+    came, first = judged(exercise, case.dues, Seen(job, answer.text, names), plan)
     if first and first.stopped is not None and not plan.is_measured:
         job = shorter(exercise, taken, case, first.stopped) or job
     return came, Missed(case.name, plan.text, *first[:2], job, first.stopped) if first else None
@@ -230,13 +230,13 @@ def of_every(exercise: Exercise, case: Case, plan: Plan, names: Addresses, job: 
     came: List[str] = []
     first: Optional[Missed] = None
     for dues, witness, words in looked_at(exercise, case, plan, searched, found):
-        text = machine.ask(["run"], searched.text(witness.events, witness.calls)).text
-        seen = Seen(text, names, {slot: len(mine) for slot, mine in found.results.items()}, len(found.deadlocks))
+        text = searched.text(witness.events, witness.calls)
+        seen = Seen(text, machine.ask(["run"], text).text, names, {slot: len(mine) for slot, mine in found.results.items()}, len(found.deadlocks))
         told, miss = judged(exercise, dues, seen, plan)
         came += told
         if miss and first is None:
             miss = miss._replace(came=words) if words else miss
-            first = Missed(case.name, f"some schedule{said_of_events(witness)}", *miss[:2], searched.text(witness.events, witness.calls), miss.stopped)
+            first = Missed(case.name, f"some schedule{said_of_events(witness)}", *miss[:2], text, miss.stopped)
     return came, first
 
 

@@ -3,11 +3,11 @@ import functools
 import re
 from typing import List, NamedTuple, Optional, Sequence, Tuple
 
-from courses import machine
 from kdf9 import tables
 from kdf9.delays import MOST_CALLS, Delays, Speed, speeds_of_kinds
-from kdf9.job import join_lines, read_lines, read_slots
-from kdf9.schedule import Event, Schedule, lines_of_schedule
+from kdf9.job import join_lines, kinds_of_devices, read_lines, read_slots
+from kdf9.schedule import Event, Schedule, lines_of_schedule, merged, rounds
+from plans.settle import Search, loaded
 
 # The kinds of schedules.
 OWN, AFTER, SPEED, SPEEDS, ROUNDS, SEED, EVERY = "own", "after", "speed", "speeds", "rounds", "seed", "every"
@@ -58,12 +58,11 @@ def plan_of(text: str) -> Optional[Plan]:
 def text_under(plan: Plan, job: str, calls: int, events: Tuple[Tuple[int, str], ...]) -> str:
     """The lines, as one text, of the schedule that a plan gives a job, whose own schedule has these calls and events; of a plan other than own and every."""
     slots = read_slots(read_lines(job))
-    kinds = {number: kind for slot in slots.values() for number, kind in {**slot.kinds(), **slot.pool_kinds()}.items()}
+    kinds = kinds_of_devices(slots)
     if plan.kind in (ROUNDS, SEED):
         return text_by_number(plan, tuple(sorted(kinds)), tuple(sorted(slots)), calls, events)
     schedule = Schedule(calls, [Event(at, line) for at, line in events if at < calls])
-    tool = machine.tool("schedule")
-    return join_lines(lines_of_schedule(tool.Search("the job", tool.loaded(slots), schedule, delays(plan, kinds), tool.run_of).found()))
+    return join_lines(lines_of_schedule(Search("the job", loaded(slots), schedule, delays(plan, kinds)).found()))
 
 
 @functools.lru_cache(maxsize=256)
@@ -82,16 +81,6 @@ def delays(plan: Plan, kinds: dict) -> Delays:
         return Delays(0, None, {}, speeds_of_kinds(plan.text.split(" ")[1], kinds))
     speeds = [re.fullmatch(r"(\d+)=(\d+)\+(\d+)", word) for word in plan.text.split(" ")[1:]]
     return Delays(tables.table("job")["usual_delay"], None, {}, {int(each[1]): Speed(int(each[2]), int(each[3])) for each in speeds if each})
-
-
-def rounds(length: int, devices: Sequence[int], start: int, calls: int) -> List[Event]:
-    """The ends of the transfers of all devices after each so many calls."""
-    return [Event(at, f"END {device}") for at in range(start + length, calls, length) for device in devices]
-
-
-def merged(schedule: Schedule, events: Sequence[Event]) -> Schedule:
-    """A schedule with more events."""
-    return Schedule(schedule.calls, sorted([*schedule.events, *events], key=lambda event: event.calls))
 
 
 class Chance:

@@ -4,17 +4,16 @@ import os
 import re
 from bisect import bisect_left, bisect_right
 from concurrent.futures import ThreadPoolExecutor
-from typing import Dict, Iterable, Iterator, List, NamedTuple, Optional, Set, Tuple
+from typing import Dict, Iterator, List, NamedTuple, Optional, Set, Tuple
 
 from editing.facts import facts_of
 from editing.image import Image
 from editing.naming import Names
-from kdf9 import library
 from kdf9.deck import WORD
 from kdf9.job import read_lines, read_slots
-from kdf9.journal import calls_of
-from kdf9.program import ENCODING, BadInput, how_ended
-from kdf9.report import HEADER, Section, read_report
+from kdf9.machine import sound_facts
+from kdf9.program import BadInput, answer_to
+from kdf9.report import Section, sections_of
 from kdf9.schedule import cut_before_next, job_with, read_schedule
 from kdf9.words import whole
 
@@ -109,23 +108,15 @@ class Program:
         return self.stretches[at].calls + order - self.stretches[at].orders
 
 
-def timed(entries: Iterable[tuple]) -> Iterator[Tuple[int, tuple]]:
-    """Each entry of a journal with the number of calls before it. An entry of an order that was counted just before has that order's call."""
-    calls = 0
-    for entry in entries:
-        yield calls, entry
-        calls += calls_of(entry)
-
-
 class History:
-    """The run of a job."""
+    """The run of a job. `entries` is its journal, as the machine tells it, and `calls` is how many calls there were."""
 
     def __init__(self, source: str, text: str) -> None:
         self.lines = read_lines(text)
         self._refuse(source, facts_of(text, 0))
         self._slots, self._schedule = read_slots(self.lines), read_schedule(self.lines)
-        self.entries = list(timed(read_report(self._answer(["run"], text), "the report").entries))
-        self.calls = sum(calls_of(entry) for _, entry in self.entries)
+        run = sound_facts(text)
+        self.entries, self.calls = run["entries"], run["made"]
         self.programs = {number: Program(slot, facts_of(text, number), list(self._stretches(number))) for number, slot in self._slots.items()}
         self._text = text
         self.sections = functools.lru_cache(maxsize=KEPT)(self._sections)
@@ -141,22 +132,14 @@ class History:
     def _stretches(self, slot: int) -> Iterator[Stretch]:
         """The rows of orders of the program of a slot."""
         orders = 0
-        for calls, entry in self.entries:
-            if entry[0] == "RAN" and entry[1] == slot:
-                yield Stretch(calls, orders, entry[2])
-                orders += entry[2]
-
-    @staticmethod
-    def _answer(words: List[str], text: str) -> str:
-        answer = library.answer_to(words, text.encode(ENCODING))
-        if answer.status:
-            raise BadInput(answer.text.strip() or how_ended(answer))
-        return answer.text
+        for entry in self.entries:
+            if entry["entry"] == "RAN" and entry["slot"] == slot:
+                yield Stretch(entry["call"], orders, entry["orders"])
+                orders += entry["orders"]
 
     def _sections(self, calls: int) -> Dict[int, Section]:
         """What the run is like after this number of calls, and after the events before the next: the section of each slot."""
-        text = job_with(self._slots, cut_before_next(self._schedule, calls), list(self._slots))
-        return read_report(self._answer(["run"], text), "the report").sections
+        return sections_of(answer_to(["run"], job_with(self._slots, cut_before_next(self._schedule, calls), list(self._slots))))
 
     def place(self, slot: int, calls: int) -> Place:
         """The next order of a slot's program after this number of calls."""
@@ -164,10 +147,8 @@ class History:
 
     def _arrivals(self, slot: int, word: int) -> List[int]:
         """The calls after which the next order of a slot's program is at the beginning of this word."""
-        text = self._answer(["watch", str(slot), str(word)], self._text)
-        end = text.index(f"\n{HEADER}\n")
-        orders = [int(line[len("STOP "):]) for line in text[:end].split("\n")[1:]]
-        found = [self.programs[slot].call_of(order) for order in orders]
+        stops = sound_facts(self._text, "watch", str(slot), str(word))["stops"]
+        found = [self.programs[slot].call_of(order) for order in stops]
         return ([0] if word == 0 else []) + [call for call in found if call]
 
     def arrivals_at(self, slot: int, place: int) -> Optional[List[int]]:
@@ -183,7 +164,7 @@ class History:
 
     def failures(self) -> List[Tuple[int, int, str]]:
         """The calls with which programs failed, each with the slot and the kind."""
-        return [(calls, entry[1], entry[2]) for calls, entry in self.entries if entry[0] == "FAIL"]
+        return [(entry["call"], entry["slot"], entry["kind"]) for entry in self.entries if entry["entry"] == "FAIL"]
 
     def states(self, calls: range) -> Iterator[Tuple[int, Dict[int, Section]]]:
         """What the run is like after each of these calls; some are asked for at once."""

@@ -7,10 +7,9 @@ from kdf9.changes import number_of
 from kdf9.deck import CONSTANT
 from kdf9.program import ROOT
 from kdf9.statements import Statement
-from kdf9.tables import table
+from kdf9.tables import names_of_forms, table
 from kdf9.words import whole
 
-from editing.grammar import HEADING
 from editing.image import Image, image_of, names_of
 from editing.naming import PART, REFERENCE, V_STORE, Names, Symbol, Use, class_of, form_of
 from editing.texts import Deck, Text
@@ -18,9 +17,6 @@ from editing.texts import Deck, Text
 # A Q-store that a statement names, and a number of SET or of a shift.
 Q_STORE = re.compile(r"[QCIM](\d+)")
 SET_NUMBER = re.compile(r"SET(?:B([0-7]+)|([-+]?\d+))\Z")
-
-# The section of docs/USERCODE.md on each class of statements that isn't in docs/ORDERS.md.
-SECTIONS = {REFERENCE: "References and jumps", HEADING: "The sequence of a deck", "constant": "Constants"}
 
 
 def document(name: str) -> str:
@@ -32,12 +28,6 @@ def document(name: str) -> str:
 def orders() -> Dict[str, str]:
     """The entries of docs/ORDERS.md by their names, as they are written there."""
     return dict(re.findall(r"^### `(\S+)`\n\n(.*?)\n*(?=^### |\Z)", document("ORDERS.md"), re.MULTILINE | re.DOTALL))
-
-
-@functools.lru_cache(maxsize=1)
-def orders_of_forms() -> Dict[str, str]:
-    """The name of the order that each form of a statement is."""
-    return {form: order["name"] for order in table("orders")["orders"] for form in order["forms"]}
 
 
 @functools.lru_cache(maxsize=1)
@@ -110,7 +100,7 @@ def said_of_form(text: str, part: Optional[int]) -> str:
     """What the documents say of the form of a statement."""
     if CONSTANT.match(text):
         return section("Constants")
-    name = orders_of_forms().get(form_of(text))
+    name = names_of_forms().get(form_of(text))
     if part is None or name is None:
         does = statements_of_forms().get(form_of(text))
         return f"{does} (`docs/USERCODE.md`)" if does else ""

@@ -2,6 +2,7 @@
 import importlib.machinery
 import importlib.util
 from argparse import Action
+from types import ModuleType
 from typing import List, NamedTuple
 
 from kdf9.command import Parser
@@ -33,13 +34,18 @@ class Entry(NamedTuple):
     options: List[Described]
 
 
-def parser_of(name: str) -> Parser:
-    """The arguments of the tool of this name, as the tool itself adds them."""
+def module_of(name: str) -> ModuleType:
+    """The tool of this name as a module."""
     loader = importlib.machinery.SourceFileLoader(f"tool_{name}", str(ROOT / "tools" / name))
     module = importlib.util.module_from_spec(importlib.util.spec_from_loader(loader.name, loader))
     loader.exec_module(module)
+    return module
+
+
+def parser_of(name: str) -> Parser:
+    """The arguments of the tool of this name, as the tool itself adds them."""
     parser = Parser(name)
-    module.arguments(parser)
+    module_of(name).arguments(parser)
     return parser
 
 

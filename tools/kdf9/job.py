@@ -47,6 +47,11 @@ def kinds_of(lines):
     return {int(number): kind for _, number, kind, *_ in words}
 
 
+def kinds_of_devices(slots):
+    """The kinds of all devices of some slots by their numbers, those of the pool too."""
+    return {number: kind for slot in slots.values() for number, kind in {**slot.kinds(), **slot.pool_kinds()}.items()}
+
+
 def read_lines(text):
     """The lines of a job. After the last newline there is another line only if it isn't empty."""
     lines = text.split("\n")

@@ -9,7 +9,7 @@ import os
 import signal
 from typing import Any, Callable, Dict, Optional, Sequence, Union
 
-from kdf9.program import ENCODING, Answer, BadInput, ask, how_ended
+from kdf9.program import ENCODING, Answer, BadInput, how_ended, started
 
 # The version of the calls that this module makes, the calls, and the status of a text that the room is too small for, and of want of memory.
 VERSION = 1
@@ -109,7 +109,7 @@ def machine() -> Callable[[Sequence[str], bytes], Answer]:
     try:
         return loaded(library_file())
     except NoLibrary:
-        return lambda words, job: ask(list(words), job.decode(ENCODING))
+        return lambda words, job: started(list(words), job.decode(ENCODING))
 
 
 @functools.lru_cache(maxsize=None)

@@ -1,21 +1,21 @@
-"""The machine for tools that run many jobs: the library within this process, where it is made, or else the program. What comes of a job is the same."""
-import functools
+"""What the machine tells tools that run jobs of their own: the facts of a job without a fault, as they are in the JSON."""
 import os
-from typing import Callable, Sequence
+from typing import Any, Dict
 
 from kdf9 import library
-from kdf9.program import ENCODING, Answer, ask, text_without_fault
+from kdf9.program import ENCODING, TOO_LARGE, BadInput
 
 
-@functools.lru_cache(maxsize=None)
-def machine() -> Callable[[Sequence[str], str], Answer]:
-    """What answers. A program that the variable KDF9 names goes before the library that `./kdf9 lib` keeps, and one that KDF9_LIBRARY names before that."""
-    if os.environ.get("KDF9") and not os.environ.get("KDF9_LIBRARY"):
-        return lambda words, job: ask(list(words), job)
-    answer = library.machine()
-    return lambda words, job: answer(words, job.encode(ENCODING))
+def sound_facts(job: str, *words: str) -> Dict[str, Any]:
+    """The facts that the words of a command, or else `run`, ask for over a job in which the machine finds no fault, as the JSON has them; BadInput says what it
+    found otherwise.
+    """
+    told = library.facts(job.encode(ENCODING), words or ("run",))
+    if told["kind"] == "fault":
+        raise BadInput(TOO_LARGE.format(told["limit"]) if told["of"] == "text" else f"line {told['line']} of the job: {told['sentence']}")
+    return told
 
 
-def answer_to(words: Sequence[str], job: str) -> str:
-    """The text that the machine answers to a job in which it found no fault; BadInput says how it ended otherwise."""
-    return text_without_fault(machine()(words, job))
+def processors() -> int:
+    """How many processors this process may use."""
+    return len(os.sched_getaffinity(0)) if hasattr(os, "sched_getaffinity") else os.cpu_count() or 1

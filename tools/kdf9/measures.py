@@ -47,6 +47,11 @@ def measures_of(facts: Facts) -> Iterator[Measure]:
         yield from (Measure("device", number, name, value) for name, value in of_device(device, facts.calls).items())
 
 
+def by_name(facts: Facts) -> Dict[str, Value]:
+    """All measures of a run by the names that docs/STUDY.md gives them."""
+    return {said(measure.what): measure.value for measure in measures_of(facts)}
+
+
 def of_run(facts: Facts) -> Dict[str, Value]:
     """The measures of the processor."""
     over = sum(program.state != "LIVE" for program in facts.programs.values())
@@ -69,9 +74,8 @@ def of_program(program: ProgramFacts) -> Dict[str, Value]:
 def of_device(device: DeviceFacts, calls: int) -> Dict[str, Value]:
     """The measures of a device."""
     lent = {"times lent": device.times_lent, "lent": device.lent} if device.is_of_pool else {}
-    words = {} if device.words is None else {"words": device.words}
     return {
-        "kind": device.kind, "transfers": device.transfers, **words, "busy": device.busy, "share busy": share(device.busy, calls), "waited for": device.waited_for, **lent,
+        "kind": device.kind, "transfers": device.transfers, "words": device.words, "busy": device.busy, "share busy": share(device.busy, calls), "waited for": device.waited_for, **lent,
     }
 
 

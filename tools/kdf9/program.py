@@ -10,8 +10,8 @@ ROOT = pathlib.Path(__file__).resolve().parents[2]
 # A text has one character for each of its bytes, so that offsets in it are those that the program reports.
 ENCODING = "latin-1"
 
-# The status with which the program refuses a text for its length.
-LARGE = 4
+# The status with which the program refuses a text for its length, and what is said of one that a tool made.
+LARGE, TOO_LARGE = 4, "with what this tool adds to it, the job has more than {} bytes"
 
 
 class BadInput(Exception):
@@ -35,7 +35,18 @@ def read_text(name):
 
 
 def ask(words, job):
-    """What the program answers to these arguments and this job. It is the program that the variable KDF9 names, or the one of this folder."""
+    """What the machine answers to these words and this job. It is the program that the variable KDF9 names, if KDF9_LIBRARY names no library; or else the library
+    within this process, where it is made; or else the program of this folder. What comes of a job is the same.
+    """
+    if os.environ.get("KDF9") and not os.environ.get("KDF9_LIBRARY"):
+        return started(words, job)
+    from kdf9 import library  # pylint: disable=import-outside-toplevel
+
+    return library.machine()(words, job.encode(ENCODING))
+
+
+def started(words, job):
+    """What the program answers that the variable KDF9 names, or the one of this folder. It is started."""
     name = os.environ.get("KDF9") or str(ROOT / "kdf9")
     try:
         done = subprocess.run([name, *words], input=job.encode(ENCODING), stdout=subprocess.PIPE, check=False)
@@ -45,14 +56,14 @@ def ask(words, job):
 
 
 def answer_to(words, job):
-    """The text that the program answers to a job in which it found no fault."""
+    """The text that the machine answers to a job in which it found no fault."""
     return text_without_fault(ask(words, job))
 
 
 def text_without_fault(answer):
     """The text of an answer to a job in which no fault was found."""
     if answer.status == LARGE:
-        raise BadInput(f"with what this tool adds to it, the job has more than {answer.text.split()[1]} bytes")
+        raise BadInput(TOO_LARGE.format(answer.text.split()[1]))
     if answer.status:
         raise BadInput(f"{how_ended(answer)}: {answer.text.strip()}" if answer.text else how_ended(answer))
     return answer.text

@@ -164,6 +164,27 @@ def read_section(text, number):
     return read_sections(read_lines(section), 0, "the report")[number]
 
 
+def entries_of(text):
+    """The entries of the journal of a sound report, of which nothing else is read."""
+    return read_entries(read_lines(text[:text.index("\nSLOT ") + 1])[1:], "the report")
+
+
+def lines_by_slot(text):
+    """The lines of each section of a sound report by its slot, without its first."""
+    sections = {}
+    for line in read_lines(text[text.index("\nSLOT ") + 1:])[:-1]:
+        if line.startswith("SLOT "):
+            lines = sections[int(line[5:])] = []
+        else:
+            lines.append(line)
+    return sections
+
+
+def sections_of(text):
+    """The sections of a sound report by slot, of which nothing else is read."""
+    return read_sections(read_lines(text[text.index("\nSLOT ") + 1:]), 0, "the report")
+
+
 def read(text, name, headers):
     """The report, or a text of its form, which begins with one of these lines."""
     lines = read_lines(text)

@@ -23,9 +23,9 @@ class Run:
         """The facts of the whole run."""
         return told.told_in(join_lines(self.lines), "run")
 
-    def text(self, schedule: Schedule, shown: Iterable[int] = (), words: Iterable[str] = ("run",)) -> str:
-        """What a command writes of the run by this schedule, with the whole stores of the slots that are shown."""
-        return answer_to(list(words), job_with(self.slots, schedule, shown))
+    def text(self, schedule: Schedule, shown: Iterable[int] = ()) -> str:
+        """The report of the run by this schedule, with the whole stores of the slots that are shown."""
+        return answer_to(["run"], job_with(self.slots, schedule, shown))
 
     def after(self, number: int, calls: int, shown: bool = True) -> Section:
         """The section of a slot after this number of calls, with its whole store or without."""

@@ -60,6 +60,16 @@ def cut_before_next(schedule, calls):
     return Schedule(calls, [event for event in schedule.events if event.calls <= calls])
 
 
+def merged(schedule, events):
+    """A schedule with more events. At the same moment its own come first."""
+    return Schedule(schedule.calls, sorted([*schedule.events, *events], key=lambda event: event.calls))
+
+
+def rounds(length, devices, start, calls):
+    """The ends of the transfers of these devices after each so many calls, from a start on and before this number of calls."""
+    return [Event(at, f"END {device}") for at in range(start + length, calls, length) for device in devices]
+
+
 def job_with(slots, schedule, shown=()):
     """The text of a job of these slots and this schedule that shows the whole stores of the slots whose numbers are `shown`."""
     return job_text(slots.values(), lines_of_schedule(schedule), shown)

@@ -1,10 +1,10 @@
-"""The facts of a run: how many calls went to what, from what the machine tells of the run. This is the only place where the tool stats takes a run apart.
+"""The facts of a run: how many calls went to what, from what the machine tells of the run. This is the only place where stats and study take a run apart.
 
 All counts are of calls of the machine, but for those that say otherwise. The machine counts the calls of each program and the transfers, words and calls of each
 device; what is added up here is by which group, device or kind a program was held up, and for how long a device was lent.
 """
 from collections import Counter
-from typing import Any, Dict, Iterator, List, NamedTuple, Optional, Tuple
+from typing import Any, Dict, Iterator, List, NamedTuple, Tuple
 
 # What the machine tells of a run, with the fields of docs/schema/facts.json.
 RunTold = Dict[str, Any]
@@ -27,14 +27,14 @@ class ProgramFacts(NamedTuple):
 
 
 class DeviceFacts(NamedTuple):
-    """What a device had: its kind, whether it is of the pool, its transfers, the words that they moved, or None where only the journal is known, the calls at which
+    """What a device had: its kind, whether it is of the pool, its transfers, the words that they moved, the calls at which
     it had one, those for which programs were held up by it, how often it was lent, and the calls for which it was.
     """
 
     kind: str
     is_of_pool: bool
     transfers: int
-    words: Optional[int]
+    words: int
     busy: int
     waited_for: int
     times_lent: int

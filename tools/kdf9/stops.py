@@ -8,7 +8,8 @@ from concurrent.futures import ThreadPoolExecutor
 from typing import NamedTuple
 
 from kdf9.deck import WORD
-from kdf9.report import HEADER
+from kdf9.job import join_lines
+from kdf9.machine import sound_facts
 from kdf9.timeline import calls_of_orders
 
 # How many orders are searched for a place that doesn't begin a word, and for how many of them the run is cut before it is looked at what was found.
@@ -38,9 +39,7 @@ def stops_at(run, number, place, most):
 
 def watched(run, number, word, most):
     """The first stops at the beginning of a word."""
-    text = run.text(run.schedule, words=["watch", str(number), str(word)])
-    stops = text[:text.index(f"\n{HEADER}\n")].split("\n", most + 1)[1:most + 1]
-    orders = [int(line[len("STOP "):]) for line in stops]
+    orders = sound_facts(join_lines(run.lines), "watch", str(number), str(word))["stops"][:most]
     return Search(list(map(Stop, orders, calls_of_orders(run.facts, number, orders))))
 
 

@@ -23,6 +23,12 @@ def forms() -> List[str]:
     return [form for order in orders["orders"] for form in order["forms"]] + [row["form"] for row in orders["statements"]]
 
 
+@functools.lru_cache(maxsize=None)
+def names_of_forms() -> Dict[str, str]:
+    """The name of the order that each form of a statement is, with a 0 for each number."""
+    return {form: order["name"] for order in table("orders")["orders"] for form in order["forms"]}
+
+
 def lines() -> Dict[str, dict]:
     """The rows of the lines of a job by the word with which each begins."""
     return {row["word"]: row for row in table("job")["lines"]}

@@ -1,7 +1,7 @@
 """The facts of a run over time: with which call each order was obeyed, what went on then, and what a program was answered."""
 from __future__ import annotations
 
-from typing import Dict, Iterable, Iterator, List, Optional
+from typing import Any, Dict, Iterable, Iterator, List, Optional
 
 from kdf9 import told
 from kdf9.tables import table
@@ -9,8 +9,17 @@ from kdf9.tables import table
 # What holds a program up, in words: a group, a device, or the pool.
 HOLDS = {"pool" if row["fields"][-1] == "kind" else row["fields"][-1]: row["holds"] for row in table("entries") if "holds" in row}
 
+# The entries of calls that found a program held up, and the fields in which those of calls that were obeyed or idle have their number.
+HELD, NUMBERS = tuple(row["entry"] for row in table("entries") if "holds" in row), {"RAN": "orders", "IDLE": "calls"}
+
 # The number of the OUT that asks the installation's service.
 SERVICE = 64
+
+
+def calls_in(entry: Dict[str, Any]) -> int:
+    """How many calls an entry tells of."""
+    kind = entry["entry"]
+    return entry[NUMBERS[kind]] if kind in NUMBERS else int(kind in HELD)
 
 
 def held_by(hold: told.Hold) -> str:

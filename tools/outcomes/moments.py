@@ -1,9 +1,8 @@
 """A run as its journal tells it: what each program has obeyed, was answered and waits for after each call, and whose turn each call was."""
 from typing import Dict, List, NamedTuple, Optional, Sequence, Tuple
 
-from kdf9.job import read_lines
 from kdf9.journal import SLOTS, exchanged
-from kdf9.report import length_of_journal, read_entries
+from kdf9.report import entries_of, lines_by_slot
 from kdf9.schedule import Event
 
 # What a program is held up by: LOV, BUSY or WAIT, and the group, the device or the kind of a device.
@@ -106,14 +105,12 @@ class Path:
     """
 
     def __init__(self, report: str, slots: Sequence[int], events: Sequence[Event]) -> None:
-        lines = read_lines(report)
-        end = length_of_journal(lines)
         self.events = tuple(events)
         self.moments, self.turns = [Moment(slots)], []
         self.begun: List[Tuple[int, int]] = []
-        for entry in read_entries(lines[1:end], "the report"):
+        for entry in entries_of(report):
             self._take(*entry)
-        self.sections = sections_of(lines[end:-1])
+        self.sections = {slot: tuple(lines) for slot, lines in lines_by_slot(report).items()}
 
     @property
     def start(self) -> int:
@@ -166,14 +163,3 @@ class Path:
             now.over[slot] = f"FAILED {what}" if kind == "FAIL" else kind
             self.turns[-1] = self.turns[-1]._replace(is_of_pool=bool(now.lent_to(slot)))
             now.lent = {device: holder for device, holder in now.lent.items() if holder != slot}
-
-
-def sections_of(lines: Sequence[str]) -> Dict[int, Tuple[str, ...]]:
-    """The lines of each section by its slot, without its first."""
-    sections: Dict[int, List[str]] = {}
-    for line in lines:
-        if line.startswith("SLOT "):
-            mine = sections[int(line[5:])] = []
-        else:
-            mine.append(line)
-    return {slot: tuple(mine) for slot, mine in sections.items()}

@@ -1,11 +1,10 @@
 """Runs of a job under schedules that are tried: the only place that asks the machine for them, on all processors if there are many."""
 import multiprocessing
-import os
 from typing import Dict, Iterable, List, Optional, Sequence, Tuple
 
 from kdf9.job import join_lines, parts_of, read_slots
-from kdf9.machine import answer_to
-from kdf9.program import BadInput
+from kdf9.machine import processors
+from kdf9.program import BadInput, answer_to
 from kdf9.schedule import Event, Schedule, lines_of_schedule, read_schedule, start_of
 from outcomes.moments import Path
 
@@ -68,11 +67,6 @@ class Runner:
             self._workers.terminate()
             self._workers.join()
             self._workers = None
-
-
-def processors() -> int:
-    """How many processors this process may use."""
-    return len(os.sched_getaffinity(0)) if hasattr(os, "sched_getaffinity") else os.cpu_count() or 1
 
 
 # What a worker process runs: the job, and the number of calls.

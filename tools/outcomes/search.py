@@ -3,7 +3,7 @@
 By the law `cut`, one run of a schedule shows each moment up to its end, so it serves all schedules that begin as it does. By the law `equal_futures`, what
 follows a moment needs to be searched only once.
 """
-from typing import Dict, Iterator, List, Optional
+from typing import Dict, Iterator, List
 
 from kdf9.schedule import Event
 from kdf9.tables import table

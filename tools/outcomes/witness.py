@@ -1,8 +1,7 @@
 """Schedules that show what was found: each is run once more on the machine, its report is checked, and what comes of it is compared with what was found."""
 from typing import Callable, Dict, Tuple
 
-from kdf9.machine import answer_to
-from kdf9.program import BadInput
+from kdf9.program import BadInput, answer_to
 from outcomes.found import SAYS, WAITS, Found, Result, Witness
 from outcomes.moments import Circle, Path
 from outcomes.runs import Job

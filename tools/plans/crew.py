@@ -6,12 +6,12 @@ import os
 from array import array
 from typing import Callable, Dict, Iterator, List, Sequence
 
-from kdf9.measures import measures_of, said
+from kdf9.machine import processors
+from kdf9.measures import by_name
 from kdf9.program import BadInput
-from kdf9.report import read_sections
+from kdf9.spent import facts_of
 from plans.plan import Plan, Run, Source, checksum
 from plans.rows import There
-from plans.tally import Tally
 from plans.variant import Variants
 
 STOPPED = "a process of the study was stopped from outside; start it again, and it goes on where it was"
@@ -29,16 +29,10 @@ class Maker:
         try:
             settled = self._variants.settled(run)
             row["job"] = checksum(settled.job)
-            facts = Tally(settled.entries, read_sections(settled.report, len(settled.entries) + 1, "the report")).facts()
-            told = {said(measure.what): measure.value for measure in measures_of(facts)}
+            told = by_name(facts_of(settled.run))
             return {**row, "fault": "", **{name: told.get(name, "") for name in self._measures or told}}
         except BadInput as why:
             return {**row, "fault": str(why)}
-
-
-def processors() -> int:
-    """How many processors this process may use."""
-    return len(os.sched_getaffinity(0)) if hasattr(os, "sched_getaffinity") else os.cpu_count() or 1
 
 
 def rows_of(plan: Plan, todo: Sequence[int], let_go: Callable[[], None]) -> Iterator[dict]:

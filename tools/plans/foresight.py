@@ -1,6 +1,6 @@
 """A guess of the transfers that come next in a run: the programs do what they did before, and take turns by their priorities."""
 import heapq
-from typing import Dict, List, NamedTuple, Sequence, Tuple
+from typing import Dict, List, NamedTuple, Sequence, Tuple, Union
 
 from kdf9.delays import Delays, Transfer
 from kdf9.journal import exchanged
@@ -26,8 +26,6 @@ class Foresight:
         self._swaps = [swap for swap in swaps if swap.calls >= scene.calls]
         self._turned = 0
         self._guessed: List[Transfer] = []
-        for program in self._now.programs.values():
-            self._look_at_hold(program)
 
     def guess(self, total: int, most: int) -> Guess:
         """At most so many transfers, up to this number of calls, or to where a program has its turn of which nothing like that was seen."""
@@ -51,14 +49,6 @@ class Foresight:
             if now.calls < soon:
                 self._obey(program, stretch)
         return Guess(self._guessed, now.calls)
-
-    def _look_at_hold(self, program: Program) -> None:
-        """What is remembered of an order says more of what holds it up than the journal, which doesn't name the transfer that locks out a group."""
-        if isinstance(program.held, tuple):
-            stretch = program.memory.next(program.keys, program.done)
-            known = {program.device_of(name) for name in stretch.needs.get(program.done, ())} if stretch else set()
-            flying = [device for device in program.held if device in self._now.flying]
-            program.held = tuple(device for device in flying if device in known) or tuple(flying) or None
 
     def _schedule(self) -> None:
         """What the schedule has at this moment: ends of transfers, and exchanges of priorities."""
@@ -88,14 +78,13 @@ class Foresight:
         else:
             program.checked = next_check(stretch, program.done)
 
-    def _hold(self, program: Program, stretch: Stretch, is_last: bool) -> object:
-        """What holds up the next order of a program: some transfers, or the want of a device of some kind."""
-        flying = self._now.flying
-        devices = {program.device_of(name) for name in stretch.needs.get(program.done, ())}
+    def _hold(self, program: Program, stretch: Stretch, is_last: bool) -> Union[int, str, None]:
+        """What holds up the next order of a program: the transfer of a device, or the want of a device of some kind."""
+        devices = [program.device_of(name) for name in stretch.needs.get(program.done, ())]
         if is_last and stretch.what[0] == "START":
-            devices.add(program.device_of(stretch.what[1]))
-        held = tuple(device for device in devices if device in flying)
-        if held:
+            devices.append(program.device_of(stretch.what[1]))
+        held = next((device for device in devices if device in self._now.flying), None)
+        if held is not None:
             return held
         return stretch.what[1] if is_last and stretch.what[0] == "TAKE" and self._now.free(stretch.what[1]) is None else None
 
@@ -115,8 +104,7 @@ class Foresight:
                 return
         now.does(program, stretch.what, number)
         if kind == "START":
-            words = stretch.words or program.memory.usual.get(stretch.what, 0) if self._delays.goes_by_words(number) else 0
-            transfer = Transfer(now.calls, number, words)
+            transfer = Transfer(now.calls, number, stretch.words if self._delays.goes_by_words(number) else 0)
             self._guessed.append(transfer)
             heapq.heappush(self._due, (self._delays.end(transfer), number))
 

@@ -3,7 +3,7 @@
 A program does the same whenever it was answered the same, whatever the others do (docs/PROOFS.md, two worlds). So what was seen of it once is a good guess for
 other schedules. It stays a guess: the machine says what is so, and one that is wrong only costs a run more.
 """
-from typing import Dict, Iterable, Optional, Set, Tuple, Union
+from typing import Dict, Iterable, List, Optional, Set, Tuple, Union
 
 # A device as a program names it in what is remembered: its own by its number; one of the pool by its kind, and which of those that the program has it is.
 Name = Union[int, Tuple[str, int]]
@@ -17,7 +17,7 @@ Key = Tuple[object, ...]
 
 class Stretch:
     """A stretch of the orders of a program, up to one that the journal tells of: how many there are, and what the last one did. `needs` has the transfers that
-    have to be over before an order, by how many of the stretch come before it; `words` are those of a transfer; and `busy` are the devices with whose transfers
+    were waited for before an order, by how many of the stretch come before it; `words` are those of a transfer; and `busy` are the devices with whose transfers
     a question was answered 1, or None if it isn't answered so.
     """
 
@@ -25,7 +25,7 @@ class Stretch:
 
     def __init__(self, orders: int, what: What) -> None:
         self.orders, self.what = orders, what
-        self.needs: Dict[int, Set[Name]] = {}
+        self.needs: Dict[int, List[Name]] = {}
         self.words = 0
         self.busy: Optional[Set[Name]] = None
         self.is_large = False
@@ -44,19 +44,15 @@ class Stretch:
 
 
 class Memory:
-    """The stretches of a program that were seen, by where it was at their beginning. `words` has the words of its transfers by the number of the answers that it was
-    given before, and of the order: a program that was answered the same begins the same transfer. `usual` has those of its last transfer on each device.
-    """
+    """The stretches of a program that were seen, by where it was at their beginning."""
 
     def __init__(self) -> None:
         self._seen: Dict[Key, Stretch] = {}
-        self._answers: Dict[Tuple[int, int], int] = {}
-        self.words: Dict[Tuple[int, int], int] = {}
-        self.usual: Dict[What, int] = {}
 
-    def answers(self, before: int, answer: int) -> int:
-        """The number of the answers that a program was given, which are those of the number `before`, 0 for none, and one more. Equal answers have equal numbers."""
-        return self._answers.setdefault((before, answer), len(self._answers) + 1)
+    @property
+    def is_empty(self) -> bool:
+        """Whether nothing was seen yet."""
+        return not self._seen
 
     def learn(self, keys: Iterable[Key], orders: int, what: What) -> Iterable[Stretch]:
         """The stretches that are remembered for these keys, after one of so many orders that ended so was seen there."""

@@ -1,27 +1,31 @@
-"""What a journal tells up to some call, as far as it is needed to guess what comes next."""
-from typing import Dict, List, NamedTuple, Optional, Sequence, Set, Tuple
+"""What the facts of a run tell up to some call, as far as it is needed to guess what comes next."""
+from typing import Any, Dict, List, NamedTuple, Optional, Sequence, Set, Tuple, Union
 
 from kdf9.journal import SLOTS, exchanged
+from kdf9.timeline import HELD, NUMBERS, calls_in
 from plans.recall import Key, Memory, Name, What
 
-# The entries that are lines of the schedule, those of a call that found a program held up, and those of an order that was answered.
-OF_SCHEDULE, HOLDS, ASKS = ("END", "MOVE", "CLOCK", "SWAP"), ("LOV", "BUSY", "WAIT"), ("ANSWER", "TAKE")
+# An entry of a journal, as the machine tells it. One that began a transfer has its words too, and one that found a program held up the device that it waits for.
+Entry = Dict[str, Any]
+
+# The entries that are lines of the schedule.
+OF_SCHEDULE = ("END", "MOVE", "CLOCK", "SWAP")
 
 
 class Program:
-    """Where a program is: in which stretch, how many orders of it it has obeyed, and what came before. `held` are the devices whose transfers hold it up, or the
-    kind of a device of the pool; `lent` are the devices of the pool that it has, by kind; and `answers` is the number of those that it was given.
+    """Where a program is: in which stretch, how many orders of it it has obeyed, and what came before. `held` is the device whose transfer holds it up, or the
+    kind of a device of the pool; and `lent` are the devices of the pool that it has, by kind.
     """
 
-    __slots__ = ("slot", "memory", "orders", "done", "last", "acts", "keys", "needs", "held", "is_over", "lent", "answers", "stretch", "checked")
+    __slots__ = ("slot", "memory", "orders", "done", "last", "acts", "keys", "needs", "held", "is_over", "lent", "stretch", "checked")
 
     def __init__(self, slot: int, memory: Memory) -> None:
         self.slot, self.memory = slot, memory
-        self.orders = self.done = self.acts = self.answers = 0
+        self.orders = self.done = self.acts = 0
         self.last: Tuple[object, ...] = (None, None, None)
         self.keys: Tuple[Key, ...] = ()
-        self.needs: Dict[int, Set[Name]] = {}
-        self.held: object = None
+        self.needs: Dict[int, List[Name]] = {}
+        self.held: Union[int, str, None] = None
         self.is_over = False
         self.lent: Dict[str, List[int]] = {}
         self.stretch, self.checked = None, -1
@@ -30,9 +34,9 @@ class Program:
     def copy(self) -> "Program":
         """Another that is at the same place."""
         new = object.__new__(Program)
-        for name in ("slot", "memory", "orders", "done", "last", "acts", "keys", "held", "is_over", "answers"):
+        for name in ("slot", "memory", "orders", "done", "last", "acts", "keys", "held", "is_over"):
             setattr(new, name, getattr(self, name))
-        new.needs = {before: set(names) for before, names in self.needs.items()}
+        new.needs = {before: list(names) for before, names in self.needs.items()}
         new.lent = {kind: list(devices) for kind, devices in self.lent.items()}
         new.stretch, new.checked = None, -1
         return new
@@ -95,87 +99,78 @@ class Scene:
         """The transfers of a program that are in flight."""
         return {program.name_of(device) for device, (slot, _) in self.flying.items() if slot == program.slot}
 
-    def follow(self, entries: Sequence[tuple], until: int, words: Dict[Tuple[int, int], int]) -> "Scene":
-        """Follows a journal from the note to its end, and learns from it; what there was after `until` calls, before the lines of the schedule there."""
-        then, calls = None, self.note.calls
+    def follow(self, entries: Sequence[Entry], made: int, until: int) -> "Scene":
+        """Follows a journal of so many calls from the note to its end, and learns from it; what there was after `until` calls, before the lines of the schedule there."""
+        then = None
         for index in range(self.note.index, len(entries)):
             entry = entries[index]
-            if then is None and calls + length(entry) > until or calls == until and entry[0] in OF_SCHEDULE:
+            calls = entry["call"]
+            if then is None and calls + calls_in(entry) > until or calls == until and entry["entry"] in OF_SCHEDULE:
                 then = then or self._at(entries, index, calls, until)
-            self._take(entry, calls, words)
-            calls += length(entry)
-        return then or self._at(entries, len(entries), calls, min(calls, until))
+            self._take(entry)
+        return then or self._at(entries, len(entries), made, min(made, until))
 
-    def _at(self, entries: Sequence[tuple], index: int, calls: int, until: int) -> "Scene":
+    def _at(self, entries: Sequence[Entry], index: int, calls: int, until: int) -> "Scene":
         """What there is after `until` calls; the entry of this index comes after so many calls. An entry before it that may be longer in another run is told again."""
-        if calls == until and index > self.note.index and entries[index - 1][0] in ("RAN", "IDLE"):
-            return self.copy(Note(index - 1, calls - length(entries[index - 1])))
-        self._go(entries[index] if index < len(entries) else (), calls, until)
+        if calls == until and index > self.note.index and entries[index - 1]["entry"] in NUMBERS:
+            return self.copy(Note(index - 1, entries[index - 1]["call"]))
+        if index < len(entries):
+            self._go(entries[index], until)
         return self.copy(Note(index, calls))
 
-    def _take(self, entry: tuple, calls: int, words: Dict[Tuple[int, int], int]) -> None:
-        """Takes an entry, with so many calls before it."""
-        kind = entry[0]
-        if kind in ("RAN", "IDLE"):
-            self._go(entry, calls, calls + entry[-1])
-        elif kind in HOLDS:
+    def _take(self, entry: Entry) -> None:
+        """Takes an entry."""
+        kind, calls = entry["entry"], entry["call"]
+        if kind in NUMBERS:
+            self._go(entry, calls + calls_in(entry))
+        elif kind in HELD:
             self.calls = calls + 1
-            self._hold(self.programs[entry[1]], kind, entry[2])
+            self._hold(self.programs[entry["slot"]], entry)
         elif kind == "END":
-            self.flying.pop(entry[1], None)
+            self.flying.pop(entry["device"], None)
         elif kind == "SWAP":
-            self.order = exchanged(self.order, entry[1], entry[2])
+            self.order = exchanged(self.order, entry["slot"], entry["other"])
         elif kind not in OF_SCHEDULE:
-            self._note(self.programs[entry[1]], kind, entry, words)
+            self._note(self.programs[entry["slot"]], kind, entry)
 
-    def _go(self, entry: tuple, calls: int, until: int) -> None:
-        """Goes on to `until` in an entry of calls that were obeyed or idle, with so many calls before it."""
-        if entry and until > self.calls:
-            if entry[0] == "RAN":
-                program = self.programs[entry[1]]
-                if program.held is not None:
-                    self._goes_on(program)
+    def _go(self, entry: Entry, until: int) -> None:
+        """Goes on to `until` in an entry of calls that were obeyed or idle."""
+        if until > self.calls:
+            if entry["entry"] == "RAN":
+                program = self.programs[entry["slot"]]
+                program.held = None
                 program.done += until - self.calls
             self.calls = until
 
-    def _goes_on(self, program: Program) -> None:
-        """A program goes on that was held up: what is still in flight didn't do that."""
-        if program.done in program.needs:
-            program.needs[program.done] -= self.names_flying(program)
-        program.held = None
-
-    def _hold(self, program: Program, kind: str, which: object) -> None:
+    def _hold(self, program: Program, entry: Entry) -> None:
         """A program was found held up."""
-        if kind == "WAIT":
-            program.held = which
+        if entry["entry"] == "WAIT":
+            program.held = entry["kind"]
             return
-        devices = [which] if kind == "BUSY" else [device for device, (slot, _) in self.flying.items() if slot == program.slot]
-        program.held = tuple(devices)
-        program.needs.setdefault(program.done, set()).update(map(program.name_of, devices))
+        program.held, needs, name = entry["device"], program.needs.setdefault(program.done, []), program.name_of(entry["device"])
+        if name not in needs:
+            needs.append(name)
 
-    def _note(self, program: Program, kind: str, entry: tuple, words: Dict[Tuple[int, int], int]) -> None:
+    def _note(self, program: Program, kind: str, entry: Entry) -> None:
         """Takes what the journal notes of the order that was obeyed last."""
         what = self._what(program, kind, entry)
         flying = self.names_flying(program) if kind == "ANSWER" else set()
         for stretch in program.memory.learn(program.keys, program.done, what):
             for before, names in program.needs.items():
-                old = stretch.needs.get(before)
-                stretch.needs[before] = names if not old else (old & names or names)
+                stretch.needs[before] = list(dict.fromkeys([*stretch.needs.get(before, ()), *names]))
             if kind == "ANSWER":
-                stretch.answered(entry[2], flying)
-            elif kind == "START" and (self.calls, entry[2]) in words:
-                stretch.words = program.memory.usual[what] = words[self.calls, entry[2]]
-        if kind in ASKS:
-            program.answers = program.memory.answers(program.answers, entry[2])
-        self.does(program, what, entry[2] if len(entry) > 2 and kind != "FAIL" else 0)
+                stretch.answered(entry["answer"], flying)
+            elif kind == "START":
+                stretch.words = entry["words"]
+        self.does(program, what, entry["answer"] if kind == "ANSWER" else entry.get("device", 0))
 
-    def _what(self, program: Program, kind: str, entry: tuple) -> What:
+    def _what(self, program: Program, kind: str, entry: Entry) -> What:
         """What an order did, as it is remembered."""
         if kind in ("FAIL", "ENDED"):
             return ("OVER",)
         if kind == "ANSWER":
             return ("ANSWER",)
-        return (kind, self.pool[entry[2]]) if kind == "TAKE" else (kind, program.name_of(entry[2]))
+        return (kind, self.pool[entry["device"]]) if kind == "TAKE" else (kind, program.name_of(entry["device"]))
 
     def does(self, program: Program, what: What, number: int) -> None:
         """A program does something with the order that it obeyed last. The number is that of a device, or the answer."""
@@ -208,10 +203,5 @@ class Scene:
         """A transfer ends; whoever it held up is tried again."""
         del self.flying[device]
         for program in self.programs.values():
-            if isinstance(program.held, tuple) and device in program.held:
-                program.held = tuple(other for other in program.held if other in self.flying) or None
-
-
-def length(entry: tuple) -> int:
-    """How many calls an entry tells of."""
-    return entry[-1] if entry[0] in ("RAN", "IDLE") else int(entry[0] in HOLDS)
+            if program.held == device:
+                program.held = None

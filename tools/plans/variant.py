@@ -5,14 +5,13 @@ from typing import Dict, List, NamedTuple, Optional, Tuple
 from kdf9.delays import Delays, Speed, speeds_of_kinds
 from kdf9.job import HEADER, Slot, join_lines, kinds_of, parts_of, read_pool, read_slots
 from kdf9.journal import SLOTS
-from kdf9.machine import answer_to
 from kdf9.program import BadInput
-from kdf9.schedule import MOST_LINES, Event, Schedule, lines_of_schedule, read_schedule
+from kdf9.schedule import MOST_LINES, Event, Schedule, lines_of_schedule, merged, read_schedule
 from kdf9.tables import table
 from plans import workload
 from plans.plan import Run, Source, Value
 from plans.recall import Memories
-from plans.settle import TOO_LONG, Loaded, Search, Settled, at, run_of
+from plans.settle import TOO_LONG, Loaded, Search, Settled, run_of
 
 # How many jobs are kept taken apart.
 KEPT = 64
@@ -35,7 +34,7 @@ class Variants:
         self._parts = functools.lru_cache(KEPT)(self._taken_apart)
 
     def settled(self, run: Run) -> Settled:
-        """The job of a run with its report."""
+        """The job of a run, with what the machine tells of it."""
         values = {**self._source.fixed, **run.values}
         parts = self._parts(tuple((name, value) for name, value in values.items() if self._source.makes(name)))
         kept = [slot for slot in parts.slots if str(slot) in str(values.get("programs", "0123"))]
@@ -45,20 +44,15 @@ class Variants:
         kinds = {**{number: kind for slot in kept for number, kind in parts.slots[slot].kinds().items()}, **kinds_of(pool)}
         delays = delays_of(values, kinds, bool(self._source.workload))
         if delays is None:
-            return run_of(with_schedule(head, own), run_of_text)
+            return run_of(with_schedule(head, own))
         memories = {slot: self._memories.of(join_lines(parts.lines[slot])) for slot in kept}
-        loaded = Loaded(lambda schedule: with_schedule(head, schedule), memories, kinds_of(pool))
-        return Search("the job", loaded, own, delays, run_of_text).settled()
+        loaded = Loaded(lambda schedule: with_schedule(head, schedule), memories, kinds_of(pool), list(kinds))
+        return Search("the job", loaded, own, delays).settled()
 
     def _taken_apart(self, values: Tuple[Tuple[str, Value], ...]) -> Parts:
         """The parts of the job of these values."""
         lines = self._source.lines(dict(values))
         return Parts(read_slots(lines), parts_of(lines), read_pool(lines), read_schedule(lines))
-
-
-def run_of_text(text: str) -> str:
-    """The report of a job."""
-    return answer_to(["run"], text)
 
 
 def with_schedule(head: str, schedule: Schedule) -> str:
@@ -85,8 +79,8 @@ def own_schedule(schedule: Schedule, values: Dict[str, Value]) -> Schedule:
     events = [event for event in schedule.events if event.calls < calls or calls == schedule.calls]
     if "tick" in values:
         tick = int(values["tick"])
-        events = [event for event in events if not event.line.startswith("CLOCK ")]
-        events = sorted(events + [Event(tick * time, f"CLOCK {time}") for time in range(1, (calls - 1) // tick + 1)], key=at)
+        others = Schedule(calls, [event for event in events if not event.line.startswith("CLOCK ")])
+        events = merged(others, [Event(tick * time, f"CLOCK {time}") for time in range(1, (calls - 1) // tick + 1)]).events
     if len(events) > MOST_LINES:
         raise BadInput(f"the job: {TOO_LONG}")
     return Schedule(calls, [*(Event(0, line) for line in swaps(str(values.get("priorities", "0123")))), *events])

@@ -98,9 +98,9 @@ def idle(chance: Chance) -> Made:
     """How many calls are idle."""
     after = 5 + chance.below(40)
     job = with_transfers(two_programs(chance), 300, after)
-    report = ran(job)
-    calls, number = machine.measures(report)["calls"], machine.measures(report)["idle"]
-    if not number or "STATE LIVE" in report:
+    told = machine.measures_of(job)
+    calls, number = told["calls"], told["idle"]
+    if not number or "STATE LIVE" in ran(job):
         raise Unfit
     task = f"In this job each transfer ends {count(after, 'call')} after it began."
     why = f"The run takes {calls} calls. `./kdf9 stats` counts them, and the journal has them in its lines IDLE."
