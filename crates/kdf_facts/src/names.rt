@@ -134,14 +134,13 @@ fn met_at(rows: &[Row], word: u64) -> Met {
         let first = row.at / WORD;
         match row.kind {
             Kind::Constant if first == word => return Met::Constant(*row),
-            Kind::Opening { part, count }
-                if first <= word && word.saturating_sub(first) < count =>
-            {
-                met = Met::V {
-                    n: word.saturating_sub(first),
-                    p: part,
-                };
-            }
+            Kind::Opening { part, count } if first <= word && word.saturating_sub(first) < count =>
+                {
+                    met = Met::V {
+                        n: word.saturating_sub(first),
+                        p: part,
+                    };
+                }
             _ => {}
         }
     }
