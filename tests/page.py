@@ -291,6 +291,7 @@ def pages_are_made_with_jobs(opened, file):
 def browsers_with_short_addresses(opened, address):
     """If memories have no 64-bit addresses, the machine runs with 32-bit ones, and answers the same."""
     shown = Shown(opened(address, before=WITHOUT_MEMORY64))
+    shown.idle()
     yield "what is said of short addresses", None if shown.state().startswith("Done, in") and shown.js("!document.getElementById('short-addresses').hidden") else shown.state()
     for path in sorted((ROOT / "examples").glob("*.args")):
         words, job = path.read_text(encoding="ascii").split("\n")[:-1], path.with_suffix(".job")
@@ -317,6 +318,7 @@ def browsers_without_the_machine(opened, address):
 def memory_comes_to_its_end(opened, address):
     """If there is no more memory, the page says so, and goes on with the next job."""
     shown = Shown(opened(address, before=LITTLE_MEMORY))
+    shown.idle()
     small, large = job_of_deck("PROGRAM; ZERO; OUT; FINISH;"), job_of_deck(LONG_DECK).replace("STORE 32", "STORE 8192")
     for job, status, said in ((small, 0, "Done"), (large, 7, "Status 7: there was no memory."), (small, 0, "Done")):
         shown.write_job(job)
@@ -372,6 +374,7 @@ def cases(file):
             return running.open(where, **how)
         yield from worker_alone(opened)
         shown = Shown(opened(address))
+        shown.idle()
         for suite in SUITES:
             yield from suite(shown)
         yield from first_job_has_run(opened, address)

@@ -76,7 +76,7 @@ def searches_are_stopped(shown):
     shown.write_job(ENDLESS)
     shown.js(f"{id_of('explored-calls')}.value = '300'; {id_of('explored-runs')}.value = '20000'")
     shown.click("explore")
-    shown.page.wait(f"{id_of('exploring-runs')}.value > 3")
+    shown.page.wait(f"!{id_of('exploring-runs')}.hidden && {id_of('exploring-runs')}.value > 3")
     shown.click("stop")
     shown.idle()
     lines, hidden = shown.js(LINES), shown.js(f"{id_of('exploring-runs')}.hidden")

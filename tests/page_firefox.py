@@ -14,6 +14,7 @@ def stored(name, kind):
 
 def page_is_used(running, address):
     shown = Shown(running.open(address))
+    shown.idle()
     seen = shown.js("document.querySelectorAll('#verdicts .ended').length")
     yield "Firefox: the page when it is opened", None if seen == 1 and shown.state().startswith("Done, in") else shown.state()
     for name in RUNS:

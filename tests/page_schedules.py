@@ -125,7 +125,7 @@ def many_schedules_are_tried(shown):
         yield f"{typed} schedules", None if "There can be 1 to 1000 schedules" in shown.state() else shown.state()
     shown.js(f"{id_of('schedules')}.value = '1000'")
     shown.click("try")
-    shown.page.wait(f"{id_of('tried')}.value > 3")
+    shown.page.wait(f"!{id_of('tried')}.hidden && {id_of('tried')}.value > 3")
     shown.click("stop")
     shown.idle()
     yield "trials are stopped", None if "Stopped after" in shown.state() and shown.js(f"{id_of('tried')}.hidden") else shown.state()

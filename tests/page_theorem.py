@@ -272,6 +272,7 @@ def panel_is_for_everybody(shown):
 def no_run_before(opened, address):
     """After the first run, that of the job with which it opens, the page compares with the lone runs; after the second with the run before too; and without a run nothing."""
     shown = Shown(opened(address))
+    shown.idle()
     for due in ([False, False, True, False, False], [False] * 5):
         seen = shown.js(DISABLED)
         yield f"buttons of the panel: {json.dumps(due)}", None if seen == due else f"are {seen}"

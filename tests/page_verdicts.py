@@ -37,6 +37,7 @@ CHANGES = [
 def first_job_has_run(opened, address):
     """On opening, the first job has run, and its verdict, its picture and its words are there."""
     shown = Shown(opened(address))
+    shown.idle()
     seen = shown.js(f"[{VERDICTS}.length, document.querySelectorAll('#pictured svg').length, document.querySelectorAll('#sections table').length, {id_of('text-details')}.open]")
     yield "the page when it is opened", None if seen[:2] == [1, 1] and seen[2] and not seen[3] and shown.state().startswith("Done, in") else f"{seen} {shown.state()}"
     order = shown.js("[...document.querySelectorAll('#state, #verdicts, #pictured, #sections, #text-details')].map((it) => it.id).join(' ')")

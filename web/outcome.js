@@ -66,7 +66,7 @@ export function showOutcome(outcome, { look, go, change, say } = {}) {
   byId("verdicts").replaceChildren(...(verdicts ? drawVerdicts(verdicts, { go, change }) : []));
   byId("pictured").replaceChildren(...(timeline?.total ? pictureOf({ timeline, stops }, look, say) : []));
   byId("sections").replaceChildren(...(stops ? [drawStops(stops, layouts.get(stops.slot), look)] : []), ...resultsOf(outcome ?? {}));
-  byId("text-details").open = !sections;
+  byId("text-details").open = text !== "" && !sections;
   byId("report").textContent = shown.text;
   byId("rest").textContent = `${notice} ${shown.rest}`.trim();
   byId("rest").hidden = byId("rest").textContent === "";

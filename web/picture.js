@@ -8,8 +8,8 @@ const NAMESPACE = "http://www.w3.org/2000/svg";
 const { sizes: SIZES, slots: SLOTS, shades: SHADES, says: SAYS, legend: LEGEND, signs: SHAPES } = PICTURE;
 
 /** The sizes of a picture that has half a window, of one that has a window, and of one that is saved. */
-export const HALF = { left: 150, width: 444, right: 30, key: 284 };
-export const WHOLE = { left: 150, width: 900, right: 14, key: 350 };
+export const HALF = { left: 166, width: 444, right: 30, key: 300 };
+export const WHOLE = { left: 166, width: 900, right: 14, key: 350 };
 const SAVED = SIZES;
 
 /** The least pixels between two numbers on the axis. */
