@@ -75,6 +75,14 @@ class Fresh(Checkout):
             time.sleep(0.1)
         return False
 
+    def begun(self, crate: str) -> int:
+        """How often builds have begun a crate; the first may need some patience."""
+        for _ in range(PATIENCE):
+            if f"begins {crate}" in self.log():
+                break
+            time.sleep(0.1)
+        return self.log().count(f"begins {crate}")
+
     def is_building(self) -> bool:
         """Whether a build has the folder of all crates for itself."""
         folder = os.open(self.folder / "crates", os.O_RDONLY)
@@ -92,7 +100,7 @@ def kit_answers(fresh: Fresh) -> Cases:
     fresh.write(QSTORE, "endless\n")
     yield "a first start", differs(fresh.go("run", text="job\n"), 42, "<tried><first><run>job\n", BEHIND, OF_KIT)
     yield "a second start", differs(fresh.go("make", "7"), 42, "<tried><first><make><7>", "kdf9: in the background: ", OF_KIT)
-    yield "their builds", None if fresh.log().count("begins kdf_word") == 1 else f"{fresh.log()}"
+    yield "their builds", None if fresh.begun("kdf_word") == 1 else f"{fresh.log()}"
     yield "--version meanwhile", None if "program: not built yet; a build of it is going on\n" in fresh.go("--version")[1] else "says something else"
     log = (fresh.folder / "crates/kdf9/out/build.log").read_text().splitlines()
     subprocess.run(["bash", "-c", log[0].partition(": ")[2]], check=True)
