@@ -67,6 +67,7 @@ _kdf9() {
         report) places=() options='--help' with_word='' ;;
         page) places=() options='--help --course' with_word='--course' ;;
         replay) places=(job) options='--help' with_word='' ;;
+        proofs) places=() options='--help' with_word='' ;;
         lsp) places=() options='--help --faults' with_word='--faults' ;;
         dap) places=() options='--help' with_word='' ;;
         lib) places=(folder) options='--help' with_word='' ;;
@@ -74,7 +75,7 @@ _kdf9() {
         package) places=(folder) options='--help' with_word='' ;;
     esac
     if [ "$COMP_CWORD" = 1 ]; then
-        _kdf9_place 'run alone asm make save resume check watch explain steps listing schedule same explore stats study mark quiz picture json report page replay lsp dap lib clean package --help --version --proved'
+        _kdf9_place 'run alone asm make save resume check watch explain steps listing schedule same explore stats study mark quiz picture json report page replay proofs lsp dap lib clean package --help --version --proved'
         return
     fi
     for ((at = 2; at < COMP_CWORD; at++)); do

@@ -51,6 +51,7 @@ _kdf9() {
         'report:Writes the report that a JSON text is.'
         'page:Writes the machine, an editor and the examples as one page for a browser; with a course, also its exercises.'
         'replay:Writes the same page with a job in it, which opens at the run of that job.'
+        'proofs:Writes what is proved as one page for a browser: the theorem, its definitions and all contracts, with each word a link to what it means.'
         'lsp:Serves editors: faults as they are typed, help, names and form of decks and jobs; or, with --faults, writes the faults of files.'
         'dap:Serves editors that debug a job: breakpoints, steps forward and back, watched words.'
         'lib:Writes the machine as a library for programs in C, Python and JavaScript, and says how to use it.'
@@ -88,6 +89,7 @@ _kdf9() {
                 report) _arguments '--help[says this, and ends]' ;;
                 page) _arguments '--help[says this, and ends]' '--course[puts a course into the page, a folder, or the name of one in courses/ (docs/COURSE.md)]:COURSE: ' ;;
                 replay) _arguments '1:job:_files -g "*.job"' '--help[says this, and ends]' ;;
+                proofs) _arguments '--help[says this, and ends]' ;;
                 lsp) _arguments '--help[says this, and ends]' '--faults[writes the faults of these jobs and decks, and serves nobody; - is standard input]:FILE: ' ;;
                 dap) _arguments '--help[says this, and ends]' ;;
                 lib) _arguments '1:folder:_files -/' '--help[says this, and ends]' ;;

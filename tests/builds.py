@@ -11,7 +11,7 @@ import tempfile
 import termios
 from typing import Dict, Iterator, List, Optional, Tuple
 
-from launcher import BUILDING, NEST, Checkout, built, differs, ended
+from launcher import BUILDING, NEST, WORD, Checkout, built, differs, ended
 from toolkit import ROOT
 
 sys.path.insert(0, str(ROOT / "tools"))
@@ -104,6 +104,24 @@ def kept_is_little() -> Cases:
         yield "a build after clean", differs(proves, 42, "<first><make><0>", *built())
 
 
+# Says which libraries of the program are to be built before another thing can be made of them.
+CHANGED = "from building import engine; engine.CRATE = 'kdf9'; print(engine.unbuilt(), engine.changed())"
+
+
+def changed_libraries_are_found() -> Cases:
+    """A library is built anew whose text, or that of one below it, has changed since it was built."""
+    with tempfile.TemporaryDirectory() as folder:
+        checkout = Checkout(folder)
+        checkout.start("make", "0")
+        for name in ("kdf_word", "kdf_nest", "kdf_qstore"):
+            (checkout.folder / f"crates/{name}/out/rlib/{name}.rlib").touch()
+        for changed, due in ((None, []), (NEST, ["kdf_nest"]), (WORD, ["kdf_word", "kdf_nest", "kdf_qstore"])):
+            if changed:
+                checkout.write(changed, "another\n")
+            done = in_folder(checkout, CHANGED)
+            yield f"the libraries to build after a change of {changed}", None if done == f"[] {due}\n" else done
+
+
 # Has a room of the page run two tools that take a while, and one that fails.
 STAGES = """
 import pathlib, sys
@@ -163,4 +181,4 @@ def in_folder(checkout: Checkout, script: str) -> str:
     return done.stdout + done.stderr
 
 
-SUITES = (forecast_is_right, disk_is_checked, kept_is_little, page_shows_its_stages)
+SUITES = (forecast_is_right, disk_is_checked, kept_is_little, changed_libraries_are_found, page_shows_its_stages)

@@ -20,7 +20,7 @@ from kdf9.tools import TOOLS  # noqa: E402
 Cases = Iterator[Tuple[str, Optional[str]]]
 
 # The tools that read a report or JSON from standard input, and those that read nothing; the others read the file that their first argument names.
-READS_INPUT, READS_NOTHING = ("picture", "json", "report"), ("page", "clean", "package", "lib", "mark", "quiz")
+READS_INPUT, READS_NOTHING = ("picture", "json", "report"), ("page", "proofs", "clean", "package", "lib", "mark", "quiz")
 
 # The tools that serve an editor: tests/editors tries what they read.
 SERVES = ("lsp", "dap")
@@ -50,7 +50,7 @@ WRONG_WORDS = [
     (["mark", "machine", "x", "--seeds", "3"], "--seeds needs --try"), (["mark", "machine", "x", "--csv", "--json"], "not allowed with"), (["mark", "machine", "--hand-out"], "--hand-out"),
     (["quiz"], "required: KIND"), (["quiz", "chess"], "KIND"), (["quiz", "nest", "--seed", "x"], "--seed: has to be a number from 0 to 999999"), (["quiz", "nest", "--html", "--json"], "not allowed with"),
     (["same"], "required: JOB"), (["same", "-", "-"], "can't both be standard input"), (["same", "-", "a", "b"], "b"),
-    (["picture", "--svg"], "--svg"), (["json", "-"], "-"), (["report", "-"], "-"), (["page", "x"], "x"), (["replay"], "required: JOB"),
+    (["picture", "--svg"], "--svg"), (["json", "-"], "-"), (["report", "-"], "-"), (["page", "x"], "x"), (["proofs", "x"], "x"), (["replay"], "required: JOB"),
     (["clean", "x"], "x"), (["lsp", "x"], "x"), (["lsp", "--faults"], "--faults"), (["dap", "x"], "x"),
     (["lib"], "required: FOLDER"), (["lib", "a", "b"], "b"),
 ]

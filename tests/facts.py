@@ -34,6 +34,9 @@ MEMBERS = {
 }
 HOLDS = {"LOV": "group", "BUSY": "device", "WAIT": "pool"}
 
+# A job that is made, and how many lines SHOW of a whole store make a report too long for its facts.
+MADE, MANY_SHOWS = "7", 513
+
 # Examples that are saved and resumed, and whose reports are checked.
 AFTER_JOBS = ["adds-5-and-7", "adds-cards-while-a-tape-is-copied"]
 
@@ -222,6 +225,8 @@ def faults_of_run(facts, text):
         calls += calls_of(entry)
     if facts["made"] != calls:
         yield f"there are {calls} calls, and not {facts['made']}"
+    if facts["text"] != text:
+        yield "the text isn't what the program prints"
     yield from faults_of_calls(facts, report, calls)
     yield from faults_of_transfers(facts, report)
     yield from faults_of_programs(facts, report)
@@ -274,6 +279,30 @@ def faults_of_programs(facts, report):
             yield f"slot {one['slot']}: its end isn't that of its section"
         yield from faults_of_registers(f"slot {one['slot']}", one, section)
         yield from (f"slot {one['slot']}: {fault}" for fault in faults_of_why(facts, one))
+    free = [one["slot"] for one in facts["programs"] if one["state"] == "LIVE" and one["lacks"]["what"] == "calls"]
+    due = next((slot for slot in facts["priorities"] if slot in free), None)
+    if facts["next"] != due:
+        yield f"the next turn is that of {facts['next']}, and not of {due}"
+
+
+def slots_of(text):
+    """The slots of a job, by its lines."""
+    lines, slots, at = text.split("\n"), [], 0
+    while lines[at] != "SCHEDULE":
+        kind, *rest = lines[at].split(" ")
+        if kind == "SLOT":
+            slots.append({"slot": int(rest[0]), "served": False, "shows": []})
+        elif kind == "STORE":
+            slots[-1]["store"] = int(rest[0])
+        elif kind == "SERVICE":
+            slots[-1]["served"] = True
+        elif kind == "SHOW":
+            slots[-1]["shows"].append(list(map(int, rest)))
+        elif kind == "DECK":
+            first, at = at + 1, lines.index("ENDDECK", at)
+            slots[-1].update({"line": first + 1, "lines": at - first})
+        at += 1
+    return slots
 
 
 def faults_of_why(facts, one):
@@ -308,6 +337,8 @@ def faults_of_listing(facts, text):
     """What is wrong with the facts of a deck, by its listing."""
     words = re.findall(r"^WORD \d+ ([0-7]{16})$", text, re.MULTILINE)
     references = [tuple(map(int, each)) for each in re.findall(r"^REF (\d+) (\d+) (\d+) (\d+)$", text, re.MULTILINE)]
+    if facts["text"] != text:
+        yield "the text isn't what the program prints"
     if facts["words"] != words:
         yield "the words aren't those of the listing"
     if [(one["part"], one["reference"], *one["at"]) for one in facts["references"]] != references:
@@ -370,6 +401,8 @@ def faults_of_check(facts, text):
 def faults_of_alone(facts, text):
     """What is wrong with the facts of a program by itself, by its section."""
     one, number = facts["program"], facts["slot"]
+    if facts["text"] != text:
+        yield "the text isn't what the program prints"
     if one is None:
         if f"SLOT {number}\n" in text:
             yield "there is a program"
@@ -390,8 +423,11 @@ def faults_of_snapshot(facts, text):
         yield f"line {facts['lines'] + 1} isn't JOURNAL"
     if words != due:
         yield "the words aren't those of the snapshot"
-    if list(map(entry_line, facts["run"]["entries"])) != lines[facts["lines"] + 1:lines.index("SEAL", facts["lines"])]:
+    entries = lines[facts["lines"] + 1:lines.index("SEAL", facts["lines"])]
+    if list(map(entry_line, facts["run"]["entries"])) != entries:
         yield "the entries aren't those of the snapshot"
+    if facts["run"]["text"].split("\n")[:len(entries) + 1] != ["KDF9 REPORT 1", *entries]:
+        yield "the text of the run isn't its report"
 
 
 def faults_of_fault(facts, text):
@@ -448,7 +484,21 @@ def faults_of_case(case):
     name, words, text = case
     facts = told(words, text)
     faults = SCHEMA.faults(facts) or list(CHECKS[facts["kind"]](facts, answer(words, text)))
+    if facts["kind"] == "run" and facts["slots"] != slots_of(text):
+        faults.append(f"its slots are {facts['slots']}, and not {slots_of(text)}")
     return [f"{name}: {fault}" for fault in faults]
+
+
+def faults_of_texts():
+    """What is wrong with the text of a run where it is no report, or longer than facts carry."""
+    facts = told(["make", MADE], "")
+    if SCHEMA.faults(facts) or facts["text"] != answer(["make", MADE], ""):
+        yield f"make {MADE}: the text isn't the summary"
+    shows = "SHOW 0 8191\n" * MANY_SHOWS
+    for words in (["run"], ["alone", "0"]):
+        facts = told(words, f"KDF9 JOB 1\nSLOT 0\nSTORE 8192\nDECK\nPROGRAM; FINISH;\nENDDECK\n{shows}{TAIL}")
+        if SCHEMA.faults(facts) or facts["text"] is not None:
+            yield f"{words}: the text with millions of words isn't left out"
 
 
 def faults_of_decks():
@@ -492,7 +542,7 @@ def main():
         return 1
     with ThreadPoolExecutor() as pool:
         results = list(pool.map(faults_of_case, cases()))
-    for suite in (faults_of_decks, faults_of_causes):
+    for suite in (faults_of_decks, faults_of_causes, faults_of_texts):
         results += [[fault] for fault in suite()] or [[]]
     faults = [fault for result in results for fault in result]
     print(*(f"facts: {fault}" for fault in faults[:50]), sep="\n", end="\n" if faults else "")

@@ -41,7 +41,7 @@ DELAYS = [[], ["--after", "0"], ["--after", "7"], ["--every", "2", "--after", "3
 SLIPS = ("Traceback", "slip of the tool")
 
 # The tools that read a text; those that serve an editor are tried by tests/editors, and mark and quiz by tests/course.
-READERS = [name for name in TOOLS if name not in ("page", "clean", "package", "lib", "lsp", "dap", "mark", "quiz")]
+READERS = [name for name in TOOLS if name not in ("page", "proofs", "clean", "package", "lib", "lsp", "dap", "mark", "quiz")]
 
 # The page has no machine here: making it takes minutes.
 output.engine = lambda: b""

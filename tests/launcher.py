@@ -37,8 +37,8 @@ class Checkout:
         (self.folder / "commands/python3").symlink_to(sys.executable)
         shutil.copy(ROOT / "kdf9", self.folder)
         shutil.copy(ROOT / "tools/build", self.folder / "tools")
-        shutil.copytree(ROOT / "tools/building", self.folder / "tools/building")
-        shutil.copytree(ROOT / "tools/kdf9", self.folder / "tools/kdf9")
+        shutil.copytree(ROOT / "tools/building", self.folder / "tools/building", ignore=shutil.ignore_patterns("__pycache__"))
+        shutil.copytree(ROOT / "tools/kdf9", self.folder / "tools/kdf9", ignore=shutil.ignore_patterns("__pycache__"))
         for tool in ("about", "clean", "first"):
             shutil.copy(ROOT / "tools" / tool, self.folder / "tools")
         shutil.copy(ROOT / "CHANGELOG.md", self.folder)
@@ -189,6 +189,7 @@ def writes_down_how_long_crates_took(checkout):
     for _ in range(2):
         subprocess.run(words, cwd=checkout.folder, env=variables, stderr=subprocess.PIPE, check=True)
         yield None if (checkout.folder / TIMES).read_text() == "# seconds\nkdf9 1\nkdf_nest 1\nkdf_qstore 1\nkdf_word 1\n" else "other times"
+        yield None if (checkout.folder / "crates/kdf_word/out/proof-seconds").read_text() == "1\n" else "other notes"
 
 
 def says_that_there_is_no_rt(checkout):

@@ -30,11 +30,11 @@ TALKATIVE, PAGES = ("explain", "page", "replay", "package"), ("page", "replay")
 
 # By words of its second column, each row of the table: what is run, with a status that is due where there are several.
 TRIED: Dict[str, List[Tuple[str, int]]] = {
-    "it did what": [(TOOLS[it].example, 0) for it in TOOLS if it not in (*PAGES, "lib", "package")] + [("./kdf9 --help", 0), ("./kdf9 --version", 0), ("./kdf9 run --help", 0)],
+    "it did what": [(TOOLS[it].example, 0) for it in TOOLS if it not in (*PAGES, "lib", "package", "proofs")] + [("./kdf9 proofs", 0)] + [("./kdf9 --help", 0), ("./kdf9 --version", 0), ("./kdf9 run --help", 0)],
     "bad input": [(f"./kdf9 {it} no/such/file", 1) for it in ("explain", "steps", "listing", "schedule", "same", "replay", "lsp --faults")]
     + [(f"echo x | ./kdf9 {it}", 1) for it in ("picture", "json", "report")] + [(f"./kdf9 steps {A_FAULT}", 1), (f"./kdf9 listing {A_JOB} 3", 1), ("./kdf9 package README.md/x", 1), ("./kdf9 mark no/such/folder --try", 1), ("./kdf9 mark machine no/such/folder", 1)]
     + [(r"printf 'Content-Length: 33\r\n\r\n{\"jsonrpc\":\"2.0\",\"method\":\"exit\"}' | ./kdf9 lsp", 1)],
-    "can't be written": [(f"{it} > /dev/full", 1) for it in (f"./kdf9 listing {A_JOB}", "./kdf9 --help", "./kdf9 --version", "./kdf9 clean --show")]
+    "can't be written": [(f"{it} > /dev/full", 1) for it in (f"./kdf9 listing {A_JOB}", "./kdf9 --help", "./kdf9 --version", "./kdf9 clean --show", "./kdf9 proofs")]
     + [(f"./kdf9 {it} {A_JOB} >&-", 1) for it in ("listing", "explain")],
     "isn't the same": [(f"{OTHER_ALONE} KDF9=$own {sys.executable} -S tools/same {A_JOB}", 1)],
     "`mark --try`": [(f"course=$(mktemp -d); trap 'rm -r $course' EXIT; sed 's/due V2 = 12/due V2 = 13/' {AN_EXERCISE} > $course/1-x.md; ./kdf9 mark $course --try", 1)],

@@ -111,10 +111,10 @@ def lines_are_those_of_the_crates(read: Read, tables: dict) -> Cases:
     yield "the words of lines", None if not missing else f"the crates don't have {missing}"
     kinds = re.findall(r'Kind::\w+ => "(\w+)"', read("crates/kdf_journal/src/kind.rt"))
     yield "the kinds of devices", differs(sorted(row["kind"] for row in table["kinds"]), sorted(kinds))
-    said = {kind.upper(): name for kind, name in re.findall(r'Kind::(\w+) => "a ([a-z ]+)"', read("crates/kdf_facts/src/kinds.rt"))}
+    said = {kind.upper(): name for kind, name in re.findall(r'Kind::(\w+) => "a ([a-z ]+)"', read("crates/kdf_causes/src/kinds.rt"))}
     yield "the kinds of devices in words", differs({row["kind"]: row["name"] for row in table["kinds"]}, said)
     claimed = [f"{row['claimed_as']} ({row['kind']})" for row in sorted(table["kinds"], key=lambda row: row.get("claimed_as", 0)) if "claimed_as" in row]
-    yield "the numbers of kinds that OUT 5 takes", differs(f"OUT 5 needs {', '.join(claimed[:-1])} or {claimed[-1]} in N2", re.search(r'"(OUT 5 needs .* in N2)', read("crates/kdf_facts/src/broken_out.rt"))[1])
+    yield "the numbers of kinds that OUT 5 takes", differs(f"OUT 5 needs {', '.join(claimed[:-1])} or {claimed[-1]} in N2", re.search(r'"(OUT 5 needs .* in N2)', read("crates/kdf_causes/src/broken_out.rt"))[1])
     host = re.search(r'const HOST: \[u8; 64\] = \*b"(.*?)";', read("crates/kdf_code/src/code.rt"), re.DOTALL)[1]
     yield "the characters", differs(table["characters"], re.sub(r"\\\n *", "", host).replace('\\"', '"'))
 
@@ -123,7 +123,7 @@ def entries_are_those_of_the_crates(read: Read, tables: dict) -> Cases:
     """The entries of a journal, and how many fields each of them has."""
     body = re.search(r"pub enum Entry {\n(.*?)\n}", read("crates/kdf_journal/src/entry.rt"), re.DOTALL)[1]
     due = {name.upper(): fields.count(":") for name, fields in re.findall(r"^    (\w+) \{(.*)\},", body, re.MULTILINE)}
-    said = read("crates/kdf_facts/src/why.rt")
+    said = read("crates/kdf_causes/src/why.rt")
     missing = [row["holds"] for row in tables["entries"] if "holds" in row and row["holds"].partition("{")[0] not in said]
     yield "what holds a program up in words", None if not missing else f"the crates don't say {missing}"
     yield "the entries of a journal", differs({row["entry"]: len(row["fields"]) for row in tables["entries"]}, due)

@@ -1,17 +1,9 @@
 // What somebody did in a course: the job of each exercise, how many of its runs are right, and how many hints are open. The browser keeps it, and a link has it.
 
+import { storageOf } from "./kept.js";
 import { packedText, unpackedText } from "./link.js";
 
 const PREFIX = "#work=";
-
-/** The browser's storage, or null if the page may not use it. */
-function storage() {
-  try {
-    return localStorage;
-  } catch {
-    return null;
-  }
-}
 
 const isWork = (it) => typeof it?.job === "string";
 
@@ -34,7 +26,7 @@ export class Coursework {
   constructor(course) {
     this.course = course;
     this.key = `kdf9.course.${course}`;
-    const kept = workIn(storage()?.getItem(this.key) ?? "", course);
+    const kept = workIn(storageOf("localStorage")?.getItem(this.key) ?? "", course);
     Object.assign(this, kept ?? { at: 0, work: {}, tries: {} });
   }
 
@@ -51,7 +43,7 @@ export class Coursework {
 
   keep() {
     try {
-      storage()?.setItem(this.key, this.text);
+      storageOf("localStorage")?.setItem(this.key, this.text);
     } catch {
       // The browser has no room. The link still has everything.
     }

@@ -33,6 +33,9 @@ export function choice(options, chosen, onchange) {
   return select;
 }
 
+/** A text that may be longer than its place, of this class and name. */
+export const scrolled = (kind, name, ...children) => make("pre", { class: kind, tabindex: "0", role: "group", "aria-label": name }, ...children);
+
 export const button = (text, onclick, attributes = {}) => make("button", { type: "button", onclick, ...attributes }, text);
 
 /** A table with a caption, the names of its columns, and its rows. The first cell of each row is its heading. */

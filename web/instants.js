@@ -1,10 +1,9 @@
 // A run as a search takes it: what each program has obeyed, was answered and waits for after each call, and whose turn each call was. All of it is read from the
 // machine's reports. What a search goes by is said in docs/STUDY.md; the tool explore has the same in tools/outcomes/moments.py, and tests/page compares the two.
 
-const HOLDING = ["LOV", "BUSY", "WAIT"];
+import { exchangedIn } from "./journal.js";
 
-/** The priorities after two slots have exchanged theirs. */
-const exchangedIn = (order, one, other) => order.map((slot) => (slot === one ? other : slot === other ? one : slot));
+const HOLDING = ["LOV", "BUSY", "WAIT"];
 
 /** What a journal tells up to some call: of each slot its orders, its answers, how it came to its end and what held it up last; the slots that have transfers and
  * devices of the pool, by device; the time, and the priorities. */

@@ -21,6 +21,9 @@ export function callsOfOrders({ entries }, number, orders) {
   return calls;
 }
 
+/** The priorities after two slots have exchanged theirs. */
+export const exchangedIn = (order, one, other) => order.map((slot) => (slot === one ? other : slot === other ? one : slot));
+
 /** What each entry of a journal means, in words. */
 const SAID = {
   RAN: ({ slot, orders }) => `program ${slot} obeyed ${many(orders, "order")}`,

@@ -7,7 +7,7 @@ const LIST = "kdf9.jobs", TAB = "kdf9.tab";
 const MOST_KEPT = 10, LONGEST_NAME = 50;
 
 /** The browser's storage of this name, or null if the page may not use it. */
-function storageOf(name) {
+export function storageOf(name) {
   try {
     return globalThis[name];
   } catch {

@@ -1,6 +1,7 @@
 // A job without a pool and a clock: what each program is answered depends on no other, so each is searched by itself, and the schedules of the whole job are put together
 // from theirs. The tool explore has the same in tools/outcomes/apart.py.
 
+import { exchangedIn } from "./journal.js";
 import { Firsts, Harvest, Exploration, compareResults, compareSchedules } from "./search.js";
 import { JOB, OUTCOMES } from "./tables.js";
 
@@ -60,11 +61,7 @@ const NOTHING = { calls: 0, events: [] };
 export class Asunder {
   constructor(tried, limits, onrun) {
     Object.assign(this, { tried, limits, lone: new Map(tried.slots.map((slot) => [slot, new Lone(tried.alone(slot), limits, onrun)])) });
-    let order = [0, 1, 2, 3];
-    for (const { line } of tried.swaps) {
-      const [one, other] = line.split(" ").slice(1).map(Number);
-      order = order.map((slot) => (slot === one ? other : slot === other ? one : slot));
-    }
+    const order = tried.swaps.reduce((before, { line }) => exchangedIn(before, ...line.split(" ").slice(1).map(Number)), [0, 1, 2, 3]);
     this.order = order.filter((slot) => tried.slots.includes(slot));
   }
 

@@ -1,14 +1,14 @@
-// The machine for JavaScript, in a page and in Node. This file has everything between the proved code and a script: the heap, 128-bit arithmetic, and how texts are
-// handed in and out. Each question gets a fresh instance of the module, so that no run sees another's memory.
+// The machine for JavaScript, in a page and in Node. This file has everything between the proved code and a script: the heap, and how texts are handed in and out.
+// Each question gets a fresh instance of the module, so that no run sees another's memory.
 
 const PAGE = 65536;
 const SMALLEST = 16; // bytes in the smallest block
 const TEXT_TOO_LONG = 6; // the status of a text that the room is too small for
 
-// The bytes of the room that is tried first for the text of each call, of the smallest and of the largest. A call that had too little room is made again.
-const FIRST_ROOMS = { kdf9_run: 1 << 20, kdf9_facts: 1 << 24 };
-const SMALLEST_ROOM = 1 << 20;
-const LARGEST_ROOM = 1 << 28;
+// The bytes of the room for a text: as many as it may have, so that its call is made once. Only where there is no memory for so many there are few, and a call that
+// wants more is made again. What isn't written to takes no memory of the computer.
+const ROOM = 1 << 28;
+const SMALL_ROOM = 1 << 20;
 
 /** Makes a memory larger by so many pages. The number has the type of an address, but for the first engines that had such memories. */
 function grow(memory, pages) {
@@ -72,27 +72,18 @@ export class Heap {
   }
 }
 
-/** A signed 128-bit number, from its two halves. */
-const wide = (low, high) => BigInt.asUintN(64, low) | (high << 64n);
-
-/** What the proved code imports: the heap, and 128-bit arithmetic, for which WebAssembly has no instructions. */
+/** What the proved code imports: the heap. */
 export function imports(machine) {
-  const writePair = (at, low, high) => {
-    const view = new DataView(machine.memory.buffer);
-    view.setBigUint64(Number(at), BigInt.asUintN(64, low), true);
-    view.setBigUint64(Number(at) + 8, BigInt.asUintN(64, high), true);
-  };
-  const writeWide = (at, value) => writePair(at, value, value >> 64n);
   // If there is no block, the first word says so, and the address in the second is never used.
-  const writeBlock = (at, block) => writePair(at, block ? 1n : 0n, BigInt(block || SMALLEST));
+  const writeBlock = (at, block) => {
+    const view = new DataView(machine.memory.buffer);
+    view.setBigUint64(Number(at), block ? 1n : 0n, true);
+    view.setBigUint64(Number(at) + 8, BigInt(block || SMALLEST), true);
+  };
   return {
     rattle_alloc: (out, bytes, alignment) => writeBlock(out, machine.heap.take(Number(bytes || alignment))),
     rattle_realloc: (out, at, kept, bytes, alignment) => writeBlock(out, machine.heap.change(Number(at), Number(kept), Number(bytes || alignment))),
     rattle_dealloc: (at) => machine.heap.giveBack(Number(at)),
-    __multi3: (out, a, aHigh, b, bHigh) => writeWide(out, wide(a, aHigh) * wide(b, bHigh)),
-    __ashlti3: (out, low, high, places) => writeWide(out, wide(low, high) << BigInt(places)),
-    __ashrti3: (out, low, high, places) => writeWide(out, wide(low, high) >> BigInt(places)),
-    __lshrti3: (out, low, high, places) => writeWide(out, BigInt.asUintN(128, wide(low, high)) >> BigInt(places)),
   };
 }
 
@@ -118,20 +109,20 @@ function answerWithin(call, module, words, job, most) {
     new Uint8Array(machine.memory.buffer).set(bytes, at);
     return [BigInt(at), BigInt(bytes.length)];
   };
-  const found = machine.heap.take(most), room = found ? most : SMALLEST_ROOM, text = found || place(room), wanted = place(8);
+  const found = machine.heap.take(most), room = found ? most : SMALL_ROOM, text = found || place(room), wanted = place(8);
   const slices = [...handIn(linesOf(words)), ...handIn(job)];
   const began = performance.now();
   const status = exports[call](...slices, BigInt(text), BigInt(room), BigInt(wanted));
   const milliseconds = performance.now() - began;
   const size = Number(new DataView(machine.memory.buffer).getBigUint64(wanted, true));
   const written = new Uint8Array(machine.memory.buffer).slice(text, text + (size <= room ? size : 0));
-  return { status, text: written, size, milliseconds, memory: machine.memory.buffer.byteLength };
+  return { status, text: written, size, milliseconds, memory: machine.memory.buffer.byteLength - room + written.length };
 }
 
 /** The answer of a call, with room for its whole text, unless that is too long. */
 function whole(call, module, words, job) {
-  const given = answerWithin(call, module, words, job, FIRST_ROOMS[call]);
-  return given.status === TEXT_TOO_LONG && given.size <= LARGEST_ROOM ? answerWithin(call, module, words, job, given.size) : given;
+  const given = answerWithin(call, module, words, job, ROOM);
+  return given.status === TEXT_TOO_LONG && given.size <= ROOM ? answerWithin(call, module, words, job, given.size) : given;
 }
 
 /** The proved code, from the bytes of its module. */
@@ -141,7 +132,7 @@ export function compiled(bytes) {
 
 /**
  * What the proved code answers to the words of a command for a job, which is bytes: the number of the status, the text as bytes, how many bytes it has, the
- * milliseconds that it took, and the bytes of memory. A text of more than 256 MiB is left out, with status 6.
+ * milliseconds that it took, and the bytes of memory that it used. A text of more than 256 MiB is left out, with status 6.
  */
 export function answer(module, words, job) {
   return whole("kdf9_run", module, words, job);

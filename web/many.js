@@ -20,10 +20,12 @@ async function outcomeOf(ask, text, failures) {
   return { kind, said: verdicts.inShort(kind) };
 }
 
+/** The runs that came to each outcome, the worst first. */
+const byOutcome = (found) => Object.keys(OUTCOMES).map((kind) => [kind, found.filter((each) => each.kind === kind)]).filter(([, all]) => all.length);
+
 /** All outcomes in a sentence: how many runs came to each, and of those that didn't end the first seed, with what came of it. */
 export function saidOfOutcomes(found) {
-  const kinds = Object.keys(OUTCOMES).toReversed().map((kind) => [kind, found.filter((each) => each.kind === kind)]).filter(([, all]) => all.length);
-  return `${kinds.map(([kind, all]) => `${all.length} ${OUTCOMES[kind]}${kind === "ended" ? "" : ` (seed ${all[0].seed}: ${all[0].said})`}`).join("; ")}.`;
+  return `${byOutcome(found).toReversed().map(([kind, all]) => `${all.length} ${OUTCOMES[kind]}${kind === "ended" ? "" : ` (seed ${all[0].seed}: ${all[0].said})`}`).join("; ")}.`;
 }
 
 /** A whole number that is typed into a control, or null if it isn't from `least` to `most`. */
@@ -71,7 +73,6 @@ export class Many {
     if (!found.length) return;
     const list = (kind, all) => make("details", { open: kind !== "ended" }, make("summary", {}, `${OUTCOMES[kind]}: ${many(all.length, "seed")}`),
       make("ul", { class: "stops" }, ...all.map(({ seed, said }) => make("li", {}, button(`${seed}`, () => this.page.open(seed, text), { title: said, "aria-label": `Open seed ${seed}` })))));
-    const lists = Object.keys(OUTCOMES).map((kind) => [kind, found.filter((each) => each.kind === kind)]).filter(([, all]) => all.length).map((each) => list(...each));
-    byId("outcomes").replaceChildren(make("p", { class: "said" }, `Of ${many(found.length, "schedule")}: ${saidOfOutcomes(found)}`), ...lists);
+    byId("outcomes").replaceChildren(make("p", { class: "said" }, `Of ${many(found.length, "schedule")}: ${saidOfOutcomes(found)}`), ...byOutcome(found).map((each) => list(...each)));
   }
 }

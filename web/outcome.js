@@ -11,30 +11,51 @@ import { Timeline } from "./timeline.js";
 import { Verdicts, drawVerdicts } from "./verdict.js";
 import { drawStops, stopsOf } from "./watch.js";
 
-// Of a run of more milliseconds it isn't asked what is in the stores, since the machine makes it once more for that.
-const LONGEST_RUN = 2000;
-
 const DONE = 0, SNAPSHOT_HAS_FAULT = 8, MEBIBYTE = 2 ** 20;
 
 // If a run ends with idle calls that are more than half of it, this many of them are drawn at most.
 const IDLE_DRAWN = 40;
 
-/** What is told of a command whose text is shown: the facts of the run, or of the lone run, those of the watch, and what is in the stores, if that is asked. */
-async function factsAfter(ask, words, text, hasStores) {
-  const isRun = ["run", "watch"].includes(words[0]), asked = await factsFor(ask, isRun ? [hasStores ? "save" : "run"] : words, text);
-  const watch = words[0] === "watch" ? await factsFor(ask, words, text) : null;
-  if (asked.kind !== "snapshot") return { facts: asked, watch };
+/** Whether decks of a job have names for words. */
+const haveNames = (layouts) => [...layouts.values()].some(({ addresses }) => addresses.length);
+
+/** What is told of a run, and what is in the stores, if that was asked. */
+function factsIn(asked) {
+  if (asked.kind !== "snapshot") return { facts: asked, watch: null };
   const stores = new Map(asked.words.map(([slot, address, octal]) => [`${slot} ${address}`, octal]));
-  return { facts: asked.run, watch, wordsIn: (slot) => (address) => stores.get(`${slot} ${address}`) ?? NOUGHT };
+  return { facts: asked.run, watch: null, wordsIn: (slot) => (address) => stores.get(`${slot} ${address}`) ?? NOUGHT };
 }
 
-/** What an answer of the machine to the words of a command for a text says. The decks of its job are listed for the names of their words. */
-export async function outcomeOf(ask, words, text, answer, { job, failures }) {
-  const { status, text: report, milliseconds } = answer;
+/** The words of the command whose facts are those of a run: with what is in the stores, if that has names. */
+const wordsOfRun = (layouts) => [haveNames(layouts) ? "save" : "run"];
+
+/** What is told of a command whose text is there already: the facts of the run or of the lone run, those of the watch, and what is in the stores. */
+async function factsAfter(ask, words, text, layouts) {
+  const isRun = ["run", "watch"].includes(words[0]), asked = await factsFor(ask, isRun ? wordsOfRun(layouts) : words, text);
+  return { ...factsIn(asked), watch: words[0] === "watch" ? await factsFor(ask, words, text) : null };
+}
+
+/** The run of a job with what is told of it, which is asked at once: one run gives both. Null if the job has a fault, or if
+ * all of that is too long to be told at once, or there is no memory for it. */
+export async function toldRun(ask, job) {
+  try {
+    const layouts = await layoutsOf(ask, job), { text, ...answer } = await ask(wordsOfRun(layouts), job, true);
+    if (answer.status !== DONE || text === "") return null;
+    const told = factsIn(JSON.parse(text));
+    return told.facts.text === null ? null : { answer: { ...answer, text: told.facts.text }, layouts, told };
+  } catch (error) {
+    if (!(error instanceof Untold)) throw error;
+    return null;
+  }
+}
+
+/** What an answer of the machine to the words of a command for a text says. The decks of its job are listed for the names of their words. `run` has what is told of it,
+ * if it was asked with it. */
+export async function outcomeOf(ask, words, text, answer, { job, failures, run = null }) {
+  const { status, text: report } = answer;
   if (status !== DONE || !isReadable(report)) return { text: report };
   try {
-    const layouts = await layoutsOf(ask, job), hasNames = [...layouts.values()].some(({ addresses }) => addresses.length);
-    const { facts, watch, wordsIn } = await factsAfter(ask, words, text, hasNames && milliseconds < LONGEST_RUN);
+    const layouts = run?.layouts ?? await layoutsOf(ask, job), { facts, watch, wordsIn } = run?.told ?? await factsAfter(ask, words, text, layouts);
     const timeline = facts.kind === "run" ? new Timeline(facts) : null, stops = watch && stopsOf(watch, facts);
     return { text: report, facts, ...readReport(report), layouts, wordsIn, timeline, stops, verdicts: new Verdicts(facts, { layouts, failures, text: job }) };
   } catch (error) {

@@ -14,7 +14,7 @@ import { attendToKeys } from "./keys.js";
 import { hasJob, jobOfLink, packedJob, saveFile } from "./link.js";
 import { Many } from "./many.js";
 import { narrowed } from "./narrow.js";
-import { outcomeOf, outcomeOfRecord, saidOfAnswer, showOutcome } from "./outcome.js";
+import { outcomeOf, outcomeOfRecord, saidOfAnswer, showOutcome, toldRun } from "./outcome.js";
 import { Replay } from "./replay.js";
 import { NoSchedule, drawDelays, listSpeeds, readDelays, scheduled } from "./schedule.js";
 import { Breaks } from "./seek.js";
@@ -65,7 +65,7 @@ let pause = 0;
 const ask = (words, job, isTold) => engine.ask(words, job, isTold);
 const replay = new Replay(byId("replay"), { ask, say, failed: (error) => sayFailed(error), breaks, caret: () => (lastRun?.text === view.text ? caret : null) });
 const theorem = new Theorem(byId("compared"), { ask, say });
-const variations = new Variations({ ask, say, work, view, theorem, keeping, changed, run: runAgain, lastRun: () => lastRun });
+const variations = new Variations({ ask, say, work, view, theorem, replace, run: runAgain, lastRun: () => lastRun });
 const trials = new Many({ ask, say, work, isSound, from: () => variations.from(), open: (seed, from) => variations.open(seed, from), failures: () => texts.failures });
 const exploring = new Exploring({ ask, say, work, isSound, text: () => view.text, open: replaceAndRun });
 
@@ -142,13 +142,14 @@ async function lineShow({ name, subject, line }, text) {
 }
 
 /** The button that writes a line, with which the job becomes this text. */
-function mending(line, text) {
-  return button(`Write ${line}`, () => {
-    const before = view.text;
-    view.show(text);
-    changed();
-    keeping.offerUndo(`Changed: ${line}.`, before);
-  });
+const mending = (line, text) => button(`Write ${line}`, () => replace(text, `Changed: ${line}.`));
+
+/** Puts another job in the place of the one that is shown, which can be had back. `said` tells what was done. */
+function replace(text, said) {
+  const before = view.text;
+  view.show(text);
+  changed();
+  keeping.offerUndo(said, before);
 }
 
 /** The words of the chosen command. A place that is watched may be written as a jump of the deck names it. */
@@ -205,17 +206,20 @@ function runAgain() {
   return runNow(["run"]);
 }
 
+/** What came of a text by the words of a command. `run` has what is told of it, if it was asked with it. */
+const outcomeFor = (asked, text, answer, run) => outcomeOf(ask, asked, text, answer, { job: jobOf(asked[0], text), failures: texts.failures, run });
+
 /** Shows what the machine answers to the words of a command for the job. */
 async function runNow(asked) {
   const { text } = view, isRun = RUN.includes(asked[0]);
   showText(null);
-  const answer = await ask(asked, text);
+  const made = asked[0] === "run" ? await toldRun(ask, text) : null, answer = made?.answer ?? await ask(asked, text);
   const fault = await showFault(answer, text, asked);
-  if (answer.milliseconds > SOON) {
+  if (!made && answer.milliseconds > SOON) {
     showText({ text: answer.text });
     say("The run is made. The machine now tells what there is to know of it.");
   }
-  const outcome = await outcomeOf(ask, asked, text, answer, { job: jobOf(asked[0], text), failures: texts.failures });
+  const outcome = await outcomeFor(asked, text, answer, made);
   showText(outcome, { look: isRun ? look : null, go: goToStop, change: isRun ? changeAndRun : null, say });
   lastRun = isRun && outcome.timeline ? { ...outcome, text } : null;
   if (lastRun) theorem.take(lastRun);
@@ -252,10 +256,7 @@ async function changeAndRun({ name, change }) {
 
 /** Puts another job in the place of the one that is shown, and runs it. `what` says what is new. */
 function replaceAndRun(text, what) {
-  const before = view.text;
-  view.show(text);
-  changed();
-  keeping.offerUndo(`Changed: ${what}.`, before);
+  replace(text, `Changed: ${what}.`);
   return work("Running.", runAgain);
 }
 
@@ -276,7 +277,8 @@ function look(call) {
 /** Shows the run of a job that isn't in the editor: at its end, or at the call with which a word of a slot got its value. */
 function showOther(text, at) {
   return work("Running.", async () => {
-    const answer = await ask(["run"], text), outcome = await outcomeOf(ask, ["run"], text, answer, { job: text, failures: texts.failures });
+    const made = await toldRun(ask, text), answer = made?.answer ?? await ask(["run"], text);
+    const outcome = await outcomeFor(["run"], text, answer, made);
     if (!outcome.timeline) return;
     await replay.open({ ...outcome, text }, outcome.timeline.total);
     goTo("replay");
@@ -328,11 +330,9 @@ async function writeSchedule() {
   const delays = readDelays(view.text);
   if (delays === null) return say("These aren't numbers of calls.", true);
   return work("Writing the schedule.", async () => {
-    const before = view.text;
-    if (!await isSound(before)) return;
-    view.show(await scheduled(ask, before, delays));
-    changed();
-    keeping.offerUndo("The schedule was written anew.", before);
+    const { text } = view;
+    if (!await isSound(text)) return;
+    replace(await scheduled(ask, text, delays), "The schedule was written anew.");
     say("The schedule is written. It can be changed like any other text.");
   });
 }
@@ -435,35 +435,27 @@ function switchLecture() {
   byId("lecture").setAttribute("aria-pressed", `${isOn}`);
 }
 
+/** What each button does. */
+const BUTTONS = {
+  run, stop, see, link: showLink, lecture: switchLecture, schedule: writeSchedule, look: () => look(0), try: () => trials.tryAll(), explore: () => exploring.all(),
+  shuffle: () => variations.shuffle(), neighbours: () => variations.changeNeighbours(),
+  "compare-alone": compareWithAlone, "compare-before": () => work("Comparing this run with the run before.", () => theorem.withBefore()),
+  open: () => byId("file").click(), save: () => { saveFile("kdf9.job", view.text); keeping.saved(); }, "save-report": () => saveFile("kdf9.report", lastText),
+};
+
 function attend() {
   attendToKeys();
   listSpeeds();
-  byId("lecture").onclick = switchLecture;
+  for (const [id, act] of Object.entries(BUTTONS)) byId(id).onclick = () => act();
   byId("example").onchange = chooseExample;
   byId("command").onchange = () => {
     chooseCommand();
     clearTimeout(pause);
     pause = setTimeout(lookForFault, PAUSE);
   };
-  byId("run").onclick = run;
-  byId("stop").onclick = stop;
-  byId("schedule").onclick = writeSchedule;
-  byId("try").onclick = () => trials.tryAll();
-  byId("explore").onclick = () => exploring.all();
-  byId("scheduling").ontoggle = () => drawDelays(view.text);
-  byId("speeds").onchange = () => drawDelays(view.text);
-  byId("look").onclick = () => look(0);
+  byId("scheduling").ontoggle = byId("speeds").onchange = () => drawDelays(view.text);
   byId("place").onfocus = offerPlaces;
-  byId("shuffle").onclick = () => variations.shuffle();
-  byId("neighbours").onclick = () => variations.changeNeighbours();
-  byId("see").onclick = see;
-  byId("compare-alone").onclick = compareWithAlone;
-  byId("compare-before").onclick = () => work("Comparing this run with the run before.", () => theorem.withBefore());
-  byId("open").onclick = () => byId("file").click();
   byId("file").onchange = openFile;
-  byId("save").onclick = () => { saveFile("kdf9.job", view.text); keeping.saved(); };
-  byId("save-report").onclick = () => saveFile("kdf9.report", lastText);
-  byId("link").onclick = showLink;
   byId("address").onfocus = () => byId("address").select();
   for (const radio of document.querySelectorAll("input[name=view]")) radio.onchange = () => view.showWhole(radio.value === "whole");
   addEventListener("hashchange", openLink);

@@ -96,7 +96,7 @@ const sumOf = (numbers) => numbers.reduce((sum, number) => sum + number, 0);
 /** A picture while it is drawn. */
 class Sheet {
   constructor(timeline, view, size, stops) {
-    Object.assign(this, { timeline, view, size, stops, y: SIZES.top, scale: size.width / view.number, back: [], front: [], rows: [] });
+    Object.assign(this, { timeline, view, size, stops, y: 0, next: SIZES.top, scale: size.width / view.number, back: [], front: [], rows: [] });
     this.text(8, 20, this.title, { "font-size": 16 });
     for (const slot of timeline.slots.keys()) this.program(slot);
     for (const device of timeline.devices.keys()) this.device(device);
@@ -122,6 +122,7 @@ class Sheet {
 
   /** Begins a row, with the text before it, and the one after it if there is room. */
   row(height, before, after) {
+    [this.y, this.next] = [this.next, this.next + height + SIZES.gap];
     this.rows.push({ name: before, after, bars: [] });
     this.text(8, this.y + height / 2 + 5, before);
     if (this.size.right > 100) this.text(this.size.left + this.size.width + 22, this.y + height / 2 + 5, after);
@@ -168,7 +169,6 @@ class Sheet {
       if (view.has(call)) this.end(slot, call, failure);
     }
     if (this.stops?.slot === slot) this.triangles();
-    this.y += SIZES.slot + SIZES.gap;
   }
 
   programBar(slot, stretch) {
@@ -222,7 +222,6 @@ class Sheet {
     }
     this.signs(moves, moves.length <= SIZES.most_signs ? ["move", -3, 0] : ["small_move", 0, 0],
       (events) => `${name}, ${worded(SAYS.moved, { words: many(sumOf(events.map(({ words }) => words)), "word"), moves: many(events.length, "MOVE") })}`);
-    this.y += SIZES.device + SIZES.gap;
   }
 
   /** To whom a device of the pool is lent, in a light shade below its transfers. */
@@ -251,7 +250,6 @@ class Sheet {
       const said = `${this.view.when(stretch.first, stretch.end)}: ${worded(SAYS.idle, { calls: many(calls, "call") })}`;
       this.bar(said, stretch.first, this.stack(stretch, SIZES.device, [[calls, SHADES.idle, "idle"]]));
     }
-    this.y += SIZES.device + SIZES.gap;
   }
 
   clock() {
@@ -259,7 +257,6 @@ class Sheet {
     if (!clock.length) return;
     this.row(SIZES.device, "clock", `set ${many(clock.length, "time")}`);
     this.signs(clock, ["clock", 0, 2], (times) => `, ${worded(SAYS.clock, { times: span(times) })}`);
-    this.y += SIZES.device + SIZES.gap;
   }
 
   exchanges() {
@@ -271,7 +268,6 @@ class Sheet {
       const path = element.querySelector("path"), [x] = /[-\d.]+/.exec(path.getAttribute("d"));
       element.append(shape("path", { d: `M${Number(x) + 8} ${this.y + 2}${SHAPES.exchange.other}`, fill: "none", stroke: "#000", class: "sign" }));
     }
-    this.y += SIZES.device + SIZES.gap;
   }
 
   placeOf(call) {
@@ -282,6 +278,7 @@ class Sheet {
   /** The calls at the bottom, with lines through all rows in the background. */
   axis() {
     const { view } = this, step = distanceOf(view.calls, Math.floor(this.size.width / APART));
+    this.y = this.next;
     for (let call = Math.ceil(view.first / step) * step; call <= view.end; call += step) {
       const x = this.placeOf(call).toFixed(1);
       this.back.push(shape("path", { d: `M${x} ${SIZES.top - 6}V${this.y + 4}`, stroke: SHADES.axis, class: "axis" }));
@@ -341,4 +338,3 @@ export function fileOf(timeline, view, stops) {
   element.prepend(shape("title", {}, sheet.title), shape("desc", {}, sheet.description), shape("defs", {}, ...patterns));
   return { text: new XMLSerializer().serializeToString(element), width, height };
 }
-

@@ -173,11 +173,11 @@ const shareOf = (value, whole) => (whole === null ? "" : `${(100 * value / Math.
 const written = (value) => value.toLocaleString("en", { maximumFractionDigits: 4 });
 
 /** The rows of measures: each with its text, its sentence, and its value with the whole of which it is a share. */
-const rowsOfMeasures = (facts) => new Map(toldMeasures(facts).map(({ row, says, value, whole }) => [row, { says, value, whole }]));
+const rowsOfMeasures = (timeline) => new Map(toldMeasures(timeline).map(({ row, says, value, whole }) => [row, { says, value, whole }]));
 
 /** The table of what the calls of a run went to, with a button that copies it as CSV. If there is another timeline, each row has both runs and what changed. */
-export function tableOfSums({ facts }, { other = null, say }) {
-  const now = rowsOfMeasures(facts), before = other && rowsOfMeasures(other.facts), nothing = { value: 0, whole: null }, cells = ({ value, whole }) => [written(value), shareOf(value, whole)];
+export function tableOfSums(timeline, { other = null, say }) {
+  const now = rowsOfMeasures(timeline), before = other && rowsOfMeasures(other), nothing = { value: 0, whole: null }, cells = ({ value, whole }) => [written(value), shareOf(value, whole)];
   const rows = [...new Set([...before?.keys() ?? [], ...now.keys()])].map((name) => {
     const mine = now.get(name) ?? nothing, its = before?.get(name) ?? nothing, change = mine.value - its.value, title = (mine.says ?? its.says).replaceAll("`", "");
     return [make("span", { title }, name), ...(other ? [...cells(its), ...cells(mine), `${change > 0 ? "+" : ""}${written(change)}`] : cells(mine))];

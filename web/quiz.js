@@ -1,6 +1,6 @@
 // Questions whose answers the machine gave when the page was made. One is tried before its answer is shown.
 
-import { button, labelled, make } from "./dom.js";
+import { button, labelled, make, scrolled } from "./dom.js";
 import { nodesOf } from "./prose.js";
 
 const simplified = (text) => text.trim().toLowerCase().replace(/[\s,;]+/g, " ");
@@ -31,4 +31,4 @@ export function drawQuestion(question, { page, tries, keep }) {
     make("p", {}, make("strong", {}, asked)), make("div", { class: "fields" }, labelled("Your answer", mine), button("Try", solve), show), said);
 }
 
-const textOf = (name, text) => make("pre", { class: "deck", tabindex: "0", role: "group", "aria-label": `The ${name} of the question` }, text);
+const textOf = (name, text) => scrolled("deck", `The ${name} of the question`, text);

@@ -1,7 +1,7 @@
 // A run, shown call by call. What is shown of a call is the machine's own report of the same job, cut after that call, with the whole store shown. So it is
 // the run itself, and nothing is computed here.
 
-import { button, choice, labelled, make, table } from "./dom.js";
+import { button, choice, labelled, make, scrolled, table } from "./dom.js";
 import { readJob, withStore, writeJob } from "./job.js";
 import { saidOf, wordsOfGroup } from "./journal.js";
 import { mediumOf } from "./medium.js";
@@ -41,7 +41,7 @@ export class Replay {
     if (run !== this.run) {
       const { text, timeline, layouts, stops } = run;
       Object.assign(this, { run, text, timeline, layouts, stops, job: readJob(text), wanted: null, isAsking: false, last: null });
-      this.seeker = new Seeker({ ask: this.ask, text, timeline: this.timeline, layouts, report: (at, hasStores) => (hasStores ? this.sections(at) : this.sectionsOnly(at)) });
+      this.seeker = new Seeker({ ask: this.ask, text, timeline: this.timeline, layouts, report: (at, hasStores) => (hasStores ? this.sections(at) : this.sectionsOf(at, (slot) => ({ ...slot, shows: [] }))) });
       this.draw();
       this.element.hidden = false;
     }
@@ -154,20 +154,16 @@ export class Replay {
     this.isAsking = false;
   }
 
-  /** The sections after a call, without the stores. */
-  async sectionsOnly(call) {
-    const { status, text } = await this.ask(["run"], cutJob(this.text, call, (slot) => ({ ...slot, shows: [] })));
+  /** The sections after a call, with the whole stores or what else is shown of them. */
+  async sectionsOf(call, shown) {
+    const { status, text } = await this.ask(["run"], cutJob(this.text, call, shown));
     if (status) throw new Error(text.trim());
     return readReport(text).sections;
   }
 
   async sections(call) {
-    if (this.last?.call === call && this.last.text === this.text) return this.last.sections;
-    const { status, text } = await this.ask(["run"], cutJob(this.text, call));
-    if (status) throw new Error(text.trim());
-    const { sections } = readReport(text);
-    this.last = { call, text: this.text, sections };
-    return sections;
+    if (this.last?.call !== call || this.last.text !== this.text) this.last = { call, text: this.text, sections: await this.sectionsOf(call) };
+    return this.last.sections;
   }
 
   drawMoment(call, now, before) {
@@ -232,10 +228,10 @@ export class Replay {
   /** The deck with the next statement marked. */
   drawDeck(section, next) {
     const { deck } = this.slotOf(section.slot);
-    if (!next || section.state === "ENDED") return make("pre", { class: "deck", tabindex: "0", role: "group", "aria-label": "Deck" }, deck);
+    if (!next || section.state === "ENDED") return scrolled("deck", "Deck", deck);
     const mark = make("mark", {}, deck.slice(next.start, next.end));
     setTimeout(() => { mark.parentElement.scrollTop = mark.offsetTop - mark.parentElement.offsetTop - 60; });
-    return make("pre", { class: "deck", tabindex: "0", role: "group", "aria-label": "Deck, with the next statement marked" }, deck.slice(0, next.start), mark, deck.slice(next.end));
+    return scrolled("deck", "Deck, with the next statement marked", deck.slice(0, next.start), mark, deck.slice(next.end));
   }
 
   drawRegisters(section, before) {
@@ -288,8 +284,8 @@ export class Replay {
     const moved = (this.timeline.moves.get(number) ?? []).reduce((sum, move) => sum + (flight?.start <= move.call && move.call <= call ? move.words : 0), 0);
     const said = `${isChanged ? CHANGED : ""}${name[0].toUpperCase()}${name.slice(1)}, ${kind}: ${state}, place ${place}`;
     const transfer = flight ? `; a transfer since call ${flight.start}, ${moved} words moved by MOVE` : "";
-    const lines = mediumOf(device, media), attributes = { class: "blocks", tabindex: "0", role: "group", "aria-label": `What is on ${name}` };
-    return make("div", {}, make("p", {}, `${said}${transfer}.`), ...(lines.length ? [make("pre", attributes, lines.join("\n"))] : []));
+    const lines = mediumOf(device, media);
+    return make("div", {}, make("p", {}, `${said}${transfer}.`), ...(lines.length ? [scrolled("blocks", `What is on ${name}`, lines.join("\n"))] : []));
   }
 
   /** Who has each device of the pool after the call, and who waits for one; nothing if the pool has no devices. */

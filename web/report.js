@@ -70,5 +70,9 @@ export function stateOfStint({ isClaimed }, { state }) {
   return { ENDED: "held until the program ended", FAILED: "held until the program failed" }[state.split(" ")[0]] ?? "held";
 }
 
+/** A number of things as the tools tell it, and things in a row. */
+export const count = (number, what) => `${number} ${what}${number === 1 ? "" : "s"}`;
+export const listed = (words) => (words.length > 1 ? `${words.slice(0, -1).join(", ")} and ${words.at(-1)}` : words.join());
+
 /** A number of things, in words: of one, or of all. */
 export const many = (number, what, all = `${what}s`) => `${number.toLocaleString("en")} ${number === 1 ? what : all}`;

@@ -1,6 +1,6 @@
 // What came of a run: each program in words and tables, the journal in words, and the text itself.
 
-import { byId, make, table } from "./dom.js";
+import { byId, make, scrolled, table } from "./dom.js";
 import { layoutOf } from "./deck.js";
 import { readJob } from "./job.js";
 import { saidOf } from "./journal.js";
@@ -97,9 +97,7 @@ function drawSection(section, layout, wordIn) {
 /** A device, or a stint with one of the pool, which is called `name`. */
 function deviceOf(name, { kind, place, flag, blocks }, state) {
   const said = make("p", {}, `${name[0].toUpperCase()}${name.slice(1)}, ${kind}: ${state}, place ${place}, flag ${flag}`);
-  if (!blocks.length) return said;
-  const attributes = { class: "blocks", tabindex: "0", role: "group", "aria-label": `The blocks of ${name}` };
-  return make("div", {}, said, make("pre", attributes, linesOfBlocks(blocks).join("\n")));
+  return blocks.length ? make("div", {}, said, scrolled("blocks", `The blocks of ${name}`, linesOfBlocks(blocks).join("\n"))) : said;
 }
 
 /** The entries of a journal: how the report has them, what they mean, and how many calls were before them. */

@@ -3,10 +3,8 @@
 import { factsOfRun } from "./facts.js";
 import { readJob, withStore, writeJob } from "./job.js";
 import { callsOfOrders } from "./journal.js";
+import { count, listed } from "./report.js";
 import { readSchedule, writeSchedule } from "./schedule.js";
-
-const count = (number, what) => `${number} ${what}${number === 1 ? "" : "s"}`;
-const listed = (words) => (words.length > 1 ? `${words.slice(0, -1).join(", ")} and ${words.at(-1)}` : words[0]);
 
 /** What a program was answered, by the number of the order that asked. The device that it took from the pool is an answer. */
 const answersOf = ({ asks }, number) => new Map(asks.filter(({ slot }) => slot === number).map(({ order, answer }) => [order, answer]));

@@ -2,14 +2,13 @@
 // is run once more before it is told, its report is checked, and what comes of it is compared with what was found (tools/outcomes/witness.py, said.py).
 
 import { Course } from "./instants.js";
+import { count, listed } from "./report.js";
 import { Contradiction, FOR_GOOD, compareResults, endOf } from "./search.js";
 import { OUTCOMES, worded } from "./tables.js";
 
 const { says, most_told: MOST, most_lines: MOST_OF_SECTION, most_events: MOST_OF_SCHEDULE, most_answers: MOST_OF_ANSWERS } = OUTCOMES;
 const IN_OTHER_WORDS = /^(STATE|ORDERS) /;
 
-const some = (number, what) => `${number} ${what}${number === 1 ? "" : "s"}`;
-const enumerated = (words) => (words.length > 1 ? `${words.slice(0, -1).join(", ")} and ${words.at(-1)}` : words.join());
 const mark = (told, most) => (told.length > most ? says.cut : "");
 const saidOfAnswers = ({ answers }) => (answers.length ? worded(says.answers, { answers: answers.slice(0, MOST_OF_ANSWERS).join(" ") + mark(answers, MOST_OF_ANSWERS) }) : "");
 
@@ -46,10 +45,10 @@ export class Telling {
     for (const [at, { what, schedule }] of results.slice(0, MOST).entries()) {
       const own = sections[at].filter((line) => !isCommon(line) && !IN_OTHER_WORDS.test(line)), orders = sections[at].find((line) => line.startsWith("ORDERS ")).slice(7);
       const differing = [...own.slice(0, MOST_OF_SECTION), ...(own.length > MOST_OF_SECTION ? [says.cut.trim()] : [])].map((line) => worded(says.differs, { line })).join("");
-      const said = worded(says.result, { state: what.state, orders: some(Number(orders), "order"), answers: saidOfAnswers(what), differing });
+      const said = worded(says.result, { state: what.state, orders: count(Number(orders), "order"), answers: saidOfAnswers(what), differing });
       lines.push({ said, job: await this.shown(schedule, ({ last }) => isSame(endOf(last, slot), what)) });
     }
-    return { head: worded(says[asks ? "several" : "one"], { slot, results: some(results.length, "result") }), lines: [...lines, ...more(results.length)] };
+    return { head: worded(says[asks ? "several" : "one"], { slot, results: count(results.length, "result") }), lines: [...lines, ...more(results.length)] };
   }
 
   /** The deadlocks, the shortest first. */
@@ -57,7 +56,7 @@ export class Telling {
     const { found, tried: { pool } } = this, deadlocks = found.deadlocks.sorted(), parts = [];
     for (const { what, schedule } of deadlocks.slice(0, MOST)) {
       const circle = what.map(([slot, kind, devices]) => worded(says.waiting, { slot, devices: this.devices(devices), kind: `${kind === "LP" ? "an" : "a"} ${kind}` })).join("; ");
-      const head = worded(says.deadlock, { calls: some(schedule.calls, "call"), events: saidOfEvents(schedule), circle });
+      const head = worded(says.deadlock, { calls: count(schedule.calls, "call"), events: saidOfEvents(schedule), circle });
       parts.push({ head, lines: [], job: await this.shown(schedule, ({ last }) => isSame(last.circle(pool), what)) });
     }
     const which = found.left ? "no_deadlock_found" : found.isCut ? "no_deadlock_within" : "no_deadlock";
@@ -66,14 +65,14 @@ export class Telling {
   }
 
   devices(numbers) {
-    return numbers.length ? `device${numbers.length === 1 ? "" : "s"} ${enumerated(numbers.map((number) => `${number} ${this.tried.pool.get(number)}`))}` : "nothing";
+    return numbers.length ? `device${numbers.length === 1 ? "" : "s"} ${listed(numbers.map((number) => `${number} ${this.tried.pool.get(number)}`))}` : "nothing";
   }
 
   async ofStarved() {
     const parts = [];
     for (const { what: slot, schedule } of [...this.found.starved.all.values()].sort((one, other) => one.what - other.what)) {
       const isSo = ({ last, turns }) => last.live.includes(slot) && !turns.some((turn) => turn.slot === slot || turn.slot === null);
-      parts.push({ head: worded(says.starves, { slot, calls: some(schedule.calls, "call"), events: saidOfEvents(schedule) }), lines: [], job: await this.shown(schedule, isSo) });
+      parts.push({ head: worded(says.starves, { slot, calls: count(schedule.calls, "call"), events: saidOfEvents(schedule) }), lines: [], job: await this.shown(schedule, isSo) });
     }
     return parts;
   }
@@ -91,8 +90,8 @@ export class Telling {
 
   /** What was searched, and what was left out. */
   howWhole() {
-    const { found, limits, asunder, again, tried } = this, each = worded(says[asunder ? "each_alone" : "each"], limits), left = some(found.left, "schedule");
-    const runs = worded(says.runs, { runs: some(found.runs, "run"), lines: enumerated(["END", ...(tried.times.length ? ["CLOCK"] : [])]), each, shown: some(again.size, "schedule") });
+    const { found, limits, asunder, again, tried } = this, each = worded(says[asunder ? "each_alone" : "each"], limits), left = count(found.left, "schedule");
+    const runs = worded(says.runs, { runs: count(found.runs, "run"), lines: listed(["END", ...(tried.times.length ? ["CLOCK"] : [])]), each, shown: count(again.size, "schedule") });
     return [runs, worded(says[found.isStopped ? "stopped" : found.left ? "not_whole" : found.isCut ? "whole_within" : "whole"], { left, each })];
   }
 

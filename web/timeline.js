@@ -1,6 +1,7 @@
 // A run over time, as its facts tell it: what each program did, which transfers each device had, and to whom the pool lent its devices. Time is counted in calls of
 // the machine.
 
+import { exchangedIn } from "./journal.js";
 import { many } from "./report.js";
 import { PICTURE, worded } from "./tables.js";
 
@@ -119,7 +120,7 @@ export class Timeline {
   swapsOf(entries, slots) {
     let priorities = [0, 1, 2, 3];
     return entries.map(({ call, slot, other }) => {
-      priorities = priorities.map((each) => (each === slot ? other : each === other ? slot : each));
+      priorities = exchangedIn(priorities, slot, other);
       return { call, slots: [slot, other], after: priorities.filter((each) => slots.includes(each)) };
     });
   }

@@ -11,26 +11,27 @@ function readSeed() {
 }
 
 export class Variations {
-  /** The variations of the job of a page, which gives what it can do: `work` does some work, `run` runs the job, and `lastRun` gives the last run. */
+  /** The variations of the job of a page, which gives what it can do: `work` does some work, `replace` puts another job in the place of the one that is shown, `run` runs
+   * it, and `lastRun` gives the last run. */
   constructor(page) {
     this.page = page;
     // The job with the schedule that was shuffled last, and the job that it was made from. So a seed gives the same schedule however often it was shuffled before.
     this.mixed = { text: null, from: null };
   }
 
-  /** Runs the job as `change` makes it from a seed, and compares the run with the one before, which is of the job as it was. `change` gives what is said of the two
-   * runs, or null if it has said why there is no other job. */
-  async compare(text, change) {
-    const { say, work, run, view, theorem, keeping, changed, lastRun } = this.page, seed = readSeed();
+  /** Runs the job as `change` makes it from a seed, and compares the run with the one before, which is of the job as it was. `change` gives the other job, and what is
+   * said of it; or nothing if it has said why there is none. */
+  async compare(doing, change) {
+    const { say, work, run, view, theorem, replace, lastRun } = this.page, seed = readSeed();
     if (seed === null) return say(`A seed is a number from 0 to ${MOST_SEED}.`, true);
-    return work(text, async () => {
+    return work(doing, async () => {
       if (lastRun()?.text !== view.text) await run();
-      const before = view.text, said = lastRun() && await change(seed);
-      if (!said) return;
-      changed();
-      keeping.offerUndo(`${said} with seed ${seed}.`, before);
+      const other = lastRun() && await change(seed);
+      if (!other) return;
+      const said = `${other.said} with seed ${seed}.`;
+      replace(other.text, said);
       await run();
-      if (lastRun()) await theorem.withBefore(`${said} with seed ${seed}. Here is this run beside the run before.`);
+      if (lastRun()) await theorem.withBefore(`${said} Here is this run beside the run before.`);
     });
   }
 
@@ -41,27 +42,27 @@ export class Variations {
     return mixed.from;
   }
 
+  /** The job with the schedule of a seed. */
+  async mix(seed) {
+    this.mixed.text = await shuffled(this.page.ask, this.from(), seed);
+    return this.mixed.text;
+  }
+
   /** Shows the schedule of a seed of a job, and runs it. */
   open(seed, from) {
-    const { ask, say, work, run, view, keeping, changed } = this.page;
+    const { say, work, run, replace } = this.page;
     if (this.from() !== from) return say("The job has been changed since these schedules were tried. Try them again.", true);
     return work(`Running with seed ${seed}.`, async () => {
-      const before = view.text;
-      this.mixed.text = await shuffled(ask, from, seed);
-      view.show(this.mixed.text);
-      changed();
-      keeping.offerUndo(`The schedule is that of seed ${seed}.`, before);
+      replace(await this.mix(seed), `The schedule is that of seed ${seed}.`);
       await run();
     });
   }
 
   shuffle() {
-    const { mixed, page: { ask, say, view } } = this;
     return this.compare("Shuffling the schedule.", async (seed) => {
-      mixed.text = await shuffled(ask, this.from(), seed);
-      if (mixed.text === mixed.from) return say("There is nothing to shuffle: this job has one program and no transfers.", true);
-      view.show(mixed.text);
-      return "The schedule was shuffled";
+      const text = await this.mix(seed);
+      if (text !== this.mixed.from) return { text, said: "The schedule was shuffled" };
+      return this.page.say("There is nothing to shuffle: this job has one program and no transfers.", true);
     });
   }
 
@@ -72,8 +73,7 @@ export class Variations {
       if (!numbers.includes(kept) || numbers.length < 2) return say(`There is no program in slot ${kept} with a neighbour.`, true);
       const text = await withOtherNeighbours(ask, view.text, kept, seed);
       if (text === null) return say("There is no room in a neighbour's store, or its deck can't begin with other orders.", true);
-      view.show(text);
-      return `The neighbours of program ${kept} begin with more orders now, chosen`;
+      return { text, said: `The neighbours of program ${kept} begin with more orders now, chosen` };
     });
   }
 }

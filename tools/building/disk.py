@@ -67,3 +67,14 @@ def bytes_in_words(size: int) -> str:
         if size >= unit:
             return f"{round(size / unit, 1 if size < 10 * unit else None):g} {name}"
     return f"{size} bytes"
+
+
+def put(source: pathlib.Path, target: pathlib.Path) -> None:
+    """Copies a file into a place in which there is never half of it. What was there stays as it is for a program that has loaded it."""
+    half = target.with_name(f"{target.name}.{os.getpid()}")
+    try:
+        shutil.copy(source, half)
+        half.replace(target)
+    finally:
+        if half.exists():
+            half.unlink()

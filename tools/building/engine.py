@@ -15,7 +15,7 @@ import sys
 import tempfile
 
 from building.progress import Stages, say
-from building.rooms import CRATES, PROGRAM, ROOT, crates_below, read_list
+from building.rooms import CRATES, PROGRAM, ROOT, crates_below, kept_crates, read_crates, read_list
 
 CRATE = "kdf_engine"
 OUT = CRATES / "kdf9" / "out" / "engine"
@@ -32,12 +32,17 @@ CALLS = ["kdf9_facts", "kdf9_run", "kdf9_version"]
 
 TARGET = ["--target=wasm64-unknown-unknown", "-mcpu=lime1", "--no-default-config"]
 
-# The flags with which the kit's own clang is called for wasm64.
+# The products and shifts of 128 bits that the crate has for WebAssembly, each with the name by which the compiler calls it there.
+WIDE = {"kdf9_product": "__multi3", "kdf9_shift_left": "__ashlti3", "kdf9_shift_right_logical": "__lshrti3", "kdf9_shift_right_arithmetic": "__ashrti3"}
+
+# The flags with which the kit's own clang is called for wasm64. The last one is added: that pass would make one product of 128 bits again of the parts of which
+# the crate makes it, and so have it call itself.
 FLAGS = """-expand-div-rem-bits=64 -expand-fp-convert-bits=64 -trap-unreachable -disable-machine-licm -disable-postra-machine-licm
--sink-common-insts=false""".split()
+-sink-common-insts=false -opt-disable=aggressive-instcombine""".split()
 
 # What web/machine.js provides to the module.
-IMPORTS = ["rattle_alloc", "rattle_realloc", "rattle_dealloc", "__multi3", "__ashlti3", "__lshrti3", "__ashrti3"]
+IMPORTS = ["rattle_alloc", "rattle_realloc", "rattle_dealloc"]
+
 # The bytes of the stack, the most bytes that the whole memory may have, and how much the compiler optimizes.
 STACK, MOST_MEMORY = 1 << 20, 1 << 32
 LEVEL = "-O2"
@@ -46,6 +51,9 @@ LEVEL = "-O2"
 HEAD = re.compile(r"^target (?:datalayout|triple) = .*$", re.MULTILINE)
 ATTRIBUTES = re.compile(r' "(probe-stack|stack-probe-size|target-cpu)"="[^"]*"')
 FOREIGN = re.compile(r"(?:declare|attributes|define).*(?:llvm\.x86|x86|target-features)")
+
+# Where the bitcode names what the crate provides to the compiler.
+OURS = re.compile(rf"@({'|'.join(WIDE)})\(")
 
 # What hides names of an object file, by either of its names. The kit has no such tool.
 HIDES = ("objcopy", "llvm-objcopy")
@@ -123,7 +131,7 @@ def bring_up_to_date(wanted):
     with a_room() as room:
         if is_current(wanted):
             return
-        build_missing()
+        build_libraries()
         now = sums()
         room.show.begins(PROVING)
         room.prove()
@@ -150,13 +158,20 @@ def unbuilt():
     return [name for name, folder in libraries().items() if not (folder / f"{name}.rlib").exists()]
 
 
-def build_missing():
-    """Proves and builds the libraries that aren't built yet."""
-    why, missing = hindrance(), unbuilt()
+def changed():
+    """The libraries that were built of another text than they have now, or over others of which that is so, by the dates of their files."""
+    crates = {name: below for name, below in read_crates(CRATE).items() if name != CRATE}
+    kept, missing = kept_crates(crates), unbuilt()
+    return [name for name in crates if name not in kept and name not in missing]
+
+
+def build_libraries():
+    """Proves and builds the libraries that aren't built yet, or have changed since."""
+    why, wanted = hindrance(), unbuilt() or changed()
     if why:
         raise NoEngine(why)
-    if missing and subprocess.run([sys.executable, ROOT / "tools" / "build", "--library"], stdin=subprocess.DEVNULL, check=False).returncode:
-        raise NoEngine(f"the machine for other programs isn't made, since {missing[0]} isn't built")
+    if wanted and subprocess.run([sys.executable, ROOT / "tools" / "build", "--library"], stdin=subprocess.DEVNULL, check=False).returncode:
+        raise NoEngine(f"the machine for other programs isn't made, since {wanted[0]} isn't built")
 
 
 @contextlib.contextmanager
@@ -261,18 +276,18 @@ class Room:
         flags = [word for flag in FLAGS for word in ("-mllvm", flag)] + ["-ffunction-sections", "-fdata-sections", LEVEL]
         self.run(clang, *TARGET, *flags, "-x", "ir", "-c", "wasm64.ll", "-o", "wasm64.o", cwd=self.folder)
         sizes = ["--stack-first", "-z", f"stack-size={STACK}", f"--max-memory={MOST_MEMORY}", "--gc-sections", "--strip-all"]
-        doors = ["--no-entry", *(f"--export={name}" for name in [*CALLS, "__heap_base"]), "--allow-undefined-file=imports"]
+        doors = ["--no-entry", *(f"--export={name}" for name in [*CALLS, *WIDE.values(), "__heap_base"]), "--allow-undefined-file=imports"]
         self.run(self.linker, "-flavor", "wasm", "-mwasm64", *sizes, *doors, "wasm64.o", "-o", MODULE.name, cwd=self.folder)
 
     def retarget(self):
-        """Writes the text of the bitcode for wasm64. It fails if anything is for x86-64 besides what it changes."""
+        """Writes the text of the bitcode for wasm64, with the compiler's names for what the crate provides. It fails if anything is for x86-64 besides what it changes."""
         heads = iter(HEAD.findall((self.folder / "empty.ll").read_text(encoding="utf-8")))
         text, changed = HEAD.subn(lambda _: next(heads), (self.folder / "x64.ll").read_text(encoding="utf-8"), count=2)
         lines = [ATTRIBUTES.sub("", line) if line.startswith("attributes") else line for line in text.split("\n")]
         foreign = [line for line in lines if FOREIGN.match(line)]
         if changed != 2 or foreign:
             raise NoEngine(f"more of the compiled code is for x86-64 than this tool knows: {foreign[:1]}")
-        (self.folder / "wasm64.ll").write_text("\n".join(lines), encoding="utf-8")
+        (self.folder / "wasm64.ll").write_text(OURS.sub(lambda found: f"@{WIDE[found[1]]}(", "\n".join(lines)), encoding="utf-8")
 
     def link(self):
         """Links what was compiled with the kit's heap, for programs. All names are hidden but those of the calls."""

@@ -8,7 +8,6 @@ import os
 import pathlib
 import shutil
 import subprocess
-import time
 from typing import NamedTuple
 
 from building.progress import say
@@ -92,7 +91,7 @@ def clear_rooms():
 
 class Check(NamedTuple):
     """A check that is running: its crate, its process and how many processors that has, where its lines go, whether nothing was kept for it here,
-    the second at which it began, and the lock on the crate's own folder, which keeps every other rt out.
+    and the lock on the crate's own folder, which keeps every other rt out.
     """
 
     name: str
@@ -100,7 +99,6 @@ class Check(NamedTuple):
     jobs: int
     log: pathlib.Path
     is_anew: bool
-    began: float
     lock: int
 
 
@@ -134,7 +132,7 @@ def begin_check(name, below, jobs):
     log.parent.mkdir(exist_ok=True)
     with open(log, "w", encoding="utf-8") as lines:
         process = subprocess.Popen(["rt", *words], cwd=folder, stdin=subprocess.DEVNULL, stdout=lines, stderr=subprocess.STDOUT)
-    return Check(name, process, jobs, log, is_anew, time.monotonic(), lock)
+    return Check(name, process, jobs, log, is_anew, lock)
 
 
 def wait_for_folder(lock, name):

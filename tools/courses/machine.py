@@ -1,13 +1,8 @@
 """What courses and quizzes ask of the machine: the only place of theirs that starts it. If the library is made, it answers in this process."""
-import contextlib
 import functools
-import io
-import tempfile
-from argparse import Namespace
-from typing import Dict, List, Tuple
+from typing import Dict, List
 
 from kdf9 import library, measures, program, told
-from kdf9.entries import module_of
 from kdf9.job import lone_job, Slot
 from kdf9.machine import sound_facts
 from kdf9.report import Section, read_section
@@ -37,25 +32,10 @@ def ask(words: List[str], job: str) -> program.Answer:
     return program.ask(words, job)
 
 
-# The tool of a name as a module.
-tool = functools.lru_cache(maxsize=None)(module_of)
-
-
-def explained(job: str) -> List[str]:
-    """What `./kdf9 explain` says of a job, line by line, with `-` as its name."""
-    with tempfile.NamedTemporaryFile("w", encoding=program.ENCODING, newline="") as file:
-        file.write(job)
-        file.flush()
-        said_of_it = io.StringIO()
-        with contextlib.redirect_stdout(io.StringIO()), contextlib.redirect_stderr(said_of_it):
-            tool("explain").run(Namespace(job=file.name, command="run", strict=False))
-        return said_of_it.getvalue().replace(file.name, "-").split("\n")[:-1]
-
-
 @functools.lru_cache(maxsize=None)
 def word_of(constant: str) -> int:
     """The word that a constant of Usercode is; ValueError where it is none."""
-    listing = told.listing_in(lone_job(Slot(0, LARGEST_STORE, 5, f"PROGRAM V0;\nV0 = {constant};\nFINISH;\n", []), 0), 0)
+    listing = told.told_in(lone_job(Slot(0, LARGEST_STORE, 5, f"PROGRAM V0;\nV0 = {constant};\nFINISH;\n", []), 0), "asm", "0")
     if told.is_fault(listing) or ";" in constant:
         raise ValueError(constant)
     return int(listing.words[1], 8)
@@ -76,9 +56,3 @@ def section(text: str, slot: int) -> Section:
 def sections(text: str) -> List[Section]:
     """The sections of a report, of which nothing else is read."""
     return [section(text, slot) for slot in range(MOST_SLOTS) if f"\nSLOT {slot}\n" in text]
-
-
-def parts_of_line(line: str) -> Tuple[int, int, str]:
-    """The line, the column and the rest of a line that begins with the place of a fault in a job."""
-    _, number, column, rest = line.split(":", 3)
-    return int(number), int(column), rest.strip()

@@ -88,7 +88,7 @@ class Reader:
         text = join_lines(job.lines)
         answer = machine.ask(["asm", "0"], text)
         if answer.status in (2, 3):
-            found = fault_of(answer, job.lines)
+            found = fault_of(text, "asm", "0")
             self._fail(job.line + found.line, f"the starting job has a fault: {found.name}: {found.subject}")
 
     def _title(self, front: Chapter) -> str:

@@ -2,41 +2,41 @@
 import re
 from typing import Dict, List
 
-from courses import machine
 from courses.runs import Missed
 from courses.taken import Taken
+from kdf9 import fault as faults
+from kdf9 import hints, lives, told
+from kdf9.deck import Layout, place_at
 from kdf9.job import read_lines, read_slots
 from kdf9.program import BadInput
+from kdf9.runs import Run
 from kdf9.schedule import start_of
 from kdf9.words import whole
 
-# A line with a sentence, where documents have more, lines that say what is known, and a place of the job; and how many sentences are told.
-SENTENCE = re.compile(r"  [^ ]")
+# Where documents have more, sentences that say what is known, and a place of the job; and how many sentences are told.
 REFERENCE = re.compile(r" \(docs/[A-Z]+\.md[^)]*\)")
-LEFT_OUT = re.compile(r"  (?:slot \d (?:failed at|was live) |priorities at )")
+LEFT_OUT = re.compile(r"(?:slot \d (?:failed at|was live) |priorities at )")
 PLACE = re.compile(r"\bat (?:-:)?(\d+):\d+")
 MOST_SENTENCES = 2
 
 
 def said_of_fault(job: str, taken: Taken) -> str:
     """What is wrong with a deck or a schedule that the machine refused: where, the name of the fault, what the documents say, and a hint."""
-    head, *others = machine.explained(job)
-    line, column, what = machine.parts_of_line(head)
-    return joined([f"{place(job, taken, line)}, column {column}: {what}", *(told(text, job, taken) for text in others if SENTENCE.match(text))])
+    fault = faults.fault_of(job, "run")
+    hint = hints.hint_of(fault, read_slots(read_lines(job))[fault.slot] if fault.of == "deck" else None)
+    head = f"{place(job, taken, fault.line)}, column {fault.column}: {fault.name}: {faults.brief(fault.subject)}"
+    return joined([head, *(with_places(text, job, taken) for text in [fault.sentence, *([f"hint: {hint}"] if hint else [])])])
 
 
 def said_of_stop(missed: Missed, taken: Taken) -> str:
     """Why the program of a slot didn't come to its end: the statement, and the rule or what it waits for."""
-    blocks: List[List[str]] = []
-    for text in machine.explained(missed.job):
-        if text.startswith("-:"):
-            blocks.append([])
-        if blocks:
-            blocks[-1].append(text)
-    mine = next((block for block in blocks if any(text.startswith(f"  slot {missed.stopped} ") for text in block)), [""])
-    head = re.match(r"-:(\d+):\d+: \w+(.*)", mine[0])
-    sentences = [told(text, missed.job, taken) for text in mine if SENTENCE.match(text) and not LEFT_OUT.match(text)][:MOST_SENTENCES]
-    return joined([f"{place(missed.job, taken, whole(head[1]))}{head[2]}", *sentences] if head else sentences)
+    lines = read_lines(missed.job)
+    run = Run(lines)
+    program, layout = run.facts.program(missed.stopped), Layout(told.told_in(missed.job, "asm", str(missed.stopped)))
+    said = [text for text in lives.sentences("-", run, program, layout, range(1, len(lines) + 1)) if not LEFT_OUT.match(text)]
+    row = layout.row_at(place_at(program.at))
+    head = [f"{place(missed.job, taken, row.statement.line)}: {faults.brief(row.statement.written)}"] if row and row.statement else []
+    return joined([*head, *(with_places(text, missed.job, taken) for text in said[:MOST_SENTENCES])])
 
 
 def joined(sentences: List[str]) -> str:
@@ -44,9 +44,9 @@ def joined(sentences: List[str]) -> str:
     return "; ".join(sentence.rstrip(".") for sentence in sentences)
 
 
-def told(text: str, job: str, taken: Taken) -> str:
-    """A line of explain as a sentence, with the lines of the hand-in."""
-    return PLACE.sub(lambda found: f"in {place(job, taken, whole(found[1]))}", REFERENCE.sub("", text[2:]))
+def with_places(text: str, job: str, taken: Taken) -> str:
+    """A sentence with the lines of the hand-in."""
+    return PLACE.sub(lambda found: f"in {place(job, taken, whole(found[1]))}", REFERENCE.sub("", text))
 
 
 def place(job: str, taken: Taken, line: int) -> str:

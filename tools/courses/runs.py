@@ -10,6 +10,7 @@ from kdf9 import deck as decks
 from kdf9 import told
 from kdf9.job import HEADER, join_lines, read_lines, read_slots
 from kdf9.schedule import start_of
+from outcomes.apart import explored
 from outcomes.found import Found, Witness
 from outcomes.runs import Job
 from outcomes.said import said_of_events
@@ -72,14 +73,13 @@ class Names:
 
     def __init__(self, exercise: Exercise, taken: Taken) -> None:
         """Raises Fault if a deck has a fault."""
-        self._exercise, self._taken = exercise, taken
         job = composed(exercise, taken, exercise.cases[0], {}, "")
         self._slots, self._layouts = read_slots(read_lines(job)), {}
         for slot in self._slots:
             answer = machine.ask(["asm", str(slot)], job)
             if answer.status:
                 raise Fault(answer.text, job)
-            self._layouts[slot] = decks.Layout(told.listing_in(job, slot))
+            self._layouts[slot] = decks.Layout(told.told_in(job, "asm", str(slot)))
 
     def words(self, slot: int) -> int:
         """How many words the image of a slot's deck has."""
@@ -226,7 +226,7 @@ def of_every(exercise: Exercise, case: Case, plan: Plan, names: Addresses, job: 
     if answer.status:
         raise Fault(answer.text, job)
     searched = Job("the job", read_lines(job))
-    found, _ = machine.tool("explore").explore(searched, Limits(plan.number, MOST_RUNS), LATE)
+    found, _ = explored(searched, Limits(plan.number, MOST_RUNS), LATE)
     came: List[str] = []
     first: Optional[Missed] = None
     for dues, witness, words in looked_at(exercise, case, plan, searched, found):

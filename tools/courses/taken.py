@@ -5,10 +5,12 @@ from typing import Dict, Iterator, List, NamedTuple, Optional, Tuple
 
 from courses.exercise import Exercise
 from kdf9.deck import without_comments
-from kdf9.fault import BYTE_ORDER_MARK
 from kdf9.job import HEADER
 from kdf9.statements import statements
 from kdf9.tables import table
+
+# The bytes that some editors write first.
+BYTE_ORDER_MARK = "\xef\xbb\xbf"
 
 # A number of a statement as a pattern, and what may stand between the characters of a statement once comments are spaces.
 NUMBER, GAP = r"[+-]?[0-9]+", r"[ \n]*"

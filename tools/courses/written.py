@@ -9,7 +9,7 @@ from typing import Iterator, List, Sequence
 from courses.exercise import Exercise
 from courses.grading import Row
 from courses.marking import NOTHING, Verdict
-from kdf9.words import count
+from kdf9.words import count, in_columns
 
 # A cell that begins so would be a formula for a spreadsheet.
 FORMULA = re.compile(r"[=+\-@\t\r]")
@@ -31,8 +31,7 @@ def as_text(exercises: Sequence[Exercise], rows: Sequence[Row]) -> str:
     """The table for a terminal, and the remarks below it."""
     heads = ["", *(str(exercise.number) for exercise in exercises), "sum"]
     cells = [[row.name, *(f"{each.marks:g}" for each in row.verdicts), f"{row.total:g}"] for row in rows]
-    widths = [max(len(line[at]) for line in [heads, *cells]) for at in range(len(heads))]
-    lines = ["  ".join([line[0].ljust(widths[0]), *(each.rjust(width) for each, width in zip(line[1:], widths[1:]))]).rstrip() for line in [heads, *cells]]
+    lines = in_columns([heads, *cells])
     for row in rows:
         wrong = [(exercise, verdict) for exercise, verdict in zip(exercises, row.verdicts) if not verdict.is_right]
         lines += ["", row.name] if wrong else []

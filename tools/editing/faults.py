@@ -5,8 +5,8 @@ from typing import Iterator, List, NamedTuple, Optional, Tuple
 from kdf9 import fault as found_faults
 from kdf9 import hints, told
 from kdf9.deck import OPENING, without_comments
+from kdf9.hints import meant
 from kdf9.job import HEADER, Slot, read_lines
-from kdf9.names import meant
 from kdf9.program import BadInput
 from kdf9.statements import Statement, statement_at
 from kdf9.tables import hint, table
@@ -111,13 +111,8 @@ def hint_in(text: str, is_job: bool, fault: Fault) -> Optional[str]:
     if fault.deck:
         deck = text[fault.deck.start:fault.deck.end]
         slot = Slot(0, fault.deck.store, fault.deck.line + 1, deck if deck.endswith("\n") else f"{deck}\n", [])
-        return hints.hint_of_deck(placed(fault.facts, slot), slot)
-    if not is_job:
-        return None
-    lines = read_lines(text)
-    if fault.name == "Header":
-        return found_faults.hint_of_header(lines)[2:] or None
-    return hints.told_hint(told.fault_in(fault.facts))
+        return hints.hint_of(placed(fault.facts, slot), slot)
+    return found_faults.told_hint(told.fault_in(fault.facts)) if is_job else None
 
 
 def placed(facts: dict, slot: Slot) -> "told.Fault":

@@ -12,7 +12,6 @@ class Image:
 
     def __init__(self, deck: str, store: int) -> None:
         self.facts = facts_of(lone_job(deck, store), 0)
-        self._deck = deck
 
     @property
     def is_sound(self) -> bool:

@@ -1,7 +1,7 @@
 """How a tool begins and ends: its arguments, what it says of itself, and what becomes of an error. No error shows a traceback.
 
-A tool calls `main` with its name, a function that adds its arguments to a `Parser`, and a function that does its work and returns the status. Those two
-raise BadWords or BadInput where they can't go on; the text of that says what is wrong, and where.
+A tool calls `main` with its name, a function `arguments` that adds what it takes to a `Parser`, and a function `run` that does what the arguments say and returns
+the status. Those two raise BadWords or BadInput where they can't go on; the text of that says what is wrong, and where.
 """
 import argparse
 import gc
@@ -66,6 +66,10 @@ def number(least: int, most: int) -> Callable[[str], int]:
     return read
 
 
+def no_arguments(_parser: Parser) -> None:
+    """The arguments of a tool that takes none."""
+
+
 def main(name: str, arguments: Callable[[Parser], None], run: Callable[[argparse.Namespace], int]) -> NoReturn:
     """Runs the tool of this name on the arguments that were typed, and ends with its status. The garbage collector is off: a large text becomes
     millions of small objects, which are all needed to the end.
@@ -75,8 +79,17 @@ def main(name: str, arguments: Callable[[Parser], None], run: Callable[[argparse
 
 
 def status_of(name: str, arguments: Callable[[Parser], None], run: Callable[[argparse.Namespace], int], words: List[str]) -> int:
-    """The status with which a tool ends on these arguments."""
-    return guarded(name, lambda: parsed(name, arguments, run, words))
+    """The status with which a tool ends on these arguments; where they ask for it, it only says how it is used."""
+
+    def work() -> int:
+        parser = Parser(name)
+        arguments(parser)
+        try:
+            return run(parser.parse_intermixed_args(words))
+        except SystemExit:
+            return 0
+
+    return guarded(name, work)
 
 
 def guarded(name: str, work: Callable[[], int]) -> int:
@@ -91,9 +104,14 @@ def guarded(name: str, work: Callable[[], int]) -> int:
 
 
 def ended(name: str, work: Callable[[], int]) -> int:
-    """The status of work that ends in any way but for want of memory."""
+    """The status of work that ends in any way but for want of memory, with all that it wrote handed over."""
     try:
-        return written(work)
+        if sys.stdout is None:
+            raise BadInput("standard output is closed")
+        sys.stdout.reconfigure(encoding=ENCODING, errors="replace")
+        status = work()
+        sys.stdout.flush()
+        return status
     except BadWords as why:
         tell(f"kdf9 {name}: {why}; usage: {TOOLS[name].usage} (--help says more)")
         return BAD_WORDS
@@ -111,26 +129,6 @@ def ended(name: str, work: Callable[[], int]) -> int:
     except Exception as why:  # pylint: disable=broad-except
         tell(f"kdf9 {name}: {slip(why)}")
     return BAD_INPUT
-
-
-def written(work: Callable[[], int]) -> int:
-    """The status of work that came to its end, with all that it wrote handed over."""
-    if sys.stdout is None:
-        raise BadInput("standard output is closed")
-    sys.stdout.reconfigure(encoding=ENCODING, errors="replace")
-    status = work()
-    sys.stdout.flush()
-    return status
-
-
-def parsed(name: str, arguments: Callable[[Parser], None], run: Callable[[argparse.Namespace], int], words: List[str]) -> int:
-    """The status of a tool on these arguments; where they ask for it, it only says how it is used."""
-    parser = Parser(name)
-    arguments(parser)
-    try:
-        return run(parser.parse_intermixed_args(words))
-    except SystemExit:
-        return 0
 
 
 def slip(why: Exception) -> str:

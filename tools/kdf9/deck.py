@@ -23,18 +23,13 @@ CONSTANT = re.compile(r"V(\d+)=")
 # The name of a place in an image: word and syllable, or a reference and a part as a jump names them.
 PLACE = re.compile(r"(\d{1,4})/([0-5])|(\d{1,4})?(?:P(\d{1,3}))?")
 
-# The number of a Q-store in a statement that sets a part of it, and in one that uses one.
-SETS_Q = re.compile(r"(?:\A=[+R]?[QCIM]|TOQ)(\d+)\Z")
-USES_Q = re.compile(r"[QCIM](\d+)")
-
 
 class Statement(NamedTuple):
-    """A statement: its line and column in the job, what is written there with single spaces, and its text without comments and spaces."""
+    """A statement: its line and column in the job, and what is written there, without comments and with single spaces."""
 
     line: int
     column: int
     written: str
-    text: str
 
 
 class Row(NamedTuple):
@@ -96,32 +91,6 @@ class Layout:
             return self.names[at].name(address - self.names[at].address)
         return f"E{address}"
 
-    def order_before(self, place: int) -> Optional[Statement]:
-        """The statement of the order that goes on at this place, which is no order's: that before it, with what fills its word."""
-        last, end = None, 0
-        for row in self.rows:
-            if row.kind == "order":
-                last, end = row.statement, row.place + row.size
-            elif row.kind == "filling" and row.place == end:
-                end += row.size
-            if last and end >= place:
-                break
-        return last if end == place else None
-
-    def constant_at(self, address: int) -> Optional[Statement]:
-        """The statement of the constant at this address, or None."""
-        return next((row.statement for row in self.rows if row.kind == "constant" and row.place == WORD * address), None)
-
-    def unset_q_stores(self) -> List[Tuple[int, Statement]]:
-        """The Q-stores other than Q0 that statements use and none sets, each with the first statement that uses it."""
-        used, set_ones = {}, {0}
-        for row in self.rows:
-            if row.kind == "order":
-                set_ones.update(map(whole, SETS_Q.findall(row.statement.text)))
-                for q in map(whole, USES_Q.findall(row.statement.text)):
-                    used.setdefault(q, row.statement)
-        return [(q, statement) for q, statement in used.items() if q not in set_ones]
-
     def address_of(self, name: str) -> Optional[int]:
         """The address of the word of this name, or None where no store has it."""
         found = re.fullmatch(r"(V|Y[A-Z]?|E)(\d+)(P\d+)?", name)
@@ -147,12 +116,12 @@ class Layout:
     def _add(self, line) -> None:
         """Adds a statement, and what fills the word before it. A `*` comes before what it fills, and one after a `*` is left out: it fills nothing."""
         last, place = self.rows[-1].statement, place_at(line.at)
-        statement = Statement(line.line, line.column, line.written, line.written.replace(" ", ""))
+        statement = Statement(line.line, line.column, line.written)
         filling = [Row("filling", place - line.filled, line.filled, None)] if line.filled else []
         if line.kind != "star":
             size = WORD if line.kind == "constant" else line.syllables
             self.rows += [*filling, Row(line.kind if line.kind in KINDS else "heading", place, size, statement)]
-        elif last is None or last.text != "*":
+        elif last is None or last.written != "*":
             self.rows += [Row("heading", place - line.filled, 0, statement), *filling]
 
 

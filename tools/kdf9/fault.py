@@ -4,16 +4,15 @@ from __future__ import annotations
 from typing import List, Optional, Tuple
 
 from kdf9 import job as jobs
-from kdf9 import saved, tables, told
+from kdf9 import library, saved, tables, told
 from kdf9.job import HEADER, Slot
-from kdf9.program import LARGE, Answer, BadInput, ask, how_ended
-from kdf9.words import capitals, listed
-
-# The bytes that some editors write first, and how many blank lines before a job count as a slip.
-BYTE_ORDER_MARK = "\xef\xbb\xbf"
-BLANK_LINES = 9
+from kdf9.program import ENCODING, BadInput
+from kdf9.words import listed, shown
 
 LONGEST_SUBJECT = 60
+
+# So many characters of a text are enough to tell what is wrong with its first line.
+FIRST = 4096
 
 # What to do on a terminal about bytes 13.
 BYTE_13 = f"{tables.hint('byte_13')}; remove them with tr -d '\\r'"
@@ -29,23 +28,13 @@ def head_of(source: str, fault: told.Fault) -> str:
     return head(source, fault.line, fault.column, fault.name, fault.subject)
 
 
-def fault_of(answer: Answer, lines: List[str], command: str = saved.RUN) -> told.Fault:
-    """The fault that a command of the program reports for a job of these lines, or for one with a snapshot or a report after it."""
-    kind, *words = answer.text.split()
-    if kind == "SNAPSHOT":
-        return fault_of_snapshot(words[0], int(words[1]), lines)
-    front = len(lines) if command == saved.RUN else saved.length_of_front(lines)
-    is_further = kind == "JOB" and command == saved.RESUME and int(words[1]) > front and "SEAL" in lines[front:]
-    job = saved.joined(lines) if is_further else saved.Joined(lines[:front], range(1, front + 1))
-    fault = told.told_in("\n".join(job.lines), "run")
-    return type(fault)(**{**vars(fault), "line": [*job.numbers, len(lines) + 1][fault.line - 1]})
-
-
-def fault_of_snapshot(name: str, line: int, lines: List[str]) -> told.Fault:
-    """The fault of this name in a line of a snapshot. If the line should be another, the column is where they begin to differ."""
-    text = lines[line - 1] if line <= len(lines) else None
-    column = 1 if text is None else 1 + first_difference(text, saved.due_in(lines, line))
-    return told.Fault(of="snapshot", name=name, line=line, column=column, text=text, sentence=tables.faults("snapshot")[name]["says"])
+def fault_of(text: str, *words: str) -> told.Fault:
+    """The fault that the words of a command find in a text. Which line a snapshot should have in the place of one that is wrong, its front job says."""
+    facts = library.facts(text.encode(ENCODING), words)
+    if facts["of"] == "snapshot" and facts["text"] is not None:
+        due = saved.due_in(jobs.read_lines(text), facts["line"])
+        facts.update(column=1 + first_difference(facts["text"], due), hint={"name": "snapshot_line", "line": due} if due else None)
+    return told.fault_in(facts)
 
 
 def first_difference(text: str, due: str) -> int:
@@ -68,56 +57,49 @@ def sentence(fault: told.Fault) -> str:
     return f"{fault.sentence} (docs/{f'USERCODE.md, fault {fault.number}' if fault.of == 'deck' else 'JOB.md'})"
 
 
+def told_hint(fault: told.Fault) -> Optional[str]:
+    """The hint that the machine tells of a fault, or None. A text of the job may be long, and have bytes that a terminal can't show."""
+    if fault.hint is None:
+        return None
+    values = {member: value for member, value in vars(fault.hint).items() if value is not None}
+    if "text" in values:
+        values["text"] = brief(shown(values["text"]))
+    name = values.pop("name")
+    if name == "snapshot_line":
+        return tables.hint("snapshot_line", line=brief_at(shown(values["line"]), fault.column))
+    return BYTE_13 if name == "byte_13" else tables.hint(name, **values)
+
+
 def lines_of_job(source: str, text: str) -> List[str]:
     """The lines of a job. A text with another first line isn't a job, but bad input."""
     lines = jobs.read_lines(text)
     if lines[:1] == [HEADER]:
         return lines
-    first = lines[0] if lines else None
-    column, says = 1 + first_difference(first or "", HEADER), tables.faults("job")["Header"]["says"]
-    fault = told.Fault(of="job", name="Header", line=1, column=column, text=first, sentence=says)
-    raise BadInput(f"{head_of(source, fault)}: {sentence(fault)}{hint_of_header(lines)}")
-
-
-def hint_of_header(lines):
-    """A hint for a text whose first line isn't that of a job, or nothing."""
-    first = lines[0] if lines else ""
-    if "\r" in first:
-        return f"; {BYTE_13}"
-    if first.startswith(BYTE_ORDER_MARK):
-        return f"; {tables.hint('byte_order_mark')}"
-    if capitals(first) == HEADER:
-        return f"; {tables.hint('capitals', text=HEADER)}"
-    if not first.strip() and HEADER in lines[:BLANK_LINES]:
-        return f"; {tables.hint('nothing_before')}"
-    return ""
+    fault = fault_of(text[:FIRST], "run")
+    hint = told_hint(fault)
+    raise BadInput(f"{head_of(source, fault)}: {sentence(fault)}" + (f"; {hint}" if hint else ""))
 
 
 def sound_lines(source: str, text: str) -> List[str]:
     """The lines of a job. A job with a fault, also of a deck, is bad input."""
     lines = lines_of_job(source, text)
-    refuse(source, lines, ask(["asm", "0"], text))
+    listing_of(source, text, 0)
     return lines
 
 
 def sound_slot(source: str, text: str, number: Optional[int]) -> Tuple[Slot, told.Listing]:
     """The slot of this number of a job, or its first for None, with the facts of its deck. A job with a fault, or without that slot, is bad input."""
-    lines = lines_of_job(source, text)
-    listing = told.told_in(text, "asm", str(number or 0))
-    if told.is_fault(listing):
-        raise BadInput(f"{source}: the job has more than {listing.limit} bytes" if listing.of == "text" else head_of(source, listing))
+    lines, listing = lines_of_job(source, text), listing_of(source, text, number or 0)
     slots = jobs.read_slots(lines)
     slot = slots[min(slots)] if number is None else slots.get(number)
     if slot is None:
         raise BadInput(f"{source}: the job has no slot {number}; it has {listed([f'slot {each}' for each in slots])}")
-    return slot, listing if listing.slot == slot.number else told.listing_in(text, slot.number)
+    return slot, listing if listing.slot == slot.number else listing_of(source, text, slot.number)
 
 
-def refuse(source: str, lines: List[str], answer: Answer) -> None:
-    """Ends the tool if the program reports a fault."""
-    if answer.status in (2, 3):
-        raise BadInput(head_of(source, fault_of(answer, lines)))
-    if answer.status == LARGE:
-        raise BadInput(f"{source}: the job has more than {answer.text.split()[1]} bytes")
-    if answer.status:
-        raise BadInput(f"{source}: {how_ended(answer)}")
+def listing_of(source: str, text: str, number: int) -> told.Listing:
+    """The facts of the deck of a slot. A job with a fault is bad input."""
+    listing = told.told_in(text, "asm", str(number))
+    if told.is_fault(listing):
+        raise BadInput(f"{source}: the job has more than {listing.limit} bytes" if listing.of == "text" else head_of(source, listing))
+    return listing

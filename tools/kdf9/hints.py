@@ -1,20 +1,65 @@
-"""What may have led to a fault of a job or of its deck. The machine tells it, but for a statement that has no form, and for a line of a snapshot."""
+"""What may have been meant by a statement that has no form: it is tried which others have one. All other hints the machine tells."""
 import itertools
 import re
 
 from kdf9 import deck as decks
 from kdf9 import fault as faults
-from kdf9 import saved
-from kdf9.names import has_form, hint_of_name
-from kdf9.tables import hint, table
-from kdf9.words import capitals, shown
+from kdf9.job import Slot, lone_job
+from kdf9.program import ask
+from kdf9.tables import faults as rows_of_faults
+from kdf9.tables import forms, hint, lines, table
+from kdf9.words import capitals
 
-# The faults of a statement that has no form. What may have been meant by it is found by trying others.
+# The faults of a statement that has no form.
 TRIED = ("UnknownOrder", "ConstantRange")
+
+# The faults by which the program says that a statement alone has no form, and the largest store.
+FORMLESS = [name for name, row in rows_of_faults("deck").items() if row.get("formless")]
+LARGEST_STORE = lines()["STORE"]["numbers"][0][1]
 
 # A missing `;` is looked for after the first PIECES pieces of a statement. No valid statement has more pieces, and few have more than FEW_PIECES.
 PIECES, FEW_PIECES = 16, 4
 PIECE = re.compile(r"[^ \n]+")
+
+# How many statements a hint names at most.
+MOST_MEANT = 3
+
+
+def has_form(statement):
+    """Whether the program knows a statement of this text, whatever the sequence and the stores of the deck are."""
+    answer = ask(["asm", "0"], lone_job(Slot(0, LARGEST_STORE, 5, f"PROGRAM;\n{statement};\nFINISH;\n", []), 0))
+    return answer.status != 3 or answer.text.split()[2] not in FORMLESS
+
+
+def distance_is_one(one, other):
+    """Whether one letter too many, too few or wrong, or two exchanged, make the difference between two texts."""
+    if abs(len(one) - len(other)) > 1 or one == other:
+        return False
+    start = faults.first_difference(one, other)
+    rest, due = one[start:], other[start:]
+    exchanged = len(rest) == len(due) >= 2 and rest[1::-1] + rest[2:] == due
+    return rest[1:] == due or rest == due[1:] or rest[1:] == due[1:] or exchanged
+
+
+def meant(text):
+    """The statements that may have been meant by one that has no form: those within one change, with its own numbers."""
+    numbers, name = re.findall(r"\d+", text), re.sub(r"\d+", "0", text)
+    for form in forms():
+        if form.count("0") == len(numbers) and distance_is_one(name, form):
+            statement = "".join(itertools.chain(*itertools.zip_longest(form.split("0"), numbers, fillvalue="")))
+            if has_form(statement):
+                yield statement
+
+
+def hint_of_name(text):
+    """A hint for a name that no statement has, or None."""
+    for names, said in table("names")["elsewhere"]:
+        if re.fullmatch(names, text):
+            return said
+    if re.match(r"\d+:", text):
+        return hint("reference_form", text=text.split(":")[0])
+    names = list(itertools.islice(meant(text), MOST_MEANT))
+    return hint("meant", names=" or ".join(names)) if names else None
 
 
 def begins_statement(text):
@@ -33,8 +78,10 @@ def lost_semicolon(fault, slot):
     return None
 
 
-def hint_of_statement(fault, slot):
-    """A hint for a statement that has no form."""
+def hint_of(fault, slot):
+    """A hint for a fault, which is one of the deck of this slot if it is one of a deck; or None."""
+    if fault.name not in TRIED:
+        return faults.told_hint(fault)
     text = fault.subject.replace(" ", "")
     for left_out, nearest in table("names")["left_out"]:
         if re.fullmatch(left_out, text):
@@ -42,29 +89,3 @@ def hint_of_statement(fault, slot):
     if text != capitals(text) and has_form(capitals(text)):
         return hint("capitals", text=faults.brief(capitals(fault.subject)))
     return lost_semicolon(fault, slot) or (hint_of_name(text) if fault.name == "UnknownOrder" else None)
-
-
-def hint_of_deck(fault, slot):
-    """A hint for a fault of the deck of a slot, or None."""
-    return hint_of_statement(fault, slot) if fault.name in TRIED else told_hint(fault)
-
-
-def told_hint(fault):
-    """The hint that the machine tells of a fault, or None. A text of the job may be long, and have bytes that a terminal can't show."""
-    if fault.hint is None:
-        return None
-    values = {member: value for member, value in vars(fault.hint).items() if value is not None}
-    if "text" in values:
-        values["text"] = faults.brief(shown(values["text"]))
-    name = values.pop("name")
-    return faults.BYTE_13 if name == "byte_13" else hint(name, **values)
-
-
-def hint_of_snapshot(fault, lines):
-    """A hint for a fault of a snapshot, or None: what its front job's snapshot has in the line at fault."""
-    if fault.name == "NoJournal" and fault.line > len(lines):
-        return hint("no_journal")
-    if fault.name == "NoEnd":
-        return hint("no_end")
-    due = saved.due_in(lines, fault.line)
-    return hint("snapshot_line", line=faults.brief_at(shown(due), fault.column)) if due else None

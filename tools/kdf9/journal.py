@@ -75,15 +75,12 @@ class Lane:
 
 
 class Program:
-    """What is known of a program at some moment: what it does since when, which transfers its hold may wait for, and for which kind of
-    the pool's devices it waits, if it does.
+    """What is known of a program at some moment: what it does since when, None if it is over; which transfers its hold may wait for; and for which kind of the
+    pool's devices it waits, if it does.
     """
 
     def __init__(self):
-        self.does = READY
-        self.since = 0
-        self.waits_for = set()
-        self.wants = None
+        self.does, self.since, self.waits_for, self.wants = READY, 0, set(), None
 
 
 class Chart:
@@ -101,11 +98,10 @@ class Chart:
         own = {device.number: device.kind for section in report.sections.values() for device in section.devices}
         self.pool = {stint.number: stint.kind for section in report.sections.values() for stint in section.stints}
         self.devices = {**own, **self.pool}
-        self.slot_lanes = {number: self._lane() for number in report.sections}
-        self.device_lanes = {number: self._lane() for number in [*sorted(own), *sorted(self.pool)]}
-        self.move_lanes = {number: self._lane() for number in self.devices}
-        self.lent_lanes = {number: self._lane() for number in self.pool}
-        self.idle, self.clock, self.exchanges = self._lane(), self._lane(), self._lane()
+        self.slot_lanes = self._lanes(report.sections)
+        self.device_lanes = self._lanes([*sorted(own), *sorted(self.pool)])
+        self.move_lanes, self.lent_lanes = self._lanes(self.devices), self._lanes(self.pool)
+        self.idle, self.clock, self.exchanges = self._lanes(range(3)).values()
         self.order = SLOTS
         self.transfers = Counter()
         self._now = 0
@@ -113,27 +109,22 @@ class Chart:
         self._flying, self._lent = {}, {}
         self._read(report.entries, name)
 
-    def _lane(self):
-        return Lane(self.columns)
+    def _lanes(self, numbers):
+        return {number: Lane(self.columns) for number in numbers}
 
     def _read(self, entries, name):
-        takers = {
-            "RAN": self._ran, "START": self._start, "FAIL": self._stop, "ENDED": self._stop, "BUSY": self._busy,
-            "LOV": self._lov, "WAIT": self._wait, "IDLE": self._idle, "MOVE": self._move, "END": self._end, "CLOCK": self._clock,
-            "SWAP": self._swap, "TAKE": self._take, "GIVE": self._give,
-        }
+        """Takes the entries, each by the method of its name; an answer changes nothing here."""
         try:
             for line, (kind, *numbers) in enumerate(entries, 2):
-                if kind in takers:
-                    takers[kind](*numbers)
+                if kind != "ANSWER":
+                    getattr(self, f"_{kind.lower()}")(*numbers)
         except KeyError as why:
             raise BadInput(f"{name}:{line}: the report has no slot or device {why}") from why
         for number in self._programs:
             self._turn(number, None)
-        for device in list(self._flying):
-            self._land(device)
-        for device in list(self._lent):
-            self._return(device)
+        for spans, lanes in ((self._flying, self.device_lanes), (self._lent, self.lent_lanes)):
+            for device in list(spans):
+                self._close(spans, lanes, device)
         self.times = self.clock.number_of_events()
 
     def _turn(self, number, does):
@@ -173,13 +164,15 @@ class Chart:
         self._lent[device] = (self._now, number)
         self._look_at_waits()
 
-    def _give(self, number, device):
-        self._return(device)
+    def _give(self, _number, device):
+        self._close(self._lent, self.lent_lanes, device)
         self._look_at_waits()
 
-    def _return(self, device):
-        since, holder = self._lent.pop(device)
-        self.lent_lanes[device].span(since, self._now, holder)
+    def _close(self, spans, lanes, device):
+        """What a device was for somebody, it isn't any more; whose it was."""
+        since, slot = spans.pop(device)
+        lanes[device].span(since, self._now, slot)
+        return slot
 
     def _look_at_waits(self):
         """A program waits for the pool while all devices of the kind are lent: also where another was quicker to take the one given back."""
@@ -190,12 +183,14 @@ class Chart:
                 if does != program.does:
                     self._turn(number, does)
 
-    def _stop(self, number, failure=None):
+    def _ended(self, number, failure=None):
         self._turn(number, None)
         self.slot_lanes[number].event(max(0, self._now - 1), (self._now, failure))
         for device in [device for device, (_, holder) in self._lent.items() if holder == number]:
-            self._return(device)
+            self._close(self._lent, self.lent_lanes, device)
         self._look_at_waits()
+
+    _fail = _ended
 
     def _idle(self, calls):
         self.idle.span(self._now, self._now + calls, "idle")
@@ -223,16 +218,11 @@ class Chart:
     def _end(self, device):
         if device not in self._flying:
             return
-        owner = self._flying[device][1]
-        self._land(device)
+        owner = self._close(self._flying, self.device_lanes, device)
         program = self._programs[owner]
         program.waits_for.discard(device)
         if isinstance(program.does, Held) and not program.waits_for:
             self._turn(owner, READY)
-
-    def _land(self, device):
-        since, owner = self._flying.pop(device)
-        self.device_lanes[device].span(since, self._now, owner)
 
 
 def calls_of(entry):

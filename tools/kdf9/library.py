@@ -16,8 +16,9 @@ VERSION = 1
 RUN, FACTS = "kdf9_run", "kdf9_facts"
 NO_ROOM, NO_MEMORY = 6, 7
 
-# The bytes of the room that is tried first for a text, and the most that are.
-FIRST_ROOM, MOST_ROOM = 1 << 16, 1 << 22
+# The bytes of the room that is tried first for a text, the most that are because of earlier texts, and how many there are for each byte of the job. What had too
+# little room is made again, so a run of many events would be made twice.
+FIRST_ROOM, MOST_ROOM, ROOM_BY_JOB = 1 << 16, 1 << 22, {RUN: 4, FACTS: 16}
 
 # What is said before the library is made.
 MADE_NOW = "facts come from the machine as a library, which is made now, this once; that takes about a minute where the program was built here"
@@ -64,19 +65,19 @@ def run(job: Text, *words: str) -> str:
     if answer.status and not answer.text:
         raise BadInput(how_ended(answer))
     if answer.status:
-        raise Refused(answer, fault_of(answer, as_bytes(job).decode(ENCODING), words[0]))
+        raise Refused(answer, fault_of(answer, as_bytes(job).decode(ENCODING), words))
     return answer.text
 
 
-def fault_of(answer: Answer, job: str, command: str) -> Any:
-    """What the machine tells of the fault that a command answered, if it is one and the library is there."""
+def fault_of(answer: Answer, job: str, words: Sequence[str]) -> Any:
+    """What the machine tells of the fault that the words of a command answered, if it is one and the library is there."""
     try:
         library_file()
     except NoLibrary:
         return None
-    from kdf9 import fault, job as jobs  # pylint: disable=import-outside-toplevel
+    from kdf9 import fault  # pylint: disable=import-outside-toplevel
 
-    return fault.fault_of(answer, jobs.read_lines(job), command) if answer.text.split(" ")[0] in ("JOB", "SNAPSHOT", "DECK") else None
+    return fault.fault_of(job, *words) if answer.text.split(" ")[0] in ("JOB", "SNAPSHOT", "DECK") else None
 
 
 def facts(job: Text, words: Sequence[str] = ("run",)) -> Dict[str, Any]:
@@ -166,7 +167,7 @@ def loaded(file: str, name: str = RUN) -> Callable[[Sequence[str], bytes], Answe
     rooms = [FIRST_ROOM]
 
     def answer(words: Sequence[str], job: bytes) -> Answer:
-        asked, size, most = lines_of(words), ctypes.c_uint64(), rooms[0]
+        asked, size, most = lines_of(words), ctypes.c_uint64(), max(rooms[0], ROOM_BY_JOB[name] * len(job))
         while True:
             room = ctypes.create_string_buffer(most)
             status = call(asked, len(asked), job, len(job), room, most, ctypes.byref(size))

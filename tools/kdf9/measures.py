@@ -6,6 +6,7 @@ from typing import Dict, Iterator, List, NamedTuple, Tuple, Union
 
 from kdf9.spent import DeviceFacts, Facts, ProgramFacts
 from kdf9.tables import table
+from kdf9.words import in_columns
 
 Value = Union[int, float, str]
 
@@ -104,15 +105,12 @@ def as_csv(runs: Dict[str, Facts]) -> str:
     return text.getvalue()
 
 
-def as_table(runs: Dict[str, Facts]) -> Iterator[str]:
+def as_table(runs: Dict[str, Facts]) -> List[str]:
     """The lines of a table: a row for each measure, and a column for each run, with the differences from the first."""
     columns = [{measure.what: measure.value for measure in measures_of(facts)} for facts in runs.values()]
     rows = rows_of(columns)
     cells = [[said(what), *(cell(columns[0].get(what), column.get(what), at) for at, column in enumerate(columns))] for what in rows]
-    table = [["", *runs], *cells]
-    widths = [max(len(row[at]) for row in table) for at in range(len(runs) + 1)]
-    for row in table:
-        yield "  ".join([row[0].ljust(widths[0]), *(text.rjust(width) for text, width in zip(row[1:], widths[1:]))]).rstrip()
+    return in_columns([["", *runs], *cells])
 
 
 def rows_of(columns: List[dict]) -> List[tuple]:

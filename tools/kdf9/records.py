@@ -13,7 +13,8 @@ Record = Dict[str, Any]
 # The fields after the first word of an entry, by name.
 FIELDS = {row["entry"]: row["fields"] for row in table("entries")}
 
-# The lists of devices of a section, and the first word of their lines.
+# The lists of a section, and the forms of their lines; and the lists of devices, and the first words of theirs.
+REPEATED = (("q", "Q {q} {counter} {increment} {modifier}"), ("words", "WORD {address} {octal}"), ("spools", "SPOOL {stream} {text}"))
 DEVICES = (("devices", "DEVICE"), ("stints", "POOL"))
 
 
@@ -68,12 +69,8 @@ def lines_of_section(section: Record) -> Iterator[str]:
     yield from (f"AT {' '.join(map(str, section['at']))}", f"FLAGS {section['v']} {section['tr']}")
     yield " ".join(["NEST", str(len(section["nest"])), *(word["octal"] for word in section["nest"])])
     yield " ".join(["LINKS", str(len(section["links"])), *section["links"]])
-    for q in section["q"]:
-        yield f"Q {q['q']} {q['counter']} {q['increment']} {q['modifier']}"
-    for word in section["words"]:
-        yield f"WORD {word['address']} {word['octal']}"
-    for spool in section["spools"]:
-        yield f"SPOOL {spool['stream']} {spool['text']}"
+    for name, form in REPEATED:
+        yield from (form.format(**each) for each in section[name])
     for name, word in DEVICES:
         for device in section[name]:
             held = "HELD" if device["claimed"] else "FREE"

@@ -39,44 +39,6 @@ class Device(NamedTuple):
     marks: list
 
 
-class Section:
-    """What a report says of one program. The words of its store are numbers by address, the Q-stores are triples by number."""
-
-    def __init__(self, number):
-        self.number = number
-        self.state = []
-        self.orders = 0
-        self.at = (0, 0)
-        self.flags = (0, 0)
-        self.nest = []
-        self.links = []
-        self.q_stores = {}
-        self.words = {}
-        self.spools = []
-        self.devices = []
-        self.stints = []
-
-    @property
-    def failure(self):
-        """The kind of the program's failure, or None."""
-        return self.state[1] if self.state[0] == "FAILED" else None
-
-    @property
-    def place(self):
-        """The place of the program's next order, in syllables from the beginning of the store."""
-        word, syllable = self.at
-        return WORD * word + syllable
-
-    def add(self, word, rest):
-        """Takes one line, of this first word and with this rest."""
-        READERS[word](self, rest)
-
-
-def length_of_journal(lines):
-    """How many lines of a report come before its first section: its first line, and one for each entry."""
-    return next((at for at, line in enumerate(lines) if line.startswith("SLOT ")), len(lines))
-
-
 def numbers(text, count):
     """The numbers, so many, of which a text is made."""
     found = tuple(map(int, text.split(" ")))
@@ -85,51 +47,60 @@ def numbers(text, count):
     return found
 
 
-def add_word(section, rest):
-    address, word = rest.split(" ")
-    section.words[int(address)] = int(word, 8)
-
-
-def add_q_store(section, rest):
-    q, *parts = numbers(rest, 4)
-    section.q_stores[q] = tuple(parts)
-
-
-def add_spool(section, rest):
-    stream, _ = rest.split(" ", 1)
-    int(stream)
-    section.spools.append(rest)
-
-
-def read_device(rest):
-    number, kind, state = rest.split(" ", 2)
-    if not STATE_OF_DEVICE.fullmatch(state):
-        raise ValueError(state)
-    return Device(int(number), kind, state, [], [])
-
-
-def add_block(section, rest, is_marked):
-    """Takes a block of the device in the last line of one; those of the pool come last."""
-    device = (section.stints or section.devices)[-1]
-    device.blocks.append(rest)
-    device.marks.append(is_marked)
-
-
-READERS = {
-    "STATE": lambda section, rest: setattr(section, "state", rest.split(" ")),
-    "ORDERS": lambda section, rest: setattr(section, "orders", int(rest)),
-    "AT": lambda section, rest: setattr(section, "at", numbers(rest, 2)),
-    "FLAGS": lambda section, rest: setattr(section, "flags", numbers(rest, 2)),
-    "NEST": lambda section, rest: setattr(section, "nest", [int(word, 8) for word in rest.split(" ")[1:]]),
-    "LINKS": lambda section, rest: setattr(section, "links", rest.split(" ")[1:]),
-    "Q": add_q_store,
-    "WORD": add_word,
-    "SPOOL": add_spool,
-    "DEVICE": lambda section, rest: section.devices.append(read_device(rest)),
-    "POOL": lambda section, rest: section.stints.append(read_device(rest)),
-    "BLOCK": lambda section, rest: add_block(section, rest, False),
-    "LAST": lambda section, rest: add_block(section, rest, True),
+# The lines that a section has once: what each of them is of, and how it is read.
+ONCE = {
+    "STATE": ("state", lambda rest: rest.split(" ")), "ORDERS": ("orders", int), "AT": ("at", lambda rest: numbers(rest, 2)),
+    "FLAGS": ("flags", lambda rest: numbers(rest, 2)), "NEST": ("nest", lambda rest: [int(word, 8) for word in rest.split(" ")[1:]]),
+    "LINKS": ("links", lambda rest: rest.split(" ")[1:]),
 }
+
+
+class Section:
+    """What a report says of one program. The words of its store are numbers by address, the Q-stores are triples by number."""
+
+    def __init__(self, number):
+        self.number, self.state, self.orders = number, [], 0
+        self.at, self.flags = (0, 0), (0, 0)
+        self.nest, self.links, self.spools, self.devices, self.stints = [], [], [], [], []
+        self.q_stores, self.words = {}, {}
+
+    @property
+    def place(self):
+        """The place of the program's next order, in syllables from the beginning of the store."""
+        word, syllable = self.at
+        return WORD * word + syllable
+
+    def add(self, word, rest):
+        """Takes one line, of this first word and with this rest. A block is one of the device in the last line of one; those of the pool come last."""
+        if word == "WORD":
+            address, octal = rest.split(" ")
+            self.words[int(address)] = int(octal, 8)
+        elif word in ONCE:
+            name, read = ONCE[word]
+            setattr(self, name, read(rest))
+        elif word == "Q":
+            number, *parts = numbers(rest, 4)
+            self.q_stores[number] = tuple(parts)
+        elif word == "SPOOL":
+            stream, _ = rest.split(" ", 1)
+            int(stream)
+            self.spools.append(rest)
+        elif word in ("DEVICE", "POOL"):
+            number, kind, state = rest.split(" ", 2)
+            if not STATE_OF_DEVICE.fullmatch(state):
+                raise ValueError(state)
+            (self.devices if word == "DEVICE" else self.stints).append(Device(int(number), kind, state, [], []))
+        elif word in ("BLOCK", "LAST"):
+            device = (self.stints or self.devices)[-1]
+            device.blocks.append(rest)
+            device.marks.append(word == "LAST")
+        else:
+            raise KeyError(word)
+
+
+def length_of_journal(lines):
+    """How many lines of a report come before its first section: its first line, and one for each entry."""
+    return next((at for at, line in enumerate(lines) if line.startswith("SLOT ")), len(lines))
 
 
 def status_of_fault(text):
@@ -196,13 +167,11 @@ def read(text, name, headers):
 
 def read_entries(lines, name):
     """The entries of a journal, which begin in the second line of a report. Many are alike, and each text is read only once."""
-    entries, known = [], {}
+    known = {}
     for at, line in enumerate(lines, 2):
-        entry = known.get(line)
-        if entry is None:
-            entry = known[line] = read_entry(line, at, name)
-        entries.append(entry)
-    return entries
+        if line not in known:
+            known[line] = read_entry(line, at, name)
+    return [known[line] for line in lines]
 
 
 def read_entry(line, at, name):
@@ -217,28 +186,20 @@ def read_entry(line, at, name):
 
 
 def read_sections(lines, start, name):
-    """The sections from this line on, up to the last line of the report."""
-    sections = {}
-    section = None
-    for at, line in enumerate(lines[start:], start):
+    """The sections from this line on, up to the last line of the report. Each has to have a line STATE."""
+    sections, section = {}, None
+    for at, line in enumerate(lines[start:], start + 1):
         word, _, rest = line.partition(" ")
+        if line == "ENDREPORT":
+            stateless = [number for number in sections if not sections[number].state]
+            if at < len(lines) or stateless:
+                raise BadInput(f"{name}:{at}: slot {stateless[0]} has no line STATE" if at == len(lines) else f"{name}:{at + 1}: nothing may come after ENDREPORT")
+            return sections
         try:
-            if line == "ENDREPORT" and at < len(lines) - 1:
-                raise BadInput(f"{name}:{at + 2}: nothing may come after ENDREPORT")
-            if line == "ENDREPORT":
-                return checked(sections, at + 1, name)
             if word == "SLOT":
                 section = sections[SLOTS.index(rest)] = Section(SLOTS.index(rest))
             else:
                 section.add(word, rest)
         except (AttributeError, IndexError, KeyError, ValueError) as why:
-            raise BadInput(f"{name}:{at + 1}: this isn't a line of a report: {line[:60]}") from why
+            raise BadInput(f"{name}:{at}: this isn't a line of a report: {line[:60]}") from why
     raise BadInput(f"{name}:{len(lines)}: the report ends without ENDREPORT")
-
-
-def checked(sections, line, name):
-    """The sections, each of which has to have a line STATE."""
-    for section in sections.values():
-        if not section.state:
-            raise BadInput(f"{name}:{line}: slot {section.number} has no line STATE")
-    return sections

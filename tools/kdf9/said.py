@@ -20,14 +20,6 @@ def label_of_device(chart, number):
     return SAYS["pooled" if number in chart.pool else "device"].format(device=number, kind=chart.devices[number])
 
 
-def reasons(chart, calls):
-    """What held a program up, and for how many calls, in words, most calls first."""
-    held = [(number, reason) for reason, number in calls.items() if isinstance(reason, Held)]
-    for number, (what, which) in sorted(held, key=lambda one: -one[0]):
-        device = name_of_device(chart, which) if what == "device" else ""
-        yield SAYS[f"by_{what}"].format(calls=count(number, "call"), device=device, group=which, kind=which)
-
-
 def held_calls(calls):
     """For how many calls a program was held up."""
     return sum(number for reason, number in calls.items() if isinstance(reason, Held))
@@ -39,9 +31,12 @@ def waiting_calls(calls):
 
 
 def said_of_slot(chart, calls):
-    """What a program did in these calls, in words."""
+    """What a program did in these calls, in words; what held it up for most of them comes first."""
     said = [SAYS["obeyed"].format(orders=count(calls[RAN], "order"))] if calls[RAN] else []
-    said += reasons(chart, calls)
+    held = [(number, reason) for reason, number in calls.items() if isinstance(reason, Held)]
+    for number, (what, which) in sorted(held, key=lambda one: -one[0]):
+        device = name_of_device(chart, which) if what == "device" else ""
+        said.append(SAYS[f"by_{what}"].format(calls=count(number, "call"), device=device, group=which, kind=which))
     if calls[READY]:
         said.append(SAYS["ready"].format(calls=count(calls[READY], "call")))
     return "; ".join(said)

@@ -1,7 +1,4 @@
 """What comes after a job in one text: a snapshot, with further lines of its schedule, or a report that is to be checked."""
-import functools
-from typing import NamedTuple
-
 from kdf9.job import join_lines
 from kdf9.program import ask
 from kdf9.report import HEADER, length_of_journal
@@ -15,13 +12,6 @@ MOST_BYTES = table("job")["most"]["bytes"]
 # The commands over a text that begins with a job, and how the line after the job begins if one of the last two reads it.
 RUN, RESUME, CHECK = "run", "resume", "check"
 AFTER_JOB = {JOURNAL: RESUME, "KDF9 REPORT": CHECK}
-
-
-class Joined(NamedTuple):
-    """A job that goes on with further lines: its lines, and the number of each in the text that it comes from."""
-
-    lines: list
-    numbers: list
 
 
 def length_of_front(lines):
@@ -38,26 +28,18 @@ def command_of(lines):
     return next((command for begins, command in AFTER_JOB.items() if after and after[0].startswith(begins)), RUN)
 
 
-def joined(lines):
-    """The job that a snapshot without a fault and its further lines become."""
+def numbers_of_joined(lines):
+    """The numbers of the lines of which a snapshot without a fault and its further lines make a job."""
     front = length_of_front(lines)
-    sealed = lines.index("SEAL", front)
-    more = lines.index(END, sealed) + 1
-    numbers = [*range(1, front), *range(more + 1, len(lines) + 1)]
-    return Joined([lines[number - 1] for number in numbers], numbers)
-
-
-@functools.lru_cache(1)
-def snapshot_of(job):
-    """The lines of the snapshot of a job; none if the job has a fault."""
-    answer = ask(["save"], job)
-    return answer.text.split("\n")[:-1] if answer.status == 0 else []
+    more = lines.index(END, lines.index("SEAL", front)) + 1
+    return [*range(1, front), *range(more + 1, len(lines) + 1)]
 
 
 def due_in(lines, number):
     """The line of this number in the snapshot of the front job; nothing if it has no such line, or no snapshot."""
-    saved = snapshot_of(join_lines(lines[:length_of_front(lines)]))
-    return saved[number - 1] if number <= len(saved) else ""
+    answer = ask(["save"], join_lines(lines[:length_of_front(lines)]))
+    saved = answer.text.split("\n")[:-1]
+    return saved[number - 1] if answer.status == 0 and number <= len(saved) else ""
 
 
 def entry_due(front, number):

@@ -1,7 +1,7 @@
 """The tables of the folder tables/: each is read once, when it is first asked for. The page has the same ones (web/tables.js)."""
 import functools
 import json
-from typing import Any, Dict, List
+from typing import Any, Callable, Dict, List
 
 from kdf9.program import ROOT
 
@@ -42,3 +42,16 @@ def kinds() -> Dict[str, dict]:
 def faults(what: str) -> Dict[str, dict]:
     """The rows of the faults of a job, a snapshot or a deck by their names."""
     return {row["name"]: row for row in table("faults")[what]}
+
+
+def check_made(folder: str, texts: Dict[str, Callable[[], str]], tool: str, words: List[str]) -> int:
+    """Whether the files of a folder have the texts that are made of the tables, as a status. With the word --write they are written first."""
+    status = 0
+    for name, made in texts.items():
+        file, text = ROOT / folder / name, made()
+        if words == ["--write"]:
+            file.write_text(text, encoding="utf-8")
+        if not file.is_file() or file.read_text(encoding="utf-8") != text:
+            print(f"{folder}/{name} isn't made of the tables as they are now: {tool} --write writes it")
+            status = 1
+    return status

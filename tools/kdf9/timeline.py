@@ -61,11 +61,11 @@ def asks_of(run: told.Run, slot: int) -> Dict[int, told.Ask]:
     return {ask.order: ask for ask in run.asks if ask.slot == slot}
 
 
-def lone_answers(run: told.Run, slot: int, pool: Dict[int, str]) -> Dict[int, int]:
-    """What the same orders would be answered if the program ran alone and had been answered so up to there, with the kinds of the pool's
-    devices by their numbers: 0, or the least device of the pool that the program hasn't got.
+def lone_answers(run: told.Run, slot: int) -> Dict[int, int]:
+    """What the same orders would be answered if the program ran alone and had been answered so up to there: 0, or the least device of the pool that the program
+    hasn't got.
     """
-    answers, loans = {}, [loan for loan in run.loans if loan.slot == slot]
+    answers, loans, pool = {}, [loan for loan in run.loans if loan.slot == slot], {each.device: each.kind for each in run.devices if each.slot is None}
     for order, ask in asks_of(run, slot).items():
         kind = next((pool[loan.device] for loan in loans if loan.taken == ask.call), None)
         got = [loan.device for loan in loans if loan.taken < ask.call and (loan.given is None or loan.given >= ask.call)]

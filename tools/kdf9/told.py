@@ -20,7 +20,7 @@ from kdf9.words import shown
 # The names of classes, by the definitions and members that they are of, where these aren't called so themselves.
 NAMES = {
     "use of a device": "Device", "calls of a program": "Calls", "calls": "Spent", "holders": "Holder", "statements": "Line", "references": "Reference",
-    "parts": "Part", "stores": "Store",
+    "parts": "Part", "stores": "Store", "slot of a job": "Slot",
 }
 KINDS_OF_VALUES = {"integer": int, "string": str, "boolean": bool}
 
@@ -133,11 +133,6 @@ def is_fault(told: Any) -> bool:
 def told_in(text: str, *words: str) -> Any:
     """The same of a text that has a character for each byte of a job."""
     return told_of(text.encode(ENCODING), *words)
-
-
-def listing_in(text: str, slot: int) -> Any:
-    """The facts of the deck of a slot of a job without a fault, in such a text."""
-    return told_in(text, "asm", str(slot))
 
 
 def sound(job: Text, *words: str) -> Any:

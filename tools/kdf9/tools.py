@@ -107,6 +107,11 @@ TOOLS = {tool.name: tool for tool in (
         "./kdf9 replay examples/reads-tape.job > kdf9.html",
     ),
     Tool(
+        "proofs", "> FILE",
+        "Writes what is proved as one page for a browser: the theorem, its definitions and all contracts, with each word a link to what it means.",
+        "./kdf9 proofs > proofs.html",
+    ),
+    Tool(
         "lsp", "[--faults FILE ..]",
         "Serves editors: faults as they are typed, help, names and form of decks and jobs; or, with --faults, writes the faults of files.",
         "./kdf9 lsp --faults examples/missing-reference.job",

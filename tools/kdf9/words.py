@@ -30,6 +30,12 @@ def listed(words, last="and"):
     return f"{', '.join(others)} {last} {end}" if others else end
 
 
+def in_columns(rows):
+    """Rows of texts as lines of a table, the first text of each on the left, and the others on the right of their columns."""
+    widths = [max(map(len, column)) for column in zip(*rows)]
+    return ["  ".join([row[0].ljust(widths[0]), *(text.rjust(width) for text, width in zip(row[1:], widths[1:]))]).rstrip() for row in rows]
+
+
 def shown(text):
     """The text as a terminal can show it, in as many columns; a `?` replaces whatever it can't show."""
     return "".join(character if " " <= character <= "~" else "?" for character in text)

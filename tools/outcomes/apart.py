@@ -4,7 +4,7 @@ The schedules of the whole job are put together from theirs: one program after t
 """
 import itertools
 import math
-from typing import Dict, List, Optional
+from typing import Dict, List, Optional, Tuple
 
 from kdf9.journal import SLOTS, exchanged
 from kdf9.schedule import MOST_LINES, Event
@@ -12,7 +12,7 @@ from kdf9.tables import table
 from outcomes.found import Found, Witness, least
 from outcomes.moments import Path
 from outcomes.runs import Job
-from outcomes.search import LATE, Limits, Search
+from outcomes.search import LATE, NAIVE, Limits, Search
 
 # How many joint outcomes are listed; the others are only counted.
 MOST_JOINT = table("outcomes")["most_joint"]
@@ -134,3 +134,11 @@ class Apart:
 def after(first: Witness, then: Witness) -> Witness:
     """A schedule, and then another as if the calls began anew."""
     return Witness(first.calls + then.calls, first.events + tuple(Event(first.calls + calls, line) for calls, line in then.events))
+
+
+def explored(job: Job, limits: Limits, mode: str) -> Tuple[Found, Optional[Apart]]:
+    """What comes of a job; and the searches of its programs, if each could be searched by itself."""
+    if mode == NAIVE or job.pool or job.times:
+        return Search(job, limits, mode).all(), None
+    apart = Apart(job, limits)
+    return apart.all(), apart

@@ -1,5 +1,6 @@
 """What the facts of a run tell up to some call, as far as it is needed to guess what comes next."""
-from typing import Any, Dict, List, NamedTuple, Optional, Sequence, Set, Tuple, Union
+import copy
+from typing import Any, Dict, List, Optional, Sequence, Set, Tuple, Union
 
 from kdf9.journal import SLOTS, exchanged
 from kdf9.timeline import HELD, NUMBERS, calls_in
@@ -33,9 +34,7 @@ class Program:
 
     def copy(self) -> "Program":
         """Another that is at the same place."""
-        new = object.__new__(Program)
-        for name in ("slot", "memory", "orders", "done", "last", "acts", "keys", "held", "is_over"):
-            setattr(new, name, getattr(self, name))
+        new = copy.copy(self)
         new.needs = {before: list(names) for before, names in self.needs.items()}
         new.lent = {kind: list(devices) for kind, devices in self.lent.items()}
         new.stretch, new.checked = None, -1
@@ -69,28 +68,20 @@ class Program:
         self.keys = ((self.orders, one), (self.acts, one, two), (one, two, three), (one,))
 
 
-class Note(NamedTuple):
-    """Where a journal is followed: the index of an entry, and the calls before it."""
-
-    index: int
-    calls: int
-
-
 class Scene:
     """What there is after some calls: the programs by slot, the slots of the transfers in flight with the calls after which they began, the holders of the pool's
-    devices, and the priorities. `note` says how far the journal was followed.
+    devices, and the priorities.
     """
 
     def __init__(self, memories: Dict[int, Memory], pool: Dict[int, str]) -> None:
-        self.pool, self.calls, self.order, self.note = pool, 0, SLOTS, Note(0, 0)
+        self.pool, self.calls, self.order = pool, 0, SLOTS
         self.programs = {slot: Program(slot, memory) for slot, memory in memories.items()}
         self.flying: Dict[int, Tuple[int, int]] = {}
         self.lent: Dict[int, int] = {}
 
-    def copy(self, note: Optional[Note] = None) -> "Scene":
+    def copy(self) -> "Scene":
         """Another of the same."""
-        new = object.__new__(Scene)
-        new.pool, new.calls, new.order, new.note = self.pool, self.calls, self.order, note or self.note
+        new = copy.copy(self)
         new.programs = {slot: program.copy() for slot, program in self.programs.items()}
         new.flying, new.lent = dict(self.flying), dict(self.lent)
         return new
@@ -99,24 +90,15 @@ class Scene:
         """The transfers of a program that are in flight."""
         return {program.name_of(device) for device, (slot, _) in self.flying.items() if slot == program.slot}
 
-    def follow(self, entries: Sequence[Entry], made: int, until: int) -> "Scene":
-        """Follows a journal of so many calls from the note to its end, and learns from it; what there was after `until` calls, before the lines of the schedule there."""
+    def follow(self, entries: Sequence[Entry], until: int) -> "Scene":
+        """Follows a journal to its end, and learns from it; what there was after `until` calls, before the lines of the schedule there."""
         then = None
-        for index in range(self.note.index, len(entries)):
-            entry = entries[index]
-            calls = entry["call"]
-            if then is None and calls + calls_in(entry) > until or calls == until and entry["entry"] in OF_SCHEDULE:
-                then = then or self._at(entries, index, calls, until)
+        for entry in entries:
+            if then is None and (entry["call"] + calls_in(entry) > until or entry["call"] == until and entry["entry"] in OF_SCHEDULE):
+                self._go(entry, until)
+                then = self.copy()
             self._take(entry)
-        return then or self._at(entries, len(entries), made, min(made, until))
-
-    def _at(self, entries: Sequence[Entry], index: int, calls: int, until: int) -> "Scene":
-        """What there is after `until` calls; the entry of this index comes after so many calls. An entry before it that may be longer in another run is told again."""
-        if calls == until and index > self.note.index and entries[index - 1]["entry"] in NUMBERS:
-            return self.copy(Note(index - 1, entries[index - 1]["call"]))
-        if index < len(entries):
-            self._go(entries[index], until)
-        return self.copy(Note(index, calls))
+        return then or self
 
     def _take(self, entry: Entry) -> None:
         """Takes an entry."""

@@ -92,7 +92,7 @@ class Search:
             run = run_of(self._job.text(schedule))
             made = run.run["made"]
             if not self._look(self._begun(run), guess, until) or until < self._total:
-                self._scene = self._scene.follow(run.run["entries"], made, self._right)
+                self._scene = Scene(self._job.memories, self._job.pool).follow(run.run["entries"], self._right)
             if self._right >= made and (made < until or until == self._total):
                 return Settling(run, schedule, made < until)
 
@@ -100,7 +100,7 @@ class Search:
         """Learns what the programs do by a run in which all transfers end in rounds."""
         calls = min(self._total, LEARNT)
         run = run_of(self._job.text(merged(self._with([], calls), rounds(ROUND, self._job.devices, 0, calls)))).run
-        Scene(self._job.memories, self._job.pool).follow(run["entries"], run["made"], 0)
+        Scene(self._job.memories, self._job.pool).follow(run["entries"], 0)
 
     def _guess(self) -> Guess:
         """The transfers that may come next, no more than the schedule has room for."""

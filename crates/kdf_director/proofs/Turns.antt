@@ -13,4 +13,5 @@ pub mod OrdersTried
 pub mod ProgramsRetire
 pub mod TurnsKeep
 pub mod TurnsShow
+pub mod WordsAlike
 pub mod YardTurns

@@ -114,7 +114,7 @@ impl Yard {
         ensures within { result.0 < batch.entry.most }
         ensures same { IsSameYard self.old self.new }
     {
-        let answer = self.heard(batch.i, service);
+        let answer = self.heard(batch.i, batch.journal, service);
         let heard = answer.unwrap_or(Word::default());
         let batch = Batch {
             most: self.batch_at(batch.i, batch.most),

@@ -1,5 +1,5 @@
 //! The orders of one program, as long as nothing is noted of them.
-ghost use Rattle.std.specs.Prelude.{◌≡◌, ◌+◌, ◌<◌, ◌≤◌, length, IfOk, OnErr};
+ghost use Rattle.std.specs.Prelude.{◌≡◌, ◌+◌, ◌<◌, ◌≤◌, length, IfNone, IfOk, IfSome, OnErr};
 ghost use Rattle.kdf_lockout.specs.Groups.{Cells};
 ghost use Rattle.kdf_processor.specs.Buffered.{Agrees};
 ghost use Rattle.kdf_director.specs.declared.note.Note.TheVariants.{Quiet};
@@ -21,13 +21,32 @@ use crate::turn::Turn;
 use crate::{Moment, Note, Place, Program, Stand, Yard};
 use kdf_journal::Journal;
 use kdf_lockout::Store;
-use kdf_processor::{Buffer, Life, Registers, Step, obey_buffered};
+use kdf_processor::{Buffer, Life, Registers, Step, obey_at_once, obey_in_general};
 use kdf_relocate::Window;
 use kdf_word::Word;
 use std::alloc::{AllocError, Global};
 
-/// Obeys the next order of a live program. It is inlined in the loop over the orders, so what it answers goes through
-/// no memory.
+/// Obeys the next order of a live program the quick way, or answers None and changes nothing. It is inlined in the loop over the orders.
+#[inline(always)]
+fn obey_at_hand(
+    registers: &mut Registers,
+    turn: &mut Turn<'_>,
+    held: &mut Option<Buffer>,
+) -> Option<()>
+    requires ran { registers.old.ran < u32.MAX }
+    requires quiet { turn.old.note ≡ Quiet }
+    requires agrees { Agrees (shown turn.old) held.old }
+    ensures tried { IfSome result (λ _. HasTried (reach_in turn.old) (held_in turn.old) turn.old.moment
+        (seat_in turn.old registers.old) (shared turn.old) (seat_in turn.new registers.new) (shared turn.new)
+        Step.Done turn.new.note) }
+    ensures left { IfNone result ((registers.new ≡ registers.old) × (turn.new ≡ turn.old)) }
+    ensures same { SameProgram turn.old turn.new }
+    ensures agrees { Agrees (shown turn.new) held.new }
+{
+    obey_at_once(registers, turn, held)
+}
+
+/// Obeys the next order of a live program the general way.
 #[inline(always)]
 fn obey_next(
     registers: &mut Registers,
@@ -37,7 +56,6 @@ fn obey_next(
     requires live { registers.old.state ≡ Life.Live }
     requires ran { registers.old.ran < u32.MAX }
     requires quiet { turn.old.note ≡ Quiet }
-    requires agrees { Agrees (shown turn.old) held.old }
     ensures tried { IfOk result (λ step. HasTried (reach_in turn.old) (held_in turn.old) turn.old.moment
         (seat_in turn.old registers.old) (shared turn.old) (seat_in turn.new registers.new) (shared turn.new)
         step turn.new.note) }
@@ -46,7 +64,7 @@ fn obey_next(
     ensures same { SameProgram turn.old turn.new }
     ensures agrees { Agrees (shown turn.new) held.new }
 {
-    let step = obey_buffered(registers, turn, held)?;
+    let step = obey_in_general(registers, turn, held)?;
     Ok(step)
 }
 
@@ -71,18 +89,26 @@ fn obey_quiet(
     ensures within { result.0 < most }
     ensures same { SameProgram turn.old turn.new }
 {
-    let mut left = most;
+    let mut done = 0;
     let mut held = None;
     loop {
-        match obey_next(registers, turn, &mut held) {
-            Ok(Step::Done) => {
-                left -= 1;
-                if left == 0 || !turn.is_quiet() {
-                    return (most - left - 1, Ok((Step::Done, turn.note())));
+        match obey_at_hand(registers, turn, &mut held) {
+            Some(()) => {
+                if done + 1 == most || !turn.is_quiet() {
+                    return (done, Ok((Step::Done, turn.note())));
                 }
+                done += 1;
             }
-            Ok(step) => return (most - left, Ok((step, turn.note()))),
-            Err(error) => return (most - left, Err(error)),
+            None => match obey_next(registers, turn, &mut held) {
+                Ok(Step::Done) => {
+                    if done + 1 == most || !turn.is_quiet() {
+                        return (done, Ok((Step::Done, turn.note())));
+                    }
+                    done += 1;
+                }
+                Ok(step) => return (done, Ok((step, turn.note()))),
+                Err(error) => return (done, Err(error)),
+            },
         }
     }
 }

@@ -18,9 +18,10 @@ use kdf_service::Service;
 use kdf_word::Word;
 
 /// The word of which the next order of a program asks the service, in its slot. All is lent for that, and nothing
-/// changes. No time and no holder of a device makes it another word, so the journal is an empty one.
+/// changes. No time and no holder of a device makes it another word, so the time is 0, and any journal will do.
 fn word_asked(
     stand: &Stand<'_>,
+    journal: &Journal,
     program: &mut Program,
     store: &mut Store,
     places: &mut Vec<Place>,
@@ -34,7 +35,6 @@ fn word_asked(
     ensures places { places.new ≡ places.old }
 {
     let mut block = Vec::new(stand.alloc);
-    let journal = Journal::new(stand.alloc);
     let turn = Turn {
         alloc: stand.alloc,
         p: program.p,
@@ -43,7 +43,7 @@ fn word_asked(
             time: 0,
             heard: Word::default(),
         },
-        journal: &journal,
+        journal,
         slot: stand.slot,
         claimed: &mut program.claimed,
         spooled: &mut program.spooled,
@@ -61,6 +61,7 @@ fn word_asked(
 #[inline(never)]
 fn hear<F: Fn(u64) -> u64>(
     stand: &Stand<'_>,
+    journal: &Journal,
     program: &mut Program,
     store: &mut Store,
     places: &mut Vec<Place>,
@@ -79,7 +80,7 @@ fn hear<F: Fn(u64) -> u64>(
     if word_ahead(&program.registers).is_none() {
         return None;
     }
-    let word = word_asked(stand, program, store, places)?;
+    let word = word_asked(stand, journal, program, store, places)?;
     Some(service.ask(word))
 }
 
@@ -90,6 +91,7 @@ impl Yard {
     pub(crate) fn heard<F: Fn(u64) -> u64>(
         &mut self,
         i: usize,
+        journal: &Journal,
         service: &Service<F>,
     ) -> Option<Word>
         requires service { IsService (F.pre service.now) (F.post service.now) }
@@ -107,6 +109,7 @@ impl Yard {
             };
             hear(
                 &stand,
+                journal,
                 &mut self.programs[i],
                 &mut self.store,
                 &mut self.places,

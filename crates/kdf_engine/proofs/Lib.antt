@@ -3,3 +3,5 @@ pub mod More
 pub mod Due
 pub mod Handed
 pub mod Told
+pub mod Limbs
+pub mod Halves

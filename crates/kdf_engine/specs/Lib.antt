@@ -2,3 +2,4 @@ pub mod Words
 pub mod Service
 pub mod Answered
 pub mod Told
+pub mod Wide

@@ -5,6 +5,10 @@ mod answer;
 mod calls;
 mod facts;
 mod sink;
+mod wide;
 mod words;
 
 pub use calls::{kdf9_facts, kdf9_run, kdf9_version};
+pub use wide::{
+    Wide, kdf9_product, kdf9_shift_left, kdf9_shift_right_arithmetic, kdf9_shift_right_logical,
+};

@@ -2,19 +2,21 @@
 ghost use Rattle.std.specs.Prelude.{◌≡◌, ◌≤◌, None, map, length, IfNone, IfOk, IfSome};
 ghost use Rattle.kdf_alone.specs.Program.{IsApart};
 ghost use Rattle.kdf_job.specs.Shows.{shown_job, shown_slot};
-ghost use Rattle.kdf_job.specs.WellFormed.{AreSlots, IsJob};
+ghost use Rattle.kdf_job.specs.WellFormed.{AreSlots, IsJob, IsSlot};
 ghost use Rattle.kdf_job.specs.declared.job.TheConstants.{TEXT_LIMIT};
+ghost use Rattle.kdf_report.specs.MadeFrom.{IsProgramOf};
 ghost use Rattle.kdf_top.specs.Loaded.{HasImages, IsFound, slot_numbered};
 
-use crate::deck_lines::deck_line;
-use crate::flights::write_order;
-use crate::layout::lay_out;
+use crate::printed::{MOST_SHOWN, short, words_shown, write_last};
 use crate::programs::write_life;
 use crate::registers::write_registers;
 use kdf_alone::Alone;
 use kdf_job::{Job, SlotJob};
+use kdf_json::deck_line;
+use kdf_listing::{lay_out, write_order};
 use kdf_place::Image;
 use kdf_processor::Registers;
+use kdf_report::{alone_absent, alone_text};
 use kdf_schedule::Event;
 use std::alloc::{AllocError, Global};
 use std::fmt::Write;
@@ -45,8 +47,9 @@ fn absent_facts(alloc: Global, p: u8) -> Result<String, AllocError> {
     let mut out = String::new(alloc);
     write!(
         out,
-        "{{\"format\":\"kdf9-facts 1\",\"kind\":\"alone\",\"slot\":{p},\"program\":null}}\n"
+        "{{\"format\":\"kdf9-facts 1\",\"kind\":\"alone\",\"slot\":{p},\"program\":null,\n"
     )?;
+    write_last(&mut out, &short(alone_absent(alloc, p)))?;
     Ok(out)
 }
 
@@ -59,22 +62,39 @@ fn slot_facts(
     orders: u32,
 ) -> Result<String, AllocError>
     requires few { length bytes.now ≤ TEXT_LIMIT }
+    requires slot { IsSlot (shown_slot slot.now) }
     requires apart { IsApart (shown_slot slot.now) }
     requires fits { length image.now.words.items ≤ slot.now.size }
     requires orders { orders ≤ 20000000 }
 {
-    let mut program = load_alone(alloc, slot, image)?;
-    program.orders(&[], orders)?;
-    registers_text(alloc, bytes, slot, program.registers())
+    let program = run_alone(alloc, slot, image, orders)?;
+    let text = printed_of(alloc, slot, &program);
+    let mut out = registers_text(alloc, bytes, slot, program.registers())?;
+    write_last(&mut out, &text)?;
+    Ok(out)
 }
 
-/// The program of a slot before its first order.
-fn load_alone(alloc: Global, slot: &SlotJob, image: &Image) -> Result<Alone, AllocError>
+/// The text that the program prints of one that ran by itself, unless it is too long or there was no memory for it.
+fn printed_of(alloc: Global, slot: &SlotJob, program: &Alone) -> Option<Vec<u8>>
+    requires { IsProgramOf (shown_slot slot.now) program.now }
+{
+    if words_shown(&slot.shows) > MOST_SHOWN {
+        return None;
+    }
+    short(alone_text(alloc, slot, program))
+}
+
+/// The program of a slot after so many orders.
+fn run_alone(alloc: Global, slot: &SlotJob, image: &Image, orders: u32) -> Result<Alone, AllocError>
+    requires slot { IsSlot (shown_slot slot.now) }
     requires apart { IsApart (shown_slot slot.now) }
     requires fits { length image.now.words.items ≤ slot.now.size }
-    ensures { IfOk result (λ a. a.registers.ran ≡ 0) }
+    requires orders { orders ≤ 20000000 }
+    ensures { IfOk result (IsProgramOf (shown_slot slot.now)) }
 {
-    Alone::load(alloc, slot, image)
+    let mut program = Alone::load(alloc, slot, image)?;
+    program.orders(&[], orders)?;
+    Ok(program)
 }
 
 fn registers_text(
@@ -96,7 +116,7 @@ fn registers_text(
     write_life(&mut out, registers.state)?;
     write_order(&mut out, Some(registers.at), Some(&layout))?;
     write_registers(&mut out, registers)?;
-    out.push_str("}}\n")?;
+    out.push_str("},\n")?;
     Ok(out)
 }
 

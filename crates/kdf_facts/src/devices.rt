@@ -1,8 +1,8 @@
 //! The devices of a job in its run.
 
-use crate::flights::Flight;
-use crate::json::{write_comma, write_number};
 use kdf_job::{Job, SlotJob};
+use kdf_json::{write_comma, write_number};
+use kdf_trace::Flight;
 use std::alloc::AllocError;
 use std::fmt::Write;
 

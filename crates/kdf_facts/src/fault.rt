@@ -5,17 +5,15 @@ ghost use Rattle.kdf_facts.specs.Run.{Begins};
 ghost use Rattle.kdf_job.specs.declared.job.TheConstants.{TEXT_LIMIT};
 ghost use Rattle.kdf_usercode.specs.WellFormed.{IsWellFormed};
 
-use crate::deck_lines::deck_line;
-use crate::fault_columns::{column_of, kind_above};
-use crate::hint::{write_none, write_plain};
-use crate::hint_deck::{Faulty, least_store, write_deck_hint};
-use crate::hint_job::{FaultyLine, write_job_hint};
-use crate::json::{count_of, write_text};
-use crate::layout::statement_of;
-use crate::places::{Spot, before, from, line_of, spot_after};
 use crate::sentences::{number_of_job, of_deck, of_job, of_snapshot};
 use kdf_fault::Numbered;
+use kdf_hints::{
+    Faulty, FaultyLine, column_of, kind_above, least_store, write_deck_hint, write_job_hint,
+    write_none, write_plain,
+};
 use kdf_job::{Job, JobFault, TEXT_LIMIT};
+use kdf_json::{Spot, before, count_of, deck_line, from, line_of, spot_after, write_text};
+use kdf_listing::{statement_of, write_spot};
 use kdf_place::assemble;
 use kdf_snapshot::SnapshotFault;
 use kdf_usercode::{Deck, DeckError, DeckFault, read_deck};
@@ -254,12 +252,6 @@ fn deck_rest(alloc: Global, bytes: &[u8], job: &Job, found: DeckFound) -> Result
     write_deck_hint(alloc, &mut out, faulty, subject(deck, found), words)?;
     out.push_str("}\n")?;
     Ok(out)
-}
-
-/// Writes a line and a column.
-pub fn write_spot(out: &mut String, spot: Spot) -> Result<(), AllocError> {
-    let Spot { line, column } = spot;
-    write!(out, "\"line\":{line},\"column\":{column}")
 }
 
 /// What stands at the place of a fault: the byte that no deck has, or the statement.

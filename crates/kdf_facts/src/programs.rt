@@ -1,34 +1,14 @@
 //! The programs of a run at its end.
 
-use crate::case::Case;
-use crate::endings::Ending;
-use crate::flights::write_order;
-use crate::json::{write_comma, write_number};
-use crate::layout::Layout;
 use crate::registers::write_registers;
 use crate::run::Loaded;
-use crate::why::write_why;
+use kdf_causes::{Case, Ending, write_why};
 use kdf_director::Machine;
+use kdf_json::{write_comma, write_number};
+use kdf_listing::{Deck, Layout, write_order};
 use kdf_processor::{Life, Registers};
 use std::alloc::{AllocError, Global};
 use std::fmt::Write;
-
-/// The deck of a slot.
-#[derive(Drop)]
-pub struct Deck<'a> {
-    pub p: u8,
-    pub layout: Layout<'a>,
-}
-
-/// The layout of the deck of a slot.
-pub fn layout_of<'a, 'b>(decks: &'a [Deck<'b>], p: u8) -> Option<&'a Layout<'b>> {
-    for deck in decks {
-        if deck.p == p {
-            return Some(&deck.layout);
-        }
-    }
-    None
-}
 
 /// Writes how each program is at the end: how many orders it obeyed, whether it is live, its next order, and what it waits for.
 pub fn write_programs(

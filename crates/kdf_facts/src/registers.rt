@@ -1,6 +1,6 @@
 //! The registers of a program.
 
-use crate::json::write_items;
+use kdf_json::write_items;
 use kdf_processor::Registers;
 use std::alloc::AllocError;
 use std::fmt::Write;

@@ -8,6 +8,7 @@ ghost use Rattle.kdf_service.specs.Rules.{IsService};
 
 use crate::fault::{DeckFound, deck_fault, job_fault, large, snapshot_fault};
 use crate::nowhere::Nowhere;
+use crate::printed::Printed;
 use crate::run::{Loaded, run_facts};
 use kdf_io::MemorySource;
 use kdf_job::{Job, TEXT_LIMIT, line_count, read_job_front, read_more};
@@ -152,7 +153,7 @@ fn run_of<F: Fn(u64) -> u64>(
                 job,
                 images: &images,
             };
-            run_facts(alloc, loaded, service)
+            run_facts(alloc, loaded, Printed::Report, service)
         }
         Err(_) => Err(AllocError),
     }

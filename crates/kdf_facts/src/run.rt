@@ -1,5 +1,5 @@
 //! The facts of a run.
-ghost use Rattle.std.specs.Prelude.{◌≡◌, ◌≤◌, ◌<◌, ◌^◌, ◌++◌, IfOk, OnOk, length, map, string_bytes};
+ghost use Rattle.std.specs.Prelude.{◌≡◌, ◌≤◌, ◌<◌, ◌^◌, ◌++◌, All, IfOk, OnOk, length, map, string_bytes};
 ghost use Rattle.kdf_account.specs.Moments.{entries_of};
 ghost use Rattle.kdf_facts.specs.Run.{IsRunTold, TellsRun, between, opening, run_front};
 ghost use Rattle.kdf_job.specs.Shows.{shown_job, shown_slot};
@@ -7,26 +7,28 @@ ghost use Rattle.kdf_job.specs.WellFormed.{IsJob};
 ghost use Rattle.kdf_job.specs.declared.job.TheConstants.{TEXT_LIMIT};
 ghost use Rattle.kdf_job.specs.Job.{SlotJob as Slot};
 ghost use Rattle.kdf_journal.specs.Counts.{calls};
+ghost use Rattle.kdf_report.specs.MadeFrom.{HasProgram};
 ghost use Rattle.kdf_service.specs.Rules.{IsService};
 ghost use Rattle.kdf_top.specs.Loaded.{HasImages};
 
-use crate::deck_lines::deck_line;
 use crate::devices::write_devices;
-use crate::endings::Ending;
-use crate::flights::write_flights;
-use crate::holds::{write_asks, write_holds, write_loans};
-use crate::layout::lay_out;
-use crate::loops::orders_of_live;
-use crate::programs::{Deck, write_programs};
-use crate::retrace::Retrace;
+use crate::printed::{Printed, write_printed};
+use crate::programs::write_programs;
 use crate::running::{load_machine, run_job};
-use crate::story::{Story, World};
+use crate::slots::{next_turn, write_slots};
 use kdf_account::{Account, Moment, free_of, write_calls, write_moments};
+use kdf_causes::Ending;
 use kdf_director::Machine;
 use kdf_job::{Job, SlotJob};
 use kdf_journal::Journal;
+use kdf_json::{deck_line, write_number};
+use kdf_listing::{Deck, lay_out};
 use kdf_place::Image;
 use kdf_service::Service;
+use kdf_trace::{
+    Retrace, Story, World, looks_for, orders_of_live, write_asks, write_flights, write_holds,
+    write_loans,
+};
 use std::alloc::{AllocError, Global};
 use std::fmt::Write;
 
@@ -38,10 +40,11 @@ pub struct Loaded<'a> {
     pub images: &'a [Image],
 }
 
-/// The facts of the run of a job.
+/// The facts of the run of a job, with what the program prints of it.
 pub fn run_facts<F: Fn(u64) -> u64>(
     alloc: Global,
     loaded: Loaded<'_>,
+    printed: Printed,
     service: &Service<F>,
 ) -> Result<String, AllocError>
     requires service { IsService (F.pre service.now) (F.post service.now) }
@@ -51,15 +54,16 @@ pub fn run_facts<F: Fn(u64) -> u64>(
     ensures { IfOk result (λ text. IsRunTold (F.post service.now) (shown_job loaded.entry.job.now) (string_bytes text)) }
 {
     let machine = run_job(alloc, loaded.job, loaded.images, service)?;
-    let told = told_by(alloc, loaded, &machine, service);
+    let told = told_by(alloc, loaded, printed, &machine, service);
     machine.close();
     told
 }
 
-/// The facts that a machine tells after its run.
-fn told_by<F: Fn(u64) -> u64>(
+/// The facts that a machine tells after its run. It has the program of each slot.
+pub fn told_by<F: Fn(u64) -> u64>(
     alloc: Global,
     loaded: Loaded<'_>,
+    printed: Printed,
     machine: &Machine,
     service: &Service<F>,
 ) -> Result<String, AllocError>
@@ -67,6 +71,7 @@ fn told_by<F: Fn(u64) -> u64>(
     requires few { length loaded.bytes.now ≤ TEXT_LIMIT }
     requires job { IsJob (shown_job loaded.job.now) }
     requires images { HasImages (shown_job loaded.job.now).slots loaded.images.now }
+    requires programs { All (HasProgram machine.now) (map shown_slot loaded.job.now.slots.items) }
     ensures { IfOk result (λ text. TellsRun (shown_job loaded.entry.job.now) machine.now.journal (string_bytes text)) }
 {
     let decks = decks_of(alloc, loaded.bytes, &loaded.job.slots)?;
@@ -77,7 +82,8 @@ fn told_by<F: Fn(u64) -> u64>(
     };
     let _all = machine.journal().calls();
     let (story, account) = story_of(alloc, loaded, machine.journal(), world, service)?;
-    let rest = rest_text(alloc, loaded, machine, &story, &decks)?;
+    let mut rest = rest_text(alloc, loaded, machine, &story, &decks)?;
+    write_printed(alloc, &mut rest, loaded, printed, machine)?;
     run_text(alloc, loaded.job, account.moments(), &rest)
 }
 
@@ -164,6 +170,7 @@ fn story_of<F: Fn(u64) -> u64>(
     let mut retrace = Retrace {
         machine: load_machine(alloc, loaded.job, loaded.images)?,
         due: 0,
+        looks: looks_for(journal.entries(), world.live),
     };
     let gone = go_through(alloc, &mut retrace, journal, world, service);
     retrace.close();
@@ -188,7 +195,6 @@ fn go_through<F: Fn(u64) -> u64>(
         let unlocked = story.take(account.calls(), *entry, retrace, world, service)?;
         account.push(*entry, unlocked, story.free)?;
     }
-    story.finish(retrace, service)?;
     Ok((story, account))
 }
 
@@ -199,7 +205,9 @@ fn rest_text(
     machine: &Machine,
     story: &Story,
     decks: &[Deck<'_>],
-) -> Result<String, AllocError> {
+) -> Result<String, AllocError>
+    requires { length loaded.bytes.now ≤ TEXT_LIMIT }
+{
     let job = loaded.job;
     let mut out = String::new(alloc);
     write_end(&mut out, machine.journal())?;
@@ -209,6 +217,10 @@ fn rest_text(
         pool: &job.pool,
     };
     write_programs(alloc, &mut out, decks, machine, ending, loaded)?;
+    out.push_str("],\n\"next\":")?;
+    write_number(&mut out, next_turn(machine, ending))?;
+    out.push_str(",\n\"slots\":[")?;
+    write_slots(&mut out, loaded.bytes, &job.slots)?;
     out.push_str("],\n\"devices\":[")?;
     write_devices(&mut out, job, &story.flights, machine.journal().calls())?;
     write_story(&mut out, story, decks)?;
@@ -236,5 +248,5 @@ fn write_story(out: &mut String, story: &Story, decks: &[Deck<'_>]) -> Result<()
     write_loans(out, &story.loans)?;
     let idle = story.idle;
     let meanwhile = story.meanwhile;
-    writeln!(out, "],\n\"idle\":{idle},\"meanwhile\":{meanwhile}}}")
+    write!(out, "],\n\"idle\":{idle},\"meanwhile\":{meanwhile},\n")
 }

@@ -7,12 +7,12 @@ ghost use Rattle.kdf_report.specs.MadeFrom.{HasProgram};
 ghost use Rattle.kdf_service.specs.Rules.{IsService};
 ghost use Rattle.kdf_top.specs.Loaded.{HasImages};
 
-use crate::json::{write_comma, write_text};
-use crate::places::after;
-use crate::run::{Loaded, run_facts};
+use crate::printed::Printed;
+use crate::run::{Loaded, told_by};
 use crate::running::run_job;
 use kdf_director::Machine;
 use kdf_job::{Job, TEXT_LIMIT, line_count};
+use kdf_json::{after, write_comma, write_text};
 use kdf_service::Service;
 use kdf_snapshot::dump;
 use kdf_text::{Lines, cut_word, number_in};
@@ -35,37 +35,28 @@ pub fn snapshot_facts<F: Fn(u64) -> u64>(
     requires job { IsJob (shown_job loaded.job.now) }
     requires images { HasImages (shown_job loaded.job.now).slots loaded.images.now }
 {
-    let run = run_facts(alloc, loaded, service)?;
-    let words = words_after(alloc, loaded, service)?;
-    let lines = line_count(loaded.bytes);
-    let mut out = String::new(alloc);
-    write!(
-        out,
-        "{{\"format\":\"kdf9-facts 1\",\"kind\":\"snapshot\",\"lines\":{lines},\"words\":["
-    )?;
-    if words.len() <= TEXT_LIMIT {
-        write_words(&mut out, &words)?;
-    }
-    out.push_str("],\n\"run\":")?;
-    out.push_str(run.as_str())?;
-    out.push_str("}\n")?;
-    Ok(out)
+    let machine = run_job(alloc, loaded.job, loaded.images, service)?;
+    let told = told_after(alloc, loaded, &machine, service);
+    machine.close();
+    told
 }
 
-/// The lines of the words after the run of a job.
-fn words_after<F: Fn(u64) -> u64>(
+/// The facts of the snapshot of a machine after its run, which has the program of each slot.
+fn told_after<F: Fn(u64) -> u64>(
     alloc: Global,
     loaded: Loaded<'_>,
+    machine: &Machine,
     service: &Service<F>,
-) -> Result<Vec<u8>, AllocError>
+) -> Result<String, AllocError>
     requires service { IsService (F.pre service.now) (F.post service.now) }
+    requires few { length loaded.bytes.now ≤ TEXT_LIMIT }
     requires job { IsJob (shown_job loaded.job.now) }
     requires images { HasImages (shown_job loaded.job.now).slots loaded.images.now }
+    requires programs { All (HasProgram machine.now) (map shown_slot loaded.job.now.slots.items) }
 {
-    let machine = run_job(alloc, loaded.job, loaded.images, service)?;
-    let words = words_of(alloc, loaded.job, &machine);
-    machine.close();
-    words
+    let run = told_by(alloc, loaded, Printed::Report, machine, service)?;
+    let words = words_of(alloc, loaded.job, machine)?;
+    snapshot_text(alloc, loaded, &words, &run)
 }
 
 /// The lines of the words of a machine, which has the program of each slot.
@@ -73,6 +64,30 @@ fn words_of(alloc: Global, job: &Job, machine: &Machine) -> Result<Vec<u8>, Allo
     requires { All (HasProgram machine.now) (map shown_slot job.now.slots.items) }
 {
     dump(alloc, job, machine)
+}
+
+/// The text of the facts of a snapshot with these lines of words, and with the facts of the run.
+fn snapshot_text(
+    alloc: Global,
+    loaded: Loaded<'_>,
+    words: &[u8],
+    run: &String,
+) -> Result<String, AllocError>
+    requires { length loaded.bytes.now ≤ TEXT_LIMIT }
+{
+    let lines = line_count(loaded.bytes);
+    let mut out = String::new(alloc);
+    write!(
+        out,
+        "{{\"format\":\"kdf9-facts 1\",\"kind\":\"snapshot\",\"lines\":{lines},\"words\":["
+    )?;
+    if words.len() <= TEXT_LIMIT {
+        write_words(&mut out, words)?;
+    }
+    out.push_str("],\n\"run\":")?;
+    out.push_str(run.as_str())?;
+    out.push_str("}\n")?;
+    Ok(out)
 }
 
 /// Writes what each line tells: the slot, the address and the word.

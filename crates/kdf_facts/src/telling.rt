@@ -17,15 +17,15 @@ ghost use Rattle.kdf_top.specs.declared.status.Status.TheVariants as status;
 
 use crate::alone::alone_facts;
 use crate::check::check_facts;
-use crate::deck_lines::deck_line;
 use crate::fault::{DeckFound, deck_fault, deck_of, job_fault, large};
-use crate::layout::lay_out;
-use crate::listing::{absent, listing};
+use crate::printed::Printed;
 use crate::resume::resume_facts;
 use crate::run::{Loaded, run_facts};
 use crate::snapshot::snapshot_facts;
 use crate::watch::watch_facts;
 use kdf_job::{Job, JobError, JobFault, TEXT_LIMIT, generated, read_job, read_job_front};
+use kdf_json::deck_line;
+use kdf_listing::{absent_text, lay_out, listing_text};
 use kdf_place::Image;
 use kdf_service::Service;
 use kdf_top::{Command, DecksError, Status, assemble_decks, command_of};
@@ -39,6 +39,8 @@ const JOB_LIMIT: usize = 4_194_304;
 enum Wanted {
     /// Those of its run.
     Run,
+    /// Those of its run, where it is the job that is made of a number.
+    Made(u16),
     /// Those of the deck of a slot.
     Listing(u8),
     /// When the program of a slot came to an address.
@@ -102,7 +104,7 @@ fn of_made<F: Fn(u64) -> u64>(
     ensures { IfOk result (λ r. IsAnswer r.0) }
 {
     let bytes = generated(alloc, n)?;
-    within(alloc, Wanted::Run, &bytes, service)
+    within(alloc, Wanted::Made(n), &bytes, service)
 }
 
 /// The facts of the verdict on a report after its job.
@@ -262,7 +264,8 @@ fn of_images<F: Fn(u64) -> u64>(
 {
     let loaded = Loaded { bytes, job, images };
     match wanted {
-        Wanted::Run => run_facts(alloc, loaded, service),
+        Wanted::Run => run_facts(alloc, loaded, Printed::Report, service),
+        Wanted::Made(n) => run_facts(alloc, loaded, Printed::Summary(n), service),
         Wanted::Listing(p) => of_slot(alloc, p, loaded),
         Wanted::Watch(p, address) => watch_facts(alloc, job, images, p, address, service),
         Wanted::Alone(p) => alone_facts(alloc, bytes, job, images, p),
@@ -278,9 +281,9 @@ fn of_slot(alloc: Global, p: u8, loaded: Loaded<'_>) -> Result<String, AllocErro
         Some(image) => {
             let text = deck_of(loaded.job, p);
             let layout = lay_out(alloc, text, deck_line(loaded.bytes, p))?;
-            listing(alloc, p, &layout, image)
+            listing_text(alloc, p, &layout, image)
         }
-        None => absent(alloc, p),
+        None => absent_text(alloc, p),
     }
 }
 

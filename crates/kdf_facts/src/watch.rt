@@ -4,9 +4,9 @@ ghost use Rattle.kdf_job.specs.WellFormed.{IsJob};
 ghost use Rattle.kdf_service.specs.Rules.{IsService};
 ghost use Rattle.kdf_top.specs.Loaded.{HasImages};
 
-use crate::json::write_items;
 use crate::running::stops_of;
 use kdf_job::Job;
+use kdf_json::write_items;
 use kdf_place::Image;
 use kdf_service::Service;
 use std::alloc::{AllocError, Global};

@@ -54,6 +54,6 @@ pub use obeying::{obey, obey_fetched};
 pub use port::Port;
 pub use registers::{Life, Registers};
 pub use reserve::Reserve;
-pub use room::{obey_buffered, obey_with_room};
+pub use room::{obey_at_once, obey_buffered, obey_in_general, obey_with_room};
 pub use spooled::Spooled;
 pub use step::{Need, Step};

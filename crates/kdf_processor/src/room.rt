@@ -1,5 +1,5 @@
 //! Memory, taken before an order is obeyed.
-ghost use Rattle.std.specs.Prelude.{◌≡◌, ◌<◌, IfOk, OnOk, OnErr};
+ghost use Rattle.std.specs.Prelude.{◌≡◌, ◌<◌, IfNone, IfOk, IfSome, OnOk, OnErr};
 ghost use Rattle.kdf_processor.specs.Ahead.{IsAhead};
 ghost use Rattle.kdf_processor.specs.Buffered.{Agrees};
 ghost use Rattle.kdf_processor.specs.Effect.{Act};
@@ -57,6 +57,44 @@ pub fn obey_buffered<P: Reserve>(
             obey_any(registers, port)
         }
     }
+}
+
+/// Obeys the next order the quick way, or answers None and changes nothing: then it is for `obey_in_general`. It is inlined in the loop
+/// over the orders.
+#[inline(always)]
+pub fn obey_at_once<P: Reserve>(
+    registers: &mut Registers,
+    port: &mut P,
+    held: &mut Option<Buffer>,
+) -> Option<()>
+    requires ran { registers.old.ran < u32.MAX }
+    requires ready { P.ready port.old }
+    requires agrees { Agrees (P.shows port.old) held.old }
+    ensures obeyed { IfSome result (λ _. WithRoom P.keeps P.acts
+        (outcome (P.shows port.old) registers.old) port.old port.new registers.new Step.Done) }
+    ensures left { IfNone result ((registers.new ≡ registers.old) × (port.new ≡ port.old)) }
+    ensures agrees { Agrees (P.shows port.new) held.new }
+{
+    obey_quickly(registers, port, held)
+}
+
+/// Obeys the next order the general way, as `obey_buffered` does. No word is at hand after it.
+#[inline(always)]
+pub fn obey_in_general<P: Reserve>(
+    registers: &mut Registers,
+    port: &mut P,
+    held: &mut Option<Buffer>,
+) -> Result<Step, AllocError>
+    requires live { registers.old.state ≡ Life.Live }
+    requires ran { registers.old.ran < u32.MAX }
+    requires ready { P.ready port.old }
+    ensures obeyed { IfOk result (λ step. WithRoom P.keeps P.acts
+        (outcome (P.shows port.old) registers.old) port.old port.new registers.new step) }
+    ensures err { OnErr result ((registers.new ≡ registers.old) × P.keeps port.old port.new) }
+    ensures agrees { Agrees (P.shows port.new) held.new }
+{
+    *held = None;
+    obey_any(registers, port)
 }
 
 /// Obeys any order so. Few come here: this stays out of the way of the others.

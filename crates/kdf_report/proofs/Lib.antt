@@ -5,6 +5,7 @@ pub mod LoadedJobs
 pub mod Numbers
 pub mod PooledSlots
 pub mod SectionTexts
+pub mod ShortDecimals
 pub mod SeenPrograms
 pub mod SummaryTexts
 pub mod TwoWorlds

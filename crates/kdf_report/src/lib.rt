@@ -5,6 +5,7 @@
 mod alone;
 mod blocks;
 mod characters;
+mod decimals;
 mod devices;
 mod entries;
 pub mod examples;

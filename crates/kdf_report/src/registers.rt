@@ -4,9 +4,9 @@ ghost use Rattle.std.specs.List.{flat_map};
 ghost use Rattle.kdf_qstore.specs.Triples.{triple_at};
 ghost use Rattle.kdf_text.specs.Text.{octal, Adds};
 ghost use Rattle.kdf_report.specs.Devices.{bit};
-ghost use Rattle.kdf_report.specs.Text.{life_line, life_name, nest_line, links_line, q_line, q_lines, registers_lines};
+ghost use Rattle.kdf_report.specs.Text.{life_line, life_name, nest_line, links_line, q_line, q_lines, registers_lines, spaced_numbers};
 
-use crate::entries::write_line;
+use crate::decimals::write_after;
 use kdf_processor::{Flags, Life, Links, Nest, QStores, Registers};
 use kdf_qstore::Part;
 use kdf_text::write_octal;
@@ -150,6 +150,26 @@ fn write_q_store(out: &mut String, q: u8, q_stores: &QStores) -> Result<(), Allo
         return Ok(());
     }
     write_line(out, "Q", &[q.into(), c.into(), i.into(), m.into()])
+}
+
+/// A name and its numbers.
+#[tactic(auto, unfolding(kdf_text::specs::Text::text))]
+fn write_line(out: &mut String, name: &str, numbers: &[u64]) -> Result<(), AllocError>
+    ensures { OnOk result (Adds out.old out.new ((name.now ++ spaced_numbers numbers.now) ∷ [])) }
+{
+    out.push_str(name)?;
+    write_numbers(out, numbers)?;
+    writeln!(out)
+}
+
+/// Each number after a space.
+fn write_numbers(out: &mut String, numbers: &[u64]) -> Result<(), AllocError>
+    ensures { OnOk result (string_bytes out.new ≡ string_bytes out.old ++ spaced_numbers numbers.now) }
+{
+    for number in numbers {
+        write_after(out, *number)?;
+    }
+    Ok(())
 }
 
 fn are_zero(c: u16, i: u16, m: u16) -> bool

@@ -50,9 +50,9 @@ fn write_head(out: &mut String, n: u16, bytes: u32, journal: &Journal) -> Result
     ensures { OnOk result (Adds out.old out.new (
         make_line n ∷ job_line bytes ∷ entries_line journal.now.entries ∷ [])) }
 {
-    write_one(out, "KDF9 MAKE", n.into())?;
-    write_one(out, "JOB", bytes.into())?;
-    write_one(out, "ENTRIES", journal.entries().len() as u64)
+    write_one(out, "KDF9 MAKE ", n.into())?;
+    write_one(out, "JOB ", bytes.into())?;
+    write_one(out, "ENTRIES ", journal.entries().len() as u64)
 }
 
 /// The line of each slot, in the order of the slots.

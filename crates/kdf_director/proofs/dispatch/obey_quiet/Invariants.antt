@@ -7,19 +7,18 @@ use Rattle.kdf_director.specs.Fields.Turn.{held_in, reach_in, seat_in, shared, s
 use Rattle.kdf_director.specs.Fields.Turned.{HasTried}
 use Rattle.kdf_director.proofs.dispatch.obey_quiet.Given as goal
 
-abbrev pub invariant-loop-left : goal.invariant-loop-left
-invariant-loop-left l =
+abbrev pub invariant-loop-turn : goal.invariant-loop-turn
+invariant-loop-turn l =
     record {
       same : SameProgram l.fn.turn l.turn;
       live : l.registers.state ≡ life.Live;
-      some : 0 < l.left;
-      few : l.left ≤ l.most;
-      ran : l.registers.ran + l.left ≤ 4294967295;
+      few : l.done < l.most;
+      ran : l.registers.ran + (l.most - l.done) ≤ 4294967295;
       quiet : l.turn.note ≡ Quiet;
       agrees : Agrees (shown l.turn) l.held;
       earlier :
-          AreQuiet (HasTried (reach_in l.fn.turn) (held_in l.fn.turn) l.fn.turn.moment) (l.most - l.left) (seat_in l.fn.turn l.fn.registers) (shared l.fn.turn) (seat_in l.turn l.registers) (shared l.turn);
+          AreQuiet (HasTried (reach_in l.fn.turn) (held_in l.fn.turn) l.fn.turn.moment) l.done (seat_in l.fn.turn l.fn.registers) (shared l.fn.turn) (seat_in l.turn l.registers) (shared l.turn);
     }
 
-abbrev pub decreases-loop-left : goal.decreases-loop-left
-decreases-loop-left l = l.left
+abbrev pub decreases-loop-turn : goal.decreases-loop-turn
+decreases-loop-turn l = l.most - l.done

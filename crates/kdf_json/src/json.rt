@@ -1,0 +1,116 @@
+//! JSON: texts in quotes, and what every text of facts begins with.
+
+use std::alloc::AllocError;
+use std::fmt::Write;
+
+const DIGITS: [char; 16] = [
+    '0', '1', '2', '3', '4', '5', '6', '7', '8', '9', 'a', 'b', 'c', 'd', 'e', 'f',
+];
+
+/// Writes bytes as a text in quotes. A byte that isn't a printable character of ASCII is written as the character of its number.
+pub fn write_text(out: &mut String, bytes: &[u8]) -> Result<(), AllocError> {
+    out.push('"')?;
+    let mut from = 0;
+    for (i, byte) in bytes.iter().enumerate() {
+        if !is_plain(*byte) {
+            write_plain(out, between(bytes, from, i))?;
+            write_byte(out, *byte)?;
+            from = i.saturating_add(1);
+        }
+    }
+    write_plain(out, between(bytes, from, bytes.len()))?;
+    out.push('"')
+}
+
+/// Whether a byte stands for itself in a text in quotes.
+fn is_plain(byte: u8) -> bool {
+    32 <= byte && byte <= 126 && byte != b'"' && byte != b'\\'
+}
+
+/// The bytes of a text from one offset to another.
+fn between(bytes: &[u8], from: usize, to: usize) -> &[u8] {
+    if from <= to && to <= bytes.len() {
+        &bytes[from..to]
+    } else {
+        &[]
+    }
+}
+
+/// Writes bytes that stand for themselves, all at once.
+fn write_plain(out: &mut String, bytes: &[u8]) -> Result<(), AllocError> {
+    match str::from_utf8(bytes) {
+        Ok(text) => out.push_str(text),
+        Err(_) => write_singly(out, bytes),
+    }
+}
+
+fn write_singly(out: &mut String, bytes: &[u8]) -> Result<(), AllocError> {
+    for byte in bytes {
+        write_byte(out, *byte)?;
+    }
+    Ok(())
+}
+
+/// Writes a byte of a text in quotes.
+pub fn write_byte(out: &mut String, byte: u8) -> Result<(), AllocError> {
+    match byte {
+        b'"' | b'\\' => {
+            out.push('\\')?;
+            out.push(char::from(byte))
+        }
+        b'\n' => out.push_str("\\n"),
+        32..=126 => out.push(char::from(byte)),
+        _ => {
+            out.push_str("\\u00")?;
+            out.push(DIGITS[usize::from(byte / 16)])?;
+            out.push(DIGITS[usize::from(byte % 16)])
+        }
+    }
+}
+
+/// Writes a number, or `null`.
+pub fn write_number(out: &mut String, number: Option<u32>) -> Result<(), AllocError> {
+    match number {
+        Some(number) => write!(out, "{number}"),
+        None => out.push_str("null"),
+    }
+}
+
+/// Writes the end of a line before an item of a list, and a comma, unless it is the first.
+pub fn write_comma(out: &mut String, i: usize) -> Result<(), AllocError> {
+    out.push_str(if i == 0 { "\n" } else { ",\n" })
+}
+
+/// Writes a comma before an item of a list in one line, unless it is the first.
+pub fn write_items(out: &mut String, i: usize) -> Result<(), AllocError> {
+    out.push_str(if i == 0 { "" } else { "," })
+}
+
+/// A length as a number of 32 bits. No list of facts has more items than there are events and calls.
+pub fn count_of(length: usize) -> u32 {
+    if length < 4_294_967_295 {
+        length as u32
+    } else {
+        4_294_967_295
+    }
+}
+
+/// Writes the letter of a code in a text in quotes.
+pub fn write_code(out: &mut String, code: u32) -> Result<(), AllocError> {
+    if code < 0x1_0000 {
+        write_half(out, code)
+    } else {
+        let further = code.saturating_sub(0x1_0000);
+        write_half(out, (further / 1024 % 1024).saturating_add(0xd800))?;
+        write_half(out, (further % 1024).saturating_add(0xdc00))
+    }
+}
+
+/// Writes 16 bits of a text in quotes.
+fn write_half(out: &mut String, half: u32) -> Result<(), AllocError> {
+    out.push_str("\\u")?;
+    out.push(DIGITS[(half / 4096 % 16) as usize])?;
+    out.push(DIGITS[(half / 256 % 16) as usize])?;
+    out.push(DIGITS[(half / 16 % 16) as usize])?;
+    out.push(DIGITS[(half % 16) as usize])
+}
