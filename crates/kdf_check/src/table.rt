@@ -54,7 +54,8 @@ impl Table {
         self.busy = is_any(&self.places);
     }
 
-    /// Whether a group of program `p` is one of a transfer that is pending.
+    /// Whether a group of program `p` is one of a transfer that is pending. Each word that is read or written asks.
+    #[inline(always)]
     pub fn is_out(&self, p: u8, group: u16) -> bool
         ensures { result ≡ is_out_in p self.now.places group }
     {

@@ -4,6 +4,7 @@ pub mod EventsInTurn
 pub mod HoldsInside
 pub mod OneJournal
 pub mod OthersStay
+pub mod Rows
 pub mod WorkedFlights
 pub mod WorkedPools
 pub mod WorkedSlots

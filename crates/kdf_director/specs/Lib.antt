@@ -7,6 +7,7 @@ pub mod Lends
 pub mod Loading
 pub mod Orders
 pub mod Progressed
+pub mod Rows
 pub mod Runs
 pub mod Unasked
 pub mod Worked

@@ -1,11 +1,12 @@
 //! The run of a schedule.
-ghost use Rattle.std.specs.Prelude.{◌≡◌, ◌+◌, ◌≤◌, [], ◌∷◌, OnOk, drop, length, sum_by, take, true};
+ghost use Rattle.std.specs.Prelude.{◌≡◌, ◌+◌, ◌<◌, ◌≤◌, [], ◌∷◌, OnOk, drop, length, sum_by, take, true};
 ghost use Rattle.std.specs.List.{All};
 ghost use Rattle.kdf_journal.specs.Counts.{calls, clock};
 ghost use Rattle.kdf_journal.specs.Steps.{steps};
 ghost use Rattle.kdf_schedule.specs.Calls.{calls_made, calls_of, orders_in, order_count};
 ghost use Rattle.kdf_schedule.specs.Events.{IsInRange};
 ghost use Rattle.kdf_course.specs.Follows.{Reaches};
+ghost use Rattle.kdf_director.specs.Rows.{IsRow};
 ghost use Rattle.kdf_theory.specs.Follows.{IsRising, entries_in, time_behind};
 ghost use Rattle.kdf_theory.specs.Legal.{IsLegal};
 ghost use Rattle.kdf_theory.specs.Next.{any_live, lone_dispatched};
@@ -92,14 +93,39 @@ fn follow_each<F: Fn(u64) -> u64>(
     ensures seen { OnOk result (ShowsSeen machine.new) }
     ensures room { OnOk result (machine.old.room ≤ machine.new.room + sum_by entries_in events.now) }
 {
-    for event in events {
+    let mut made = 0;
+    while made < events.len() {
         if !machine.is_any_live() {
             return Ok(());
         }
-        make_calls(machine, *event, service)?;
+        let (event, count) = first_row(&events[made..]);
+        make_calls(machine, event, service)?;
+        made += count;
     }
     let _journal = machine.journal();
     Ok(())
+}
+
+/// The event whose calls those of the first events are, and how many events these are: the orders of lines in a row
+/// are made at once.
+fn first_row(events: &[Event]) -> (Event, usize)
+    requires some { 0 < length events.now }
+    requires few { order_count events.now ≤ CALL_LIMIT }
+    requires in_range { All IsInRange events.now }
+    ensures some { 0 < result.1 }
+    ensures within { result.1 ≤ length events.now }
+    ensures row { IsRow result.0 (take result.1 events.now) }
+    ensures in_range { IsInRange result.0 }
+{
+    let mut orders = 0;
+    for (i, event) in events.iter().enumerate() {
+        match event {
+            Event::Orders(n) => orders += n,
+            other if i == 0 => return (*other, 1),
+            _ => return (Event::Orders(orders), i),
+        }
+    }
+    (Event::Orders(orders), events.len())
 }
 
 /// The calls of one event, or fewer where no program is live any more.

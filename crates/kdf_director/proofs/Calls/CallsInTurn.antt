@@ -1,6 +1,6 @@
 -- What calls in turn come to.
 use Rattle.std.specs.Prelude.{replicate}
-use Rattle.std.proofs.Common.{◌≡◌, ℕ, ◌+◌, ◌-◌, ◌≤◌, Bool, true, false, ◌⊎◌, inl, inr, refl, sym, subst, arith}
+use Rattle.std.proofs.Common.{◌≡◌, ℕ, ◌+◌, ◌≤◌, Bool, true, false, ◌⊎◌, inl, inr, refl, sym, subst, arith}
 use Rattle.kdf_journal.specs.Steps.{steps}
 use Rattle.kdf_schedule.specs.Calls.{AnOrder}
 use Rattle.kdf_course.specs.Follows.{Reaches}

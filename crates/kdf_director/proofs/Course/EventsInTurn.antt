@@ -1,6 +1,6 @@
 -- The events of a schedule, one after another.
-use Rattle.std.proofs.Common.{◌≡◌, ℕ, ◌+◌, ◌-◌, ◌≤◌, ◌<◌, List, [], ◌∷◌, ◌++◌, Bool, true, false, refl, sym, ◌∙◌, ap, length, take, drop, get_or, drop-cons, add-one, subst, arith, length-drop}
-use Rattle.std.proofs.lemmas.List.{take_all, take_more, take-append-drop}
+use Rattle.std.proofs.Common.{◌≡◌, ℕ, ◌+◌, ◌-◌, ◌≤◌, List, [], ◌∷◌, ◌++◌, Bool, true, false, refl, sym, ◌∙◌, ap, length, take, drop, subst, arith, length-drop, take-add}
+use Rattle.std.proofs.lemmas.List.{take_all, take-append-drop}
 use Rattle.kdf_transfer.specs.Slots.{Slot}
 use Rattle.kdf_journal.specs.declared.entry.Entry.{Entry}
 use Rattle.kdf_journal.specs.Steps.{Step, journal_of, steps}
@@ -8,7 +8,7 @@ use Rattle.kdf_journal.proofs.Steps.{steps-nil}
 use Rattle.kdf_schedule.specs.declared.event.Event.{Event}
 use Rattle.kdf_schedule.specs.declared.event.Event.TheVariants.{Orders, Move, End, Clock, Swap}
 use Rattle.kdf_schedule.specs.Calls.{Call, calls_of, calls_made, order_count}
-use Rattle.kdf_schedule.proofs.Schedules.{calls_made-append, calls_made-one, calls_made-nil}
+use Rattle.kdf_schedule.proofs.Schedules.{calls_made-append, calls_made-nil}
 use Rattle.kdf_course.specs.Follows.{Reaches}
 use Rattle.kdf_course.proofs.Reaching.{reach-append, reach-dead, reach-nil, reach-whole, whole-on}
 use Rattle.kdf_theory.specs.Next.{lone_dispatched, any_live}
@@ -58,14 +58,15 @@ module _ (slots0 : List Slot) (P : List Step) (es : List Event) (i : ℕ) where
     pub ended_late : length es ≤ i → Reaches (lone_dispatched slots0) P (calls_made es) (steps J)
     ended_late le = subst (λ (fs : List Event). Reaches (lone_dispatched slots0) P (calls_made fs) (steps J)) (take_all i es le) taken
 
-    pub one_more : (K : List Entry) (d : Event) → i < length es → any_live slots J ≡ true → Reaches (lone_dispatched slots) (steps J) (calls_of (get_or es i d)) (steps K) → Reaches (lone_dispatched slots0) P (calls_made (take (i + 1) es)) (steps K)
-    one_more K d lt live k =
-        let next : calls_made (take (i + 1) es) ≡ calls_made (take i es) ++ calls_of (get_or es i d) =
-        ap calls_made (take_more es i d lt) ∙ (calls_made-append (take i es) (get_or es i d ∷ []) ∙ ap (λ (cs : List Call). calls_made (take i es) ++ cs) (calls_made-one (get_or es i d))) in
-        let here : Reaches (lone_dispatched slots0) (steps J) (calls_of (get_or es i d)) (steps K) =
-        subst (λ (S : List Slot). Reaches (lone_dispatched S) (steps J) (calls_of (get_or es i d)) (steps K)) same k in
+    -- calls of an event more, whose calls those of the next events are
+    pub some_more : (K : List Entry) (k : ℕ) (e : Event) → calls_made (take k (drop i es)) ≡ calls_of e → any_live slots J ≡ true → Reaches (lone_dispatched slots) (steps J) (calls_of e) (steps K) → Reaches (lone_dispatched slots0) P (calls_made (take (i + k) es)) (steps K)
+    some_more K k e made live reached =
+        let next : calls_made (take (i + k) es) ≡ calls_made (take i es) ++ calls_of e =
+        ap calls_made (take-add i k es) ∙ (calls_made-append (take i es) (take k (drop i es)) ∙ ap (λ (cs : List Call). calls_made (take i es) ++ cs) made) in
+        let here : Reaches (lone_dispatched slots0) (steps J) (calls_of e) (steps K) =
+        subst (λ (S : List Slot). Reaches (lone_dispatched S) (steps J) (calls_of e) (steps K)) same reached in
         subst (λ (cs : List Call). Reaches (lone_dispatched slots0) P cs (steps K)) (sym next)
-        (reach-append (lone_dispatched slots0) P (steps J) (steps K) (calls_made (take i es)) (calls_of (get_or es i d)) taken (live_here true live) here)
+        (reach-append (lone_dispatched slots0) P (steps J) (steps K) (calls_made (take i es)) (calls_of e) taken (live_here true live) here)
 
 -- the events from one on
 pub rest-is : (es : List Event) (i : ℕ) → take (length es - i) (drop i es) ≡ drop i es
@@ -76,10 +77,7 @@ pub order_count-append : (es fs : List Event) → order_count (es ++ fs) ≡ ord
 order_count-append [] fs = omega arith
 order_count-append (e ∷ es) fs = omega (arith, order_count-append es fs)
 
--- the events from the next on
-pub rises-from : (es : List Event) (i : ℕ) (d : Event) (t : ℕ) → i < length es → IsRising t (drop i es) → IsRising t (get_or es i d ∷ drop (i + 1) es)
-rises-from es i d t lt rises = subst (IsRising t) (drop-cons es i d lt ∙ ap (λ (n : ℕ). get_or es i d ∷ drop n es) (sym (add-one i))) rises
-
+-- the time rises over the first event, and behind it
 pub rises-first : (t : ℕ) (e : Event) (es : List Event) → IsRising t (e ∷ es) → IsRising t (e ∷ [])
 rises-first t (Orders n) es rises = tt
 rises-first t (Move d n) es rises = tt

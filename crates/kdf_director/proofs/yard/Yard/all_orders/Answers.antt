@@ -1,7 +1,6 @@
 use Rattle.std.proofs.Common.{◌≡◌, ◌+◌, ◌-◌, inl, inr, sym, subst, ◌<◌, ◌≤◌, arith}
 use Rattle.kdf_director.specs.Fields.Standing.{shown_of}
 use Rattle.kdf_director.specs.Runs.{HasMadeOn}
-use Rattle.kdf_director.specs.declared.halt.Halt.TheVariants.{Never}
 use Rattle.kdf_director.proofs.Calls.CallsAfterCalls.{made_none}
 use Rattle.kdf_director.proofs.Calls.CallsAtOnce.{all_err}
 use Rattle.kdf_director.proofs.Calls.CallsInTurn.{fewer_more, some_more}
