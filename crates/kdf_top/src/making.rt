@@ -4,13 +4,13 @@ ghost use Rattle.kdf_job.specs.declared.job.TheConstants.{TEXT_LIMIT};
 ghost use Rattle.kdf_service.specs.Rules.{IsService};
 ghost use Rattle.kdf_top.specs.Answered.{IsReason};
 ghost use Rattle.kdf_top.specs.Answers.{IsCalled, IsMade};
-ghost use Rattle.kdf_top.specs.Commands.{HasAddress};
-ghost use Rattle.kdf_top.specs.declared.command.Command.TheVariants as command;
+ghost use Rattle.kdf_command.specs.Commands.{HasAddress};
+ghost use Rattle.kdf_command.specs.declared.command.Command.TheVariants as command;
 ghost use Rattle.kdf_top.specs.declared.reason.MakeError.TheVariants.{Memory};
 
 use crate::alone::alone;
 use crate::checking::check;
-use crate::command::Command;
+use kdf_command::Command;
 use crate::listing::list;
 use crate::loading::load;
 use crate::reason::MakeError;

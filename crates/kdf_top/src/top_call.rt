@@ -7,13 +7,13 @@ ghost use Rattle.kdf_job.specs.declared.job.TheConstants.{TEXT_LIMIT};
 ghost use Rattle.kdf_service.specs.Rules.{IsService};
 ghost use Rattle.kdf_top.specs.Answered.{inlet, outlet, IsGiven, IsRefusal, IsRefused, IsRun, ReadsAll, Takes};
 ghost use Rattle.kdf_top.specs.Answers.{Answers, IsCalled, IsCalledFor, IsDoneBy, IsDueFor, IsFaultless, IsTrusted, Wrote, WroteFrontBy, is_kept, job_text, reads, reads_by};
-ghost use Rattle.kdf_top.specs.Commands.{HasAddress, command, input_of, is_command, is_too_long};
+ghost use Rattle.kdf_command.specs.Commands.{HasAddress, command, input_of, is_command, is_too_long};
 ghost use Rattle.kdf_top.specs.Deck.{deck_fault};
 ghost use Rattle.kdf_top.specs.Due.{job_of};
-ghost use Rattle.kdf_top.specs.declared.command.Command.{Command as Asked};
-ghost use Rattle.kdf_top.specs.declared.command.Input.TheVariants as input;
+ghost use Rattle.kdf_command.specs.declared.command.Command.{Command as Asked};
+ghost use Rattle.kdf_command.specs.declared.command.Input.TheVariants as input;
 
-use crate::command::{Command, Input, command_of, limit_by};
+use kdf_command::{Command, Input, command_of, limit_by};
 use crate::making::{Made, make};
 use crate::reason::MakeError;
 use crate::refusal::refusal_text;
