@@ -10,7 +10,6 @@ ghost use Rattle.kdf_top.specs.declared.reason.MakeError.TheVariants.{Memory};
 
 use crate::alone::alone;
 use crate::checking::check;
-use kdf_command::Command;
 use crate::listing::list;
 use crate::loading::load;
 use crate::reason::MakeError;
@@ -18,6 +17,7 @@ use crate::resuming::resume;
 use crate::running::run_job;
 use crate::saving::snapshot;
 use crate::watching::{watch_job, watched_text};
+use kdf_command::Command;
 use kdf_director::Machine;
 use kdf_report::{report, summary};
 use kdf_service::Service;

@@ -13,11 +13,11 @@ ghost use Rattle.kdf_top.specs.Due.{job_of};
 ghost use Rattle.kdf_command.specs.declared.command.Command.{Command as Asked};
 ghost use Rattle.kdf_command.specs.declared.command.Input.TheVariants as input;
 
-use kdf_command::{Command, Input, command_of, limit_by};
 use crate::making::{Made, make};
 use crate::reason::MakeError;
 use crate::refusal::refusal_text;
 use crate::{Outcome, Status};
+use kdf_command::{Command, Input, command_of, limit_by};
 use kdf_director::Machine;
 use kdf_io::{ReadEnd, Sink, Source, read_all, write_all};
 use kdf_job::generated;
