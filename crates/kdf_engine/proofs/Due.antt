@@ -3,7 +3,7 @@ use Rattle.std.proofs.Common.{◌≡◌, ◌≢◌, ℕ, ◌<◌, ◌^◌, List,
 use Rattle.std.proofs.lemmas.Option.{same_Some}
 use Rattle.kdf_io.specs.Outside.{Added}
 use Rattle.kdf_theory.specs.Shown.{Shown}
-use Rattle.kdf_top.specs.declared.command.Command.{Command}
+use Rattle.kdf_command.specs.declared.command.Command.{Command}
 use Rattle.kdf_top.specs.declared.status.Status.{Status}
 use Rattle.kdf_top.specs.declared.status.Status.TheVariants as status
 use Rattle.kdf_top.specs.Answers.{IsCalledBy, IsDoneBy, IsDueAt, IsDueBy, IsMade, IsTextOf, Wrote, called_by, job_text, text_by}

@@ -4,7 +4,7 @@ use Rattle.kdf_theory.specs.Shown.{Shown}
 use Rattle.kdf_top.specs.declared.status.Status.{Status}
 use Rattle.kdf_top.specs.declared.status.Status.TheVariants as status
 use Rattle.kdf_top.specs.Answers.{IsCalledFor, IsDoneBy, IsDueFor}
-use Rattle.kdf_top.specs.Commands.{command, is_command}
+use Rattle.kdf_command.specs.Commands.{command, is_command}
 use Rattle.kdf_engine.specs.Answered.{IsAnswered}
 use Rattle.kdf_engine.specs.Service.{exchanged}
 use Rattle.kdf_engine.proofs.Called.{answers_called}

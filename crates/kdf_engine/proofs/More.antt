@@ -15,8 +15,8 @@ use Rattle.kdf_check.specs.declared.verdict.Verdict.TheVariants.{Yes, No}
 use Rattle.kdf_top.specs.Answers.{Answers, IsCalledBy, IsCalledWhere, IsDoneBy, IsTrusted, called_by, job_text}
 use Rattle.kdf_top.specs.Due.{IsMachineOf, IsTextFrom, Keeps, job_of}
 use Rattle.kdf_top.specs.Snapshots.{IsComparedFor}
-use Rattle.kdf_top.specs.declared.command.Command.{Command}
-use Rattle.kdf_top.specs.declared.command.Command.TheVariants.{Run, Save, Resume, Check, Alone, Asm, Make, Watch}
+use Rattle.kdf_command.specs.declared.command.Command.{Command}
+use Rattle.kdf_command.specs.declared.command.Command.TheVariants.{Run, Save, Resume, Check, Alone, Asm, Make, Watch}
 use Rattle.kdf_top.specs.declared.status.Status.{Status}
 use Rattle.kdf_top.specs.declared.status.Status.TheVariants as status
 use Rattle.kdf_engine.specs.Service.{exchanged}

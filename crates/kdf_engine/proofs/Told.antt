@@ -6,9 +6,9 @@ use Rattle.kdf_journal.specs.declared.entry.Entry.{Entry}
 use Rattle.kdf_job.specs.Job.{Job}
 use Rattle.kdf_job.specs.Reading.{job}
 use Rattle.kdf_top.specs.Answers.{IsCalledBy, IsCalledFor}
-use Rattle.kdf_top.specs.Commands.{command, is_command}
-use Rattle.kdf_top.specs.declared.command.Command.{Command}
-use Rattle.kdf_top.specs.declared.command.Command.TheVariants.{Run}
+use Rattle.kdf_command.specs.Commands.{command, is_command}
+use Rattle.kdf_command.specs.declared.command.Command.{Command}
+use Rattle.kdf_command.specs.declared.command.Command.TheVariants.{Run}
 use Rattle.kdf_top.specs.declared.status.Status.{Status}
 use Rattle.kdf_top.specs.declared.status.Status.TheVariants as status
 use Rattle.kdf_engine.specs.Service.{exchanged}

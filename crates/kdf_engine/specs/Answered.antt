@@ -2,7 +2,7 @@
 use Rattle.std.specs.Prelude.{◌≡◌, ◌≢◌, ℕ, ◌<◌, ◌≤◌, List, [], true, length, take, drop, Option, Some}
 use Rattle.kdf_theory.specs.Shown.{Shown}
 use Rattle.kdf_top.specs.Answers.{Answers, IsCalledFor, IsDoneBy, IsDueFor}
-use Rattle.kdf_top.specs.Commands.{command, is_command}
+use Rattle.kdf_command.specs.Commands.{command, is_command}
 use Rattle.kdf_top.specs.declared.status.Status.{Status}
 use Rattle.kdf_top.specs.declared.status.Status.TheVariants as status
 use Rattle.kdf_engine.specs.Service.{exchanged}

@@ -2,8 +2,8 @@
 use Rattle.std.specs.Prelude.{◌≡◌, ◌≢◌, ℕ, ◌<◌, List, true, length, take, drop, Some}
 use Rattle.kdf_facts.specs.Told.{OfJob, TellsDeck, TellsFault, TellsJob}
 use Rattle.kdf_top.specs.Answers.{Answers, IsCalledFor}
-use Rattle.kdf_top.specs.Commands.{command, is_command}
-use Rattle.kdf_top.specs.declared.command.Command.TheVariants.{Run}
+use Rattle.kdf_command.specs.Commands.{command, is_command}
+use Rattle.kdf_command.specs.declared.command.Command.TheVariants.{Run}
 use Rattle.kdf_top.specs.declared.status.Status.{Status}
 use Rattle.kdf_top.specs.declared.status.Status.TheVariants as status
 use Rattle.kdf_engine.specs.Service.{exchanged}

@@ -2,7 +2,7 @@
 ghost use Rattle.std.specs.Prelude.{◌≡◌, ◌≢◌, ◌≤◌, ◌<◌, [], Option, Some, true, IfOk, drop, length, map, string_bytes, take};
 ghost use Rattle.kdf_theory.specs.Shown.{Shown};
 ghost use Rattle.kdf_top.specs.Answers.{IsCalledFor, IsDoneBy, IsDueFor};
-ghost use Rattle.kdf_top.specs.Commands.{command, is_command};
+ghost use Rattle.kdf_command.specs.Commands.{command, is_command};
 ghost use Rattle.kdf_engine.specs.Answered.{IsAnswered};
 ghost use Rattle.kdf_engine.specs.Service.{exchanged};
 ghost use Rattle.kdf_engine.specs.Words.{words_in};

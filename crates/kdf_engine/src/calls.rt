@@ -3,9 +3,9 @@ ghost use Rattle.std.specs.Prelude.{◌≡◌, ◌≢◌, ◌≤◌, ◌<◌, []
 ghost use Rattle.kdf_theory.specs.Shown.{Shown};
 ghost use Rattle.kdf_top.specs.Answers.{Answers, IsCalledFor, IsDoneBy, IsDueFor};
 ghost use Rattle.kdf_top.specs.Codes.{code_of};
-ghost use Rattle.kdf_top.specs.Commands.{command, is_command};
+ghost use Rattle.kdf_command.specs.Commands.{command, is_command};
 ghost use Rattle.kdf_top.specs.declared.status.Status.{Status as Given};
-ghost use Rattle.kdf_top.specs.declared.command.Command.TheVariants.{Run};
+ghost use Rattle.kdf_command.specs.declared.command.Command.TheVariants.{Run};
 ghost use Rattle.kdf_engine.specs.Service.{exchanged};
 ghost use Rattle.kdf_engine.specs.Told.{AreFacts};
 ghost use Rattle.kdf_engine.specs.Words.{words_in};

@@ -2,8 +2,8 @@
 ghost use Rattle.std.specs.Prelude.{◌≡◌, Some, true, false, IfOk, map, string_bytes};
 ghost use Rattle.kdf_facts.specs.Told.{IsAnswer, OfJob, TellsDeck, TellsFault, TellsJob};
 ghost use Rattle.kdf_top.specs.Answers.{IsCalledFor};
-ghost use Rattle.kdf_top.specs.Commands.{command, is_command};
-ghost use Rattle.kdf_top.specs.declared.command.Command.TheVariants.{Run};
+ghost use Rattle.kdf_command.specs.Commands.{command, is_command};
+ghost use Rattle.kdf_command.specs.declared.command.Command.TheVariants.{Run};
 ghost use Rattle.kdf_top.specs.declared.status.Status.TheVariants as status;
 ghost use Rattle.kdf_engine.specs.Service.{exchanged};
 ghost use Rattle.kdf_engine.specs.Told.{IsTold};

@@ -5,7 +5,7 @@ use Rattle.kdf_job.specs.Job.{Job}
 use Rattle.kdf_job.specs.Reading.{job, job_fault}
 use Rattle.kdf_job.specs.declared.fault.JobFault.{JobFault}
 use Rattle.kdf_top.specs.Answers.{or_decks, status_of_decks}
-use Rattle.kdf_top.specs.Commands.{job_limit}
+use Rattle.kdf_command.specs.Commands.{job_limit}
 use Rattle.kdf_top.specs.Deck.{deck_fault}
 use Rattle.kdf_top.specs.Snapshots.{status_of_line}
 use Rattle.kdf_top.specs.declared.status.Status.TheVariants as status

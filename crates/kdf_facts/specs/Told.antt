@@ -4,9 +4,9 @@ use Rattle.kdf_job.specs.Job.{Job}
 use Rattle.kdf_job.specs.Reading.{job, job_fault}
 use Rattle.kdf_job.specs.declared.fault.JobFault.{JobFault}
 use Rattle.kdf_top.specs.Answers.{called_by}
-use Rattle.kdf_top.specs.Commands.{job_limit}
+use Rattle.kdf_command.specs.Commands.{job_limit}
 use Rattle.kdf_top.specs.Deck.{deck_fault}
-use Rattle.kdf_top.specs.declared.command.Command.TheVariants.{Run}
+use Rattle.kdf_command.specs.declared.command.Command.TheVariants.{Run}
 use Rattle.kdf_top.specs.declared.status.Status.{Status}
 use Rattle.kdf_top.specs.declared.status.Status.TheVariants as status
 use Rattle.kdf_usercode.specs.Faults.{Found}

@@ -9,10 +9,10 @@ ghost use Rattle.kdf_job.specs.WellFormed.{IsJob};
 ghost use Rattle.kdf_job.specs.declared.job.TheConstants.{TEXT_LIMIT};
 ghost use Rattle.kdf_service.specs.Rules.{IsService};
 ghost use Rattle.kdf_top.specs.Answers.{status_of_decks};
-ghost use Rattle.kdf_top.specs.Commands.{command, is_command};
+ghost use Rattle.kdf_command.specs.Commands.{command, is_command};
 ghost use Rattle.kdf_top.specs.Deck.{deck_fault};
 ghost use Rattle.kdf_top.specs.Loaded.{HasImages};
-ghost use Rattle.kdf_top.specs.declared.command.Command.TheVariants.{Run};
+ghost use Rattle.kdf_command.specs.declared.command.Command.TheVariants.{Run};
 ghost use Rattle.kdf_top.specs.declared.status.Status.TheVariants as status;
 
 use crate::alone::alone_facts;

@@ -4,12 +4,12 @@ use Rattle.std.proofs.lemmas.List.{append-nil}
 use Rattle.kdf_io.specs.Outside.{HasRisen, Added, AddedFront}
 use Rattle.kdf_text.specs.Text.{text}
 use Rattle.kdf_theory.specs.Shown.{Shown}
-use Rattle.kdf_top.specs.declared.command.Command.{Command}
+use Rattle.kdf_command.specs.declared.command.Command.{Command}
 use Rattle.kdf_top.specs.declared.status.Status.{Status}
 use Rattle.kdf_top.specs.declared.status.Status.TheVariants as status
 use Rattle.kdf_top.specs.Answered.{Outlet, IsGiven, IsRefusal, IsRefused}
 use Rattle.kdf_top.specs.Answers.{Answers, IsCalled, IsDue, IsDueAt, IsMade, Wrote, is_done, keeps_by, refusal, status_of}
-use Rattle.kdf_top.specs.Commands.{keeps_machine}
+use Rattle.kdf_command.specs.Commands.{keeps_machine}
 use Rattle.kdf_top.specs.Due.{Keeps}
 use Rattle.kdf_top.proofs.Called.{called_done, journal_kept, one_called, one_due_at}
 

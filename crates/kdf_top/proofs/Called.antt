@@ -14,12 +14,12 @@ use Rattle.kdf_check.specs.Report.{IsCheck, IsJudged, head_line, told_lines}
 use Rattle.kdf_check.specs.Verdict.{IsVerdict}
 use Rattle.kdf_check.specs.declared.verdict.Verdict.{Verdict}
 use Rattle.kdf_check.proofs.Judging.{one_verdict_lem}
-use Rattle.kdf_top.specs.declared.command.Command.{Command}
-use Rattle.kdf_top.specs.declared.command.Command.TheVariants.{Run, Save, Resume, Check, Alone, Asm, Make, Watch}
+use Rattle.kdf_command.specs.declared.command.Command.{Command}
+use Rattle.kdf_command.specs.declared.command.Command.TheVariants.{Run, Save, Resume, Check, Alone, Asm, Make, Watch}
 use Rattle.kdf_top.specs.declared.status.Status.{Status}
 use Rattle.kdf_top.specs.declared.status.Status.TheVariants as status
 use Rattle.kdf_top.specs.Answers.{IsCalled, IsCalledWhere, IsDueAt, IsFaultless, IsTextOf, IsTrusted, or_decks, status_of, status_of_lines}
-use Rattle.kdf_top.specs.Commands.{keeps_machine}
+use Rattle.kdf_command.specs.Commands.{keeps_machine}
 use Rattle.kdf_top.specs.Deck.{deck_fault}
 use Rattle.kdf_top.specs.Due.{IsJournalOf, IsJournalWhere, IsTextFrom, Keeps, job_of, journal_in, verdict_lines}
 use Rattle.kdf_top.specs.Loaded.{slots_of}

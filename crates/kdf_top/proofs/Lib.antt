@@ -8,17 +8,12 @@ pub mod Schedules
 pub mod WorkedAnswers
 pub mod Found
 pub mod Loads
-pub mod Values
 pub mod MadeTexts
 pub mod Sealing
 pub mod Lines
 pub mod Resumptions
 pub mod Verdicts
-pub mod TwoValues
 pub mod StopLines
-pub mod Hyphens
-pub mod Watches
-pub mod NamedCommands
 pub mod SealLines
 pub mod SavedTexts
 pub mod SavedRuns

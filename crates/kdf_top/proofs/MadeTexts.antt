@@ -1,10 +1,10 @@
 -- What a command makes, from its text and the machine that it keeps.
 use Rattle.std.proofs.Common.{◌≡◌, ℕ, List, [], Vec, Global, Option, Some, None, Result, Ok, Err, IfOk, true, false, sym, subst}
 use Rattle.kdf_theory.specs.Shown.{Shown}
-use Rattle.kdf_top.specs.declared.command.Command.{Command}
+use Rattle.kdf_command.specs.declared.command.Command.{Command}
 use Rattle.kdf_top.specs.declared.making.Made.{Made}
 use Rattle.kdf_top.specs.Answers.{IsFaultless, IsMade, IsTrusted}
-use Rattle.kdf_top.specs.Commands.{keeps_machine}
+use Rattle.kdf_command.specs.Commands.{keeps_machine}
 use Rattle.kdf_top.specs.Deck.{deck_fault}
 use Rattle.kdf_top.specs.Due.{IsMachineOf, IsTextFrom, job_of}
 

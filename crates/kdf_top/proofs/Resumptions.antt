@@ -24,7 +24,7 @@ use Rattle.kdf_top.specs.Deck.{deck_fault}
 use Rattle.kdf_top.specs.Loaded.{HasImages, slots_of}
 use Rattle.kdf_top.specs.Resumed.{IsRead, IsSaved}
 use Rattle.kdf_top.specs.Snapshots.{IsCompared, IsComparedFor, IsOf, IsSnapshot, further, parts, parts_in, parts_or_none, resumed_job, resumed_with, sealed_lines, sealed_text}
-use Rattle.kdf_top.specs.declared.command.Command.TheVariants.{Resume}
+use Rattle.kdf_command.specs.declared.command.Command.TheVariants.{Resume}
 use Rattle.kdf_top.specs.declared.reason.MakeError.{MakeError}
 use Rattle.kdf_top.specs.declared.reason.MakeError.TheVariants.{Refused, Memory}
 use Rattle.kdf_top.specs.declared.resuming.Snapshot.{Snapshot}

@@ -14,15 +14,15 @@ use Rattle.kdf_job.specs.declared.job.TheConstants.{TEXT_LIMIT}
 use Rattle.kdf_theory.specs.Shown.{Shown}
 use Rattle.kdf_snapshot.specs.Snapshot.{Parts}
 use Rattle.kdf_snapshot.specs.declared.fault.SnapshotFault.{SnapshotFault}
-use Rattle.kdf_top.specs.declared.command.Command.{Command}
-use Rattle.kdf_top.specs.declared.command.Command.TheVariants.{Run, Save, Resume, Check, Alone, Asm, Make, Watch}
-use Rattle.kdf_top.specs.declared.command.Input.{Input}
-use Rattle.kdf_top.specs.declared.command.Input.TheVariants.{Read, Made}
+use Rattle.kdf_command.specs.declared.command.Command.{Command}
+use Rattle.kdf_command.specs.declared.command.Command.TheVariants.{Run, Save, Resume, Check, Alone, Asm, Make, Watch}
+use Rattle.kdf_command.specs.declared.command.Input.{Input}
+use Rattle.kdf_command.specs.declared.command.Input.TheVariants.{Read, Made}
 use Rattle.kdf_top.specs.declared.status.Status.{Status}
 use Rattle.kdf_top.specs.declared.status.Status.TheVariants as status
 use Rattle.kdf_top.specs.Answered.{Inlet, Outlet, IsGiven, IsRun, Takes, TakesBy}
 use Rattle.kdf_top.specs.Answers.{Answers, IsCalled, IsCalledBy, IsCalledWhere, IsFaultless, IsTrusted, called_by, job_text, or_decks, reads_by, status_of, status_of_lines, text_by}
-use Rattle.kdf_top.specs.Commands.{input_of, is_read, is_too_long, limit_of, text_in}
+use Rattle.kdf_command.specs.Commands.{input_of, is_read, is_too_long, limit_of, text_in}
 use Rattle.kdf_top.specs.Deck.{deck_fault}
 use Rattle.kdf_top.specs.Due.{job_of}
 use Rattle.kdf_top.specs.Snapshots.{IsComparedFor, further, parts_in, status_of_front, status_of_line, status_of_parts}

@@ -23,17 +23,17 @@ use Rattle.kdf_report.proofs.LoadedJobs.{loaded_slots}
 use Rattle.kdf_snapshot.proofs.JobSchedules.{schedule_read}
 use Rattle.kdf_snapshot.proofs.LegalEntries.{fitting_within}
 use Rattle.kdf_top.specs.Answers.{IsCalledBy, IsCalledFor, IsCalledWhere, IsDueAt, IsDueBy, IsDueFor, IsMade, called_by, status_of}
-use Rattle.kdf_top.specs.Commands.{job_limit, text_limit}
+use Rattle.kdf_command.specs.Commands.{job_limit, text_limit}
 use Rattle.kdf_top.specs.Deck.{deck_fault}
 use Rattle.kdf_top.specs.Due.{IsMachineOf, IsText, Keeps, journal_in, report_of}
 use Rattle.kdf_top.specs.Loaded.{images_of, slots_of}
 use Rattle.kdf_top.specs.Saved.{GoesOnWith, IsFurther, IsResumed, IsWholeRun}
 use Rattle.kdf_top.specs.Snapshots.{IsComparedFor, resumed_job, snapshot_of}
-use Rattle.kdf_top.specs.declared.command.Command.TheVariants.{Run, Save, Resume}
+use Rattle.kdf_command.specs.declared.command.Command.TheVariants.{Run, Save, Resume}
 use Rattle.kdf_top.specs.declared.status.Status.{Status}
 use Rattle.kdf_top.specs.declared.status.Status.TheVariants as status
 use Rattle.kdf_top.proofs.Called.{called_done, done_status, journal_kept, one_called}
-use Rattle.kdf_top.proofs.NamedCommands.{resume_is, run_is}
+use Rattle.kdf_command.proofs.NamedCommands.{resume_is, run_is}
 use Rattle.kdf_top.proofs.SavedTexts.{any_number, front_again, job_again, of_again, snapshot_again}
 
 -- ---- the entries of a saved journal fit their types

@@ -12,7 +12,7 @@ use Rattle.kdf_place.specs.Placement.{placed}
 use Rattle.kdf_job.specs.declared.fault.JobFault.TheVariants.{Header, ShowRange}
 use Rattle.kdf_job.specs.Reading.{job, job_fault, read_line}
 use Rattle.kdf_top.specs.Answers.{called_for}
-use Rattle.kdf_top.specs.Commands.{command}
+use Rattle.kdf_command.specs.Commands.{command}
 use Rattle.kdf_top.specs.declared.status.Status.TheVariants as status
 
 pub then_deck : called_for (codes "run" ∷ []) (text (codes "KDF9 JOB 1" ∷ codes "SLOT 0" ∷ codes "STORE 32" ∷ codes "DECK" ∷ codes "ENDDECK" ∷ codes "SHOW 3 3" ∷ codes "SCHEDULE" ∷ codes "ORDERS 10" ∷ codes "ENDJOB" ∷ [])) ≡ status.Deck 0 NoFinish 0

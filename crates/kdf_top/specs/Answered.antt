@@ -5,10 +5,10 @@ use Rattle.kdf_io.specs.Outside.{AddedFront, HasRisen, Advances, NothingLeft}
 use Rattle.kdf_io.specs.Reading.{TakesAtMost}
 use Rattle.kdf_theory.specs.Shown.{Shown}
 use Rattle.kdf_top.specs.Answers.{Answers, IsCalledBy, IsDoneBy, IsDoneOver, IsDue, IsDueBy, Wrote, WroteFront, WroteFrontBy, is_done, keeps_by, reads_by, refusal}
-use Rattle.kdf_top.specs.Commands.{input_of}
-use Rattle.kdf_top.specs.declared.command.Command.{Command}
-use Rattle.kdf_top.specs.declared.command.Input.{Input}
-use Rattle.kdf_top.specs.declared.command.Input.TheVariants.{Read, Made}
+use Rattle.kdf_command.specs.Commands.{input_of}
+use Rattle.kdf_command.specs.declared.command.Command.{Command}
+use Rattle.kdf_command.specs.declared.command.Input.{Input}
+use Rattle.kdf_command.specs.declared.command.Input.TheVariants.{Read, Made}
 use Rattle.kdf_top.specs.declared.reason.MakeError.{MakeError}
 use Rattle.kdf_top.specs.declared.reason.MakeError.TheVariants.{Refused, Memory}
 use Rattle.kdf_top.specs.declared.status.Status.{Status}

@@ -7,13 +7,13 @@ use Rattle.kdf_usercode.specs.Faults.{Found}
 use Rattle.kdf_job.specs.Front.{front_fault}
 use Rattle.kdf_job.specs.Reading.{job, job_fault}
 use Rattle.kdf_theory.specs.Shown.{Shown}
-use Rattle.kdf_top.specs.Commands.{command, input_of, is_read, is_too_long, keeps_machine, limit_by, text_in}
+use Rattle.kdf_command.specs.Commands.{command, input_of, is_read, is_too_long, keeps_machine, limit_by, text_in}
 use Rattle.kdf_top.specs.Deck.{deck_fault}
 use Rattle.kdf_top.specs.Due.{IsText, IsTextFrom, Keeps, job_of, journal_in}
 use Rattle.kdf_top.specs.Snapshots.{IsComparedFor, IsSnapshot, status_of_line, status_of_snapshot}
 use Rattle.kdf_top.specs.Text.{usage_line, large_line, job_fault_line, deck_fault_line, snapshot_fault_line}
-use Rattle.kdf_top.specs.declared.command.Command.{Command}
-use Rattle.kdf_top.specs.declared.command.Command.TheVariants.{Resume, Check}
+use Rattle.kdf_command.specs.declared.command.Command.{Command}
+use Rattle.kdf_command.specs.declared.command.Command.TheVariants.{Resume, Check}
 use Rattle.kdf_top.specs.declared.status.Status.{Status}
 use Rattle.kdf_top.specs.declared.status.Status.TheVariants as status
 

@@ -24,11 +24,11 @@ use Rattle.kdf_check.specs.declared.verdict.Verdict.TheVariants.{Yes, No}
 use Rattle.kdf_report.specs.Text.{absent_text, alone_text, report_text}
 use Rattle.kdf_report.specs.Summary.{summary_text}
 use Rattle.kdf_watch.specs.Stops.{stops_of}
-use Rattle.kdf_top.specs.Commands.{keeps_machine}
+use Rattle.kdf_command.specs.Commands.{keeps_machine}
 use Rattle.kdf_top.specs.Loaded.{slot_numbered, slots_of}
 use Rattle.kdf_top.specs.Snapshots.{after_job, resumed_job, snapshot_of}
-use Rattle.kdf_top.specs.declared.command.Command.{Command}
-use Rattle.kdf_top.specs.declared.command.Command.TheVariants.{Run, Save, Resume, Check, Alone, Asm, Make, Watch}
+use Rattle.kdf_command.specs.declared.command.Command.{Command}
+use Rattle.kdf_command.specs.declared.command.Command.TheVariants.{Run, Save, Resume, Check, Alone, Asm, Make, Watch}
 
 -- ---- a program by itself
 

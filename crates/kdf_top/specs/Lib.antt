@@ -4,10 +4,8 @@ pub mod Text
 pub mod Snapshots
 pub mod Reasons
 pub mod Resumed
-pub mod Commands
 pub mod Answers
 pub mod Codes
 pub mod Answered
 pub mod Due
-pub mod Values
 pub mod Saved

@@ -9,7 +9,7 @@ use Rattle.kdf_job.specs.Reading.{job, job_fault}
 use Rattle.kdf_top.specs.Answers.{IsCalled, IsFaultless, IsTrusted}
 use Rattle.kdf_top.specs.Deck.{deck_fault}
 use Rattle.kdf_top.specs.Due.{job_of}
-use Rattle.kdf_top.specs.declared.command.Command.TheVariants.{Resume}
+use Rattle.kdf_command.specs.declared.command.Command.TheVariants.{Resume}
 use Rattle.kdf_top.specs.declared.status.Status.{Status}
 use Rattle.kdf_top.specs.declared.status.Status.TheVariants.{Done}
 

@@ -13,7 +13,7 @@ ghost use Rattle.kdf_top.specs.Answers.{status_of};
 ghost use Rattle.kdf_top.specs.Deck.{deck_fault};
 ghost use Rattle.kdf_top.specs.Due.{IsVerdictOf, check_line, verdict_line, verdict_lines};
 ghost use Rattle.kdf_top.specs.Loaded.{HasImages, slots_of};
-ghost use Rattle.kdf_top.specs.declared.command.Command.TheVariants as command;
+ghost use Rattle.kdf_command.specs.declared.command.Command.TheVariants as command;
 ghost use Rattle.kdf_top.specs.declared.reason.MakeError.TheVariants.{Memory};
 
 use crate::decks::assemble_decks;

@@ -5,9 +5,9 @@ ghost use Rattle.kdf_job.specs.More.{joined, more_events};
 ghost use Rattle.kdf_job.specs.Reading.{job, job_fault};
 ghost use Rattle.kdf_service.specs.Rules.{IsService};
 ghost use Rattle.kdf_top.specs.Answers.{IsCalledFor, IsDueFor, IsMade};
-ghost use Rattle.kdf_top.specs.Commands.{job_limit, text_limit};
+ghost use Rattle.kdf_command.specs.Commands.{job_limit, text_limit};
 ghost use Rattle.kdf_top.specs.Saved.{GoesOnWith, IsFurther, IsResumed, IsWholeRun};
-ghost use Rattle.kdf_top.specs.declared.command.Command.TheVariants as command;
+ghost use Rattle.kdf_command.specs.declared.command.Command.TheVariants as command;
 ghost use Rattle.kdf_top.specs.declared.status.Status.{Status};
 ghost use Rattle.kdf_top.specs.declared.status.Status.TheVariants as status;
 

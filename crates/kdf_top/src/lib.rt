@@ -3,7 +3,6 @@
 
 mod alone;
 mod checking;
-mod command;
 mod decks;
 mod differing;
 pub mod laws;
@@ -22,8 +21,8 @@ mod top_call;
 mod watching;
 pub mod worked;
 
-pub use command::{Command, Input, command_of, worked as worked_commands};
 pub use decks::{DecksError, assemble_decks};
+pub use kdf_command::{Command, Input, command_of, worked_commands};
 pub use outcome::Outcome;
 pub use status::Status;
 pub use top_call::run_with;

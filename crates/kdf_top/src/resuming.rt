@@ -9,7 +9,7 @@ ghost use Rattle.kdf_top.specs.Answers.{IsCalled, IsMade, status_of};
 ghost use Rattle.kdf_top.specs.Loaded.{slots_of};
 ghost use Rattle.kdf_top.specs.Resumed.{HasRun, IsRead, IsSaved};
 ghost use Rattle.kdf_top.specs.Snapshots.{IsCompared, IsComparedFor, IsOf, parts};
-ghost use Rattle.kdf_top.specs.declared.command.Command.TheVariants as command;
+ghost use Rattle.kdf_command.specs.declared.command.Command.TheVariants as command;
 ghost use Rattle.kdf_top.specs.declared.status.Status.TheVariants as status;
 
 use crate::Status;

@@ -1,7 +1,7 @@
 use Rattle.std.proofs.Common.{◌≡◌, List, ℕ, [], map, string_bytes, Global, Option, Some, sym, subst}
 use Rattle.kdf_theory.specs.Shown.{Shown}
 use Rattle.kdf_top.specs.Answers.{IsDoneBy, IsDueFor}
-use Rattle.kdf_top.specs.Commands.{command}
+use Rattle.kdf_command.specs.Commands.{command}
 use Rattle.kdf_top.specs.declared.status.Status.TheVariants as status
 use Rattle.kdf_engine.specs.Service.{exchanged}
 use Rattle.kdf_engine.proofs.Handed.{handed}

@@ -1,6 +1,6 @@
 use Rattle.std.proofs.Common.{◌≡◌, ◌≢◌, ℕ, List, [], map, Option, Some, ap, ◌∙◌, subst, string_bytes, Global, rules}
 use Rattle.kdf_top.specs.Answers.{IsDoneBy, Wrote}
-use Rattle.kdf_top.specs.Commands.{command}
+use Rattle.kdf_command.specs.Commands.{command}
 use Rattle.kdf_top.specs.declared.status.Status.TheVariants as status
 use Rattle.kdf_engine.specs.Service.{exchanged}
 use Rattle.kdf_engine.proofs.Due.{due_by}

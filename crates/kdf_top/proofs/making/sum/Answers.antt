@@ -1,7 +1,7 @@
 use Rattle.std.proofs.Common.{refl}
 use Rattle.kdf_job.specs.Shows.{shown_job}
 use Rattle.kdf_job.specs.Reading.{job}
-use Rattle.kdf_top.specs.declared.command.Command.TheVariants.{Make}
+use Rattle.kdf_command.specs.declared.command.Command.TheVariants.{Make}
 use Rattle.kdf_top.proofs.MadeTexts.{made_with, with_both}
 use Rattle.kdf_top.proofs.Reported.{machine_of, programs, summary_own}
 use Rattle.kdf_top.proofs.making.sum.Goals as goal

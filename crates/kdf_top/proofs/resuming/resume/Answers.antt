@@ -4,7 +4,7 @@ use Rattle.kdf_job.specs.Shows.{shown_job}
 use Rattle.kdf_check.proofs.Pairs.{pair}
 use Rattle.kdf_top.specs.Resumed.{IsRead}
 use Rattle.kdf_top.specs.Snapshots.{parts, resumed_job}
-use Rattle.kdf_top.specs.declared.command.Command.TheVariants.{Resume}
+use Rattle.kdf_command.specs.declared.command.Command.TheVariants.{Resume}
 use Rattle.kdf_top.proofs.MadeTexts.{made_with, with_both}
 use Rattle.kdf_top.proofs.Reported.{machine_of, programs, report_own}
 use Rattle.kdf_top.proofs.Resumptions.{reason_called}

@@ -1,5 +1,5 @@
 use Rattle.std.proofs.Common.{◌≡◌, None, refl, map, string_bytes, rules}
-use Rattle.kdf_top.specs.Commands.{command}
+use Rattle.kdf_command.specs.Commands.{command}
 use Rattle.kdf_top.specs.declared.status.Status.TheVariants as status
 use Rattle.kdf_top.proofs.Answering.{given_refused}
 use Rattle.kdf_top.proofs.Runs.{no_read_fault, run_forgotten, run_usage}

@@ -1,5 +1,5 @@
 use Rattle.std.proofs.Common.{map, string_bytes}
-use Rattle.kdf_top.specs.Commands.{command}
+use Rattle.kdf_command.specs.Commands.{command}
 use Rattle.kdf_top.proofs.Runs.{complete, usage_or_memory}
 use Rattle.kdf_top.proofs.top_call.run_with.Goals as goal
 

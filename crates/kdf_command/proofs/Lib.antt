@@ -1,0 +1,5 @@
+pub mod Values
+pub mod TwoValues
+pub mod Hyphens
+pub mod NamedCommands
+pub mod Watches

@@ -1,0 +1,6 @@
+//! The words after the program's name, and the command that they are, if any.
+#![tactic(auto)]
+
+mod command;
+
+pub use command::{Command, Input, command_of, limit_by, worked as worked_commands};
