@@ -122,6 +122,47 @@ def changed_libraries_are_found() -> Cases:
             yield f"the libraries to build after a change of {changed}", None if done == f"[] {due}\n" else done
 
 
+# Proves the machine for other programs, where the first FAIL proofs of it fail, and says what is built for it.
+PROVED = """
+from building import engine
+engine.CRATE, engine.hindrance, engine.build = "kdf9", lambda: None, lambda wanted: print("builds", *wanted)
+class Room:
+    fail = FAIL
+    def prove(self):
+        self.fail -= 1
+        if self.fail >= 0:
+            raise engine.NoEngine("no proof")
+        print("proves")
+try:
+    engine.build_libraries()
+    engine.prove(Room())
+except engine.NoEngine as why:
+    print(why)
+"""
+
+
+def libraries_without_a_stamp_are_used() -> Cases:
+    """Where `rt ci` proved all crates, each library is a folder with no stamp beside it, and none is built again, unless a text changes or a proof over them fails."""
+    with tempfile.TemporaryDirectory() as folder:
+        checkout = Checkout(folder)
+        checkout.start("make", "0")
+        names = ("kdf_word", "kdf_nest", "kdf_qstore")
+        for name in names:
+            (checkout.folder / f"crates/{name}/out/rlib/stamp").unlink()
+            checkout.write(f"crates/{name}/out/rlib/{name}.rlib/format", "\n")
+        builds = f"builds {' '.join(names)}\n"
+        for fail, due in ((0, "proves\n"), (1, f"{builds}proves\n"), (2, f"{builds}no proof\n")):
+            done = in_folder(checkout, PROVED.replace("FAIL", str(fail)))
+            yield f"libraries without a stamp where {fail} proofs fail", None if done == due else done
+        for name in names:
+            checkout.write(f"crates/{name}/out/rlib/stamp", "\n")
+        done = in_folder(checkout, PROVED.replace("FAIL", "1"))
+        yield "libraries with a stamp where a proof fails", None if done == "no proof\n" else done
+        checkout.date(NEST, 20)
+        done = in_folder(checkout, PROVED.replace("FAIL", "0"))
+        yield "a library older than its text", None if done == "builds kdf_nest\nproves\n" else done
+
+
 # Has a room of the page run two tools that take a while, and one that fails.
 STAGES = """
 import pathlib, sys
@@ -181,4 +222,4 @@ def in_folder(checkout: Checkout, script: str) -> str:
     return done.stdout + done.stderr
 
 
-SUITES = (forecast_is_right, disk_is_checked, kept_is_little, changed_libraries_are_found, page_shows_its_stages)
+SUITES = (forecast_is_right, disk_is_checked, kept_is_little, changed_libraries_are_found, libraries_without_a_stamp_are_used, page_shows_its_stages)

@@ -189,6 +189,10 @@ TURNS = [
     (FAILS_SECOND, "SWAP 0 1\nORDERS 5\nSWAP 0 1\n", ["order 2; nest, top first: empty\n  priorities at that point, highest first: 1, 0\n"]),
 ]
 
+# How many times as long as a quarter of a text the whole may take. It takes 4 times as long where the time grows as the text does, and 16 times where it grows as
+# the square; a processor that has other work may take twice as long.
+MOST_GROWTH = 10
+
 # The pictures of the documents, and the examples whose reports they show.
 PICTURED = {
     "picture.svg": "adds-cards-while-a-tape-is-copied", "exchange.svg": "lets-a-starved-program-in", "pool.svg": "two-programs-share-a-punch",
@@ -362,10 +366,10 @@ def bad_input_is_refused():
         yield f"bad input of {' '.join(words)}", None if good else f"{run.status} {run.out[:60]!r} {run.err[:200]!r} in place of {line!r}"
 
 
-def large_jobs():
-    """Jobs of 4 MB, each with what it is of, the tools that read it, and the sizes that what they write may have."""
+def large_jobs(share):
+    """Jobs of this share of 4 MB, each with what it is of, the tools that read it, and the sizes that what they write may have."""
     head, tail = "KDF9 JOB 1\nSLOT 0\nSTORE 64\nDECK\nPROGRAM;\n", "\nZERO; OUT; FINISH;\nENDDECK\n" + TAIL
-    room = 4194304 - len(head) - len(tail)
+    room = 4194304 // share - len(head) - len(tail)
     fillings = {"comments": "()" * (room // 2), "stars": "*" * room, "lines": "\n" * room, "one statement": "SET 5 " * (room // 6)}
     for what, filling in fillings.items():
         yield what, [["explain", "-"], ["listing", "-"], ["steps", "-"]], head + filling + tail, range(2000000)
@@ -374,15 +378,15 @@ def large_jobs():
     references = "".join(f"{number};" for number in range(1, 10000))
     parts = "".join(f"P{part};{references}" for part in range(1, room // len(references)))
     yield "references", [["listing", "-"]], head + parts + tail, range(6 * room, 10 * room)
-    yield "lines END", [["explain", "-"]], HEAD + "SCHEDULE\nORDERS 10\n" + "END 3\n" * 250000 + "ENDJOB\n", range(10**7)
+    yield "lines END", [["explain", "-"]], HEAD + "SCHEDULE\nORDERS 10\n" + "END 3\n" * (250000 // share) + "ENDJOB\n", range(10**7)
 
 
-def large_texts():
-    """Runs over jobs of 4 MB and over a journal of a million entries: what it is, the words, the text, and the sizes of what is written."""
-    for what, runs, text, sizes in large_jobs():
+def large_texts(share):
+    """Runs over jobs of this share of 4 MB and of a million entries of a journal: what it is, the words, the text, and the sizes of what is written."""
+    for what, runs, text, sizes in large_jobs(share):
         for words in runs:
             yield f"{words[0]} of 4 MB of {what}", words, text, sizes
-    rounds = (f"RAN {i % 4} 7\nSTART {i % 4} {i % 4} {i}\nBUSY {i % 4} {i % 4}\nIDLE 3\nEND {i % 4}\n" for i in range(200000))
+    rounds = (f"RAN {i % 4} 7\nSTART {i % 4} {i % 4} {i}\nBUSY {i % 4} {i % 4}\nIDLE 3\nEND {i % 4}\n" for i in range(200000 // share))
     sections = (
         f"SLOT {slot}\nSTATE LIVE\nORDERS 350000\nAT 1 0\nFLAGS 0 0\nNEST 0\nLINKS 0\nDEVICE {slot} TR HELD PLACE 0 FLAG 0\n" for slot in range(4)
     )
@@ -391,24 +395,35 @@ def large_texts():
         yield f"{' '.join(words)} of a million entries", words, report, range(10**8)
 
 
-def large_texts_take_seconds():
-    """Each is timed by what the processor spends; some run at once."""
+def large_texts_take_as_long_as_they_are():
+    """Each is compared with a quarter of it; some run at once."""
     with ThreadPoolExecutor() as pool:
-        names, *cases = zip(*large_texts())
-        yield from zip(names, pool.map(takes_long, *cases))
+        names, *cases = zip(*large_texts(1))
+        yield from zip(names, pool.map(grows_fast, *cases, [text for _, _, text, _ in large_texts(4)]))
 
 
-def takes_long(words, text, sizes):
-    """What is wrong with the time of a run and of what it starts, or with the size of what it writes; or None."""
+def grows_fast(words, text, sizes, quarter):
+    """What is wrong with the processor time of a run and of what it starts, by what a quarter of the text takes, or with what it writes; or None. Only a bar by
+    the same machine in the same minute holds on each. Where others keep it from its pace in just one of the two runs, it is tried once more.
+    """
+    for _ in range(2):
+        less, seconds, fault = spent(words, quarter, sizes)[0], *spent(words, text, sizes)
+        if fault or seconds <= MOST_GROWTH * less:
+            break
+    return fault or (f"{seconds:.1f} seconds, and a quarter of it {less:.1f}" if seconds > MOST_GROWTH * less else None)
+
+
+def spent(words, text, sizes):
+    """The processor time of a run and of what it starts, and what is wrong with what it writes, or None."""
     with tempfile.TemporaryFile() as given, tempfile.TemporaryFile() as written, tempfile.TemporaryFile() as said:
         given.write(text.encode("latin-1"))
         given.seek(0)
         process = subprocess.Popen([ROOT / "kdf9", *words], stdin=given, stdout=written, stderr=said, cwd=ROOT, env=ENVIRONMENT)
         _, process.returncode, usage = os.wait4(process.pid, 0)
-        size, seconds = written.seek(0, os.SEEK_END), usage.ru_utime + usage.ru_stime
+        size = written.seek(0, os.SEEK_END)
         said.seek(0)
         err = said.read(200)
-    return f"{seconds:.0f} seconds, {size} bytes, {err}" if seconds > 60 or size not in sizes or b"Traceback" in err else None
+    return usage.ru_utime + usage.ru_stime, f"{size} bytes, {err}" if size not in sizes or b"Traceback" in err else None
 
 
 def documents_are_true():
@@ -428,7 +443,7 @@ def documents_are_true():
 
 SUITES = (
     launcher_starts, faults_are_found, documents_have_no_other_faults, hints_are_given, failures_are_found, bad_input_is_refused,
-    turns_are_told, examples_are_shown, large_texts_take_seconds, documents_are_true, *BUILDS, *COMMANDS, *PICTURES, *RUNS, *SAVED, *SLIPS, *STATUSES, *STOPS,
+    turns_are_told, examples_are_shown, large_texts_take_as_long_as_they_are, documents_are_true, *BUILDS, *COMMANDS, *PICTURES, *RUNS, *SAVED, *SLIPS, *STATUSES, *STOPS,
 )
 
 

@@ -15,7 +15,7 @@ import sys
 import tempfile
 
 from building.progress import Stages, say
-from building.rooms import CRATES, PROGRAM, ROOT, crates_below, kept_crates, read_crates, read_list
+from building.rooms import CRATES, PROGRAM, ROOT, crates_below, files_of, read_crates, read_list, stamp_of
 
 CRATE = "kdf_engine"
 OUT = CRATES / "kdf9" / "out" / "engine"
@@ -134,7 +134,7 @@ def bring_up_to_date(wanted):
         build_libraries()
         now = sums()
         room.show.begins(PROVING)
-        room.prove()
+        prove(room)
         room.show.begins(COMPILING)
         room.compile()
         for old in (SUMS, ARCHIVE, SHARED):
@@ -161,8 +161,21 @@ def unbuilt():
 def changed():
     """The libraries that were built of another text than they have now, or over others of which that is so, by the dates of their files."""
     crates = {name: below for name, below in read_crates(CRATE).items() if name != CRATE}
-    kept, missing = kept_crates(crates), unbuilt()
-    return [name for name in crates if name not in kept and name not in missing]
+    texts = {name: max((it.stat().st_mtime for it in files_of(name)), default=0) for name in crates}
+    built = {name: date_of_library(name) for name in crates}
+    return [name for name, below in crates.items() if built[name] and built[name] < max(texts[it] for it in [*below, name])]
+
+
+def date_of_library(name):
+    """When the library of a crate was built, by the newest file in its folder or the stamp beside it, or 0 where there is none. `rt ci` leaves no stamp."""
+    library = CRATES / name / "out" / "rlib" / f"{name}.rlib"
+    files = [library, *library.glob("*"), stamp_of(name)] if library.exists() else []
+    return max((it.stat().st_mtime for it in files if it.is_file()), default=0)
+
+
+def unstamped():
+    """The libraries of which only dates say that they are current."""
+    return [name for name in libraries() if not stamp_of(name).is_file()]
 
 
 def build_libraries():
@@ -170,8 +183,26 @@ def build_libraries():
     why, wanted = hindrance(), unbuilt() or changed()
     if why:
         raise NoEngine(why)
-    if wanted and subprocess.run([sys.executable, ROOT / "tools" / "build", "--library"], stdin=subprocess.DEVNULL, check=False).returncode:
+    if wanted:
+        build(wanted)
+
+
+def build(wanted):
+    """Proves and builds what rt doesn't know as current, which these libraries aren't."""
+    if subprocess.run([sys.executable, ROOT / "tools" / "build", "--library"], stdin=subprocess.DEVNULL, check=False).returncode:
         raise NoEngine(f"the machine for other programs isn't made, since {wanted[0]} isn't built")
+
+
+def prove(room):
+    """Proves the crate. Where that fails over libraries of which only dates say that they are current, these are built, and it is tried once more."""
+    try:
+        room.prove()
+    except NoEngine:
+        wanted = unstamped()
+        if not wanted:
+            raise
+        build(wanted)
+        room.prove()
 
 
 @contextlib.contextmanager
@@ -242,7 +273,8 @@ class Room:
 
     def prove(self):
         """Proves the crate over the built libraries, compiles it, and keeps its bitcode for x86-64."""
-        self.keep_bitcode()
+        if not (self.folder / "toolchain").is_dir():
+            self.keep_bitcode()
         uses = read_list()[CRATE].partition(":")[2].split()
         words = ["--crate-name", CRATE, "src/lib.rt", "--extern", f"std={self.kit}/rlibs/std.rlib", "-L", f"dependency={self.kit}/rlibs"]
         for name, folder in libraries().items():

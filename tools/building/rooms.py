@@ -53,14 +53,23 @@ def crates_below(top):
     return read_crates(top)[top]
 
 
+def stamp_of(name):
+    """The file by which rt knows of what the library of a crate was made."""
+    return CRATES / name / "out" / "rlib" / "stamp"
+
+
+def files_of(name):
+    """The sources of a crate, with the folders that they are in."""
+    return [it for part in SOURCES for it in (CRATES / name / part).rglob("*")]
+
+
 def kept_crates(crates):
     """The crates that are proved already, by the dates of their files and of those below; rt looks at the files themselves."""
     found = set()
     for name, below in crates.items():
-        stamp = CRATES / name / "out" / "rlib" / "stamp"
+        stamp = stamp_of(name)
         if found.issuperset(below) and stamp.is_file():
-            files = [it for part in SOURCES for it in (CRATES / name / part).rglob("*")]
-            if all(it.stat().st_mtime <= stamp.stat().st_mtime for it in files):
+            if all(it.stat().st_mtime <= stamp.stat().st_mtime for it in files_of(name)):
                 found.add(name)
     return found
 

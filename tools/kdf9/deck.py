@@ -115,14 +115,16 @@ class Layout:
 
     def _add(self, line) -> None:
         """Adds a statement, and what fills the word before it. A `*` comes before what it fills, and one after a `*` is left out: it fills nothing."""
-        last, place = self.rows[-1].statement, place_at(line.at)
-        statement = Statement(line.line, line.column, line.written)
+        last = self.rows[-1].statement
+        if line.kind == "star" and last and last.written == "*":
+            return
+        place, statement = place_at(line.at), Statement(line.line, line.column, line.written)
         filling = [Row("filling", place - line.filled, line.filled, None)] if line.filled else []
-        if line.kind != "star":
+        if line.kind == "star":
+            self.rows += [Row("heading", place - line.filled, 0, statement), *filling]
+        else:
             size = WORD if line.kind == "constant" else line.syllables
             self.rows += [*filling, Row(line.kind if line.kind in KINDS else "heading", place, size, statement)]
-        elif last is None or last.written != "*":
-            self.rows += [Row("heading", place - line.filled, 0, statement), *filling]
 
 
 def place_at(at: Tuple[int, int]) -> int:

@@ -16,9 +16,9 @@ VERSION = 1
 RUN, FACTS = "kdf9_run", "kdf9_facts"
 NO_ROOM, NO_MEMORY = 6, 7
 
-# The bytes of the room that is tried first for a text, the most that are because of earlier texts, and how many there are for each byte of the job. What had too
-# little room is made again, so a run of many events would be made twice.
-FIRST_ROOM, MOST_ROOM, ROOM_BY_JOB = 1 << 16, 1 << 22, {RUN: 4, FACTS: 16}
+# The bytes of the room that is tried first for a text, the most that are because of earlier texts, and how many there are for each byte of the job: the facts of
+# a `*`, which is a statement by itself, have nearly so many. What had too little room is made again, so a run of many events would be made twice.
+FIRST_ROOM, MOST_ROOM, ROOM_BY_JOB = 1 << 16, 1 << 22, {RUN: 4, FACTS: 144}
 
 # What is said before the library is made.
 MADE_NOW = "facts come from the machine as a library, which is made now, this once; that takes about a minute where the program was built here"
@@ -169,14 +169,25 @@ def loaded(file: str, name: str = RUN) -> Callable[[Sequence[str], bytes], Answe
     def answer(words: Sequence[str], job: bytes) -> Answer:
         asked, size, most = lines_of(words), ctypes.c_uint64(), max(rooms[0], ROOM_BY_JOB[name] * len(job))
         while True:
-            room = ctypes.create_string_buffer(most)
+            room = room_of(most)
             status = call(asked, len(asked), job, len(job), room, most, ctypes.byref(size))
             if status != NO_ROOM:
-                return Answer(status, ctypes.string_at(room, size.value).decode(ENCODING))
+                return Answer(status, str(memoryview(room)[:size.value], ENCODING))
             most = size.value
             rooms[0] = min(MOST_ROOM, max(rooms[0], most + most // 4))
 
     return answer
+
+
+def room_of(most: int) -> Any:
+    """A room of so many bytes, as a call takes it. What isn't written to takes no memory."""
+    import ctypes  # pylint: disable=import-outside-toplevel
+    import mmap  # pylint: disable=import-outside-toplevel
+
+    try:
+        return (ctypes.c_char * most).from_buffer(mmap.mmap(-1, most, mmap.MAP_PRIVATE | mmap.MAP_ANONYMOUS))
+    except OSError as why:
+        raise MemoryError(f"there is no memory for a text of {most} bytes") from why
 
 
 def lines_of(words: Sequence[str]) -> bytes:

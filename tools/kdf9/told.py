@@ -6,6 +6,7 @@ class, with a `subject`: what stands at the fault, as a terminal can show it.
 """
 from __future__ import annotations
 
+import copy
 import functools
 import json
 from typing import Any, Callable, Dict, List, Optional, Tuple
@@ -39,6 +40,13 @@ def subject(fault: Any) -> str:
 def program(run: Any, slot: int) -> Any:
     """How the program of a slot is at the end."""
     return next(each for each in run.programs if each.slot == slot)
+
+
+def of_members(made: type, told: Dict[str, Any]) -> Any:
+    """An object of this class with these members, which are its own from now on: a large job has millions of objects, and to set each member takes long."""
+    new = object.__new__(made)
+    object.__setattr__(new, "__dict__", told)
+    return new
 
 
 # What classes have besides their fields.
@@ -80,9 +88,12 @@ class Classes:
         made.__doc__ = schema.get("description", made.__doc__)
 
         def read_all(told: Dict[str, Any]) -> Any:
-            return made(**{**told, **{member: read(told[member]) for member, read in readers.items() if told.get(member) is not None}})
+            for member, read in readers.items():
+                if told.get(member) is not None:
+                    told[member] = read(told[member])
+            return of_members(made, told)
 
-        self.known[name] = made, read_all if readers else lambda told: made(**told)
+        self.known[name] = made, read_all if readers else functools.partial(of_members, made)
         return self.known[name]
 
     def typed(self, member: str, schema: Dict[str, Any]) -> Tuple[Any, Optional[Reader]]:
@@ -122,7 +133,7 @@ def told_of(job: Text, *words: str) -> Any:
 
 def fault_in(facts: Dict[str, Any]) -> Any:
     """The fault that these facts are."""
-    return classes().of("Fault")[1]({member: value for member, value in facts.items() if member not in ("format", "kind")})
+    return classes().of("Fault")[1](copy.deepcopy({member: value for member, value in facts.items() if member not in ("format", "kind")}))
 
 
 def is_fault(told: Any) -> bool:
