@@ -1,4 +1,4 @@
-"""Tries what the page shows of the theorem: each program beside its lone run and beside the run before, and other schedules by chance."""
+"""Tries what the page shows of the theorem: each program beside its lone run and beside the run before, and other schedules at random."""
 import json
 import pathlib
 import re
@@ -168,7 +168,7 @@ def schedules_are_shuffled(shown):
     shown.example(TWO.split("/")[1])
     shown.js(f"{id_of('seed')}.value = {seed}")
     compared(shown, "shuffle")
-    yield "a seed by chance", None if shown.js("kdf9.job()") == first else f"seed {seed} gives another schedule"
+    yield "a seed at random", None if shown.js("kdf9.job()") == first else f"seed {seed} gives another schedule"
     plain = text_of("examples/adds-5-and-7")
     run(shown, plain)
     shown.click("shuffle")
@@ -214,7 +214,7 @@ def decks_of_neighbours_are_changed(shown):
     shown.js(f"{id_of('kept')}.value = '1'; {id_of('seed')}.value = 7")
     seen = compared(shown, "neighbours")
     now = shown.js("kdf9.job()")
-    yield "neighbours by chance", wrong_verdicts(shown, seen, now, text) or wrong_marks(seen)
+    yield "neighbours at random", wrong_verdicts(shown, seen, now, text) or wrong_marks(seen)
     verdicts = [each["verdict"][:20] for each in seen]
     is_changed = re.sub("(DUMMY; )+", "", now) == text and now != text
     yield "the program that stays", None if verdicts == ["Not in the run befor", "The same."] and is_changed else f"{verdicts} {now}"

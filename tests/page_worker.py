@@ -55,7 +55,7 @@ ASKED = """(async () => {
     }
 })()"""
 
-# Takes, changes and gives back blocks by chance, each filled with a byte of its own; what is wrong with one of them, and whether memory came to its end.
+# Takes, changes and gives back blocks at random, each filled with a byte of its own; what is wrong with one of them, and whether memory came to its end.
 BLOCKS = """(() => {
     const memory = new WebAssembly.Memory({ initial: 1n, maximum: 64n, address: "i64" }), heap = new Heap(memory, 1000);
     const blocks = [];

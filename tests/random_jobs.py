@@ -186,7 +186,7 @@ def changed_json(chance: random.Random, text: str) -> str:
     return text
 
 
-# The kinds of texts: each is made by chance, from what the program answers to a command over a text, or what a tool makes of that.
+# The kinds of texts: each is made at random, from what the program answers to a command over a text, or what a tool makes of that.
 Ask = Callable[[List[str], str], str]
 
 

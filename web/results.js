@@ -43,7 +43,7 @@ function storyOf(section, layout) {
   const [life, kind] = state.split(" ");
   const next = layout?.statementOf(...at);
   const stands = `Its next order is at word ${at[0]}, syllable ${at[1]}${next ? `: ${next.written}` : ""}.`;
-  const became = { LIVE: "is live", ENDED: "has ended", FAILED: `failed (${kind})` }[life] ?? state;
+  const became = { LIVE: "is still running", ENDED: "has ended", FAILED: `failed (${kind})` }[life] ?? state;
   return `Program ${slot} ${became}, after ${many(orders, "order")}. ${life === "ENDED" ? "" : stands}${hintOfOut(section)}`;
 }
 

@@ -1,4 +1,4 @@
-// Another schedule of a job, by chance: transfers end and move at other calls, the clock shows its times at other calls, and programs exchange their priorities.
+// Another schedule of a job, at random: transfers end and move at other calls, the clock shows its times at other calls, and programs exchange their priorities.
 // Or other decks of its programs. A seed gives the same each time.
 
 import { readJob, writeJob } from "./job.js";

@@ -1,10 +1,10 @@
-// Changes of the job by chance that leave each program what it is: another schedule, or other neighbours.
+// Changes of the job at random that leave each program what it is: another schedule, or other neighbours.
 
 import { byId } from "./dom.js";
 import { readJob } from "./job.js";
 import { MOST_SEED, shuffled, withOtherNeighbours } from "./shuffle.js";
 
-/** The seed that is typed, or one by chance; null if what is typed is none. */
+/** The seed that is typed, or one at random; null if what is typed is none. */
 function readSeed() {
   const typed = byId("seed").value.trim(), seed = typed === "" ? Math.floor(Math.random() * (MOST_SEED + 1)) : Number(typed);
   return /^\d*$/.test(typed) && seed <= MOST_SEED ? seed : null;

@@ -34,7 +34,8 @@ export async function wordOf(ask, text, slot, written) {
 
 /** The stops of a watch as a part of the results. Each is a button with which `choose` is called, for the call of the stop. */
 export function drawStops({ slot, word, orders, calls, isThere }, layout, choose) {
-  const next = layout?.statementOf(word, 0), came = `Program ${slot} came to word ${word}${next ? `, ${next.written},` : ""} ${many(orders.length, "time")}.`;
+  const next = layout?.statementOf(word, 0), often = orders.length ? ` ${many(orders.length, "time")}` : "";
+  const came = `Program ${slot} ${often ? "came" : "never came"} to word ${word}${next ? `, ${next.written}${often && ","}` : ""}${often}.`;
   const said = isThere ? came : `The job has no slot ${slot}.`;
   const stops = orders.slice(0, MOST_STOPS).map((order, at) => make("li", {},
     button(`after ${many(order, "order")}`, () => choose(calls[at]), { title: `Call ${calls[at]} of the run, call by call` })));

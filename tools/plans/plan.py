@@ -1,4 +1,4 @@
-"""A plan: a text that names a job, or makes one by chance, and the values that it is to be run with. It is JSON, or TOML where Python reads that.
+"""A plan: a text that names a job, or makes one at random, and the values that it is to be run with. It is JSON, or TOML where Python reads that.
 
 A plan has the keys `job` or `workload`, `values`, and, if they are wanted, `measures` and `plots`. A parameter of `values` that has a list has its values in turn; all
 combinations are run. One that has a single value is held fixed.

@@ -1,4 +1,4 @@
-"""The kinds of questions. Each makes a job by chance, and asks the machine for the answer; a job that isn't worth a question is dropped for the next one."""
+"""The kinds of questions. Each makes a job at random, and asks the machine for the answer; a job that isn't worth a question is dropped for the next one."""
 from typing import Callable, Dict, List, Sequence
 
 from courses import machine
