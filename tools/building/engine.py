@@ -167,10 +167,12 @@ def changed():
 
 
 def date_of_library(name):
-    """When the library of a crate was built, by the newest file in its folder or the stamp beside it, or 0 where there is none. `rt ci` leaves no stamp."""
+    """When the library of a crate was put there, by its folder, what is in it, or the stamp beside it, or 0 where there is none. `rt ci` leaves no stamp, and the files of a
+    library that it has kept are as old as their proof.
+    """
     library = CRATES / name / "out" / "rlib" / f"{name}.rlib"
     files = [library, *library.glob("*"), stamp_of(name)] if library.exists() else []
-    return max((it.stat().st_mtime for it in files if it.is_file()), default=0)
+    return max((it.stat().st_mtime for it in files if it.exists()), default=0)
 
 
 def unstamped():
