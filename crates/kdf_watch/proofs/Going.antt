@@ -1,5 +1,5 @@
 -- The journal follows the events just up to the cursor, one call or event further on.
-use Rattle.std.proofs.Common.{◌≡◌, ℕ, ◌+◌, ◌-◌, ◌≤◌, ◌<◌, List, [], ◌∷◌, ◌++◌, true, false, inl, inr, refl, sym, ◌∙◌, ap, subst, arith, append_assoc, length, drop, drop-cons, add-one}
+use Rattle.std.proofs.Common.{◌≡◌, ℕ, ◌+◌, ◌-◌, ◌≤◌, ◌<◌, List, [], ◌∷◌, ◌++◌, true, false, inl, inr, refl, sym, ◌∙◌, ap, subst, arith, append_assoc, length, drop}
 use Rattle.std.specs.Prelude.{replicate, sum_by}
 use Rattle.std.proofs.lemmas.List.Sums.{sum_by-drop_more}
 use Rattle.kdf_journal.specs.declared.entry.Entry.{Entry}
@@ -21,7 +21,7 @@ use Rattle.kdf_theory.specs.Follows.{Follows, IsRising, IsWhole, entries_in, tim
 use Rattle.kdf_theory.specs.Legal.{IsLegal}
 use Rattle.kdf_theory.specs.Next.{any_live, lone_dispatched}
 use Rattle.kdf_theory.specs.Shown.{Shown}
-use Rattle.kdf_director.proofs.Course.EventsInTurn.{rises-first, rises-rest}
+use Rattle.kdf_director.proofs.Course.EventsInTurn.{rises-first, rises-from, rises-rest}
 use Rattle.kdf_watch.specs.declared.cursor.Cursor.{Cursor}
 use Rattle.kdf_watch.specs.Called.{HasMoved}
 use Rattle.kdf_watch.specs.Cursors.{event_at, calls_left}
@@ -44,8 +44,7 @@ module _ (es : List Event) (c : Cursor) (m : Shown) (at : IsAt es c m) (lt : c.e
   entries-here = sum_by-drop_more entries_in es c.event (Orders 0) lt
 
   rises-here : IsRising (clock m.journal) (event_at es c.event ∷ drop (c.event + 1) es)
-  rises-here =
-      subst (IsRising (clock m.journal)) (drop-cons es c.event (Orders 0) lt ∙ ap (λ (n : ℕ). event_at es c.event ∷ drop n es) (sym (add-one c.event))) at.rises
+  rises-here = rises-from es c.event (clock m.journal) lt at.rises
 
   pub rises_first : IsRising (clock m.journal) (event_at es c.event ∷ [])
   rises_first = rises-first (clock m.journal) (event_at es c.event) (drop (c.event + 1) es) rises-here

@@ -1,5 +1,5 @@
 -- The events of a schedule, one after another.
-use Rattle.std.proofs.Common.{◌≡◌, ℕ, ◌+◌, ◌-◌, ◌≤◌, List, [], ◌∷◌, ◌++◌, Bool, true, false, refl, sym, ◌∙◌, ap, length, take, drop, subst, arith, length-drop, take-add}
+use Rattle.std.proofs.Common.{◌≡◌, ℕ, ◌+◌, ◌-◌, ◌<◌, ◌≤◌, List, [], ◌∷◌, ◌++◌, Bool, true, false, refl, sym, ◌∙◌, ap, length, get_or, take, drop, drop-cons, add-one, subst, arith, length-drop, take-add}
 use Rattle.std.proofs.lemmas.List.{take_all, take-append-drop}
 use Rattle.kdf_transfer.specs.Slots.{Slot}
 use Rattle.kdf_journal.specs.declared.entry.Entry.{Entry}
@@ -76,6 +76,11 @@ rest-is es i = take_all (length es - i) (drop i es) (omega (arith, length-drop i
 pub order_count-append : (es fs : List Event) → order_count (es ++ fs) ≡ order_count es + order_count fs
 order_count-append [] fs = omega arith
 order_count-append (e ∷ es) fs = omega (arith, order_count-append es fs)
+
+-- where the time rises over the events from one on, it rises over that one and those behind it
+pub rises-from : (es : List Event) (i : ℕ) (t : ℕ) → i < length es → IsRising t (drop i es) → IsRising t (get_or es i (Orders 0) ∷ drop (i + 1) es)
+rises-from es i t lt rises =
+    subst (IsRising t) (drop-cons es i (Orders 0) lt ∙ ap (λ (n : ℕ). get_or es i (Orders 0) ∷ drop n es) (sym (add-one i))) rises
 
 -- the time rises over the first event, and behind it
 pub rises-first : (t : ℕ) (e : Event) (es : List Event) → IsRising t (e ∷ es) → IsRising t (e ∷ [])
