@@ -9,4 +9,5 @@ pub mod NoneGoesOn
 pub mod OneCall
 pub mod OnlyCall
 pub mod OrdersInARow
+pub mod OrdersPassed
 pub mod ProgramGoesOn

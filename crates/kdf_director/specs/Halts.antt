@@ -1,5 +1,6 @@
 -- Where calls of a machine stop before all are made.
-use Rattle.std.specs.Prelude.{◌≡◌, ◌==◌, ◌&&◌, ◌<◌, ◌+◌, ◌⊎◌, ℕ, zero, suc, Bool, true, false, Option, Some, None}
+use Rattle.std.specs.Prelude.{◌≡◌, ◌==◌, ◌&&◌, ◌<◌, ◌+◌, ◌⊎◌, ℕ, zero, suc, Bool, true, false, Option, Some, None, if◌then◌else◌}
+use Rattle.kdf_journal.specs.Counts.{calls}
 use Rattle.std.specs.Option.{option_map}
 use Rattle.kdf_processor.specs.declared.registers.Registers.{Registers}
 use Rattle.kdf_processor.specs.State.{State}
@@ -17,6 +18,23 @@ halts Never p r = false
 halts Each p r = true
 halts (At k at) p None = false
 halts (At k at) p (Some r) = p == k && r.at == at
+
+-- the place at which they stop where program p comes to it, if there is one
+abbrev pub place_for : Halt → ℕ → Option ℕ
+place_for Never p = None
+place_for Each p = None
+place_for (At k at) p = if p == k then Some at else None
+
+-- whether a program with these registers is at a place
+abbrev pub is_at : Option ℕ → Registers → Bool
+is_at None r = false
+is_at (Some at) r = r.at == at
+
+-- where the calls of one run stop before its end: nowhere, where each run is one call
+abbrev pub halt_inside : Halt → Halt
+halt_inside Never = Never
+halt_inside Each = Never
+halt_inside (At p at) = At p at
 
 -- whether they stop after a call that answers so
 abbrev pub stops : Halt → Shown → Progress → Bool
@@ -44,6 +62,20 @@ abbrev pub ArePassed : (answers : ℕ → ℕ → Type 0) → Halt → ℕ → S
 ArePassed answers Never n old new = Unit {0}
 ArePassed answers Each n old new = HasPassed answers Each n old new
 ArePassed answers (At p at) n old new = HasPassed answers (At p at) n old new
+
+-- so many calls in one run, of which the last answers so, and those before it were passed
+pub record HasMadeSomePast (answers : ℕ → ℕ → Type 0) (halt : Halt) (n : ℕ) (old new : Shown)
+    (progress : Progress) : Type 0 where
+  pub some : HasMadeSome answers n old new progress
+  pub passed : ArePassed answers halt some.before old some.between
+
+-- or fewer, each of them passed, since the next one had no memory; the journal counts them
+pub record HasPassedButFewer (answers : ℕ → ℕ → Type 0) (halt : Halt) (n : ℕ) (old new : Shown) : Type 0 where
+  pub made : ℕ
+  pub on : HasMadeOn answers made old new
+  pub fewer : made < n
+  pub count : calls new.journal ≡ calls old.journal + made
+  pub passed : ArePassed answers halt made old new
 
 -- of the calls that were left, those were made that aren't now; the last answers so, and where some are left still, it
 -- found no live program, or they stop there

@@ -1,10 +1,11 @@
 //! Calls of a machine that are made at once: the orders of one program, or idle calls.
-ghost use Rattle.std.specs.Prelude.{◌≡◌, ◌+◌, ◌<◌, ◌≤◌, if◌then◌else◌, length, slice_set, true, Ok, Some, IfOk, OnErr};
+ghost use Rattle.std.specs.Prelude.{◌≡◌, ◌+◌, ◌<◌, ◌≤◌, if◌then◌else◌, false, length, slice_set, true, None, Ok, Some, IfOk, OnErr};
 ghost use Rattle.kdf_journal.specs.declared.entry.Entry.TheVariants.{Idle as Idled};
 ghost use Rattle.kdf_journal.specs.Counts.{calls, moves, priorities};
 ghost use Rattle.kdf_journal.specs.Joined.{pushed};
 ghost use Rattle.kdf_processor.specs.declared.step.Step.TheVariants.{Done};
 ghost use Rattle.kdf_service.specs.Rules.{IsService};
+ghost use Rattle.kdf_director.specs.declared.halt.Halt.TheVariants.{Each, Never};
 ghost use Rattle.kdf_director.specs.declared.machine.Progress.TheVariants.{AllEnded, Idle};
 ghost use Rattle.kdf_director.specs.declared.note.Note.TheVariants.{Quiet};
 ghost use Rattle.kdf_director.specs.Fields.Agrees.{IsReady};
@@ -12,11 +13,13 @@ ghost use Rattle.kdf_director.specs.Fields.Parts.{seat_of};
 ghost use Rattle.kdf_director.specs.Fields.Running.{reach_at};
 ghost use Rattle.kdf_director.specs.Fields.Standing.{shown_of, IsSameYard};
 ghost use Rattle.kdf_director.specs.Fields.Yards.{any_in, first_in, hold_in, number_in, registers_in, AreLentIn, HasTriedIn, HasTriedQuietly};
-ghost use Rattle.kdf_director.specs.Runs.{HasEntered, HasMadeButFewer, HasMadeSome};
+ghost use Rattle.kdf_director.specs.Halts.{is_at, place_for, HasMadeSomePast, HasPassedButFewer};
+ghost use Rattle.kdf_director.specs.Runs.{HasEntered};
 
 use crate::dispatch::Batch;
 use crate::entries::{enter, enter_quiet};
-use crate::{Loaded, Note, Program, Progress, Yard};
+use crate::halt::{Seek, is_at};
+use crate::{Halt, Loaded, Note, Program, Progress, Yard};
 use kdf_journal::{CALL_LIMIT, Entry, Journal, MOVE_LIMIT};
 use kdf_processor::{Life, Step};
 use kdf_service::Service;
@@ -92,11 +95,11 @@ impl Yard {
         batch_of(&self.slots[i], most)
     }
 
-    /// Tries orders of a batch up to one of which something is noted, that is held or that ends the program. If one
-    /// asks the service, the answer is drawn before it. Answers how many were obeyed before the last, and how the last
+    /// Tries orders of a batch up to one of which something is noted, that is held, that ends the program or that comes
+    /// to its place. If one asks the service, the answer is drawn before it. Answers how many were obeyed before the last, and how the last
     /// ended. At Err that had no memory, and has changed nothing.
     #[inline(always)]
-    fn try_at<F: Fn(u64) -> u64>(
+    fn try_at<F: Fn(u64) -> u64, S: Seek>(
         &mut self,
         batch: Batch<'_>,
         service: &Service<F>,
@@ -107,10 +110,11 @@ impl Yard {
         requires some { 0 < batch.most }
         requires ran { (registers_in self.old batch.i).ran + batch.most ≤ u32.MAX }
         requires lent { AreLentIn self.old batch.journal.now.entries }
+        requires seeks { S.seeks ≡ false → batch.place ≡ None }
         ensures tried { IfOk result.1 (λ x. HasTriedIn (F.post service.now) batch.entry.time batch.entry.i result.0
-            self.old self.new x.0 x.1) }
+            batch.entry.place self.old self.new x.0 x.1) }
         ensures err { OnErr result.1 (HasTriedQuietly (F.post service.now) batch.entry.time batch.entry.i result.0
-            self.old self.new) }
+            batch.entry.place self.old self.new) }
         ensures within { result.0 < batch.entry.most }
         ensures same { IsSameYard self.old self.new }
     {
@@ -120,7 +124,7 @@ impl Yard {
             most: self.batch_at(batch.i, batch.most),
             ..batch
         };
-        self.turn(batch, heard)
+        self.turn::<S>(batch, heard)
     }
 
     /// Enters so many orders of program `i` of which nothing is noted, and how the turn after them ended, where it had
@@ -146,30 +150,59 @@ impl Yard {
         enter_tried(journal, &mut self.programs[i], quiet, tried)
     }
 
-    /// Obeys orders of program `i`, which is next, up to one of which something is noted, that is held or that ends it,
-    /// and at most so many. They are entered at once: while nothing is noted, no other program's turn comes. Answers
-    /// how many calls that were, and what the last did. At Err those that were obeyed are entered, and the one that had
-    /// no memory has changed nothing.
-    fn take_turns<F: Fn(u64) -> u64>(
+    /// The place at which calls stop where program `i` comes to it, where one is looked for.
+    #[inline(always)]
+    fn place_of_halt<S: Seek>(&self, halt: Halt, i: usize) -> Option<u16>
+        requires there { i < length self.now.seats }
+        requires seeks { S.seeks ≡ false → halt ≡ Never }
+        ensures place { result ≡ place_for halt (number_in self.now i) }
+        ensures seeks { S.seeks ≡ false → result ≡ None }
+    {
+        if S::seeks() {
+            halt.place(self.programs[i].p)
+        } else {
+            None
+        }
+    }
+
+    /// Whether program `i` is at a place, where one is looked for.
+    #[inline(always)]
+    fn is_at<S: Seek>(&self, place: Option<u16>, i: usize) -> bool
+        requires there { i < length self.now.seats }
+        requires seeks { S.seeks ≡ false → place ≡ None }
+        ensures { result ≡ is_at place (registers_in self.now i) }
+    {
+        is_at::<S>(place, &self.programs[i].registers)
+    }
+
+    /// Obeys orders of program `i`, which is next, up to one of which something is noted, that is held, that ends it or
+    /// after which calls stop, and at most so many. They are entered at once: while nothing is noted, no other program's
+    /// turn comes. Answers how many calls that were, and what the last did. At Err those that were obeyed are entered,
+    /// and the one that had no memory has changed nothing.
+    fn take_turns<F: Fn(u64) -> u64, S: Seek>(
         &mut self,
         journal: &mut Journal,
         due: &Calls<'_, F>,
         i: usize,
+        halt: Halt,
     ) -> Result<(u32, Progress), AllocError>
         requires service { IsService (F.pre due.now.service.now) (F.post due.now.service.now) }
         requires ready { IsReady self.old journal.old due.now.room }
         requires next { first_in self.old (priorities journal.old.entries) ≡ Some i }
         requires some { 0 < due.now.most }
         requires few { calls journal.old.entries + due.now.most ≤ CALL_LIMIT }
+        requires inside { halt ≡ Each → ⊥ }
+        requires seeks { S.seeks ≡ false → halt ≡ Never }
         ensures ready { IsReady self.new journal.new due.now.room }
-        ensures made { IfOk result (λ x. HasMadeSome (F.post due.now.service.now) x.0
+        ensures made { IfOk result (λ x. HasMadeSomePast (F.post due.now.service.now) halt x.0
             (shown_of self.old journal.old due.now.room) (shown_of self.new journal.new due.now.room) x.1) }
         ensures within { IfOk result (λ x. x.0 ≤ due.now.most) }
-        ensures err { OnErr result (HasMadeButFewer (F.post due.now.service.now) due.now.most
+        ensures err { OnErr result (HasPassedButFewer (F.post due.now.service.now) halt due.now.most
             (shown_of self.old journal.old due.now.room) (shown_of self.new journal.new due.now.room)) }
     {
         journal.reserve(due.room + 2)?;
         let time = journal.clock();
+        let place = self.place_of_halt::<S>(halt, i);
         let mut quiet = 0;
         loop {
             let batch = Batch {
@@ -177,10 +210,11 @@ impl Yard {
                 time,
                 journal,
                 most: due.most - quiet,
+                place,
             };
-            let (more, tried) = self.try_at(batch, due.service);
+            let (more, tried) = self.try_at::<F, S>(batch, due.service);
             quiet += more;
-            if quiet + 1 < due.most && is_quiet(&tried) {
+            if quiet + 1 < due.most && is_quiet(&tried) && !self.is_at::<S>(place, i) {
                 quiet += 1;
             } else {
                 return self.enter_tried(journal, i, quiet, tried);
@@ -189,6 +223,7 @@ impl Yard {
     }
 
     /// Enters that no program can go on, where one is live: so it is with all the calls that are left.
+    #[inline(always)]
     fn wait(&self, journal: &mut Journal, most: u32) -> (u32, Progress)
         requires room { 1 ≤ journal.old.spare }
         requires few_calls { calls journal.old.entries + most ≤ CALL_LIMIT }
@@ -206,27 +241,30 @@ impl Yard {
         }
     }
 
-    /// Some of these calls, one at least: the orders of the program that is next, as far as it stays next, or all,
-    /// where none can go on. Answers how many, and what the last did. At Err some are made, and the one that had no
-    /// memory has changed nothing.
-    pub(crate) fn advance<F: Fn(u64) -> u64>(
+    /// Some of these calls, one at least: the orders of the program that is next, as far as it stays next and up to one
+    /// after which they stop, or all, where none can go on. Answers how many, and what the last did. At Err some are
+    /// made, and the one that had no memory has changed nothing.
+    pub(crate) fn advance<F: Fn(u64) -> u64, S: Seek>(
         &mut self,
         journal: &mut Journal,
         due: &Calls<'_, F>,
+        halt: Halt,
     ) -> Result<(u32, Progress), AllocError>
         requires service { IsService (F.pre due.now.service.now) (F.post due.now.service.now) }
         requires ready { IsReady self.old journal.old due.now.room }
         requires some { 0 < due.now.most }
         requires few { calls journal.old.entries + due.now.most ≤ CALL_LIMIT }
+        requires inside { halt ≡ Each → ⊥ }
+        requires seeks { S.seeks ≡ false → halt ≡ Never }
         ensures ready { IsReady self.new journal.new due.now.room }
-        ensures made { IfOk result (λ x. HasMadeSome (F.post due.now.service.now) x.0
+        ensures made { IfOk result (λ x. HasMadeSomePast (F.post due.now.service.now) halt x.0
             (shown_of self.old journal.old due.now.room) (shown_of self.new journal.new due.now.room) x.1) }
         ensures within { IfOk result (λ x. x.0 ≤ due.now.most) }
-        ensures err { OnErr result (HasMadeButFewer (F.post due.now.service.now) due.now.most
+        ensures err { OnErr result (HasPassedButFewer (F.post due.now.service.now) halt due.now.most
             (shown_of self.old journal.old due.now.room) (shown_of self.new journal.new due.now.room)) }
     {
         match self.next_of(journal) {
-            Some(i) => self.take_turns(journal, due, i),
+            Some(i) => self.take_turns::<F, S>(journal, due, i, halt),
             None => {
                 journal.reserve(due.room + 2)?;
                 Ok(self.wait(journal, due.most))

@@ -1,9 +1,9 @@
 //! The orders of one program, as long as nothing is noted of them.
-ghost use Rattle.std.specs.Prelude.{◌≡◌, ◌+◌, ◌<◌, ◌≤◌, length, IfNone, IfOk, IfSome, OnErr};
+ghost use Rattle.std.specs.Prelude.{◌≡◌, ◌+◌, ◌<◌, ◌≤◌, length, IfNone, IfOk, IfSome, None, OnErr, false};
 ghost use Rattle.kdf_lockout.specs.Groups.{Cells};
 ghost use Rattle.kdf_processor.specs.Buffered.{Agrees};
 ghost use Rattle.kdf_director.specs.declared.note.Note.TheVariants.{Quiet};
-ghost use Rattle.kdf_director.specs.Fields.Batches.{AreQuiet, HasBatch};
+ghost use Rattle.kdf_director.specs.Fields.Batches.{of_seat, AreQuiet, HasBatch, Passes};
 ghost use Rattle.kdf_director.specs.Fields.CanTurn.{CanTurn};
 ghost use Rattle.kdf_director.specs.Fields.Parts.{reach_of, seat_of, window_at};
 ghost use Rattle.kdf_places.specs.Shared.{shared_in};
@@ -16,6 +16,7 @@ ghost use Rattle.kdf_theory.specs.Holders.{held_by};
 ghost use Rattle.kdf_director.specs.Fields.Turned.{HasRun, HasTried};
 ghost use Rattle.kdf_director.specs.Fields.Yards.{registers_in, AreLentIn, HasTurnedIn, HasTurnedQuietly};
 
+use crate::halt::{Seek, is_at};
 use crate::stint::retire;
 use crate::turn::Turn;
 use crate::{Moment, Note, Place, Program, Stand, Yard};
@@ -68,23 +69,27 @@ fn obey_next(
     Ok(step)
 }
 
-/// Obeys orders of a live program up to one of which something is noted, that is held or that ends it, and at most so
-/// many. Answers how many were obeyed before the last, and how the last ended. At Err that had no memory, and has
-/// changed nothing. It is inlined where the view is made: passed on by its address, that would be read anew by each
-/// order.
+/// Obeys orders of a live program up to one of which something is noted, that is held, that ends it or that comes to a
+/// place, and at most so many. Answers how many were obeyed before the last, and how the last ended. At Err that had no
+/// memory, and has changed nothing. It is inlined where the view is made: passed on by its address, that would be read
+/// anew by each order.
 #[inline(always)]
-fn obey_quiet(
+fn obey_quiet<S: Seek>(
     registers: &mut Registers,
     turn: &mut Turn<'_>,
     most: u32,
+    place: Option<u16>,
 ) -> (u32, Result<(Step, Note), AllocError>)
     requires live { registers.old.state ≡ Life.Live }
     requires some { 0 < most }
     requires ran { registers.old.ran + most ≤ u32.MAX }
     requires quiet { turn.old.note ≡ Quiet }
-    ensures tried { IfOk result.1 (λ x. HasBatch (HasTried (reach_in turn.old) (held_in turn.old) turn.old.moment) result.0
+    requires seeks { S.seeks ≡ false → place ≡ None }
+    ensures tried { IfOk result.1 (λ x. HasBatch of_seat place
+        (HasTried (reach_in turn.old) (held_in turn.old) turn.old.moment) result.0
         (seat_in turn.old registers.old) (shared turn.old) (seat_in turn.new registers.new) (shared turn.new) x.0 x.1) }
-    ensures err { OnErr result.1 (AreQuiet (HasTried (reach_in turn.old) (held_in turn.old) turn.old.moment) result.0
+    ensures err { OnErr result.1 (AreQuiet
+        (Passes of_seat place (HasTried (reach_in turn.old) (held_in turn.old) turn.old.moment)) result.0
         (seat_in turn.old registers.old) (shared turn.old) (seat_in turn.new registers.new) (shared turn.new)) }
     ensures within { result.0 < most }
     ensures same { SameProgram turn.old turn.new }
@@ -94,14 +99,14 @@ fn obey_quiet(
     loop {
         match obey_at_hand(registers, turn, &mut held) {
             Some(()) => {
-                if done + 1 == most || !turn.is_quiet() {
+                if done + 1 == most || !turn.is_quiet() || is_at::<S>(place, registers) {
                     return (done, Ok((Step::Done, turn.note())));
                 }
                 done += 1;
             }
             None => match obey_next(registers, turn, &mut held) {
                 Ok(Step::Done) => {
-                    if done + 1 == most || !turn.is_quiet() {
+                    if done + 1 == most || !turn.is_quiet() || is_at::<S>(place, registers) {
                         return (done, Ok((Step::Done, turn.note())));
                     }
                     done += 1;
@@ -114,7 +119,7 @@ fn obey_quiet(
 }
 
 /// Tries orders of a program in its slot at a moment, as `obey_quiet` does.
-fn try_next(
+fn try_next<S: Seek>(
     stand: &Stand<'_>,
     moment: Moment,
     journal: &Journal,
@@ -122,17 +127,19 @@ fn try_next(
     store: &mut Store,
     places: &mut Vec<Place>,
     most: u32,
+    place: Option<u16>,
 ) -> (u32, Result<(Step, Note), AllocError>)
     requires live { program.old.registers.state ≡ Life.Live }
     requires some { 0 < most }
     requires ran { program.old.registers.ran + most ≤ u32.MAX }
     requires can { CanTurn stand.now.windows.now stand.now.slot.now program.old store.old places.old.items }
-    ensures tried { IfOk result.1 (λ x. HasBatch
+    requires seeks { S.seeks ≡ false → place ≡ None }
+    ensures tried { IfOk result.1 (λ x. HasBatch of_seat place
         (HasTried (reach_of stand.now.windows.now stand.now.slot.now) (held_by journal.now.entries) moment) result.0
         (seat_of program.old) (shared_in store.old places.old.items)
         (seat_of program.new) (shared_in store.new places.new.items) x.0 x.1) }
-    ensures err { OnErr result.1 (AreQuiet
-        (HasTried (reach_of stand.now.windows.now stand.now.slot.now) (held_by journal.now.entries) moment) result.0
+    ensures err { OnErr result.1 (AreQuiet (Passes of_seat place
+        (HasTried (reach_of stand.now.windows.now stand.now.slot.now) (held_by journal.now.entries) moment)) result.0
         (seat_of program.old) (shared_in store.old places.old.items)
         (seat_of program.new) (shared_in store.new places.new.items)) }
     ensures within { result.0 < most }
@@ -155,7 +162,7 @@ fn try_next(
         block: &mut block,
         note: Note::Quiet,
     };
-    obey_quiet(&mut program.registers, &mut turn, most)
+    obey_quiet::<S>(&mut program.registers, &mut turn, most, place)
 }
 
 /// Takes the devices of a program that is over out of their places, those of the first to the last of its stints that
@@ -174,6 +181,7 @@ fn retire_all(alloc: Global, program: &mut Program, places: &mut Vec<Place>)
 }
 
 /// Where an order ended a program, or failed, the devices that it has from the pool leave their places.
+#[inline(always)]
 fn settle(alloc: Global, program: &mut Program, places: &mut Vec<Place>)
     ensures both { (cells : Cells) → both_of (seat_of program.new) (shared_in cells places.new.items)
         ≡ settled (both_of (seat_of program.old) (shared_in cells places.old.items)) }
@@ -187,7 +195,7 @@ fn settle(alloc: Global, program: &mut Program, places: &mut Vec<Place>)
 
 /// Tries orders of a program at a moment over what is shared, as `obey_quiet` does, and where the last ended it, takes
 /// back what it had from the pool.
-pub(crate) fn run(
+pub(crate) fn run<S: Seek>(
     stand: &Stand<'_>,
     moment: Moment,
     journal: &Journal,
@@ -195,24 +203,26 @@ pub(crate) fn run(
     store: &mut Store,
     places: &mut Vec<Place>,
     most: u32,
+    place: Option<u16>,
 ) -> (u32, Result<(Step, Note), AllocError>)
     requires live { program.old.registers.state ≡ Life.Live }
     requires some { 0 < most }
     requires ran { program.old.registers.ran + most ≤ u32.MAX }
     requires can { CanTurn stand.now.windows.now stand.now.slot.now program.old store.old places.old.items }
-    ensures ran { IfOk result.1 (λ x. HasBatch
+    requires seeks { S.seeks ≡ false → place ≡ None }
+    ensures ran { IfOk result.1 (λ x. HasBatch of_seat place
         (HasRun (reach_of stand.now.windows.now stand.now.slot.now) (held_by journal.now.entries) moment) result.0
         (seat_of program.old) (shared_in store.old places.old.items)
         (seat_of program.new) (shared_in store.new places.new.items) x.0 x.1) }
-    ensures err { OnErr result.1 (AreQuiet
-        (HasRun (reach_of stand.now.windows.now stand.now.slot.now) (held_by journal.now.entries) moment) result.0
+    ensures err { OnErr result.1 (AreQuiet (Passes of_seat place
+        (HasRun (reach_of stand.now.windows.now stand.now.slot.now) (held_by journal.now.entries) moment)) result.0
         (seat_of program.old) (shared_in store.old places.old.items)
         (seat_of program.new) (shared_in store.new places.new.items)) }
     ensures within { result.0 < most }
     ensures hold { program.new.hold ≡ program.old.hold }
     ensures dry { AreDry places.new.items }
 {
-    let tried = try_next(stand, moment, journal, program, store, places, most);
+    let tried = try_next::<S>(stand, moment, journal, program, store, places, most, place);
     settle(stand.alloc, program, places);
     tried
 }
@@ -227,19 +237,20 @@ pub(crate) fn window_of(windows: &[Window; 4], p: u8) -> Window
     }
 }
 
-/// Orders of program `i` of all: so many at most, at this time, after what this journal tells.
+/// Orders of program `i` of all: so many at most, up to a place, at this time, after what this journal tells.
 #[derive(Clone, Copy)]
 pub struct Batch<'a> {
     pub i: usize,
     pub time: u64,
     pub journal: &'a Journal,
     pub most: u32,
+    pub place: Option<u16>,
 }
 
 impl Yard {
     /// Tries orders of a batch, as `obey_quiet` does, where this was heard of the service.
     #[inline(always)]
-    pub(crate) fn turn(
+    pub(crate) fn turn<S: Seek>(
         &mut self,
         batch: Batch<'_>,
         heard: Word,
@@ -249,9 +260,11 @@ impl Yard {
         requires some { 0 < batch.most }
         requires ran { (registers_in self.old batch.i).ran + batch.most ≤ u32.MAX }
         requires lent { AreLentIn self.old batch.journal.now.entries }
+        requires seeks { S.seeks ≡ false → batch.place ≡ None }
         ensures turned { IfOk result.1 (λ x. HasTurnedIn (moment batch.entry.time heard) batch.entry.i result.0
-            self.old self.new x.0 x.1) }
-        ensures err { OnErr result.1 (HasTurnedQuietly (moment batch.entry.time heard) batch.entry.i result.0 self.old self.new) }
+            batch.entry.place self.old self.new x.0 x.1) }
+        ensures err { OnErr result.1 (HasTurnedQuietly (moment batch.entry.time heard) batch.entry.i result.0
+            batch.entry.place self.old self.new) }
         ensures within { result.0 < batch.entry.most }
         ensures same { IsSameYard self.old self.new }
     {
@@ -264,7 +277,7 @@ impl Yard {
             time: batch.time,
             heard,
         };
-        run(
+        run::<S>(
             &stand,
             moment,
             batch.journal,
@@ -272,6 +285,7 @@ impl Yard {
             &mut self.store,
             &mut self.places,
             batch.most,
+            batch.place,
         )
     }
 }

@@ -71,6 +71,7 @@ pub(crate) fn enter_quiet(journal: &mut Journal, program: &mut Program, quiet: u
 }
 
 /// Counts so many orders of program `p`, the last of which is its own order `k` and ended so, with its note.
+#[inline(always)]
 fn write(journal: &mut Journal, p: u8, n: u32, k: u32, step: Step, note: Note)
     requires room { 2 ≤ journal.old.spare }
     requires few_calls { calls journal.old.entries + n ≤ CALL_LIMIT }
@@ -88,6 +89,7 @@ fn write(journal: &mut Journal, p: u8, n: u32, k: u32, step: Step, note: Note)
 }
 
 /// Enters what was noted of the order just counted.
+#[inline(always)]
 fn write_note(journal: &mut Journal, p: u8, k: u32, note: Note)
     requires room { 1 ≤ journal.old.spare }
     requires few_calls { calls journal.old.entries ≤ CALL_LIMIT }
@@ -105,6 +107,7 @@ fn write_note(journal: &mut Journal, p: u8, k: u32, note: Note)
 }
 
 /// Enters that program `p` is held by a need.
+#[inline(always)]
 fn write_hold(journal: &mut Journal, p: u8, need: Need)
     requires room { 1 ≤ journal.old.spare }
     requires few_calls { calls journal.old.entries < CALL_LIMIT }

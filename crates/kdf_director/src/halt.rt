@@ -1,12 +1,13 @@
 //! Where calls of a machine stop before all are made.
-ghost use Rattle.std.specs.Prelude.{◌≡◌, ◌==◌, ◌<◌, ◌≤◌, find};
+ghost use Rattle.std.specs.Prelude.{◌≡◌, ◌==◌, ◌<◌, ◌≤◌, Bool, None, false, find, true};
 ghost use Rattle.std.specs.Option.{option_map};
-ghost use Rattle.kdf_director.specs.declared.halt.Halt.TheVariants.{Never};
+ghost use Rattle.kdf_director.specs.declared.halt.Halt.TheVariants.{Each};
 ghost use Rattle.kdf_director.specs.Fields.Halted.{stops_in};
-ghost use Rattle.kdf_director.specs.Halts.{halts};
+ghost use Rattle.kdf_director.specs.Halts.{halt_inside, halts, is_at, place_for};
 
 use crate::shown::registers_of;
 use crate::{Program, Progress, Yard};
+use kdf_processor::Registers;
 
 /// Where calls stop before all are made.
 #[derive(Clone, Copy, Debug, PartialEq, Eq)]
@@ -21,18 +22,86 @@ pub enum Halt {
 }
 
 impl Halt {
-    /// How many of so many calls may be made with nothing looked at between them.
-    #[inline(always)]
+    /// How many of so many calls one run of calls may be: one, where they stop wherever an order is obeyed.
     pub(crate) fn batch(self, left: u32) -> u32
         requires { 0 < left }
         ensures some { 0 < result }
         ensures few { result ≤ left }
-        ensures singly { (self ≡ Never → ⊥) → result ≡ 1 }
+        ensures singly { self ≡ Each → result ≡ 1 }
     {
         match self {
-            Halt::Never => left,
-            Halt::Each | Halt::At { .. } => 1,
+            Halt::Each => 1,
+            Halt::Never | Halt::At { .. } => left,
         }
+    }
+
+    /// Where calls of one run stop before its end: nowhere, where each run is one call.
+    pub(crate) fn inside(self) -> Halt
+        ensures { result ≡ halt_inside self }
+    {
+        match self {
+            Halt::Each | Halt::Never => Halt::Never,
+            Halt::At { .. } => self,
+        }
+    }
+
+    /// The place at which they stop where program `p` comes to it, if there is one.
+    pub(crate) fn place(self, p: u8) -> Option<u16>
+        ensures { result ≡ place_for self p }
+    {
+        match self {
+            Halt::Never | Halt::Each => None,
+            Halt::At { p: k, at } => { if p == k { Some(at) } else { None } }
+        }
+    }
+}
+
+/// Whether a place is looked for behind each order. The loop over the orders is compiled for each of the types that
+/// tell it, so that where none is looked for, no order pays for it.
+pub(crate) trait Seek {
+    ghost seeks: { Bool };
+
+    fn seeks() -> bool
+        ensures { result ≡ seeks };
+}
+
+/// No place is looked for.
+pub(crate) struct SeeksNone;
+
+impl Seek for SeeksNone {
+    ghost seeks = { false };
+
+    #[inline(always)]
+    fn seeks() -> bool {
+        false
+    }
+}
+
+/// A place is looked for, if there is one.
+pub(crate) struct SeeksPlace;
+
+impl Seek for SeeksPlace {
+    ghost seeks = { true };
+
+    #[inline(always)]
+    fn seeks() -> bool {
+        true
+    }
+}
+
+/// Whether a program with these registers is at a place, where one is looked for.
+#[inline(always)]
+pub(crate) fn is_at<S: Seek>(place: Option<u16>, registers: &Registers) -> bool
+    requires { S.seeks ≡ false → place ≡ None }
+    ensures { result ≡ is_at place registers.now }
+{
+    if S::seeks() {
+        match place {
+            Some(at) => registers.at == at,
+            None => false,
+        }
+    } else {
+        false
     }
 }
 

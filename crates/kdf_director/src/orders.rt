@@ -16,6 +16,7 @@ ghost use Rattle.kdf_theory.specs.Served.{IsTrueFor};
 ghost use Rattle.kdf_service.specs.Rules.{IsService};
 
 use crate::advance::Calls;
+use crate::halt::{SeeksNone, SeeksPlace};
 use crate::{Halt, Machine, Progress, Yard};
 use kdf_journal::{CALL_LIMIT, Journal};
 use kdf_service::Service;
@@ -62,7 +63,7 @@ impl Yard {
                 room,
                 most: *left,
             };
-            let (made, progress) = self.advance(journal, &calls)?;
+            let (made, progress) = self.advance::<F, SeeksNone>(journal, &calls, Halt::Never)?;
             *left -= made;
             if *left == 0 || !found_live(progress) {
                 return Ok(progress);
@@ -72,8 +73,49 @@ impl Yard {
 
     /// Of so many calls that are left, one at least, those up to one after which they stop, or that found no live program.
     /// Answers what the last did, and leaves the number of those that are left still. At Err some are made, and the one
-    /// that had no memory has changed nothing. The halt is looked at between runs of calls, so that where there is none,
-    /// no call pays for it.
+    /// that had no memory has changed nothing.
+    #[inline(never)]
+    fn orders_looked_at<F: Fn(u64) -> u64>(
+        &mut self,
+        journal: &mut Journal,
+        left: &mut u32,
+        service: &Service<F>,
+        room: u32,
+        halt: Halt,
+    ) -> Result<Progress, AllocError>
+        requires service { IsService (F.pre service.now) (F.post service.now) }
+        requires ready { IsReady self.old journal.old room }
+        requires some { 0 < left.old }
+        requires few { calls journal.old.entries + left.old ≤ CALL_LIMIT }
+        ensures ready { IsReady self.new journal.new room }
+        ensures made { IfOk result (HasMadeTo (F.post service.now) halt left.old left.new
+            (shown_of self.old journal.old room) (shown_of self.new journal.new room)) }
+        ensures err { OnErr result (HasMadeButTo (F.post service.now) halt left.old left.new
+            (shown_of self.old journal.old room) (shown_of self.new journal.new room)) }
+    {
+        loop {
+            let counted = journal.calls();
+            let calls = Calls {
+                service,
+                room,
+                most: halt.batch(*left),
+            };
+            match self.advance::<F, SeeksPlace>(journal, &calls, halt.inside()) {
+                Ok((made, progress)) => {
+                    *left -= made;
+                    if *left == 0 || !found_live(progress) || self.stops(halt, progress) {
+                        return Ok(progress);
+                    }
+                }
+                Err(error) => {
+                    *left -= journal.calls() - counted;
+                    return Err(error);
+                }
+            }
+        }
+    }
+
+    /// The same. Where no halt is looked at, no call pays for one: those calls are compiled apart.
     #[inline(always)]
     pub(crate) fn orders<F: Fn(u64) -> u64>(
         &mut self,
@@ -93,14 +135,11 @@ impl Yard {
         ensures err { OnErr result (HasMadeButTo (F.post service.now) halt left.old left.new
             (shown_of self.old journal.old room) (shown_of self.new journal.new room)) }
     {
-        loop {
-            let most = halt.batch(*left);
-            let mut rest = most;
-            let progress = self.all_orders(journal, &mut rest, service, room)?;
-            *left -= most - rest;
-            if *left == 0 || !found_live(progress) || self.stops(halt, progress) {
-                return Ok(progress);
-            }
+        match halt {
+            Halt::Never => self.all_orders(journal, left, service, room),
+            Halt::Each | Halt::At { .. } => self.orders_looked_at(
+                journal, left, service, room, halt,
+            ),
         }
     }
 }

@@ -18,7 +18,7 @@ use Rattle.kdf_theory.specs.Legal.{IsLegal, note_of}
 use Rattle.kdf_theory.specs.Next.{any_live, lone_dispatched}
 use Rattle.kdf_director.specs.Orders.{HasMade}
 use Rattle.kdf_director.specs.Progressed.{found_live}
-use Rattle.kdf_director.specs.Runs.{HasMadeOn}
+use Rattle.kdf_director.specs.Runs.{HasMadeOn, HasMadeSome}
 use Rattle.kdf_theory.specs.Served.{IsAnswered, IsTrueFor}
 use Rattle.kdf_theory.specs.Shown.{Shown, state_at, world_of}
 use Rattle.kdf_theory.specs.True.{truth}
@@ -78,6 +78,19 @@ module _ (answers : ℕ → ℕ → Type 0) where
         time = clock-took took.heard m new r took.advance ∙ h.time;
         slots = slots ∙ h.slots;
         room = room ∙ h.room;
+      }
+
+  -- one by itself
+  pub made_one : (m new : Shown) (r : Progress) → IsLegal m.slots m.journal → AdvanceWith answers m new r → IsAnswered answers m.slots m.journal new.journal → (found_live r ≡ true → IsLegal new.slots new.journal × (new.slots ≡ m.slots) × (new.room ≡ m.room)) → HasMadeSome answers 1 m new r
+  made_one m new r legal took served after =
+      record {
+        before = 0;
+        between = m;
+        earlier = made_none m legal;
+        last = took;
+        answered = served;
+        count = refl;
+        all_on = λ found. let then = after found in made_more 0 m m new r (made_none m legal) took found served then.0 then.1 then.2;
       }
 
   made_next : (n : ℕ) (old m new : Shown) (r : Progress) → HasMade answers n old m → AdvanceWith answers m new r → found_live r ≡ true → HasMade answers (suc n) old new

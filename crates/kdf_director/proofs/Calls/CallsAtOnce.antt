@@ -22,23 +22,29 @@ use Rattle.kdf_director.specs.declared.machine.Progress.TheVariants as progress
 use Rattle.kdf_director.specs.declared.note.Note.{Note}
 use Rattle.kdf_director.specs.declared.note.Note.TheVariants as note
 use Rattle.kdf_director.specs.Fields.Agrees.{Agrees, AreLent, IsReady}
-use Rattle.kdf_director.specs.Fields.Batches.{AreQuiet, HasBatch, HasTriedOn}
+use Rattle.kdf_director.specs.declared.halt.Halt.{Halt}
+use Rattle.kdf_director.specs.declared.halt.Halt.TheVariants.{Each}
+use Rattle.kdf_director.specs.Halts.{is_at, place_for, ArePassed, HasMadeSomePast, HasPassedButFewer}
+use Rattle.kdf_director.specs.Fields.Batches.{of_seats, AreQuiet, HasBatch, HasTriedOn, Passes}
 use Rattle.kdf_director.specs.Fields.Parts.{Seat}
 use Rattle.kdf_director.specs.Fields.Standing.{Standing, shown_of, IsSameYard}
 use Rattle.kdf_director.specs.Fields.TurnTaken.{hold_left, step_told}
 use Rattle.kdf_director.specs.Fields.Yards.{any_in, first_in, hold_in, number_in, registers_in, AreLentIn, AreNear, AreOfFour, HasTriedIn, HasTriedQuietly}
 use Rattle.kdf_theory.specs.Next.{any_live}
-use Rattle.kdf_director.specs.Runs.{HasEntered, HasMadeOn, HasMadeSome, IsEntered, held_after, ran_on, waited_on}
+use Rattle.kdf_director.specs.Runs.{HasEntered, HasMadeOn, IsEntered, held_after, ran_on, waited_on}
 use Rattle.kdf_theory.specs.Shown.{Shown, state_at}
 use Rattle.kdf_places.specs.Shared.{Shared}
 use Rattle.kdf_director.proofs.Calls.CallsAfterCalls.{made_none}
 use Rattle.kdf_director.proofs.Calls.GoingFurther.{going_further}
+use Rattle.kdf_director.proofs.Calls.Halting.{passed_none}
+use Rattle.kdf_director.proofs.Calls.OrdersPassed.{passing_further, passing_one}
+use Rattle.kdf_director.proofs.Turns.Batching.{quiet_map}
 use Rattle.kdf_director.proofs.Calls.NoneGoesOn.{waiting, waiting_some}
 use Rattle.kdf_director.proofs.Calls.OneCall.{moves-took}
 use Rattle.kdf_director.proofs.Calls.OrdersInARow.{calls-ran_on, holder-ran_on, moves-ran_on, moves-waited_on, some-waited_on}
 use Rattle.kdf_director.proofs.Calls.ProgramGoesOn.{IsGoingOn, advanced_on, few_on, going_on, held_on, live_on, made_some}
 use Rattle.kdf_director.proofs.Linking.NextPrograms.{any_same, is_next, near_holds, of_four}
-use Rattle.kdf_director.proofs.Linking.TurnTaken.{all_ended, holds_in}
+use Rattle.kdf_director.proofs.Linking.TurnTaken.{all_ended, holds_in, shown}
 
 -- a life that is live
 live_is : (x : Life) → is_live x ≡ true → x ≡ life.Live
@@ -76,10 +82,12 @@ pub any_map : {X Y : Type 0} (h : X → Y) (f : Y → Bool) (xs : List X) → li
 any_map h f [] = refl
 any_map h f (x ∷ xs) = ap (λ b. f (h x) || b) (any_map h f xs)
 
--- program i of the yard has obeyed n orders of which nothing is noted, and so the yard stands then
-pub record IsOn (answers : ℕ → ℕ → Type 0) (y : Standing) (J : Recorded) (room i n : ℕ) (z : Standing) : Type 0 where
+-- program i of the yard has obeyed n orders of which nothing is noted and after which calls don't stop, and so the yard
+-- stands then
+pub record IsOn (answers : ℕ → ℕ → Type 0) (halt : Halt) (y : Standing) (J : Recorded) (room i n : ℕ) (z : Standing) : Type 0 where
   pub course : IsGoingOn answers y J.entries room i n z.seats z.shared
   pub same : IsSameYard y z
+  pub passed : ArePassed answers halt n (shown_of y J room) (shown y.slots y.reaches z.seats z.shared (ran_on J.entries (number_in y i) n) room)
 
 module _ (answers : ℕ → ℕ → Type 0) (y : Standing) (J : Recorded) (room : ℕ) (ready : IsReady y J room) where
   abbrev old : Shown
@@ -115,18 +123,24 @@ module _ (answers : ℕ → ℕ → Type 0) (y : Standing) (J : Recorded) (room 
         few_words = ready.few_words;
       })
 
-  pub fewer : (K : Recorded) → K.entries ≡ J.entries → (most : ℕ) → 0 < most → (k : ℕ) × (k < most) × HasMadeOn answers k old (shown_of y K room)
-  fewer K same most some =
-      subst (λ (E : List Entry). (k : ℕ) × (k < most) × HasMadeOn answers k old (shown_of y (record { entries = E; spare = K.spare }) room)) (sym same)
-      (0, some, made_none answers old ready.agrees.legal)
+  pub fewer : (halt : Halt) (K : Recorded) → K.entries ≡ J.entries → (most : ℕ) → 0 < most → HasPassedButFewer answers halt most old (shown_of y K room)
+  fewer halt K same most some =
+      subst (λ (E : List Entry). HasPassedButFewer answers halt most old (shown_of y (record { entries = E; spare = K.spare }) room)) (sym same)
+      (record {
+        made = 0;
+        on = made_none answers old ready.agrees.legal;
+        fewer = some;
+        count = omega arith;
+        passed = passed_none answers halt old;
+      })
 
   -- no program goes on
-  module _ (most : ℕ) (some : 0 < most) (few : calls J.entries + most ≤ CALL_LIMIT) (none : first_in y (priorities J.entries) ≡ None) (spare : ℕ) (fits : room ≤ spare) where
+  module _ (halt : Halt) (most : ℕ) (some : 0 < most) (few : calls J.entries + most ≤ CALL_LIMIT) (none : first_in y (priorities J.entries) ≡ None) (spare : ℕ) (fits : room ≤ spare) where
     -- and this is what so many calls come to
     abbrev Waits : List Entry → ℕ × Progress → Type 0
     Waits K x =
         IsReady y (record { entries = K; spare = spare }) room
-        × HasMadeSome answers x.0 old (shown_of y (record { entries = K; spare = spare }) room) x.1
+        × HasMadeSomePast answers halt x.0 old (shown_of y (record { entries = K; spare = spare }) room) x.1
         × (x.0 ≤ most)
 
     all_idle : any_live y.slots J.entries ≡ true → Waits (waited_on J.entries most) (most, progress.Idle)
@@ -137,7 +151,7 @@ module _ (answers : ℕ → ℕ → Type 0) (y : Standing) (J : Recorded) (room 
         by_most (suc n) little is =
             let w = waiting answers y J.entries room ready.agrees ready.holds live none (suc n) little in (
               ready_then y (record { entries = waited_on J.entries (suc n); spare = spare }) fits w.agrees w.holds_are (moves-waited_on J.entries (suc n)),
-              waiting_some answers y J.entries room ready.agrees ready.holds live none n little,
+              waiting_some answers y J.entries room ready.agrees ready.holds live none halt n little,
               omega (arith, is),
             )
 
@@ -146,13 +160,16 @@ module _ (answers : ℕ → ℕ → Type 0) (y : Standing) (J : Recorded) (room 
         let d = all_ended answers y.slots y.reaches y.seats y.shared J.entries room ready.agrees y.holds ready.holds (omega arith) dead in (
           ready_then y (record { entries = J.entries; spare = spare }) fits ready.agrees ready.holds refl,
           record {
-            before = 0;
-            between = old;
-            earlier = made_none answers old ready.agrees.legal;
-            last = d.advance;
-            answered = d.answered;
-            count = refl;
-            all_on = λ found. absurd (false≢true found);
+            some = record {
+              before = 0;
+              between = old;
+              earlier = made_none answers old ready.agrees.legal;
+              last = d.advance;
+              answered = d.answered;
+              count = refl;
+              all_on = λ found. absurd (false≢true found);
+            };
+            passed = passed_none answers halt old;
           },
           omega arith,
         )
@@ -168,11 +185,14 @@ module _ (answers : ℕ → ℕ → Type 0) (y : Standing) (J : Recorded) (room 
         by_any false dead = none_live (sym dead)
 
   -- a program goes on
-  module _ (i : ℕ) (going : first_in y (priorities J.entries) ≡ Some i) where
+  module _ (halt : Halt) (i : ℕ) (going : first_in y (priorities J.entries) ≡ Some i) where
     abbrev p : ℕ
     p = number_in y i
 
-    pub begun : IsOn answers y J room i 0 y
+    abbrev place : Option ℕ
+    place = place_for halt p
+
+    pub begun : IsOn answers halt y J room i 0 y
     begun =
         let is = is_next y.slots y.reaches y.seats y.shared J.entries ready.agrees y.holds ready.holds (state_at old) i going in
         record {
@@ -185,6 +205,7 @@ module _ (answers : ℕ → ℕ → Type 0) (y : Standing) (J : Recorded) (room 
             made = made_none answers old ready.agrees.legal;
           };
           same = record { slots = refl; reaches = refl; holds = refl; many = refl };
+          passed = passed_none answers halt old;
         }
 
     abbrev Going : ℕ → List Seat → Shared → Type 0
@@ -193,12 +214,22 @@ module _ (answers : ℕ → ℕ → Type 0) (y : Standing) (J : Recorded) (room 
     abbrev Tries : List Seat → Shared → List Seat → Shared → Step → Note → Type 0
     Tries = HasTriedOn answers y.reaches (clock J.entries) i
 
-    further : (n : ℕ) (mid : List Seat) (between : Shared) → Going n mid between → (k : ℕ) (after : List Seat) (left : Shared) → calls J.entries + (n + k) ≤ CALL_LIMIT → AreQuiet Tries k mid between after left → Going (n + k) after left
+    abbrev Past : List Seat → Shared → List Seat → Shared → Step → Note → Type 0
+    Past = Passes (of_seats i) place Tries
+
+    further : (n : ℕ) (mid : List Seat) (between : Shared) → Going n mid between → (k : ℕ) (after : List Seat) (left : Shared) → calls J.entries + (n + k) ≤ CALL_LIMIT → AreQuiet Past k mid between after left → Going (n + k) after left
     further n mid between g k after left few quiet =
-        going_further answers y J.entries room i n k mid between after left g few quiet
+        going_further answers y J.entries room i n k mid between after left g few (quiet_map Past Tries (λ b x a l h. h.0) k mid between after left quiet)
+
+    -- and so it is seen after n orders, all of which were passed
+    abbrev after_all : ℕ → List Seat → Shared → Shown
+    after_all n seats s = shown y.slots y.reaches seats s (ran_on J.entries p n) room
+
+    abbrev Passed : ℕ → List Seat → Shared → Type 0
+    Passed n seats s = ArePassed answers halt n old (after_all n seats s)
 
     -- it has obeyed n, and tries k more at this time, and one more
-    module _ (n : ℕ) (z : Standing) (on : IsOn answers y J room i n z) where
+    module _ (n : ℕ) (z : Standing) (on : IsOn answers halt y J room i n z) where
       pub live : (registers_in z i).state ≡ life.Live
       live = live_is (registers_in z i).state (live_on answers y J.entries room i n z.seats z.shared on.course)
 
@@ -211,7 +242,7 @@ module _ (answers : ℕ → ℕ → Type 0) (y : Standing) (J : Recorded) (room 
       pub ran : (registers_in z i).ran ≤ CALL_LIMIT
       ran = few_on answers y J.entries room i n z.seats z.shared on.course
 
-      module _ {E : Type 0} (k : ℕ) (few : calls J.entries + (n + k) < CALL_LIMIT) (w : Standing) (same : IsSameYard z w) (tried : Result (Step × Note) E) (time : ℕ) (now : time ≡ clock J.entries) (did : IfOk tried (λ x. HasTriedIn answers time i k z w x.0 x.1)) where
+      module _ {E : Type 0} (k : ℕ) (few : calls J.entries + (n + k) < CALL_LIMIT) (w : Standing) (same : IsSameYard z w) (tried : Result (Step × Note) E) (time : ℕ) (now : time ≡ clock J.entries) (inside : halt ≡ Each → ⊥) (did : IfOk tried (λ x. HasTriedIn answers time i k place z w x.0 x.1)) where
         same_yard : IsSameYard y w
         same_yard =
             record {
@@ -221,26 +252,31 @@ module _ (answers : ℕ → ℕ → Type 0) (y : Standing) (J : Recorded) (room 
               many = same.many ∙ on.same.many;
             }
 
-        did_then : IfOk tried (λ x. HasBatch Tries k z.seats z.shared w.seats w.shared x.0 x.1)
+        did_then : IfOk tried (λ x. HasBatch (of_seats i) place Tries k z.seats z.shared w.seats w.shared x.0 x.1)
         did_then =
-            subst (λ t. IfOk tried (λ x. HasBatch (HasTriedOn answers y.reaches t i) k z.seats z.shared w.seats w.shared x.0 x.1)) now
-            (subst (λ rs. IfOk tried (λ x. HasBatch (HasTriedOn answers rs time i) k z.seats z.shared w.seats w.shared x.0 x.1)) on.same.reaches did)
+            subst (λ t. IfOk tried (λ x. HasBatch (of_seats i) place (HasTriedOn answers y.reaches t i) k z.seats z.shared w.seats w.shared x.0 x.1)) now
+            (subst (λ rs. IfOk tried (λ x. HasBatch (of_seats i) place (HasTriedOn answers rs time i) k z.seats z.shared w.seats w.shared x.0 x.1)) on.same.reaches did)
 
         -- nothing is noted of that either
-        pub going_more : tried ≡ Ok (step.Done, note.Quiet) → IsOn answers y J room i (n + k + 1) w
-        going_more is =
-            let batch = subst (λ (t : Result (Step × Note) E). IfOk t (λ x. HasBatch Tries k z.seats z.shared w.seats w.shared x.0 x.1)) is did_then in
+        pub going_more : tried ≡ Ok (step.Done, note.Quiet) → is_at place (registers_in w i) ≡ false → IsOn answers halt y J room i (n + k + 1) w
+        going_more is past =
+            let batch = subst (λ (t : Result (Step × Note) E). IfOk t (λ x. HasBatch (of_seats i) place Tries k z.seats z.shared w.seats w.shared x.0 x.1)) is did_then in
             let one : suc (n + k) ≡ n + k + 1 = omega arith in
+            let until = further n z.seats z.shared on.course k batch.mid batch.between (omega (arith, few)) batch.earlier in
+            let room_left : calls (ran_on J.entries p (n + k)) < CALL_LIMIT = omega (arith, few, calls-ran_on J.entries p (n + k)) in
             record {
               course =
                   subst (λ m. Going m w.seats w.shared) one
-                  (going_on answers y J.entries room i (n + k) batch.mid batch.between
-                  (further n z.seats z.shared on.course k batch.mid batch.between (omega (arith, few)) batch.earlier) w.seats w.shared batch.last.0 batch.last.1 (omega (arith, few, calls-ran_on J.entries p (n + k))));
+                  (going_on answers y J.entries room i (n + k) batch.mid batch.between until w.seats w.shared batch.last.0 batch.last.1 room_left);
               same = same_yard;
+              passed =
+                  subst (λ m. Passed m w.seats w.shared) one
+                  (passing_one answers y J.entries room i halt inside (n + k) batch.mid batch.between until w.seats w.shared batch.last.0 batch.last.1 room_left past old
+                  (passing_further answers y J.entries room i halt inside n k z.seats z.shared batch.mid batch.between old on.course (omega (arith, few)) batch.earlier on.passed));
             }
 
         -- it is entered: only what holds the program changes
-        module _ (err : OnErr tried (HasTriedQuietly answers time i k z w)) (u : Standing) (rest : u ≡ record w { holds = set w.holds i (hold_in u i) }) (K : Recorded) (fits : room ≤ K.spare) where
+        module _ (err : OnErr tried (HasTriedQuietly answers time i k place z w)) (u : Standing) (rest : u ≡ record w { holds = set w.holds i (hold_in u i) }) (K : Recorded) (fits : room ≤ K.spare) where
           abbrev h : Option Need
           h = hold_in u i
 
@@ -253,9 +289,9 @@ module _ (answers : ℕ → ℕ → Type 0) (y : Standing) (J : Recorded) (room 
               ∙ ap₂ (λ a b. record { slots = a; reaches = b; seats = w.seats; holds = set w.holds i h; shared = w.shared }) same_yard.slots same_yard.reaches
               ∙ ap (λ hs. record { slots = y.slots; reaches = y.reaches; seats = w.seats; holds = set hs i h; shared = w.shared }) same_yard.holds
 
-          turned : (m : ℕ) (mid : List Seat) (between : Shared) → Going m mid between → calls J.entries + m < CALL_LIMIT → (ended : Step) (noted : Note) (made : ℕ) (answer : Progress) → Tries mid between w.seats w.shared ended noted
-              → IsEntered J.entries (number_in w i) m (registers_in w i).ran ended noted K.entries h made answer → IsReady v K room × HasMadeSome answers made old (shown_of v K room) answer
-          turned m mid between g few ended noted made answer tried e =
+          turned : (m : ℕ) (mid : List Seat) (between : Shared) → Going m mid between → Passed m mid between → calls J.entries + m < CALL_LIMIT → (ended : Step) (noted : Note) (made : ℕ) (answer : Progress) → Tries mid between w.seats w.shared ended noted
+              → IsEntered J.entries (number_in w i) m (registers_in w i).ran ended noted K.entries h made answer → IsReady v K room × HasMadeSomePast answers halt made old (shown_of v K room) answer
+          turned m mid between g passed few ended noted made answer tried e =
               let few_then : calls (ran_on J.entries p m) < CALL_LIMIT = omega (arith, few, calls-ran_on J.entries p m) in
               let number : number_in w i ≡ p = tried.0.turned.numbers i ∙ g.number in
               let entered : K.entries ≡ added (ran_on J.entries p m) (step_told (number_in w i) (registers_in w i).ran ended noted) =
@@ -263,15 +299,15 @@ module _ (answers : ℕ → ℕ → Type 0) (y : Standing) (J : Recorded) (room 
               let held : set y.holds i h ≡ set y.holds i (hold_left ended) = ap (set y.holds i) e.hold in
               let d = advanced_on answers y J.entries room i m mid between g w.seats w.shared ended noted tried.0 tried.1 few_then (set y.holds i h) K.entries answer held entered e.answer in (
                 ready_then v K fits d.agrees d.holds_are (moves-took d.advance.heard _ _ answer d.advance.advance ∙ moves-ran_on J.entries p m),
-                made_some answers y J.entries room i m mid between g w.seats w.shared ended noted tried.0 tried.1 few_then (set y.holds i h) K.entries answer held entered e.answer made e.count,
+                made_some answers y J.entries room i m mid between g w.seats w.shared ended noted tried.0 tried.1 few_then (set y.holds i h) K.entries answer held entered e.answer halt passed made e.count,
               )
 
           held_still : (hold : Option Need) → hold ≡ hold_in y i → (m : ℕ) → set y.holds i (held_after m hold) ≡ held_on y.holds i m
           held_still hold is zero = ap (set y.holds i) is ∙ set-get_or y.holds i None
           held_still hold is (suc m) = refl
 
-          stopped : (m : ℕ) → Going m w.seats w.shared → K.entries ≡ ran_on J.entries (number_in w i) m → h ≡ held_after m (hold_in w i) → IsReady v K room × HasMadeOn answers m old (shown_of v K room)
-          stopped m g entries hold =
+          stopped : (m : ℕ) → Going m w.seats w.shared → Passed m w.seats w.shared → K.entries ≡ ran_on J.entries (number_in w i) m → h ≡ held_after m (hold_in w i) → IsReady v K room × HasMadeOn answers m old (shown_of v K room) × (calls K.entries ≡ calls J.entries + m) × ArePassed answers halt m old (shown_of v K room)
+          stopped m g passed entries hold =
               let journal : K.entries ≡ ran_on J.entries p m = entries ∙ ap (λ q. ran_on J.entries q m) g.number in
               let was : hold_in w i ≡ hold_in y i = ap (λ hs. get_or hs i None) same_yard.holds in
               let held : set y.holds i h ≡ held_on y.holds i m = ap (set y.holds i) hold ∙ held_still (hold_in w i) was m in (
@@ -280,6 +316,8 @@ module _ (answers : ℕ → ℕ → Type 0) (y : Standing) (J : Recorded) (room 
                     (held ∙ g.holds_are ∙ ap (holds_in w.seats) (sym journal))
                     (ap moves journal ∙ moves-ran_on J.entries p m),
                 subst (λ L. HasMadeOn answers m old (shown_of v (record { entries = L; spare = K.spare }) room)) (sym journal) g.made,
+                ap calls journal ∙ calls-ran_on J.entries p m,
+                subst (λ L. ArePassed answers halt m old (shown_of v (record { entries = L; spare = K.spare }) room)) (sym journal) passed,
               )
 
           little : calls J.entries + (n + k) ≤ CALL_LIMIT
@@ -289,13 +327,13 @@ module _ (answers : ℕ → ℕ → Type 0) (y : Standing) (J : Recorded) (room 
           abbrev Ends : {F : Type 0} → Result (ℕ × Progress) F → Standing → Type 0
           Ends r x =
               IsReady x K room
-              × IfOk r (λ a. HasMadeSome answers a.0 old (shown_of x K room) a.1)
-              × OnErr r (HasMadeOn answers (n + k) old (shown_of x K room))
+              × IfOk r (λ a. HasMadeSomePast answers halt a.0 old (shown_of x K room) a.1)
+              × OnErr r (HasPassedButFewer answers halt (suc (n + k)) old (shown_of x K room))
 
-          err_then : OnErr tried (AreQuiet Tries k z.seats z.shared w.seats w.shared)
+          err_then : OnErr tried (AreQuiet Past k z.seats z.shared w.seats w.shared)
           err_then =
-              subst (λ t. OnErr tried (AreQuiet (HasTriedOn answers y.reaches t i) k z.seats z.shared w.seats w.shared)) now
-              (subst (λ rs. OnErr tried (AreQuiet (HasTriedOn answers rs time i) k z.seats z.shared w.seats w.shared)) on.same.reaches err)
+              subst (λ t. OnErr tried (AreQuiet (Passes (of_seats i) place (HasTriedOn answers y.reaches t i)) k z.seats z.shared w.seats w.shared)) now
+              (subst (λ rs. OnErr tried (AreQuiet (Passes (of_seats i) place (HasTriedOn answers rs time i)) k z.seats z.shared w.seats w.shared)) on.same.reaches err)
 
           pub ends : {F : Type 0} (L : List Entry) → L ≡ J.entries → (r : Result (ℕ × Progress) F) → HasEntered L (number_in w i) (n + k) (registers_in w i).ran (hold_in w i) tried K.entries h r → Ends r u
           ends {F} L still r entered =
@@ -303,13 +341,15 @@ module _ (answers : ℕ → ℕ → Type 0) (y : Standing) (J : Recorded) (room 
               (by tried r did_then err_then
               (subst (λ (E : List Entry). HasEntered E (number_in w i) (n + k) (registers_in w i).ran (hold_in w i) tried K.entries h r) still entered))
             where
-              by : (t : Result (Step × Note) E) (r : Result (ℕ × Progress) F) → IfOk t (λ x. HasBatch Tries k z.seats z.shared w.seats w.shared x.0 x.1) → OnErr t (AreQuiet Tries k z.seats z.shared w.seats w.shared)
+              by : (t : Result (Step × Note) E) (r : Result (ℕ × Progress) F) → IfOk t (λ x. HasBatch (of_seats i) place Tries k z.seats z.shared w.seats w.shared x.0 x.1) → OnErr t (AreQuiet Past k z.seats z.shared w.seats w.shared)
                   → HasEntered J.entries (number_in w i) (n + k) (registers_in w i).ran (hold_in w i) t K.entries h r → Ends r v
               by (Ok t) (Ok x) did err e =
-                  let all = turned (n + k) did.mid did.between (further n z.seats z.shared on.course k did.mid did.between little did.earlier) few t.0 t.1 x.0 x.1 did.last e in
+                  let all = turned (n + k) did.mid did.between (further n z.seats z.shared on.course k did.mid did.between little did.earlier)
+                  (passing_further answers y J.entries room i halt inside n k z.seats z.shared did.mid did.between old on.course little did.earlier on.passed) few t.0 t.1 x.0 x.1 did.last e in
                   (all.0, all.1, tt)
               by (Err _) (Err _) did err e =
-                  let all = stopped (n + k) (further n z.seats z.shared on.course k w.seats w.shared little err) e.0 e.1 in
-                  (all.0, tt, all.1)
+                  let all = stopped (n + k) (further n z.seats z.shared on.course k w.seats w.shared little err)
+                  (passing_further answers y J.entries room i halt inside n k z.seats z.shared w.seats w.shared old on.course little err on.passed) e.0 e.1 in
+                  (all.0, tt, record { made = n + k; on = all.1; fewer = omega arith; count = all.2; passed = all.3 })
               by (Ok t) (Err _) did err e = absurd e
               by (Err _) (Ok x) did err e = absurd e

@@ -23,7 +23,9 @@ use Rattle.kdf_director.specs.Fields.Parts.{Reach, Seat}
 use Rattle.kdf_places.specs.Shared.{Shared}
 use Rattle.kdf_director.specs.Progressed.{found_live}
 use Rattle.kdf_director.specs.Fields.Running.{seat_at, IsRunning}
-use Rattle.kdf_director.specs.Runs.{HasMadeOn, HasMadeSome, HasTriedAt, ran_on}
+use Rattle.kdf_director.specs.declared.halt.Halt.{Halt}
+use Rattle.kdf_director.specs.Halts.{ArePassed, HasMadeSomePast}
+use Rattle.kdf_director.specs.Runs.{HasMadeOn, HasTriedAt, ran_on}
 use Rattle.kdf_director.specs.Fields.Shared.{moment}
 use Rattle.kdf_theory.specs.Shown.{Shown, state_at, world_of}
 use Rattle.kdf_director.specs.Fields.Standing.{Standing}
@@ -119,28 +121,31 @@ module _ (service : ℕ → ℕ → Type 0) (y : Standing) (J : List Entry) (roo
       all_made found =
           made_more service n old m (shown slots reaches seats' s' L room) answer g.made advanced_on.advance found advanced_on.answered advanced_on.agrees.legal refl refl
 
-      pub made_some : (k : ℕ) → k ≡ n + 1 → HasMadeSome service k old (shown slots reaches seats' s' L room) answer
-      made_some k is =
+      pub made_some : (halt : Halt) → ArePassed service halt n old m → (k : ℕ) → k ≡ n + 1 → HasMadeSomePast service halt k old (shown slots reaches seats' s' L room) answer
+      made_some halt passed k is =
           let more : suc n ≡ k = omega (arith, is) in
           record {
-            before = n;
-            between = m;
-            earlier = g.made;
-            last = advanced_on.advance;
-            answered = advanced_on.answered;
-            count = sym is;
-            all_on = λ found. subst (λ x. HasMadeOn service x old (shown slots reaches seats' s' L room)) more (all_made found);
+            some = record {
+              before = n;
+              between = m;
+              earlier = g.made;
+              last = advanced_on.advance;
+              answered = advanced_on.answered;
+              count = sym is;
+              all_on = λ found. subst (λ x. HasMadeOn service x old (shown slots reaches seats' s' L room)) more (all_made found);
+            };
+            passed = passed;
           }
 
   -- and nothing is noted of it
   module _ (seats' : List Seat) (s' : Shared) (tried : HasTriedAt service reaches (clock J) i seats s seats' s' ending.Done noted.Quiet) (run : IsRunning reaches seats' s') (few : calls K < CALL_LIMIT) where
-    number_on : (seat_at seats' i).p ≡ p
+    pub number_on : (seat_at seats' i).p ≡ p
     number_on = tried.turned.numbers i ∙ g.number
 
     same : ran_on J p (suc n) ≡ added K (Obeys (seat_at seats' i).p Quiet)
     same = ap (λ q. added K (Obeys q Quiet)) (sym number_on)
 
-    next_advanced : HasAdvanced service m (record y { seats = seats'; holds = (set holds i None); shared = s' }) (ran_on J p (suc n)) room (progress.Ran (seat_at seats' i).p)
+    pub next_advanced : HasAdvanced service m (record y { seats = seats'; holds = (set holds i None); shared = s' }) (ran_on J p (suc n)) room (progress.Ran (seat_at seats' i).p)
     next_advanced = advanced_on seats' s' ending.Done noted.Quiet tried run few (set holds i None) (ran_on J p (suc n)) (progress.Ran (seat_at seats' i).p) refl same refl
 
     pub going_on : IsGoingOn service y J room i (suc n) seats' s'

@@ -14,7 +14,8 @@ use Rattle.kdf_processor.specs.View.{View, first_pending}
 use Rattle.kdf_director.specs.declared.moment.Moment.{Moment}
 use Rattle.kdf_director.specs.declared.note.Note.{Note}
 use Rattle.kdf_director.specs.declared.note.Note.TheVariants as note
-use Rattle.kdf_director.specs.Fields.Batches.{AreQuiet, HasBatch, HasTriedOn, HasTurnedOn}
+use Rattle.kdf_director.specs.Fields.Batches.{of_seat, of_seats, AreQuiet, HasBatch, HasTriedOn, HasTurnedOn, Passes}
+use Rattle.kdf_director.specs.Halts.{is_at}
 use Rattle.kdf_theory.specs.Holders.{held_by}
 use Rattle.kdf_director.specs.Fields.Agrees.{AreHeld}
 use Rattle.kdf_director.specs.Fields.Parts.{Part, Reach, Seat, part_in}
@@ -70,12 +71,12 @@ module _ (reach : Reach) (held : ℕ → Option ℕ) (m : Moment) where
       (goes_on (view (part_in before reach) (told before held m) s) before.registers (sym tried.step))
 
   -- after so many, it was the last of them
-  pub last_by : (n k : ℕ) (before : Seat) (s : Shared) (mid : Seat) (between : Shared) (after : Seat) (left : Shared) (ended ended' : Step) (noted noted' : Note) → AreQuiet Tries n before s mid between → n ≡ k → Tries mid between after left ended noted → ended ≡ ended' → noted' ≡ noted → HasBatch Tries k before s after left ended' noted'
-  last_by n k before s mid between after left ended ended' noted noted' earlier many last is is' =
+  pub last_by : (place : Option ℕ) (n k : ℕ) (before : Seat) (s : Shared) (mid : Seat) (between : Shared) (after : Seat) (left : Shared) (ended ended' : Step) (noted noted' : Note) → AreQuiet (Passes of_seat place Tries) n before s mid between → n ≡ k → Tries mid between after left ended noted → ended ≡ ended' → noted' ≡ noted → HasBatch of_seat place Tries k before s after left ended' noted'
+  last_by place n k before s mid between after left ended ended' noted noted' earlier many last is is' =
       record {
         mid = mid;
         between = between;
-        earlier = subst (λ i. AreQuiet Tries i before s mid between) many earlier;
+        earlier = subst (λ i. AreQuiet (Passes of_seat place Tries) i before s mid between) many earlier;
         last = subst (Tries mid between after left ended') (sym is') (subst (λ e. Tries mid between after left e noted) is last);
       }
 
@@ -86,29 +87,29 @@ module _ (reach : Reach) (held : ℕ → Option ℕ) (m : Moment) where
       (run_by reach held m before s after left after left step.Done noted tried (settled_on (both_of after left) on), on)
 
   -- nor do so many
-  pub runs_on : (n : ℕ) (before : Seat) (s : Shared) (after : Seat) (left : Shared) → is_live before.registers.state ≡ true → AreQuiet Tries n before s after left → AreQuiet Runs n before s after left × is_live after.registers.state ≡ true
-  runs_on zero before s after left live same = (same, ap (λ (x : Seat). is_live x.registers.state) same.0 ∙ live)
-  runs_on (suc n) before s after left live (mid, between, earlier, last) =
-      let until = runs_on n before s mid between live earlier in
-      let then = run_on mid between after left note.Quiet until.1 last in
-      ((mid, between, until.0, then.0), then.1)
+  pub runs_on : (place : Option ℕ) (n : ℕ) (before : Seat) (s : Shared) (after : Seat) (left : Shared) → is_live before.registers.state ≡ true → AreQuiet (Passes of_seat place Tries) n before s after left → AreQuiet (Passes of_seat place Runs) n before s after left × is_live after.registers.state ≡ true
+  runs_on place zero before s after left live same = (same, ap (λ (x : Seat). is_live x.registers.state) same.0 ∙ live)
+  runs_on place (suc n) before s after left live (mid, between, earlier, last) =
+      let until = runs_on place n before s mid between live earlier in
+      let then = run_on mid between after left note.Quiet until.1 last.0 in
+      ((mid, between, until.0, (then.0, last.1)), then.1)
 
   -- after the last, a program that is over gave up what it had
-  pub runs_by : (n : ℕ) (before : Seat) (s : Shared) (mid : Seat) (between : Shared) (after : Seat) (left : Shared) (ended : Step) (noted : Note) → is_live before.registers.state ≡ true → HasBatch Tries n before s mid between ended noted → both_of after left ≡ settled (both_of mid between) → HasBatch Runs n before s after left ended noted
-  runs_by n before s mid between after left ended noted live batch is =
+  pub runs_by : (place : Option ℕ) (n : ℕ) (before : Seat) (s : Shared) (mid : Seat) (between : Shared) (after : Seat) (left : Shared) (ended : Step) (noted : Note) → is_live before.registers.state ≡ true → HasBatch of_seat place Tries n before s mid between ended noted → both_of after left ≡ settled (both_of mid between) → HasBatch of_seat place Runs n before s after left ended noted
+  runs_by place n before s mid between after left ended noted live batch is =
       record {
         mid = batch.mid;
         between = batch.between;
-        earlier = (runs_on n before s batch.mid batch.between live batch.earlier).0;
+        earlier = (runs_on place n before s batch.mid batch.between live batch.earlier).0;
         last = run_by reach held m batch.mid batch.between mid between after left ended noted batch.last is;
       }
 
   -- and where there was no memory for it, the program goes on
-  pub runs_still : (n : ℕ) (before : Seat) (s : Shared) (mid : Seat) (between : Shared) (after : Seat) (left : Shared) → is_live before.registers.state ≡ true → AreQuiet Tries n before s mid between → both_of after left ≡ settled (both_of mid between) → AreQuiet Runs n before s after left
-  runs_still n before s mid between after left live quiet is =
-      let until = runs_on n before s mid between live quiet in
+  pub runs_still : (place : Option ℕ) (n : ℕ) (before : Seat) (s : Shared) (mid : Seat) (between : Shared) (after : Seat) (left : Shared) → is_live before.registers.state ≡ true → AreQuiet (Passes of_seat place Tries) n before s mid between → both_of after left ≡ settled (both_of mid between) → AreQuiet (Passes of_seat place Runs) n before s after left
+  runs_still place n before s mid between after left live quiet is =
+      let until = runs_on place n before s mid between live quiet in
       let same : both_of after left ≡ both_of mid between = is ∙ sym (settled_on (both_of mid between) until.1) in
-      subst (λ (b : Both). AreQuiet Runs n before s b.seat b.shared) (sym same) until.0
+      subst (λ (b : Both). AreQuiet (Passes of_seat place Runs) n before s b.seat b.shared) (sym same) until.0
 
   -- a program that was obeyed is live, if it was
   pub live_on : (before : Seat) (s : Shared) (after : Seat) (left : Shared) (noted : Note) → is_live before.registers.state ≡ true → Runs before s after left step.Done noted → is_live after.registers.state ≡ true
@@ -131,7 +132,7 @@ still_held reaches held m i before s after left turn lent j d lt pooled =
     turn.holders d ∙ lent j d (let count = turn.count in omega arith) pooled
 
 -- program i of all
-module _ (reaches : List Reach) (held : ℕ → Option ℕ) (m : Moment) (i : ℕ) where
+module _ (reaches : List Reach) (held : ℕ → Option ℕ) (m : Moment) (i : ℕ) (place : Option ℕ) where
   abbrev Turns : List Seat → Shared → List Seat → Shared → Step → Note → Type 0
   Turns = HasTurnedOn reaches m i
 
@@ -150,8 +151,12 @@ module _ (reaches : List Reach) (held : ℕ → Option ℕ) (m : Moment) (i : �
       (ap (λ (x : Seat). is_live x.registers.state) at ∙ live)
       (subst (λ x. Goes x between new left ended noted) (sym at) ran))
 
-  pub turns_on : (n : ℕ) (seats : List Seat) (s : Shared) (new : Seat) (left : Shared) → IsRunning reaches seats s → AreHeld held reaches seats → i < length seats → is_live (seat_at seats i).registers.state ≡ true → AreQuiet Goes n (seat_at seats i) s new left
-      → AreQuiet Turns n seats s (set seats i new) left × IsRunning reaches (set seats i new) left × AreHeld held reaches (set seats i new) × (is_live new.registers.state ≡ true)
+  -- and it isn't at a place, if it wasn't by itself
+  past_in : (seats : List Seat) (new : Seat) → i < length seats → is_at place new.registers ≡ false → is_at place (of_seats i (set seats i new)) ≡ false
+  past_in seats new lt past = ap (λ (x : Seat). is_at place x.registers) (get_or-set_same seats i new no_seat lt) ∙ past
+
+  pub turns_on : (n : ℕ) (seats : List Seat) (s : Shared) (new : Seat) (left : Shared) → IsRunning reaches seats s → AreHeld held reaches seats → i < length seats → is_live (seat_at seats i).registers.state ≡ true → AreQuiet (Passes of_seat place Goes) n (seat_at seats i) s new left
+      → AreQuiet (Passes (of_seats i) place Turns) n seats s (set seats i new) left × IsRunning reaches (set seats i new) left × AreHeld held reaches (set seats i new) × (is_live new.registers.state ≡ true)
   turns_on zero seats s new left run lent lt live same =
       let still : set seats i new ≡ seats = ap (set seats i) same.0 ∙ set-get_or seats i no_seat in (
         (still, same.1),
@@ -161,10 +166,14 @@ module _ (reaches : List Reach) (held : ℕ → Option ℕ) (m : Moment) (i : �
       )
   turns_on (suc n) seats s new left run lent lt live (mid, between, earlier, last) =
       let until = turns_on n seats s mid between run lent lt live earlier in
-      let then = turn_then seats s mid between new left step.Done note.Quiet lt until.1 until.2 until.3 last in
-      ((set seats i mid, between, until.0, then), then.1, still_held reaches held m i (set seats i mid) between (set seats i new) left then.0 until.2, live_on (reach_at reaches i) held m mid between new left note.Quiet until.3 last)
+      let then = turn_then seats s mid between new left step.Done note.Quiet lt until.1 until.2 until.3 last.0 in (
+        (set seats i mid, between, until.0, (then, past_in seats new lt last.1)),
+        then.1,
+        still_held reaches held m i (set seats i mid) between (set seats i new) left then.0 until.2,
+        live_on (reach_at reaches i) held m mid between new left note.Quiet until.3 last.0,
+      )
 
-  pub turns_by : (n : ℕ) (seats : List Seat) (s : Shared) (new : Seat) (left : Shared) (ended : Step) (noted : Note) → IsRunning reaches seats s → AreHeld held reaches seats → i < length seats → is_live (seat_at seats i).registers.state ≡ true → HasBatch Goes n (seat_at seats i) s new left ended noted → HasBatch Turns n seats s (set seats i new) left ended noted
+  pub turns_by : (n : ℕ) (seats : List Seat) (s : Shared) (new : Seat) (left : Shared) (ended : Step) (noted : Note) → IsRunning reaches seats s → AreHeld held reaches seats → i < length seats → is_live (seat_at seats i).registers.state ≡ true → HasBatch of_seat place Goes n (seat_at seats i) s new left ended noted → HasBatch (of_seats i) place Turns n seats s (set seats i new) left ended noted
   turns_by n seats s new left ended noted run lent lt live batch =
       let until = turns_on n seats s batch.mid batch.between run lent lt live batch.earlier in
       record {
@@ -183,13 +192,13 @@ module _ {X : Type 0} (P Q : X → Shared → X → Shared → Step → Note →
       (mid, between, quiet_map f n before s mid between earlier, f mid between after left last)
 
 -- the programs are over what they share as before
-pub still_running : (reaches : List Reach) (m : Moment) (i n : ℕ) (seats : List Seat) (s : Shared) (seats' : List Seat) (s' : Shared) → IsRunning reaches seats s → AreQuiet (HasTurnedOn reaches m i) n seats s seats' s' → IsRunning reaches seats' s'
-still_running reaches m i zero seats s seats' s' run same =
+pub still_running : (reaches : List Reach) (m : Moment) (i : ℕ) (place : Option ℕ) (n : ℕ) (seats : List Seat) (s : Shared) (seats' : List Seat) (s' : Shared) → IsRunning reaches seats s → AreQuiet (Passes (of_seats i) place (HasTurnedOn reaches m i)) n seats s seats' s' → IsRunning reaches seats' s'
+still_running reaches m i place zero seats s seats' s' run same =
     subst (IsRunning reaches seats') (sym same.1) (subst (λ xs. IsRunning reaches xs s) (sym same.0) run)
-still_running reaches m i (suc n) seats s seats' s' run (mid, between, earlier, last) = last.1
+still_running reaches m i place (suc n) seats s seats' s' run (mid, between, earlier, last) = last.0.1
 
 -- ---- what was heard of the service
-module _ (answers : ℕ → ℕ → Type 0) (reaches : List Reach) (time i : ℕ) where
+module _ (answers : ℕ → ℕ → Type 0) (reaches : List Reach) (time i : ℕ) (place : Option ℕ) where
   abbrev Told : List Seat → Shared → List Seat → Shared → Step → Note → Type 0
   Told = HasTriedOn answers reaches time i
 
@@ -215,7 +224,7 @@ module _ (answers : ℕ → ℕ → Type 0) (reaches : List Reach) (time i : ℕ
 
   -- one that is served tried one order
   module _ (heard : Option ℕ) (h : ℕ) (is : h ≡ unwrap_or heard 0) (before : List Seat) (s : Shared) (asked : HasAsked answers (word_over (seat_at before i) (reach_at reaches i) s) heard) where
-    one : (a : List Seat) (l : Shared) (ended : Step) (noted : Note) (mid : List Seat) (between : Shared) → mid ≡ before → between ≡ s → Turned h mid between a l ended noted → HasBatch Told 0 before s a l ended noted
+    one : (a : List Seat) (l : Shared) (ended : Step) (noted : Note) (mid : List Seat) (between : Shared) → mid ≡ before → between ≡ s → Turned h mid between a l ended noted → HasBatch (of_seats i) place Told 0 before s a l ended noted
     one a l ended noted mid between same same' turn =
         let here : Turned h before s a l ended noted = subst (λ y. Turned h before y a l ended noted) same' (subst (λ x. Turned h x between a l ended noted) same turn) in
         record {
@@ -225,23 +234,24 @@ module _ (answers : ℕ → ℕ → Type 0) (reaches : List Reach) (time i : ℕ
           last = (record { heard = heard; asked = asked; turned = subst (λ k. HasTurned reaches (moment time k) i before s a l ended noted) is here.0 }, here.1);
         }
 
-    pub told_by : (served : Bool) → (reach_at reaches i).served ≡ served → (n : ℕ) → (served ≡ true → n ≡ 0) → (a : List Seat) (l : Shared) (ended : Step) (noted : Note) → HasBatch (Turned h) n before s a l ended noted → HasBatch Told n before s a l ended noted
+    pub told_by : (served : Bool) → (reach_at reaches i).served ≡ served → (n : ℕ) → (served ≡ true → n ≡ 0) → (a : List Seat) (l : Shared) (ended : Step) (noted : Note) → HasBatch (of_seats i) place (Turned h) n before s a l ended noted → HasBatch (of_seats i) place Told n before s a l ended noted
     told_by false not_served n few a l ended noted batch =
         let none : h ≡ 0 = is ∙ none_then (seat_at before i) s heard not_served asked in
         record {
           mid = batch.mid;
           between = batch.between;
-          earlier = quiet_map (Turned h) Told (λ b x c y turn. unserved not_served h none b x c y step.Done note.Quiet turn) n before s batch.mid batch.between batch.earlier;
+          earlier =
+              quiet_map (Passes (of_seats i) place (Turned h)) (Passes (of_seats i) place Told) (λ b x c y turn. (unserved not_served h none b x c y step.Done note.Quiet turn.0, turn.1)) n before s batch.mid batch.between batch.earlier;
           last = unserved not_served h none batch.mid batch.between a l ended noted batch.last;
         }
     told_by true is_served n few a l ended noted batch =
-        let alone : HasBatch (Turned h) 0 before s a l ended noted = subst (λ k. HasBatch (Turned h) k before s a l ended noted) (few refl) batch in
-        subst (λ k. HasBatch Told k before s a l ended noted) (sym (few refl))
+        let alone : HasBatch (of_seats i) place (Turned h) 0 before s a l ended noted = subst (λ k. HasBatch (of_seats i) place (Turned h) k before s a l ended noted) (few refl) batch in
+        subst (λ k. HasBatch (of_seats i) place Told k before s a l ended noted) (sym (few refl))
         (one a l ended noted alone.mid alone.between alone.earlier.0 alone.earlier.1 alone.last)
 
-    pub told_still : (served : Bool) → (reach_at reaches i).served ≡ served → (n : ℕ) → (served ≡ true → n ≡ 0) → (a : List Seat) (l : Shared) → AreQuiet (Turned h) n before s a l → AreQuiet Told n before s a l
+    pub told_still : (served : Bool) → (reach_at reaches i).served ≡ served → (n : ℕ) → (served ≡ true → n ≡ 0) → (a : List Seat) (l : Shared) → AreQuiet (Passes (of_seats i) place (Turned h)) n before s a l → AreQuiet (Passes (of_seats i) place Told) n before s a l
     told_still false not_served n few a l quiet =
         let none : h ≡ 0 = is ∙ none_then (seat_at before i) s heard not_served asked in
-        quiet_map (Turned h) Told (λ b x c y turn. unserved not_served h none b x c y step.Done note.Quiet turn) n before s a l quiet
+        quiet_map (Passes (of_seats i) place (Turned h)) (Passes (of_seats i) place Told) (λ b x c y turn. (unserved not_served h none b x c y step.Done note.Quiet turn.0, turn.1)) n before s a l quiet
     told_still true is_served n few a l quiet =
-        subst (λ k. AreQuiet Told k before s a l) (sym (few refl)) (let same : AreQuiet (Turned h) 0 before s a l = subst (λ k. AreQuiet (Turned h) k before s a l) (few refl) quiet in same)
+        subst (λ k. AreQuiet (Passes (of_seats i) place Told) k before s a l) (sym (few refl)) (let same : AreQuiet (Passes (of_seats i) place (Turned h)) 0 before s a l = subst (λ k. AreQuiet (Passes (of_seats i) place (Turned h)) k before s a l) (few refl) quiet in same)

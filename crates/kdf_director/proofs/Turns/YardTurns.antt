@@ -22,7 +22,7 @@ use Rattle.kdf_director.specs.declared.program.Program.{Program}
 use Rattle.kdf_director.specs.declared.slot.Loaded.{Loaded}
 use Rattle.kdf_director.specs.declared.yard.Yard.TheInside.{Inside}
 use Rattle.kdf_theory.specs.Holders.{held_by, is_held}
-use Rattle.kdf_director.specs.Fields.Batches.{AreQuiet, HasBatch, HasTurnedOn}
+use Rattle.kdf_director.specs.Fields.Batches.{of_seat, of_seats, AreQuiet, HasBatch, HasTurnedOn, Passes}
 use Rattle.kdf_director.specs.Fields.Going.{goes, is_stopped, place_of, IsNearHold}
 use Rattle.kdf_director.specs.Fields.Shared.{is_pool_taken}
 use Rattle.kdf_director.specs.Fields.Keeping.{IsActive, IsKept}
@@ -171,7 +171,7 @@ module _ (m : Inside) (yard : IsYard m.slots.items m.windows m.store m.programs.
               ∙ ap₂ (λ a v. record { slots = (stands m).slots; reaches = rs; seats = ps; holds = (stands m).holds; shared = shared_in a v }) store_is places_is
 
           -- that took its turn
-          module _ (live : (registers_in y i).state ≡ life.Live) (J : List Entry) (lent : AreLentIn y J) (t : Moment) (n : ℕ) (store : Cells) (places : List Place) where
+          module _ (live : (registers_in y i).state ≡ life.Live) (J : List Entry) (lent : AreLentIn y J) (t : Moment) (n : ℕ) (place : Option ℕ) (store : Cells) (places : List Place) where
             abbrev z : Standing
             z = standing m.slots.items m.windows store programs places
 
@@ -181,29 +181,29 @@ module _ (m : Inside) (yard : IsYard m.slots.items m.windows m.store m.programs.
             lent_there : AreLentIn (stands m) J
             lent_there = subst (λ (x : Standing). AreLentIn x J) (sym is) lent
 
-            turned_then : (ended : Step) (noted : Note) → HasBatch (HasRun (reach_of m.windows slot) (held_by J) t) n (seat_of program) s (seat_of new) (shared_in store places) ended noted → HasTurnedIn t i n (stands m) z ended noted
+            turned_then : (ended : Step) (noted : Note) → HasBatch of_seat place (HasRun (reach_of m.windows slot) (held_by J) t) n (seat_of program) s (seat_of new) (shared_in store places) ended noted → HasTurnedIn t i n place (stands m) z ended noted
             turned_then ended noted ran =
-                subst (λ xs. HasBatch (HasTurnedOn rs t i) n ps s xs (shared_in store places) ended noted) (sym (map-set seat_of m.programs.items i new))
-                (turns_by rs (held_by J) t i n ps s (seat_of new) (shared_in store places) ended noted yard.running lent_there inside on
-                (at_place (λ r x. HasBatch (HasRun r (held_by J) t) n x s (seat_of new) (shared_in store places) ended noted) ran))
+                subst (λ xs. HasBatch (of_seats i) place (HasTurnedOn rs t i) n ps s xs (shared_in store places) ended noted) (sym (map-set seat_of m.programs.items i new))
+                (turns_by rs (held_by J) t i place n ps s (seat_of new) (shared_in store places) ended noted yard.running lent_there inside on
+                (at_place (λ r x. HasBatch of_seat place (HasRun r (held_by J) t) n x s (seat_of new) (shared_in store places) ended noted) ran))
 
-            pub turned_in : (ended : Step) (noted : Note) → HasBatch (HasRun (reach_of m.windows slot) (held_by J) t) n (seat_of program) s (seat_of new) (shared_in store places) ended noted → HasTurnedIn t i n y z ended noted
-            turned_in ended noted ran = subst (λ (x : Standing). HasTurnedIn t i n x z ended noted) is (turned_then ended noted ran)
+            pub turned_in : (ended : Step) (noted : Note) → HasBatch of_seat place (HasRun (reach_of m.windows slot) (held_by J) t) n (seat_of program) s (seat_of new) (shared_in store places) ended noted → HasTurnedIn t i n place y z ended noted
+            turned_in ended noted ran = subst (λ (x : Standing). HasTurnedIn t i n place x z ended noted) is (turned_then ended noted ran)
 
-            pub runs_then : (ended : Step) (noted : Note) → HasBatch (HasRun (reach_of m.windows slot) (held_by J) t) n (seat_of program) s (seat_of new) (shared_in store places) ended noted → Runs z
+            pub runs_then : (ended : Step) (noted : Note) → HasBatch of_seat place (HasRun (reach_of m.windows slot) (held_by J) t) n (seat_of program) s (seat_of new) (shared_in store places) ended noted → Runs z
             runs_then ended noted ran = (turned_then ended noted ran).last.1
 
-            still_then : AreQuiet (HasRun (reach_of m.windows slot) (held_by J) t) n (seat_of program) s (seat_of new) (shared_in store places) → HasTurnedQuietly t i n (stands m) z
+            still_then : AreQuiet (Passes of_seat place (HasRun (reach_of m.windows slot) (held_by J) t)) n (seat_of program) s (seat_of new) (shared_in store places) → HasTurnedQuietly t i n place (stands m) z
             still_then ran =
-                subst (λ xs. AreQuiet (HasTurnedOn rs t i) n ps s xs (shared_in store places)) (sym (map-set seat_of m.programs.items i new))
-                (turns_on rs (held_by J) t i n ps s (seat_of new) (shared_in store places) yard.running lent_there inside on
-                (at_place (λ r x. AreQuiet (HasRun r (held_by J) t) n x s (seat_of new) (shared_in store places)) ran)).0
+                subst (λ xs. AreQuiet (Passes (of_seats i) place (HasTurnedOn rs t i)) n ps s xs (shared_in store places)) (sym (map-set seat_of m.programs.items i new))
+                (turns_on rs (held_by J) t i place n ps s (seat_of new) (shared_in store places) yard.running lent_there inside on
+                (at_place (λ r x. AreQuiet (Passes of_seat place (HasRun r (held_by J) t)) n x s (seat_of new) (shared_in store places)) ran)).0
 
-            pub still_in : AreQuiet (HasRun (reach_of m.windows slot) (held_by J) t) n (seat_of program) s (seat_of new) (shared_in store places) → HasTurnedQuietly t i n y z
-            still_in ran = subst (λ (x : Standing). HasTurnedQuietly t i n x z) is (still_then ran)
+            pub still_in : AreQuiet (Passes of_seat place (HasRun (reach_of m.windows slot) (held_by J) t)) n (seat_of program) s (seat_of new) (shared_in store places) → HasTurnedQuietly t i n place y z
+            still_in ran = subst (λ (x : Standing). HasTurnedQuietly t i n place x z) is (still_then ran)
 
-            pub runs_still : AreQuiet (HasRun (reach_of m.windows slot) (held_by J) t) n (seat_of program) s (seat_of new) (shared_in store places) → Runs z
-            runs_still ran = still_running rs t i n ps s (seats_in programs) (shared_in store places) yard.running (still_then ran)
+            pub runs_still : AreQuiet (Passes of_seat place (HasRun (reach_of m.windows slot) (held_by J) t)) n (seat_of program) s (seat_of new) (shared_in store places) → Runs z
+            runs_still ran = still_running rs t i place n ps s (seats_in programs) (shared_in store places) yard.running (still_then ran)
 
             pub same_yard : new.hold ≡ program.hold → IsSameYard y z
             same_yard hold =

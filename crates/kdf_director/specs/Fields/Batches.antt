@@ -1,6 +1,7 @@
 -- Orders that are tried one after the other, where nothing is noted of any but the last. What a try does to a program,
 -- or to all of them, and to what is shared is a relation.
-use Rattle.std.specs.Prelude.{◌≡◌, ℕ, zero, suc, List}
+use Rattle.std.specs.Prelude.{◌≡◌, ℕ, zero, suc, false, List, Option}
+use Rattle.kdf_processor.specs.declared.registers.Registers.{Registers}
 use Rattle.kdf_processor.specs.declared.step.Step.{Step}
 use Rattle.kdf_processor.specs.declared.step.Step.TheVariants.{Done}
 use Rattle.kdf_director.specs.declared.moment.Moment.{Moment}
@@ -8,7 +9,8 @@ use Rattle.kdf_director.specs.declared.note.Note.{Note}
 use Rattle.kdf_director.specs.declared.note.Note.TheVariants.{Quiet}
 use Rattle.kdf_director.specs.Fields.Parts.{Reach, Seat}
 use Rattle.kdf_places.specs.Shared.{Shared}
-use Rattle.kdf_director.specs.Fields.Running.{IsRunning}
+use Rattle.kdf_director.specs.Fields.Running.{seat_at, IsRunning}
+use Rattle.kdf_director.specs.Halts.{is_at}
 use Rattle.kdf_director.specs.Runs.{HasTriedAt}
 use Rattle.kdf_director.specs.Fields.Turned.{HasTurned}
 
@@ -19,12 +21,27 @@ AreQuiet tries zero before s after left = (after ≡ before) × (left ≡ s)
 AreQuiet {X} tries (suc n) before s after left =
     (mid : X) × (between : Shared) × AreQuiet tries n before s mid between × tries mid between after left Done Quiet
 
--- and after them one more was tried
-pub record HasBatch {X : Type 0} (tries : X → Shared → X → Shared → Step → Note → Type 0) (quiet : ℕ)
+-- the registers of a program, and those of program i of all
+abbrev pub of_seat : Seat → Registers
+of_seat x = x.registers
+
+abbrev pub of_seats : ℕ → List Seat → Registers
+of_seats i xs = (seat_at xs i).registers
+
+-- a try after which the program isn't at a place
+abbrev pub Passes : {X : Type 0} → (registers : X → Registers) → Option ℕ
+    → (tries : X → Shared → X → Shared → Step → Note → Type 0) → X → Shared → X → Shared → Step → Note → Type 0
+Passes registers place tries before s after left ended noted =
+    tries before s after left ended noted × (is_at place (registers after) ≡ false)
+
+-- so many orders were obeyed, of which nothing is noted and after none of which the program is at a place, and after
+-- them one more was tried
+pub record HasBatch {X : Type 0} (registers : X → Registers) (place : Option ℕ)
+    (tries : X → Shared → X → Shared → Step → Note → Type 0) (quiet : ℕ)
     (before : X) (s : Shared) (after : X) (left : Shared) (ended : Step) (noted : Note) : Type 0 where
   pub mid : X
   pub between : Shared
-  pub earlier : AreQuiet tries quiet before s mid between
+  pub earlier : AreQuiet (Passes registers place tries) quiet before s mid between
   pub last : tries mid between after left ended noted
 
 -- program i of all tried its next order, and the programs are over what they share as before

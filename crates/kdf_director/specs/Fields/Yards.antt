@@ -9,7 +9,7 @@ use Rattle.kdf_journal.specs.declared.entry.Entry.{Entry}
 use Rattle.kdf_director.specs.declared.moment.Moment.{Moment}
 use Rattle.kdf_director.specs.declared.note.Note.{Note}
 use Rattle.kdf_director.specs.Fields.Agrees.{AreLent}
-use Rattle.kdf_director.specs.Fields.Batches.{AreQuiet, HasBatch, HasTriedOn, HasTurnedOn}
+use Rattle.kdf_director.specs.Fields.Batches.{of_seats, AreQuiet, HasBatch, HasTriedOn, HasTurnedOn, Passes}
 use Rattle.kdf_director.specs.Fields.Going.{first_going, goes_at, AreNearHolds}
 use Rattle.kdf_director.specs.Fields.Going as going
 use Rattle.kdf_director.specs.Fields.Parts.{Seat}
@@ -55,20 +55,24 @@ AreOfFour y = (i : ℕ) → i < length y.seats → number_in y i < 4
 abbrev pub word_in : Standing → ℕ → Option ℕ
 word_in y i = word_over (seat_at y.seats i) (reach_at y.reaches i) y.shared
 
--- program i obeyed n orders at a moment of which nothing is noted, and tried one more, which ended so
-abbrev pub HasTurnedIn : Moment → (i n : ℕ) → (old new : Standing) → Step → Note → Type 0
-HasTurnedIn m i n old new ended noted =
-    HasBatch (HasTurnedOn old.reaches m i) n old.seats old.shared new.seats new.shared ended noted
+-- program i obeyed n orders at a moment of which nothing is noted, past a place, and tried one more, which ended so
+abbrev pub HasTurnedIn : Moment → (i n : ℕ) → Option ℕ → (old new : Standing) → Step → Note → Type 0
+HasTurnedIn m i n place old new ended noted =
+    HasBatch (of_seats i) place (HasTurnedOn old.reaches m i) n old.seats old.shared new.seats new.shared ended noted
 
 -- and no more
-abbrev pub HasTurnedQuietly : Moment → (i n : ℕ) → (old new : Standing) → Type 0
-HasTurnedQuietly m i n old new = AreQuiet (HasTurnedOn old.reaches m i) n old.seats old.shared new.seats new.shared
+abbrev pub HasTurnedQuietly : Moment → (i n : ℕ) → Option ℕ → (old new : Standing) → Type 0
+HasTurnedQuietly m i n place old new =
+    AreQuiet (Passes (of_seats i) place (HasTurnedOn old.reaches m i)) n old.seats old.shared new.seats new.shared
 
 -- the same at a time, at which the service was heard where an order asked it
-abbrev pub HasTriedIn : (answers : ℕ → ℕ → Type 0) → (time i n : ℕ) → (old new : Standing) → Step → Note → Type 0
-HasTriedIn answers time i n old new ended noted =
-    HasBatch (HasTriedOn answers old.reaches time i) n old.seats old.shared new.seats new.shared ended noted
+abbrev pub HasTriedIn : (answers : ℕ → ℕ → Type 0) → (time i n : ℕ) → Option ℕ → (old new : Standing) → Step → Note
+    → Type 0
+HasTriedIn answers time i n place old new ended noted =
+    HasBatch (of_seats i) place (HasTriedOn answers old.reaches time i) n old.seats old.shared new.seats new.shared
+    ended noted
 
-abbrev pub HasTriedQuietly : (answers : ℕ → ℕ → Type 0) → (time i n : ℕ) → (old new : Standing) → Type 0
-HasTriedQuietly answers time i n old new =
-    AreQuiet (HasTriedOn answers old.reaches time i) n old.seats old.shared new.seats new.shared
+abbrev pub HasTriedQuietly : (answers : ℕ → ℕ → Type 0) → (time i n : ℕ) → Option ℕ → (old new : Standing) → Type 0
+HasTriedQuietly answers time i n place old new =
+    AreQuiet (Passes (of_seats i) place (HasTriedOn answers old.reaches time i)) n old.seats old.shared
+    new.seats new.shared

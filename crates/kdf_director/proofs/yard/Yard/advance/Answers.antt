@@ -30,11 +30,11 @@ returns-in_err-reserve-in-None-clause-ready g c =
 pub returns-in_err-reserve-in-None-clause-err : goal.returns-in_err-reserve-in-None-clause-err
 returns-in_err-reserve-in-None-clause-err g c =
     all_err c.from_residual.result _
-    (fewer (λ n a. goal.F-post g c.args.due.now.service.now n a) c.args.self.now c.args.journal.now c.args.due.now.room c.requires.ready c.reserve.new.self c.reserve.ensures.entries c.args.due.now.most c.requires.some)
+    (fewer (λ n a. goal.F-post g c.args.due.now.service.now n a) c.args.self.now c.args.journal.now c.args.due.now.room c.requires.ready c.args.halt c.reserve.new.self c.reserve.ensures.entries c.args.due.now.most c.requires.some)
 
 pub returns-in_ok-reserve-in-None-clause-ready : goal.returns-in_ok-reserve-in-None-clause-ready
 returns-in_ok-reserve-in-None-clause-ready g c =
-    (waits (λ n a. goal.F-post g c.args.due.now.service.now n a) c.args.self.now c.args.journal.now c.args.due.now.room c.requires.ready c.args.due.now.most c.requires.some c.requires.few
+    (waits (λ n a. goal.F-post g c.args.due.now.service.now n a) c.args.self.now c.args.journal.now c.args.due.now.room c.requires.ready c.args.halt c.args.due.now.most c.requires.some c.requires.few
     (sym c.next_of.ensures ∙ c.in-None.is)
     c.wait.new.journal.spare (omega (arith, c.in_ok-reserve-in-None.ensures.room, c.wait.ensures.spare)) c.wait.new.journal.entries c.wait.result
     (subst (λ (J : List Entry). c.wait.new.journal.entries ≡ cond (any_in c.args.self.now) (pushed J (Idled c.args.due.now.most)) J) c.reserve.ensures.entries c.wait.ensures.entries)
@@ -42,7 +42,7 @@ returns-in_ok-reserve-in-None-clause-ready g c =
 
 pub returns-in_ok-reserve-in-None-clause-made : goal.returns-in_ok-reserve-in-None-clause-made
 returns-in_ok-reserve-in-None-clause-made g c =
-    (waits (λ n a. goal.F-post g c.args.due.now.service.now n a) c.args.self.now c.args.journal.now c.args.due.now.room c.requires.ready c.args.due.now.most c.requires.some c.requires.few
+    (waits (λ n a. goal.F-post g c.args.due.now.service.now n a) c.args.self.now c.args.journal.now c.args.due.now.room c.requires.ready c.args.halt c.args.due.now.most c.requires.some c.requires.few
     (sym c.next_of.ensures ∙ c.in-None.is)
     c.wait.new.journal.spare (omega (arith, c.in_ok-reserve-in-None.ensures.room, c.wait.ensures.spare)) c.wait.new.journal.entries c.wait.result
     (subst (λ (J : List Entry). c.wait.new.journal.entries ≡ cond (any_in c.args.self.now) (pushed J (Idled c.args.due.now.most)) J) c.reserve.ensures.entries c.wait.ensures.entries)

@@ -6,7 +6,7 @@ use Rattle.kdf_director.proofs.yard.Yard.take_turns.Given as goal
 abbrev pub invariant-loop-quiet : goal.invariant-loop-quiet
 invariant-loop-quiet g l =
     record {
-      on : IsOn (λ n a. goal.F-post g l.due.service.now n a) l.fn.self l.fn.journal l.due.room l.i l.quiet l.self;
+      on : IsOn (λ n a. goal.F-post g l.due.service.now n a) l.fn.halt l.fn.self l.fn.journal l.due.room l.i l.quiet l.self;
       left : l.quiet < l.due.most;
       entries : l.journal.entries ≡ l.fn.journal.entries;
       spare : l.due.room + 2 ≤ l.journal.spare;

@@ -32,11 +32,11 @@ returns-clause-tried g c =
     let h = c.unwrap_or-heard.result in
     if_ok c.turn.result.1 _ _
     (λ x turned.
-    told_by (λ n a. goal.F-post g c.args.service.now n a) y.reaches c.args.batch.time i c.heard-answer.result h
+    told_by (λ n a. goal.F-post g c.args.service.now n a) y.reaches c.args.batch.time i c.args.batch.place c.heard-answer.result h
     (heard_then c.heard-answer.result h c.default.result c.unwrap_or-heard.ensures c.default.ensures) y.seats y.shared c.heard-answer.ensures.asked
     (reach_at y.reaches i).served refl n
     (λ is. let few = c.turn.ensures.within in let one = c.batch_at.ensures.served (ap (λ (y : Standing). (reach_at y.reaches i).served) c.heard-answer.ensures.same ∙ is) in omega arith) z.seats z.shared x.0 x.1
-    (subst (λ (y : Standing). HasTurnedIn (moment c.args.batch.time h) i n y z x.0 x.1) c.heard-answer.ensures.same turned))
+    (subst (λ (y : Standing). HasTurnedIn (moment c.args.batch.time h) i n c.args.batch.place y z x.0 x.1) c.heard-answer.ensures.same turned))
     c.turn.ensures.turned
 
 pub returns-clause-err : goal.returns-clause-err
@@ -48,9 +48,9 @@ returns-clause-err g c =
     let h = c.unwrap_or-heard.result in
     on_err c.turn.result.1 _ _
     (λ still.
-    told_still (λ n a. goal.F-post g c.args.service.now n a) y.reaches c.args.batch.time i c.heard-answer.result h
+    told_still (λ n a. goal.F-post g c.args.service.now n a) y.reaches c.args.batch.time i c.args.batch.place c.heard-answer.result h
     (heard_then c.heard-answer.result h c.default.result c.unwrap_or-heard.ensures c.default.ensures) y.seats y.shared c.heard-answer.ensures.asked
     (reach_at y.reaches i).served refl n
     (λ is. let few = c.turn.ensures.within in let one = c.batch_at.ensures.served (ap (λ (y : Standing). (reach_at y.reaches i).served) c.heard-answer.ensures.same ∙ is) in omega arith) z.seats z.shared
-    (subst (λ (y : Standing). HasTurnedQuietly (moment c.args.batch.time h) i n y z) c.heard-answer.ensures.same still))
+    (subst (λ (y : Standing). HasTurnedQuietly (moment c.args.batch.time h) i n c.args.batch.place y z) c.heard-answer.ensures.same still))
     c.turn.ensures.err

@@ -3,10 +3,10 @@ use Rattle.kdf_director.specs.Fields.Agrees.{IsReady}
 use Rattle.kdf_director.specs.Fields.Standing.{shown_of}
 use Rattle.kdf_director.specs.Halts.{ArePassed}
 use Rattle.kdf_director.specs.Runs.{HasMadeOn}
-use Rattle.kdf_director.proofs.yard.Yard.orders.Given as goal
+use Rattle.kdf_director.proofs.yard.Yard.orders_looked_at.Given as goal
 
-abbrev pub invariant-loop-progress : goal.invariant-loop-progress
-invariant-loop-progress g l =
+abbrev pub invariant-loop-made : goal.invariant-loop-made
+invariant-loop-made g l =
     record {
       some : 0 < l.left;
       within : l.left ≤ l.fn.left;
@@ -15,5 +15,5 @@ invariant-loop-progress g l =
       passed : ArePassed (λ n a. goal.F-post g l.service n a) l.halt (l.fn.left - l.left) (shown_of l.fn.self l.fn.journal l.room) (shown_of l.self l.journal l.room);
     }
 
-abbrev pub decreases-loop-progress : goal.decreases-loop-progress
-decreases-loop-progress g l = l.left
+abbrev pub decreases-loop-made : goal.decreases-loop-made
+decreases-loop-made g l = l.left
