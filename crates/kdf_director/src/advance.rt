@@ -96,8 +96,8 @@ impl Yard {
     }
 
     /// Tries orders of a batch up to one of which something is noted, that is held, that ends the program or that comes
-    /// to its place. If one asks the service, the answer is drawn before it. Answers how many were obeyed before the last, and how the last
-    /// ended. At Err that had no memory, and has changed nothing.
+    /// to its place. If one asks the service, the answer is drawn before it. Answers how many were obeyed before the
+    /// last, and how the last ended. At Err that had no memory, and has changed nothing.
     #[inline(always)]
     fn try_at<F: Fn(u64) -> u64, S: Seek>(
         &mut self,

@@ -11,6 +11,7 @@ ghost use Rattle.kdf_processor.specs.Claims.{is_claimed};
 ghost use Rattle.kdf_processor.specs.State.{State, begin, fixture_at, is_pooled, lendings, own_fixture_at, word_at};
 ghost use Rattle.kdf_processor.specs.Stints.{IsStint};
 ghost use Rattle.kdf_service.specs.Rules.{IsService};
+ghost use Rattle.kdf_director.specs.declared.halt.Halt.TheVariants.{Never};
 ghost use Rattle.kdf_director.specs.Advance.{AdvanceWith, Enters, OthersStay};
 ghost use Rattle.kdf_theory.specs.Legal.{IsLegal, IsTrue};
 ghost use Rattle.kdf_director.specs.Lends.{IsLent, IsStored, window_in};
@@ -28,6 +29,7 @@ ghost use Rattle.kdf_theory.specs.Slots.{NoneServed};
 mod fields;
 
 use crate::dispatch::window_of;
+use crate::halt::{Seek, SeeksNone, SeeksPlace};
 use crate::load::load_yard;
 use crate::moves::word_of;
 use crate::next::is_any_on;
@@ -172,10 +174,8 @@ impl Machine {
     /// Answers what the last did, and leaves the number of those that are left still. At Err some are made, and the one
     /// that had no memory has changed nothing.
     ///
-    /// Everything that runs a schedule makes its calls here, even one by itself: what obeys an order is compiled into
-    /// this loop, which it would not be if it stood in two. The loop stays apart from its caller, whose values would be
-    /// moved out of its way at each order.
-    #[inline(never)]
+    /// Calls that stop nowhere are compiled apart from those that stop: no order of a run pays for a place.
+    #[inline(always)]
     pub fn orders_to<F: Fn(u64) -> u64>(
         &mut self,
         left: &mut u32,
@@ -190,6 +190,35 @@ impl Machine {
         ensures room { self.new.room ≡ self.old.room }
         ensures err { OnErr result (HasMadeButTo (F.post service.now) halt left.old left.new self.old self.new) }
     {
+        match halt {
+            Halt::Never => self.calls_in_yard::<F, SeeksNone>(left, service, halt),
+            Halt::Each | Halt::At { .. } => {
+                self.calls_in_yard::<F, SeeksPlace>(left, service, halt)
+            }
+        }
+    }
+
+    /// The same, in a yard, with a place that may be looked for or with none.
+    ///
+    /// Everything that runs a schedule makes its calls here, even one by itself: what obeys an order is compiled into
+    /// this loop, which it would not be if it stood in two. The loop stays apart from its caller, whose values would be
+    /// moved out of its way at each order.
+    #[inline(never)]
+    fn calls_in_yard<F: Fn(u64) -> u64, S: Seek>(
+        &mut self,
+        left: &mut u32,
+        service: &Service<F>,
+        halt: Halt,
+    ) -> Result<Progress, AllocError>
+        requires service { IsService (F.pre service.now) (F.post service.now) }
+        requires some { 0 < left.old }
+        requires few { calls self.old.journal + left.old ≤ CALL_LIMIT }
+        requires seeks { S.seeks ≡ false → halt ≡ Never }
+        ensures made { IfOk result (HasMadeTo (F.post service.now) halt left.old left.new self.old self.new) }
+        ensures slots { self.new.slots ≡ self.old.slots }
+        ensures room { self.new.room ≡ self.old.room }
+        ensures err { OnErr result (HasMadeButTo (F.post service.now) halt left.old left.new self.old self.new) }
+    {
         let mut yard = Yard {
             alloc: self.alloc,
             windows: self.windows,
@@ -199,7 +228,7 @@ impl Machine {
             places: mem::replace(&mut self.devices, Vec::new(self.alloc)),
         };
         let room = self.room;
-        let made = yard.orders(&mut self.journal, left, service, room, halt);
+        let made = yard.orders::<F, S>(&mut self.journal, left, service, room, halt);
         // What stood in the fields meanwhile is empty and has no memory, so there is nothing to drop.
         let Yard {
             alloc: _,

@@ -57,7 +57,32 @@ fn place_in(window: Window, group: u16) -> usize
     window.base as usize + 32 * usize::from(group)
 }
 
+/// Whether a need of a program is pending still. Few calls ask: this stays out of the way of the others.
+#[inline(never)]
+fn is_pending(
+    windows: &[Window; 4],
+    slot: &Loaded,
+    store: &Store,
+    places: &[Place],
+    journal: &Journal,
+    need: Need,
+) -> bool
+    requires near { IsNearHold (window_at windows.now slot.now.p).size (Some need) }
+    requires at_group { (window_at windows.now slot.now.p).base % 32 ≡ 0 }
+    requires in_store { (window_at windows.now slot.now.p).base
+        + (window_at windows.now slot.now.p).size ≤ 32 * length store.now }
+    ensures { result ≡ is_stopped (reach_of windows.now slot.now) (is_held journal.now.entries)
+        (shared_in store.now places.now) (Some need) }
+{
+    match need {
+        Need::Group(g) => is_out_at(store, place_in(window_of(windows, slot.p), g)),
+        Need::Device(d) => is_busy_at(store, places, d),
+        Need::Pool(kind) => first_unheld(&slot.pool, journal, kind).is_none(),
+    }
+}
+
 /// Whether what held a program is pending still.
+#[inline(always)]
 fn is_stopped(
     windows: &[Window; 4],
     slot: &Loaded,
@@ -75,9 +100,7 @@ fn is_stopped(
 {
     match hold {
         None => false,
-        Some(Need::Group(g)) => is_out_at(store, place_in(window_of(windows, slot.p), g)),
-        Some(Need::Device(d)) => is_busy_at(store, places, d),
-        Some(Need::Pool(kind)) => first_unheld(&slot.pool, journal, kind).is_none(),
+        Some(need) => is_pending(windows, slot, store, places, journal, need),
     }
 }
 
@@ -129,6 +152,7 @@ fn are_first(priorities: &[u8; 4]) -> bool
 
 impl Yard {
     /// Which of the programs is in this slot.
+    #[inline(always)]
     fn place_of(&self, p: u8) -> Option<usize>
         ensures result { result ≡ place_of self.now.seats p }
         ensures there { IfSome result (λ i. i < length self.now.seats) }
@@ -181,6 +205,7 @@ impl Yard {
     }
 
     /// The program that is next, if one is, by these priorities.
+    #[inline(always)]
     fn first_by(&self, journal: &Journal, priorities: &[u8; 4]) -> Option<usize>
         requires near { AreNear self.now }
         requires lent { AreLentIn self.now journal.now.entries }
@@ -214,6 +239,7 @@ impl Yard {
     }
 
     /// Whether a program is live.
+    #[inline(always)]
     pub(crate) fn is_any_on(&self) -> bool
         ensures { result ≡ any_in self.now }
     {

@@ -1,5 +1,5 @@
 //! Calls of a machine in turn.
-ghost use Rattle.std.specs.Prelude.{◌≡◌, ◌+◌, ◌<◌, ◌≤◌, IfOk, OnErr, OnOk, replicate};
+ghost use Rattle.std.specs.Prelude.{◌≡◌, ◌+◌, ◌<◌, ◌≤◌, IfOk, OnErr, OnOk, false, replicate};
 ghost use Rattle.kdf_journal.specs.Counts.{calls, clock};
 ghost use Rattle.kdf_journal.specs.Steps.{steps};
 ghost use Rattle.kdf_schedule.specs.Calls.{AnOrder};
@@ -16,7 +16,7 @@ ghost use Rattle.kdf_theory.specs.Served.{IsTrueFor};
 ghost use Rattle.kdf_service.specs.Rules.{IsService};
 
 use crate::advance::Calls;
-use crate::halt::{SeeksNone, SeeksPlace};
+use crate::halt::{Seek, SeeksNone, SeeksPlace};
 use crate::{Halt, Machine, Progress, Yard};
 use kdf_journal::{CALL_LIMIT, Journal};
 use kdf_service::Service;
@@ -74,8 +74,8 @@ impl Yard {
     /// Of so many calls that are left, one at least, those up to one after which they stop, or that found no live program.
     /// Answers what the last did, and leaves the number of those that are left still. At Err some are made, and the one
     /// that had no memory has changed nothing.
-    #[inline(never)]
-    fn orders_looked_at<F: Fn(u64) -> u64>(
+    #[inline(always)]
+    fn orders_up_to<F: Fn(u64) -> u64>(
         &mut self,
         journal: &mut Journal,
         left: &mut u32,
@@ -115,9 +115,9 @@ impl Yard {
         }
     }
 
-    /// The same. Where no halt is looked at, no call pays for one: those calls are compiled apart.
+    /// The same. Where they stop nowhere, no call pays for a halt that is looked at: those calls are compiled apart.
     #[inline(always)]
-    pub(crate) fn orders<F: Fn(u64) -> u64>(
+    pub(crate) fn orders<F: Fn(u64) -> u64, S: Seek>(
         &mut self,
         journal: &mut Journal,
         left: &mut u32,
@@ -129,17 +129,17 @@ impl Yard {
         requires ready { IsReady self.old journal.old room }
         requires some { 0 < left.old }
         requires few { calls journal.old.entries + left.old ≤ CALL_LIMIT }
+        requires seeks { S.seeks ≡ false → halt ≡ Never }
         ensures ready { IsReady self.new journal.new room }
         ensures made { IfOk result (HasMadeTo (F.post service.now) halt left.old left.new
             (shown_of self.old journal.old room) (shown_of self.new journal.new room)) }
         ensures err { OnErr result (HasMadeButTo (F.post service.now) halt left.old left.new
             (shown_of self.old journal.old room) (shown_of self.new journal.new room)) }
     {
-        match halt {
-            Halt::Never => self.all_orders(journal, left, service, room),
-            Halt::Each | Halt::At { .. } => self.orders_looked_at(
-                journal, left, service, room, halt,
-            ),
+        if S::seeks() {
+            self.orders_up_to(journal, left, service, room, halt)
+        } else {
+            self.all_orders(journal, left, service, room)
         }
     }
 }

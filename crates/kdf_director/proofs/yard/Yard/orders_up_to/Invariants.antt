@@ -3,7 +3,7 @@ use Rattle.kdf_director.specs.Fields.Agrees.{IsReady}
 use Rattle.kdf_director.specs.Fields.Standing.{shown_of}
 use Rattle.kdf_director.specs.Halts.{ArePassed}
 use Rattle.kdf_director.specs.Runs.{HasMadeOn}
-use Rattle.kdf_director.proofs.yard.Yard.orders_looked_at.Given as goal
+use Rattle.kdf_director.proofs.yard.Yard.orders_up_to.Given as goal
 
 abbrev pub invariant-loop-made : goal.invariant-loop-made
 invariant-loop-made g l =
