@@ -39,7 +39,8 @@ module _ (answers : ℕ → ℕ → Type 0) (slots : List Slot) (J K : List Entr
   order-time = ap clock a.entered ∙ clock-added J a.step ∙ (counted a.step a.call).2 (clock J)
 
   -- one order more
-  pub order-on : (P : List Step) (i : ℕ) → IsLegal slots J → any_live slots J ≡ true → Reaches (lone_dispatched slots) P (replicate i AnOrder) (steps J) → Reaches (lone_dispatched slots) P (replicate (i + 1) AnOrder) (steps K)
+  pub order-on : (P : List Step) (i : ℕ) → IsLegal slots J → any_live slots J ≡ true → Reaches (lone_dispatched slots) P (replicate i AnOrder) (steps J)
+      → Reaches (lone_dispatched slots) P (replicate (i + 1) AnOrder) (steps K)
   order-on P i l live taken =
       subst (λ (cs : List Call). Reaches (lone_dispatched slots) P cs (steps K)) (sym (replicate_next i AnOrder))
       (reach-added (lone_dispatched slots) P J K (replicate i AnOrder) AnOrder a.step l.in_form taken live a.call a.entered)
@@ -71,7 +72,8 @@ module _ (answers : ℕ → ℕ → Type 0) (slots : List Slot) (J : List Entry)
       let a = on.3 in
       subst (IsTrueFor answers slots) (sym a.entered) (true_for_added answers slots on.0 a.step (legal-on n on.0 l on.1) (truly-on n on.0 l truly on.1) a.truly)
 
-  pub reach-on : (P : List Step) (i n : ℕ) (K : List Entry) → IsLegal slots J → Reaches (lone_dispatched slots) P (replicate i AnOrder) (steps J) → On n K → Reaches (lone_dispatched slots) P (replicate (i + n) AnOrder) (steps K)
+  pub reach-on : (P : List Step) (i n : ℕ) (K : List Entry) → IsLegal slots J → Reaches (lone_dispatched slots) P (replicate i AnOrder) (steps J) → On n K
+      → Reaches (lone_dispatched slots) P (replicate (i + n) AnOrder) (steps K)
   reach-on P i zero K l taken same =
       let all : i ≡ i + 0 = omega arith in
       subst (λ (k : ℕ). Reaches (lone_dispatched slots) P (replicate k AnOrder) (steps K)) all

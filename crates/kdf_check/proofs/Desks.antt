@@ -40,10 +40,16 @@ order_itself d = record { same = record { bench = refl; table = refl }; p = refl
 pub order_then : (old mid new : Desk) (act : Act) → Stays old mid → Acts mid act new → SameOrder old new
 order_then old mid new act s a =
     let all = acts_behind old mid new act s a in
-    record { same = all.same; p = all.p; order = all.order; around = all.around ∙ ap (λ (x : Around). record (around_of old) { table = x.table }) (sym all.around) }
+    record {
+      same = all.same;
+      p = all.p;
+      order = all.order;
+      around = all.around ∙ ap (λ (x : Around). record (around_of old) { table = x.table }) (sym all.around);
+    }
 
 -- an order was tried once memory was taken
-pub tried_by : (old mid new : Desk) (r left : Registers) (ended : Step) → old.order ≡ r.ran + 1 → old.entry ≡ None → Stays old mid → ended ≡ (outcome (shown old) r).step → left ≡ (outcome (shown old) r).registers → Acts mid (outcome (shown old) r).act new
+pub tried_by : (old mid new : Desk) (r left : Registers) (ended : Step) → old.order ≡ r.ran + 1 → old.entry ≡ None → Stays old mid
+    → ended ≡ (outcome (shown old) r).step → left ≡ (outcome (shown old) r).registers → Acts mid (outcome (shown old) r).act new
     → HasTried old.p (around_of old) r old.bench.now left new.bench.now new.table.now.places ended new.entry
 tried_by old mid new r left ended order quiet stays step registers acted =
     let act = (outcome (shown old) r).act in
@@ -63,7 +69,8 @@ none_covered p g [] none = refl
 none_covered p g (None ∷ table) none = none_covered p g table none
 none_covered p g (Some t ∷ table) none = absurd (true≢false none)
 
-pub none_out : (p g : ℕ) (table : List (Option Pending)) (busy : Bool) → (list_any is_some table ≡ true → busy ≡ true) → busy ≡ false → list_any (covers p g) table ≡ false
+pub none_out : (p g : ℕ) (table : List (Option Pending)) (busy : Bool) → (list_any is_some table ≡ true → busy ≡ true) → busy ≡ false
+    → list_any (covers p g) table ≡ false
 none_out p g table busy all none =
     ⊎_elim
     (λ (some : list_any is_some table ≡ true). absurd (true≢false (sym (all some) ∙ none)))

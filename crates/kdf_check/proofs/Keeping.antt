@@ -119,7 +119,8 @@ module _ (answers : ℕ → ℕ → Type 0) (slots : List Slot) (J : List Entry)
         some_same x y e = cc
 
   -- ---- after turns
-  module _ (p made : ℕ) (x : Program) (table' : List (Option Pending)) (K : List Entry) (t : AreTurned answers slots made J p x table' K) (there : is_some (slot_of slots p) ≡ true) (lt : p < length programs) where
+  module _ (p made : ℕ) (x : Program) (table' : List (Option Pending)) (K : List Entry) (t : AreTurned answers slots made J p x table' K)
+      (there : is_some (slot_of slots p) ≡ true) (lt : p < length programs) where
     kept-here : IsKeptAt slots K p (Some x)
     kept-here = record { there = there; number = t.number; own_is = t.own_is; hold_is = t.hold_is }
 

@@ -46,7 +46,8 @@ abbrev pub TriedAt : (u : Desk) → Registers → (w : Desk) → Registers → S
 TriedAt u r w left ended = HasTried u.p (around_of u) r u.bench.now left w.bench.now w.table.now.places ended w.entry
 
 -- so it was by what stood around a desk of the same program
-over : (t u w : Desk) (r left : Registers) (ended : Step) → u.p ≡ t.p → around_of u ≡ around_of t → TriedAt u r w left ended → HasTried t.p (around_of t) r u.bench.now left w.bench.now w.table.now.places ended w.entry
+over : (t u w : Desk) (r left : Registers) (ended : Step) → u.p ≡ t.p → around_of u ≡ around_of t → TriedAt u r w left ended
+    → HasTried t.p (around_of t) r u.bench.now left w.bench.now w.table.now.places ended w.entry
 over t u w r left ended p_is around_is tried =
     subst (λ (a : Around). HasTried t.p a r u.bench.now left w.bench.now w.table.now.places ended w.entry) around_is
     (subst (λ (q : ℕ). HasTried q (around_of u) r u.bench.now left w.bench.now w.table.now.places ended w.entry) p_is tried)
@@ -63,18 +64,22 @@ pub record IsAt (t u : Desk) (first r : Registers) (n : ℕ) : Type 0 where
   pub earlier : AreQuiet t.p (around_of t) n first t.bench.now r u.bench.now
 
 -- of a desk at which nothing was changed before
-pub unchanged : (u u' w : Desk) (r r' left : Registers) (ended : Step) → r' ≡ r → u' ≡ u → SameOrder u' w → TriedAt u' r' w left ended → SameOrder u w × TriedAt u r w left ended
+pub unchanged : (u u' w : Desk) (r r' left : Registers) (ended : Step) → r' ≡ r → u' ≡ u → SameOrder u' w → TriedAt u' r' w left ended
+    → SameOrder u w × TriedAt u r w left ended
 unchanged u u' w r r' left ended is is' same tried = rw (sym is, sym is') (same, tried)
 
 module _ (t u w : Desk) (first r left : Registers) (n : ℕ) (at : IsAt t u first r n) (same : SameOrder u w) where
   -- one more was tried
-  pub last_at : (ended : Step) (told : Option Entry) → told ≡ w.entry → TriedAt u r w left ended → HasBatch t.p (around_of t) n first t.bench.now left w.bench.now w.table.now.places ended told
+  pub last_at : (ended : Step) (told : Option Entry) → told ≡ w.entry → TriedAt u r w left ended
+      → HasBatch t.p (around_of t) n first t.bench.now left w.bench.now w.table.now.places ended told
   last_at ended told is tried =
       record {
         mid = r;
         between = u.bench.now;
         earlier = at.earlier;
-        last = subst (λ (o : Option Entry). HasTried t.p (around_of t) r u.bench.now left w.bench.now w.table.now.places ended o) (sym is) (over t u w r left ended at.p_is at.around_is tried);
+        last =
+            subst (λ (o : Option Entry). HasTried t.p (around_of t) r u.bench.now left w.bench.now w.table.now.places ended o) (sym is)
+            (over t u w r left ended at.p_is at.around_is tried);
       }
 
   -- and it was quiet too
@@ -89,7 +94,9 @@ module _ (t u w : Desk) (first r left : Registers) (n : ℕ) (at : IsAt t u firs
     around_on = same.around ∙ ap (λ (x : List (Option Pending)). record (around_of u) { table = x }) table_is ∙ at.around_is
 
     asked_on : (stock_of w.bench.now).asked ≡ (stock_of u.bench.now).asked
-    asked_on = ap (λ (k : Stock). k.asked) tried.stock_is ∙ untold_asked u.p (r.ran + 1) (outcome_at u.p (around_of u) r u.bench.now).act (stock_of u.bench.now) untold
+    asked_on =
+        ap (λ (k : Stock). k.asked) tried.stock_is
+        ∙ untold_asked u.p (r.ran + 1) (outcome_at u.p (around_of u) r u.bench.now).act (stock_of u.bench.now) untold
 
     gone : GoesOn r left
     gone = subst (GoesOn r) (sym tried.registers_are) (goes_on (shown_by u.p (around_of u) (stock_of u.bench.now)) r (sym tried.ending_is))
@@ -97,7 +104,8 @@ module _ (t u w : Desk) (first r left : Registers) (n : ℕ) (at : IsAt t u firs
     here : HasTried t.p (around_of t) r u.bench.now left w.bench.now (around_of t).table Done None
     here =
         subst (λ (x : List (Option Pending)). HasTried t.p (around_of t) r u.bench.now left w.bench.now x Done None) (ap (λ (a : Around). a.table) around_on)
-        (subst (λ (o : Option Entry). HasTried t.p (around_of t) r u.bench.now left w.bench.now w.table.now.places Done o) none (over t u w r left Done at.p_is at.around_is tried))
+        (subst (λ (o : Option Entry). HasTried t.p (around_of t) r u.bench.now left w.bench.now w.table.now.places Done o) none
+        (over t u w r left Done at.p_is at.around_is tried))
 
     more : AreQuiet t.p (around_of t) (n + 1) first t.bench.now left w.bench.now
     more =
@@ -121,5 +129,8 @@ module _ (t u w : Desk) (first r left : Registers) (n : ℕ) (at : IsAt t u firs
     })
 
 -- there was no memory for one more
-pub stopped_at : (t u w : Desk) (first r left : Registers) (n : ℕ) → IsAt t u first r n → left ≡ r → stock_of w.bench.now ≡ stock_of u.bench.now → HasStopped t.p (around_of t) n first t.bench.now left w.bench.now
-stopped_at t u w first r left n at is stock = (u.bench.now, subst (λ (x : Registers). AreQuiet t.p (around_of t) n first t.bench.now x u.bench.now) (sym is) at.earlier, stock)
+pub stopped_at : (t u w : Desk) (first r left : Registers) (n : ℕ) → IsAt t u first r n → left ≡ r → stock_of w.bench.now ≡ stock_of u.bench.now
+    → HasStopped t.p (around_of t) n first t.bench.now left w.bench.now
+stopped_at t u w first r left n at is stock =
+    let earlier = subst (λ (x : Registers). AreQuiet t.p (around_of t) n first t.bench.now x u.bench.now) (sym is) at.earlier in
+    (u.bench.now, earlier, stock)

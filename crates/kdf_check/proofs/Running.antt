@@ -1,5 +1,6 @@
 -- The program whose turn it is obeys orders, of each of which the journal tells that and no more, and tries one more.
-use Rattle.std.proofs.Common.{◌≡◌, ◌≢◌, ◌+◌, ◌<◌, ℕ, zero, suc, Bool, true, false, not, List, get_or, Option, Some, None, is_some, refl, sym, ap, ap₂, ◌∙◌, subst, arith}
+use Rattle.std.proofs.Common.{◌≡◌, ◌≢◌, ◌+◌, ◌<◌, ℕ, zero, suc, Bool, true, false, not, List, get_or, Option, Some, None}
+use Rattle.std.proofs.Common.{is_some, refl, sym, ap, ap₂, ◌∙◌, subst, arith}
 use Rattle.std.proofs.lemmas.Bool.{and_from}
 use Rattle.std.proofs.lemmas.List.Folds.{list_any_at}
 use Rattle.kdf_journal.specs.declared.entry.Entry.{Entry}
@@ -51,7 +52,8 @@ unfolding course.any_live course.lives
 next_live w slots J p turn =
     let lt = next_four w slots J p turn in
     list_any_at (course.lives (there_in slots) J) slot_numbers p 0 lt
-    (ap (course.lives (there_in slots) J) (slot_at p lt) ∙ and_from (is_some (slot_of slots p)) (not (over p J)) (next_slot w slots J p turn) (next_on w slots J p turn))
+    (ap (course.lives (there_in slots) J) (slot_at p lt)
+    ∙ and_from (is_some (slot_of slots p)) (not (over p J)) (next_slot w slots J p turn) (next_on w slots J p turn))
 
 -- whether a program is served stays
 served_on : (slots : List Slot) (J K : List Entry) (p : ℕ) → (own slots K p).stock.claims.served ≡ (own slots J p).stock.claims.served
@@ -105,7 +107,8 @@ module _ (answers : ℕ → ℕ → Type 0) (slots : List Slot) (J : List Entry)
     }
 
     -- one more is its turn
-    turn_on : (x : Program) (left : List (Option Pending)) (ended : Ending) (told : Option Entry) (L : List Entry) → Hears n → HasTried p around r b x.registers x.bench left ended told → x.p ≡ p → x.hold ≡ hold_left ended → L ≡ entered (K n) p ended told
+    turn_on : (x : Program) (left : List (Option Pending)) (ended : Ending) (told : Option Entry) (L : List Entry) → Hears n
+        → HasTried p around r b x.registers x.bench left ended told → x.p ≡ p → x.hold ≡ hold_left ended → L ≡ entered (K n) p ended told
         → IsTurned answers slots (K n) p x left L
     turn_on x left ended told L is_heard tried p_is hold_is entries =
         turned slots (K n) p around ended posed.are on.legal on.next_is on.tells answers is_heard x left told L
@@ -132,7 +135,8 @@ module _ (answers : ℕ → ℕ → Type 0) (slots : List Slot) (J : List Entry)
         }
 
     -- the turn after them as a whole
-    all_turned : (x : Program) (left : List (Option Pending)) (ended : Ending) (told : Option Entry) (L : List Entry) → Hears n → HasTried p around r b x.registers x.bench left ended told → x.p ≡ p → x.hold ≡ hold_left ended → L ≡ entered (K n) p ended told
+    all_turned : (x : Program) (left : List (Option Pending)) (ended : Ending) (told : Option Entry) (L : List Entry) → Hears n
+        → HasTried p around r b x.registers x.bench left ended told → x.p ≡ p → x.hold ≡ hold_left ended → L ≡ entered (K n) p ended told
         → AreTurned answers slots (suc n) J p x left L
     all_turned x left ended told L is_heard tried p_is hold_is entries =
         let t = turn_on x left ended told L is_heard tried p_is hold_is entries in
@@ -156,16 +160,21 @@ module _ (answers : ℕ → ℕ → Type 0) (slots : List Slot) (J : List Entry)
     on_for (suc n) r b quiet = more n quiet.0 quiet.1 (on_for n quiet.0 quiet.1 quiet.2) r b (heard_none n) quiet.3
 
   -- one that is served hears the service before each order
-  pub batch_turned : (n : ℕ) (x : Program) (left : List (Option Pending)) (ended : Ending) (told : Option Entry) (L : List Entry) → Hears 0 → (served : Bool) → (own slots J p).stock.claims.served ≡ served → (served ≡ true → n ≡ 0)
-      → HasBatch p around n first bench x.registers x.bench left ended told → x.p ≡ p → x.hold ≡ hold_left ended → L ≡ entered (K n) p ended told → AreTurned answers slots (n + 1) J p x left L
+  pub batch_turned : (n : ℕ) (x : Program) (left : List (Option Pending)) (ended : Ending) (told : Option Entry) (L : List Entry) → Hears 0 → (served : Bool)
+      → (own slots J p).stock.claims.served ≡ served → (served ≡ true → n ≡ 0)
+      → HasBatch p around n first bench x.registers x.bench left ended told → x.p ≡ p → x.hold ≡ hold_left ended → L ≡ entered (K n) p ended told
+      → AreTurned answers slots (n + 1) J p x left L
   batch_turned n x left ended told L is_heard false is few batch p_is hold_is entries =
       let one : suc n ≡ n + 1 = omega arith in
       subst (λ (k : ℕ). AreTurned answers slots k J p x left L) one
-      (all_turned n batch.mid batch.between (on_for is n batch.mid batch.between batch.earlier) x left ended told L (heard_none is n) batch.last p_is hold_is entries)
+      (all_turned n batch.mid batch.between (on_for is n batch.mid batch.between batch.earlier) x left ended told L (heard_none is n)
+      batch.last p_is hold_is entries)
   batch_turned n x left ended told L is_heard true is few batch p_is hold_is entries =
       let none : n ≡ 0 = few refl in
-      let alone : HasBatch p around 0 first bench x.registers x.bench left ended told = subst (λ (k : ℕ). HasBatch p around k first bench x.registers x.bench left ended told) none batch in
+      let alone : HasBatch p around 0 first bench x.registers x.bench left ended told =
+      subst (λ (k : ℕ). HasBatch p around k first bench x.registers x.bench left ended told) none batch in
       let made : 1 ≡ n + 1 = omega arith in
       subst (λ (k : ℕ). AreTurned answers slots k J p x left L) made
-      (all_turned 0 alone.mid alone.between (on_first alone.mid alone.between alone.earlier.0 alone.earlier.1) x left ended told L is_heard alone.last p_is hold_is
+      (all_turned 0 alone.mid alone.between (on_first alone.mid alone.between alone.earlier.0 alone.earlier.1) x left ended told L is_heard
+      alone.last p_is hold_is
       (entries ∙ ap (λ (k : ℕ). entered (K k) p ended told) none))

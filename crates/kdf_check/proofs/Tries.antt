@@ -22,14 +22,15 @@ use Rattle.kdf_theory.specs.World.{first_need}
 use Rattle.kdf_director.proofs.Turns.HeardWords.{heard_so, heard_then}
 use Rattle.kdf_check.specs.Around.{Around, around_by}
 use Rattle.kdf_check.specs.declared.table.Pending.{Pending}
-use Rattle.kdf_check.specs.Batches.{HasTried}
+use Rattle.kdf_check.specs.Batches.{HasBatch, HasTried}
 use Rattle.kdf_check.specs.Desk.{IsInTable, entry_after, shown_by, table_after}
 use Rattle.kdf_check.specs.Tried.{IsPosed, IsTried, lone_truth, outcome_by, outcome_of}
 use Rattle.kdf_check.proofs.Comes.{tried_lem}
 use Rattle.kdf_check.proofs.Pendings.{shown-here}
 
 -- a program stays posed, whatever is heard of the service
-pub posed_with : (slots : List Slot) (J : List Entry) (p : ℕ) (table : List (Option Pending)) (r : Registers) (bench : Bench) → IsPosed slots J p (around_by table J 0) r bench
+pub posed_with : (slots : List Slot) (J : List Entry) (p : ℕ) (table : List (Option Pending)) (r : Registers) (bench : Bench)
+    → IsPosed slots J p (around_by table J 0) r bench
     → (heard : ℕ) → IsPosed slots J p (around_by table J heard) r bench
 posed_with slots J p table r bench posed heard =
     record {
@@ -64,7 +65,8 @@ module _ (slots : List Slot) (J : List Entry) (p : ℕ) (around : Around) (r : R
       (heard_so answers (act_word (outcome (shown_by p around (stock_of bench)) r).act) heard has)
 
 -- what was heard of the service where nothing else was heard yet
-pub heard_with : (slots : List Slot) (J : List Entry) (p : ℕ) (table : List (Option Pending)) (r : Registers) (bench : Bench) → IsPosed slots J p (around_by table J 0) r bench
+pub heard_with : (slots : List Slot) (J : List Entry) (p : ℕ) (table : List (Option Pending)) (r : Registers) (bench : Bench)
+    → IsPosed slots J p (around_by table J 0) r bench
     → (answers : ℕ → ℕ → Type 0) (heard : Option ℕ) (h d : ℕ) → h ≡ unwrap_or heard d → d ≡ 0
     → HasAsked answers (act_word (outcome (shown_by p (around_by table J 0) (stock_of bench)) r).act) heard
     → first_need (lone_world slots J) p ≡ None → IsHeard answers (own slots J p) h
@@ -73,7 +75,8 @@ heard_with slots J p table r bench posed answers heard h d is none has free =
     (heard_at slots J p (around_by table J 0) r bench posed answers heard has free)
 
 -- the next order of a posed program, as it was tried, came out by its lone state
-pub tried_so : (slots : List Slot) (J : List Entry) (p : ℕ) (around : Around) (r left : Registers) (b bench : Bench) (table : List (Option Pending)) (ended : Step) (told : Option Entry)
+pub tried_so : (slots : List Slot) (J : List Entry) (p : ℕ) (around : Around) (r left : Registers) (b bench : Bench)
+    (table : List (Option Pending)) (ended : Step) (told : Option Entry)
     → IsPosed slots J p around r b → HasTried p around r b left bench table ended told
     → IsTried slots J p around (outcome_of slots J around.heard p) ended left bench table told
 tried_so slots J p around r left b bench table ended told posed tried =
@@ -95,3 +98,12 @@ tried_so slots J p around r left b bench table ended told posed tried =
 
     act : (outcome (shown_by p around (stock_of b)) r).act ≡ (outcome_of slots J around.heard p).act
     act = ap (λ (o : Outcome). o.act) here
+
+-- orders that were tried over a bench and a table that were looked at
+pub batch_over : (p : ℕ) (J : List Entry) (heard quiet : ℕ) (r left : Registers) (b mid bench : Bench) (places between table : List (Option Pending))
+    (ended : Step) (told : Option Entry) → mid ≡ b → between ≡ places
+    → HasBatch p (around_by between J heard) quiet r mid left bench table ended told
+    → HasBatch p (around_by places J heard) quiet r b left bench table ended told
+batch_over p J heard quiet r left b mid bench places between table ended told bench_is table_is batch =
+    subst (λ (k : Bench). HasBatch p (around_by places J heard) quiet r k left bench table ended told) bench_is
+    (subst (λ (t : List (Option Pending)). HasBatch p (around_by t J heard) quiet r mid left bench table ended told) table_is batch)

@@ -40,7 +40,8 @@ use Rattle.kdf_check.proofs.Kept.{held_keeps, obeyed_keeps}
 
 -- the journal K answers a call more than J, in which it was the turn of program p: it keeps to K, the others stay, and the table tells what
 -- is pending
-pub record IsTurned (answers : ℕ → ℕ → Type 0) (slots : List Slot) (J : List Entry) (p : ℕ) (x : Program) (table : List (Option Pending)) (K : List Entry) : Type 0 where
+pub record IsTurned (answers : ℕ → ℕ → Type 0) (slots : List Slot) (J : List Entry) (p : ℕ) (x : Program)
+    (table : List (Option Pending)) (K : List Entry) : Type 0 where
   pub goes_on : GoesOn answers slots J AnOrder K
   pub number : x.p ≡ p
   pub own_is : state_with x.registers x.bench ≡ own slots K p

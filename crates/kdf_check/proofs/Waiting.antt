@@ -15,9 +15,10 @@ use Rattle.kdf_check.specs.Keeps.{goes, place_at, GoesOnFor, Keeps}
 use Rattle.kdf_check.specs.Tracks.{IsAround}
 use Rattle.kdf_check.proofs.Keeping.{still-keeps}
 use Rattle.kdf_check.proofs.Kept.{still_keeps}
-use Rattle.kdf_check.proofs.Nexts.{next-same, on-same}
+use Rattle.kdf_check.proofs.Nexts.{around_is, next-same, on-same}
 
-module _ (answers : ℕ → ℕ → Type 0) (slots : List Slot) (J : List Entry) (table : List (Option Pending)) (programs : List (Option Program)) (k : Keeps answers slots J table programs) (live : any_live slots J ≡ true) (none : next (lone_world slots J) slots J ≡ None) where
+module _ (answers : ℕ → ℕ → Type 0) (slots : List Slot) (J : List Entry) (table : List (Option Pending)) (programs : List (Option Program))
+    (k : Keeps answers slots J table programs) (live : any_live slots J ≡ true) (none : next (lone_world slots J) slots J ≡ None) where
   abbrev K : ℕ → List Entry
   K n = waited_on J n
 
@@ -35,30 +36,40 @@ module _ (answers : ℕ → ℕ → Type 0) (slots : List Slot) (J : List Entry)
     still_none =
         sym (next-same answers slots (K n) table programs w.keeps (around_by table J 0) w.around)
         ∙ ap (find (λ (p : ℕ). goes (around_by table J 0) (place_at programs p))) (priorities-waited_on J n)
-        ∙ next-same answers slots J table programs k (around_by table J 0) (record { tells = k.tells; held = λ d lt. refl; time = refl })
+        ∙ next-same answers slots J table programs k (around_by table J 0) (around_is slots J table k.tells)
         ∙ none
 
     more : IsWaiting (suc n)
     more =
-        let keeps = still-keeps answers slots (K n) table programs w.keeps Waits table (still_live, still_none) tt (still_keeps slots (K n) Waits table k.are w.keeps.legal w.keeps.tells (λ x. refl) (λ x. refl)) (λ q. refl) (λ q. refl) (λ q o. refl) in
+        let keeps =
+        still-keeps answers slots (K n) table programs w.keeps Waits table (still_live, still_none) tt
+        (still_keeps slots (K n) Waits table k.are w.keeps.legal w.keeps.tells (λ x. refl) (λ x. refl)) (λ q. refl) (λ q. refl) (λ q o. refl) in
         record {
           keeps = keeps;
           goes_on = (K n, w.goes_on, still_live, record { step = Waits; call = refl; heard = 0; meets = (still_live, still_none); truly = tt; entered = refl });
-          around = record { tells = keeps.tells; held = λ d lt. w.around.held d lt ∙ sym (holder-quiet d (K n) Waits refl (λ q. refl)); time = w.around.time ∙ sym (clock-added (K n) Waits) };
+          around =
+              record {
+                tells = keeps.tells;
+                held = λ d lt. w.around.held d lt ∙ sym (holder-quiet d (K n) Waits refl (λ q. refl));
+                time = w.around.time ∙ sym (clock-added (K n) Waits);
+              };
         }
 
   pub waiting : (n : ℕ) → IsWaiting n
-  waiting zero = record { keeps = k; goes_on = refl; around = record { tells = k.tells; held = λ d lt. refl; time = refl } }
+  waiting zero = record { keeps = k; goes_on = refl; around = around_is slots J table k.tells }
   waiting (suc n) = more n (waiting n)
 
 -- the calls that are left, where one is live, or none
-pub record HasWaited (answers : ℕ → ℕ → Type 0) (slots : List Slot) (J : List Entry) (table : List (Option Pending)) (programs : List (Option Program)) (made : ℕ) (K : List Entry) : Type 0 where
+pub record HasWaited (answers : ℕ → ℕ → Type 0) (slots : List Slot) (J : List Entry) (table : List (Option Pending)) (programs : List (Option Program))
+    (made : ℕ) (K : List Entry) : Type 0 where
   pub goes_on : GoesOnFor answers slots made J K
   pub keeps : Keeps answers slots K table programs
   pub none : made ≡ 0 → any_live slots J ≡ false
 
-pub waited : (answers : ℕ → ℕ → Type 0) (slots : List Slot) (J : List Entry) (table : List (Option Pending)) (programs : List (Option Program)) → Keeps answers slots J table programs → next (lone_world slots J) slots J ≡ None
-    → (most made : ℕ) (K : List Entry) → 0 < most → (b : Bool) → any_live slots J ≡ b → made ≡ cond b most 0 → K ≡ waited_on J made → HasWaited answers slots J table programs made K
+pub waited : (answers : ℕ → ℕ → Type 0) (slots : List Slot) (J : List Entry) (table : List (Option Pending)) (programs : List (Option Program))
+    → Keeps answers slots J table programs → next (lone_world slots J) slots J ≡ None
+    → (most made : ℕ) (K : List Entry) → 0 < most → (b : Bool) → any_live slots J ≡ b → made ≡ cond b most 0 → K ≡ waited_on J made
+    → HasWaited answers slots J table programs made K
 waited answers slots J table programs k none most made K some true live is entries =
     let w = waiting answers slots J table programs k live none made in
     subst (HasWaited answers slots J table programs made) (sym entries) (record { goes_on = w.goes_on; keeps = w.keeps; none = λ zero. absurd (omega arith) })

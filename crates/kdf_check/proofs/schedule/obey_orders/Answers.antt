@@ -56,7 +56,8 @@ returns-then-more-eq0-clause-steps g c =
     let was = c.loop-made.invariant in
     let J = c.loop-made.journal.entries in
     let K = c.advance.new.journal.entries in
-    let none : K ≡ J = subst (λ (m : ℕ). GoesOnFor (λ n a. goal.F-post g c.args.service.now n a) g.slots m J K) c.if-more-eq0.true c.in_ok-more.ensures.goes_on in
+    let none : K ≡ J =
+    subst (λ (m : ℕ). GoesOnFor (λ n a. goal.F-post g c.args.service.now n a) g.slots m J K) c.if-more-eq0.true c.in_ok-more.ensures.goes_on in
     subst (λ (E : List Entry). Reaches (lone_dispatched g.slots) P (replicate c.args.n AnOrder) (steps E)) (sym none)
     (rested g.slots g.slots J P c.loop-made.made c.args.n was.keeps.legal refl was.taken (c.in_ok-more.ensures.none c.if-more-eq0.true) was.within)
 
@@ -65,21 +66,29 @@ returns-then-more-eq0-clause-keeps g c = c.in_ok-more.ensures.keeps
 
 pub returns-then-more-eq0-clause-calls : goal.returns-then-more-eq0-clause-calls
 returns-then-more-eq0-clause-calls g c =
+    let answers : ℕ → ℕ → Type 0 = λ n a. goal.F-post g c.args.service.now n a in
     let was = c.loop-made.invariant in
-    omega (arith, calls-on (λ n a. goal.F-post g c.args.service.now n a) g.slots c.loop-made.journal.entries c.in_ok-more.more c.advance.new.journal.entries c.in_ok-more.ensures.goes_on, was.count, was.within, c.if-more-eq0.true)
+    let count = calls-on answers g.slots c.loop-made.journal.entries c.in_ok-more.more c.advance.new.journal.entries c.in_ok-more.ensures.goes_on in
+    omega (arith, count, was.count, was.within, c.if-more-eq0.true)
 
 pub returns-then-more-eq0-clause-moves : goal.returns-then-more-eq0-clause-moves
 returns-then-more-eq0-clause-moves g c =
-    moves-on (λ n a. goal.F-post g c.args.service.now n a) g.slots c.loop-made.journal.entries c.in_ok-more.more c.advance.new.journal.entries c.in_ok-more.ensures.goes_on ∙ c.loop-made.invariant.same_moves
+    let answers : ℕ → ℕ → Type 0 = λ n a. goal.F-post g c.args.service.now n a in
+    moves-on answers g.slots c.loop-made.journal.entries c.in_ok-more.more c.advance.new.journal.entries c.in_ok-more.ensures.goes_on
+    ∙ c.loop-made.invariant.same_moves
 
 pub returns-then-more-eq0-clause-time : goal.returns-then-more-eq0-clause-time
 returns-then-more-eq0-clause-time g c =
-    time-on (λ n a. goal.F-post g c.args.service.now n a) g.slots c.loop-made.journal.entries c.in_ok-more.more c.advance.new.journal.entries c.in_ok-more.ensures.goes_on ∙ c.loop-made.invariant.time
+    let answers : ℕ → ℕ → Type 0 = λ n a. goal.F-post g c.args.service.now n a in
+    time-on answers g.slots c.loop-made.journal.entries c.in_ok-more.more c.advance.new.journal.entries c.in_ok-more.ensures.goes_on
+    ∙ c.loop-made.invariant.time
 
 pub returns-clause-steps : goal.returns-clause-steps
 returns-clause-steps g c =
     let all : c.loop-made.made ≡ c.args.n = omega (arith, c.loop-made-test.false, c.loop-made.invariant.within) in
-    subst (λ (n : ℕ). Reaches (lone_dispatched g.slots) (steps c.args.journal.now.entries) (replicate n AnOrder) (steps c.loop-made.journal.entries)) all c.loop-made.invariant.taken
+    let P = steps c.args.journal.now.entries in
+    let Q = steps c.loop-made.journal.entries in
+    subst (λ (n : ℕ). Reaches (lone_dispatched g.slots) P (replicate n AnOrder) Q) all c.loop-made.invariant.taken
 
 pub returns-clause-keeps : goal.returns-clause-keeps
 returns-clause-keeps g c = c.loop-made.invariant.keeps

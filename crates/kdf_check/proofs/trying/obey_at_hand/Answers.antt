@@ -17,7 +17,8 @@ either (Some x) f g some none = f x some
 pub returns-clause-tried : goal.returns-clause-tried
 returns-clause-tried c =
     with_some c.obey_at_once.result
-    (λ _ done. tried_by c.args.desk.now done.kept c.obey_at_once.new.port c.args.registers.now c.obey_at_once.new.registers Done c.requires.order c.requires.quiet done.stays done.obeyed.step done.obeyed.registers done.obeyed.acted)
+    (λ _ done. tried_by c.args.desk.now done.kept c.obey_at_once.new.port c.args.registers.now c.obey_at_once.new.registers Done
+    c.requires.order c.requires.quiet done.stays done.obeyed.step done.obeyed.registers done.obeyed.acted)
     c.obey_at_once.ensures.obeyed
 
 pub returns-clause-same : goal.returns-clause-same

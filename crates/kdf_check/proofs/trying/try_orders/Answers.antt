@@ -7,7 +7,8 @@ use Rattle.kdf_check.specs.declared.table.Pending.{Pending}
 use Rattle.kdf_check.proofs.trying.try_orders.Goals as goal
 
 -- what was lent is what the desk has, at first and in the end
-over : (P : ℕ → Around → Bench → Bench → List (Option Pending) → Type 0) {p q : ℕ} {a b : Around} {first now left new : Bench} {table places : List (Option Pending)} → q ≡ p → b ≡ a → now ≡ first → new ≡ left → places ≡ table → P q b now left table → P p a first new places
+over : (P : ℕ → Around → Bench → Bench → List (Option Pending) → Type 0) {p q : ℕ} {a b : Around} {first now left new : Bench}
+    {table places : List (Option Pending)} → q ≡ p → b ≡ a → now ≡ first → new ≡ left → places ≡ table → P q b now left table → P p a first new places
 over P {p} {q} {a} {b} {first} {now} {left} {new} {table} {places} p_is around_is bench_is bench_back table_back h =
     subst (λ (t : List (Option Pending)). P p a first new t) (sym table_back)
     (subst (λ (k : Bench). P p a first k table) (sym bench_back)
