@@ -1,23 +1,21 @@
 -- Calls that are answered one after another.
 use Rattle.std.specs.Prelude.{replicate}
-use Rattle.std.proofs.Common.{◌≡◌, ℕ, ◌+◌, ◌<◌, ◌≤◌, List, [], ◌∷◌, Option, None, true, refl, sym, ◌∙◌, ap, subst, set, arith}
+use Rattle.std.proofs.Common.{◌≡◌, ℕ, zero, suc, ◌+◌, List, true, refl, sym, ◌∙◌, ap, subst, arith}
 use Rattle.std.proofs.lemmas.Grind.{replicate_next}
 use Rattle.kdf_journal.specs.declared.entry.Entry.{Entry}
 use Rattle.kdf_journal.specs.Counts.{calls, clock, moves}
-use Rattle.kdf_journal.specs.Steps.{Step, Obeys, Holds, Waits, Moves, Ends, Sets, Swaps, added, steps}
+use Rattle.kdf_journal.specs.Steps.{Step, Obeys, Holds, Waits, Moves, Ends, Sets, Swaps, steps}
 use Rattle.kdf_journal.proofs.Added.{calls_by, calls-added, clock_by, clock-added, moves_by, moves-added}
 use Rattle.kdf_transfer.specs.Slots.{Slot}
 use Rattle.kdf_schedule.specs.Calls.{Call, AnOrder}
 use Rattle.kdf_course.specs.Follows.{call_of, Reaches}
-use Rattle.kdf_course.proofs.Reaching.{reach-added, reach-nil}
+use Rattle.kdf_course.proofs.Reaching.{reach-added}
 use Rattle.kdf_theory.specs.Legal.{IsLegal}
-use Rattle.kdf_theory.specs.Next.{any_live, lone_dispatched, next}
-use Rattle.kdf_theory.specs.ByJournal.{lone_world}
-use Rattle.kdf_check.specs.declared.table.Pending.{Pending}
-use Rattle.kdf_check.specs.declared.program.Program.{Program}
-use Rattle.kdf_check.specs.Keeps.{GoesOn, Keeps}
-use Rattle.kdf_check.proofs.Keeping.{still-keeps}
-use Rattle.kdf_check.proofs.Kept.{ended_keeps, moved_keeps, still_keeps}
+use Rattle.kdf_theory.specs.Next.{any_live, lone_dispatched}
+use Rattle.kdf_check.specs.Keeps.{GoesOn, GoesOnFor}
+use Rattle.kdf_theory.specs.Served.{IsTrueFor}
+use Rattle.kdf_theory.proofs.Course.WorldsJudged.{legal_added}
+use Rattle.kdf_director.proofs.Course.OneJournal.{true_for_added}
 
 -- ---- what a step that answers an order counts
 
@@ -41,39 +39,46 @@ module _ (answers : ℕ → ℕ → Type 0) (slots : List Slot) (J K : List Entr
   order-time = ap clock a.entered ∙ clock-added J a.step ∙ (counted a.step a.call).2 (clock J)
 
   -- one order more
-  pub order-on : (P : List Step) (i : ℕ) → IsLegal slots J → any_live slots J ≡ true → Reaches (lone_dispatched slots) P (replicate i AnOrder) (steps J) → Reaches (lone_dispatched slots) P (replicate (i + 1) AnOrder) (steps K)
+  pub order-on : (P : List Step) (i : ℕ) → IsLegal slots J → any_live slots J ≡ true → Reaches (lone_dispatched slots) P (replicate i AnOrder) (steps J)
+      → Reaches (lone_dispatched slots) P (replicate (i + 1) AnOrder) (steps K)
   order-on P i l live taken =
       subst (λ (cs : List Call). Reaches (lone_dispatched slots) P cs (steps K)) (sym (replicate_next i AnOrder))
       (reach-added (lone_dispatched slots) P J K (replicate i AnOrder) AnOrder a.step l.in_form taken live a.call a.entered)
 
--- ---- events
+-- ---- calls one after another
+module _ (answers : ℕ → ℕ → Type 0) (slots : List Slot) (J : List Entry) where
+  abbrev On : ℕ → List Entry → Type 0
+  On n K = GoesOnFor answers slots n J K
 
--- an event that is entered answers its call
-pub event-on : (slots : List Slot) (J K : List Entry) (c : Call) (s : Step) → IsLegal slots J → any_live slots J ≡ true → call_of s ≡ c → K ≡ added J s → Reaches (lone_dispatched slots) (steps J) (c ∷ []) (steps K)
-event-on slots J K c s l live is k = reach-added (lone_dispatched slots) (steps J) J K [] c s l.in_form (reach-nil (lone_dispatched slots) (steps J)) live is k
+  pub calls-on : (n : ℕ) (K : List Entry) → On n K → calls K ≡ calls J + n
+  calls-on zero K same = omega (arith, ap calls same)
+  calls-on (suc n) K on = omega (arith, calls-on n on.0 on.1, order-calls answers slots on.0 K on.3)
 
-module _ (answers : ℕ → ℕ → Type 0) (slots : List Slot) (J K : List Entry) (table : List (Option Pending)) (programs : List (Option Program)) (k : Keeps answers slots J table programs) where
-  pub wait-keeps : any_live slots J ≡ true → next (lone_world slots J) slots J ≡ None → K ≡ added J Waits → Keeps answers slots K table programs
-  wait-keeps live none is =
-      subst (λ (L : List Entry). Keeps answers slots L table programs) (sym is)
-      (still-keeps answers slots J table programs k Waits table (live, none) tt (still_keeps slots J Waits table k.are k.legal k.tells (λ x. refl) (λ x. refl)) (λ q. refl) (λ q. refl) (λ q o. refl))
+  pub moves-on : (n : ℕ) (K : List Entry) → On n K → moves K ≡ moves J
+  moves-on zero K same = ap moves same
+  moves-on (suc n) K on = order-moves answers slots on.0 K on.3 ∙ moves-on n on.0 on.1
 
-  pub move-keeps : (d n : ℕ) → K ≡ added J (Moves d n) → Keeps answers slots K table programs
-  move-keeps d n is =
-      subst (λ (L : List Entry). Keeps answers slots L table programs) (sym is)
-      (still-keeps answers slots J table programs k (Moves d n) table tt tt (moved_keeps slots J d n table k.are k.legal k.tells) (λ q. refl) (λ q. refl) (λ q o. refl))
+  pub time-on : (n : ℕ) (K : List Entry) → On n K → clock K ≡ clock J
+  time-on zero K same = ap clock same
+  time-on (suc n) K on = order-time answers slots on.0 K on.3 ∙ time-on n on.0 on.1
 
-  pub end-keeps : (d : ℕ) → K ≡ added J (Ends d) → Keeps answers slots K (set table d None) programs
-  end-keeps d is =
-      subst (λ (L : List Entry). Keeps answers slots L (set table d None) programs) (sym is)
-      (still-keeps answers slots J table programs k (Ends d) (set table d None) tt tt (ended_keeps slots J d table k.are k.legal k.tells) (λ q. refl) (λ q. refl) (λ q o. refl))
+  pub legal-on : (n : ℕ) (K : List Entry) → IsLegal slots J → On n K → IsLegal slots K
+  legal-on zero K l same = subst (IsLegal slots) (sym same) l
+  legal-on (suc n) K l on = let a = on.3 in subst (IsLegal slots) (sym a.entered) (legal_added slots on.0 a.heard a.step (legal-on n on.0 l on.1) a.meets)
 
-  pub clock-keeps : (t : ℕ) → clock J ≤ t → K ≡ added J (Sets t) → Keeps answers slots K table programs
-  clock-keeps t rises is =
-      subst (λ (L : List Entry). Keeps answers slots L table programs) (sym is)
-      (still-keeps answers slots J table programs k (Sets t) table rises tt (still_keeps slots J (Sets t) table k.are k.legal k.tells (λ x. refl) (λ x. refl)) (λ q. refl) (λ q. refl) (λ q o. refl))
+  pub truly-on : (n : ℕ) (K : List Entry) → IsLegal slots J → IsTrueFor answers slots J → On n K → IsTrueFor answers slots K
+  truly-on zero K l truly same = subst (IsTrueFor answers slots) (sym same) truly
+  truly-on (suc n) K l truly on =
+      let a = on.3 in
+      subst (IsTrueFor answers slots) (sym a.entered) (true_for_added answers slots on.0 a.step (legal-on n on.0 l on.1) (truly-on n on.0 l truly on.1) a.truly)
 
-  pub swap-keeps : (p q : ℕ) → p < 4 → q < 4 → K ≡ added J (Swaps p q) → Keeps answers slots K table programs
-  swap-keeps p q a b is =
-      subst (λ (L : List Entry). Keeps answers slots L table programs) (sym is)
-      (still-keeps answers slots J table programs k (Swaps p q) table (a, b) tt (still_keeps slots J (Swaps p q) table k.are k.legal k.tells (λ x. refl) (λ x. refl)) (λ q. refl) (λ q. refl) (λ q o. refl))
+  pub reach-on : (P : List Step) (i n : ℕ) (K : List Entry) → IsLegal slots J → Reaches (lone_dispatched slots) P (replicate i AnOrder) (steps J) → On n K
+      → Reaches (lone_dispatched slots) P (replicate (i + n) AnOrder) (steps K)
+  reach-on P i zero K l taken same =
+      let all : i ≡ i + 0 = omega arith in
+      subst (λ (k : ℕ). Reaches (lone_dispatched slots) P (replicate k AnOrder) (steps K)) all
+      (subst (λ (E : List Entry). Reaches (lone_dispatched slots) P (replicate i AnOrder) (steps E)) (sym same) taken)
+  reach-on P i (suc n) K l taken on =
+      let all : (i + n) + 1 ≡ i + suc n = omega arith in
+      subst (λ (k : ℕ). Reaches (lone_dispatched slots) P (replicate k AnOrder) (steps K)) all
+      (order-on answers slots on.0 K on.3 P (i + n) (legal-on n on.0 l on.1) on.2 (reach-on P i n on.0 l taken on.1))

@@ -1,5 +1,5 @@
 -- Desks: what is done at them one after another, what is out, and what is first.
-use Rattle.std.proofs.Common.{◌≡◌, ℕ, Bool, true, false, cond, ◌||◌, List, [], ◌∷◌, Option, Some, None, find, is_some, refl, sym, ap, ap₂, ◌∙◌, ⊎_elim}
+use Rattle.std.proofs.Common.{◌≡◌, ◌+◌, ℕ, Bool, true, false, cond, ◌||◌, List, [], ◌∷◌, Option, Some, None, find, is_some, refl, sym, ap, ap₂, ◌∙◌, ⊎_elim}
 use Rattle.std.proofs.lemmas.Bool.{cases_Bool, true≢false}
 use Rattle.std.specs.List.{list_any}
 use Rattle.kdf_journal.specs.declared.entry.Entry.{Entry}
@@ -11,7 +11,8 @@ use Rattle.kdf_processor.specs.Outcome.{outcome}
 use Rattle.kdf_check.specs.declared.table.Pending.{Pending}
 use Rattle.kdf_check.specs.Around.{Around, covers}
 use Rattle.kdf_check.specs.declared.desk.Desk.{Desk}
-use Rattle.kdf_check.specs.Desk.{Acts, HasObeyed, SameDesk, Stays, entry_after, shown, table_after}
+use Rattle.kdf_check.specs.Batches.{HasTried}
+use Rattle.kdf_check.specs.Desk.{Acts, SameDesk, SameOrder, Stays, around_of, entry_after, shown, table_after}
 
 -- a desk over what another is over, and so on
 pub same_same : (t u w : Desk) → SameDesk t u → SameDesk u w → SameDesk t w
@@ -32,11 +33,35 @@ acts_behind old mid new act s a = record {
   order = a.order ∙ s.order;
 }
 
--- an order that was obeyed once memory was taken
-pub obeyed_by : (old mid new : Desk) (r left : Registers) (ended : Step) (told : Option Entry) → Stays old mid → ended ≡ (outcome (shown old) r).step → left ≡ (outcome (shown old) r).registers → Acts mid (outcome (shown old) r).act new → told ≡ new.entry
-    → HasObeyed old r new left ended told
-obeyed_by old mid new r left ended told stays step registers acted told_is =
-    record { step = step; registers = registers; acted = acts_behind old mid new (outcome (shown old) r).act stays acted; told_is = told_is }
+-- a desk stays that of its order
+pub order_itself : (d : Desk) → SameOrder d d
+order_itself d = record { same = record { bench = refl; table = refl }; p = refl; order = refl; around = refl }
+
+pub order_then : (old mid new : Desk) (act : Act) → Stays old mid → Acts mid act new → SameOrder old new
+order_then old mid new act s a =
+    let all = acts_behind old mid new act s a in
+    record {
+      same = all.same;
+      p = all.p;
+      order = all.order;
+      around = all.around ∙ ap (λ (x : Around). record (around_of old) { table = x.table }) (sym all.around);
+    }
+
+-- an order was tried once memory was taken
+pub tried_by : (old mid new : Desk) (r left : Registers) (ended : Step) → old.order ≡ r.ran + 1 → old.entry ≡ None → Stays old mid
+    → ended ≡ (outcome (shown old) r).step → left ≡ (outcome (shown old) r).registers → Acts mid (outcome (shown old) r).act new
+    → HasTried old.p (around_of old) r old.bench.now left new.bench.now new.table.now.places ended new.entry
+tried_by old mid new r left ended order quiet stays step registers acted =
+    let act = (outcome (shown old) r).act in
+    let all : Acts old act new = acts_behind old mid new act stays acted in
+    record {
+      ending_is = step;
+      registers_are = registers;
+      stock_is = all.stock;
+      table_is = ap (λ (x : Around). x.table) all.around;
+      inside = all.inside;
+      told_is = all.entry ∙ ap₂ (λ (k : ℕ) (e : Option Entry). entry_after old.p k act e) order quiet;
+    }
 
 -- where no transfer is pending, no group is out
 none_covered : (p g : ℕ) (table : List (Option Pending)) → list_any is_some table ≡ false → list_any (covers p g) table ≡ false
@@ -44,7 +69,8 @@ none_covered p g [] none = refl
 none_covered p g (None ∷ table) none = none_covered p g table none
 none_covered p g (Some t ∷ table) none = absurd (true≢false none)
 
-pub none_out : (p g : ℕ) (table : List (Option Pending)) (busy : Bool) → (list_any is_some table ≡ true → busy ≡ true) → busy ≡ false → list_any (covers p g) table ≡ false
+pub none_out : (p g : ℕ) (table : List (Option Pending)) (busy : Bool) → (list_any is_some table ≡ true → busy ≡ true) → busy ≡ false
+    → list_any (covers p g) table ≡ false
 none_out p g table busy all none =
     ⊎_elim
     (λ (some : list_any is_some table ≡ true). absurd (true≢false (sym (all some) ∙ none)))

@@ -17,9 +17,9 @@ use Rattle.kdf_processor.specs.Lone.{is_live}
 use Rattle.kdf_processor.specs.State.{State}
 use Rattle.kdf_processor.proofs.RowFacts.{counts_lone}
 use Rattle.kdf_alone.specs.Bench.{state_with}
-use Rattle.kdf_theory.specs.Legal.{IsLegal, Meets}
+use Rattle.kdf_theory.specs.Legal.{Meets}
 use Rattle.kdf_theory.specs.Next.{next}
-use Rattle.kdf_theory.specs.Served.{is_true_for, IsTrueFor}
+use Rattle.kdf_theory.specs.Served.{is_true_for}
 use Rattle.kdf_theory.specs.Slots.{slot_of, start}
 use Rattle.kdf_theory.specs.ByJournal.{lone_world, own}
 use Rattle.kdf_theory.specs.World.{need_of}
@@ -33,7 +33,8 @@ use Rattle.kdf_check.specs.declared.program.Program.{Program}
 use Rattle.kdf_check.specs.Keeps.{place_at, IsFollowed, IsKeptAt, Keeps}
 use Rattle.kdf_check.specs.Tracks.{IsAround, Tells}
 use Rattle.kdf_check.specs.Tried.{IsPosed}
-use Rattle.kdf_check.specs.Turned.{IsTurned}
+use Rattle.kdf_check.specs.Turned.{AreTurned}
+use Rattle.kdf_check.proofs.Calls.{legal-on, truly-on}
 use Rattle.kdf_check.proofs.Nexts.{alive}
 
 live_is : (x : Life) → is_live x ≡ true → x ≡ life.Live
@@ -117,8 +118,9 @@ module _ (answers : ℕ → ℕ → Type 0) (slots : List Slot) (J : List Entry)
         some_same : (x y : Program) → Some x ≡ Some y → x ≡ y
         some_same x y e = cc
 
-  -- ---- after a turn
-  module _ (p : ℕ) (x : Program) (table' : List (Option Pending)) (K : List Entry) (t : IsTurned answers slots J p x table' K) (there : is_some (slot_of slots p) ≡ true) (lt : p < length programs) where
+  -- ---- after turns
+  module _ (p made : ℕ) (x : Program) (table' : List (Option Pending)) (K : List Entry) (t : AreTurned answers slots made J p x table' K)
+      (there : is_some (slot_of slots p) ≡ true) (lt : p < length programs) where
     kept-here : IsKeptAt slots K p (Some x)
     kept-here = record { there = there; number = t.number; own_is = t.own_is; hold_is = t.hold_is }
 
@@ -134,8 +136,8 @@ module _ (answers : ℕ → ℕ → Type 0) (slots : List Slot) (J : List Entry)
     pub turned-keeps : Keeps answers slots K table' (set programs p (Some x))
     turned-keeps = record {
       are = k.are;
-      legal = subst (IsLegal slots) (sym t.goes_on.entered) (legal_added slots J t.goes_on.heard t.goes_on.step k.legal t.goes_on.meets);
-      truly = subst (IsTrueFor answers slots) (sym t.goes_on.entered) (true_for_added answers slots J t.goes_on.step k.legal k.truly t.goes_on.truly);
+      legal = legal-on answers slots J made K k.legal t.goes_on;
+      truly = truly-on answers slots J made K k.legal k.truly t.goes_on;
       tells = t.tells;
       four = length-set programs p (Some x) ∙ k.four;
       each = λ q. ⊎_elim

@@ -1,5 +1,6 @@
 pub mod Judging
 pub mod Desks
+pub mod Quiet
 pub mod Places
 pub mod Comes
 pub mod Pendings
@@ -11,6 +12,9 @@ pub mod Nexts
 pub mod Keeping
 pub mod Loaded
 pub mod Calls
+pub mod Events
+pub mod Running
+pub mod Waiting
 pub mod Reading
 pub mod Pairs
 pub mod Checking

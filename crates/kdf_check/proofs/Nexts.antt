@@ -15,13 +15,17 @@ use Rattle.kdf_theory.specs.Next.{any_live, lone_dispatched, next, there_in}
 use Rattle.kdf_theory.specs.ByJournal.{lone_world}
 use Rattle.kdf_theory.specs.World.{need_of}
 use Rattle.kdf_theory.proofs.Course.LegalFacts.{legal_alive}
-use Rattle.kdf_check.specs.Around.{Around}
+use Rattle.kdf_check.specs.Around.{Around, around_by}
 use Rattle.kdf_check.specs.declared.table.Pending.{Pending}
 use Rattle.kdf_check.specs.declared.program.Program.{Program}
 use Rattle.kdf_check.specs.Desk.{shown_by}
 use Rattle.kdf_check.specs.Keeps.{goes, is_on, is_stopped, place_at, IsFollowed, IsKeptAt, Keeps}
-use Rattle.kdf_check.specs.Tracks.{IsAround}
+use Rattle.kdf_check.specs.Tracks.{IsAround, Tells}
 use Rattle.kdf_check.proofs.Pendings.{pending-here}
+
+-- what the journal tells around the programs
+pub around_is : (slots : List Slot) (J : List Entry) (table : List (Option Pending)) → Tells slots J table → IsAround slots J (around_by table J 0)
+around_is slots J table tells = record { tells = tells; held = λ d lt. refl; time = refl }
 
 -- one of four places has a live program
 four_places : (xs : List (Option Program)) → length xs ≡ 4 → list_any is_on xs ≡ list_any (λ (p : ℕ). is_on (place_at xs p)) slot_numbers

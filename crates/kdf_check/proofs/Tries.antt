@@ -14,22 +14,23 @@ use Rattle.kdf_processor.specs.State.{State, Stock}
 use Rattle.kdf_processor.specs.View.{View, by_itself}
 use Rattle.kdf_processor.proofs.Words.{done_word}
 use Rattle.kdf_alone.specs.declared.bench.Bench.{Bench}
-use Rattle.kdf_alone.specs.Bench.{state_with, stock_of}
+use Rattle.kdf_alone.specs.Bench.{stock_of}
 use Rattle.kdf_director.specs.Advance.{IsHeard}
 use Rattle.kdf_director.specs.Fields.TurnTaken.{HasAsked}
 use Rattle.kdf_theory.specs.ByJournal.{lone_world, own}
 use Rattle.kdf_theory.specs.World.{first_need}
 use Rattle.kdf_director.proofs.Turns.HeardWords.{heard_so, heard_then}
 use Rattle.kdf_check.specs.Around.{Around, around_by}
-use Rattle.kdf_check.specs.declared.desk.Desk.{Desk}
 use Rattle.kdf_check.specs.declared.table.Pending.{Pending}
-use Rattle.kdf_check.specs.Desk.{Acts, HasObeyed, IsInTable, Stays, around_of, entry_after, shown, shown_by, table_after}
+use Rattle.kdf_check.specs.Batches.{HasBatch, HasTried}
+use Rattle.kdf_check.specs.Desk.{IsInTable, entry_after, shown_by, table_after}
 use Rattle.kdf_check.specs.Tried.{IsPosed, IsTried, lone_truth, outcome_by, outcome_of}
 use Rattle.kdf_check.proofs.Comes.{tried_lem}
 use Rattle.kdf_check.proofs.Pendings.{shown-here}
 
 -- a program stays posed, whatever is heard of the service
-posed_with : (slots : List Slot) (J : List Entry) (p : ℕ) (table : List (Option Pending)) (r : Registers) (bench : Bench) → IsPosed slots J p (around_by table J 0) r bench
+pub posed_with : (slots : List Slot) (J : List Entry) (p : ℕ) (table : List (Option Pending)) (r : Registers) (bench : Bench)
+    → IsPosed slots J p (around_by table J 0) r bench
     → (heard : ℕ) → IsPosed slots J p (around_by table J heard) r bench
 posed_with slots J p table r bench posed heard =
     record {
@@ -64,7 +65,8 @@ module _ (slots : List Slot) (J : List Entry) (p : ℕ) (around : Around) (r : R
       (heard_so answers (act_word (outcome (shown_by p around (stock_of bench)) r).act) heard has)
 
 -- what was heard of the service where nothing else was heard yet
-pub heard_with : (slots : List Slot) (J : List Entry) (p : ℕ) (table : List (Option Pending)) (r : Registers) (bench : Bench) → IsPosed slots J p (around_by table J 0) r bench
+pub heard_with : (slots : List Slot) (J : List Entry) (p : ℕ) (table : List (Option Pending)) (r : Registers) (bench : Bench)
+    → IsPosed slots J p (around_by table J 0) r bench
     → (answers : ℕ → ℕ → Type 0) (heard : Option ℕ) (h d : ℕ) → h ≡ unwrap_or heard d → d ≡ 0
     → HasAsked answers (act_word (outcome (shown_by p (around_by table J 0) (stock_of bench)) r).act) heard
     → first_need (lone_world slots J) p ≡ None → IsHeard answers (own slots J p) h
@@ -72,65 +74,36 @@ heard_with slots J p table r bench posed answers heard h d is none has free =
     subst (IsHeard answers (own slots J p)) (sym (heard_then heard h d is none))
     (heard_at slots J p (around_by table J 0) r bench posed answers heard has free)
 
--- what was tried over a bench and a table that were looked at, by what was heard
-pub tried_with : (slots : List Slot) (J : List Entry) (p : ℕ) (table table' left : List (Option Pending)) (r r' : Registers) (bench mid new : Bench) (heard : ℕ) (ending : Step) (entry : Option Entry)
-    → IsPosed slots J p (around_by table J 0) r bench → mid ≡ bench → table' ≡ table
-    → (IsPosed slots J p (around_by table' J heard) r mid → IsTried slots J p (around_by table' J heard) (outcome_of slots J heard p) ending r' new left entry)
-    → IsTried slots J p (around_by table J heard) (outcome_of slots J heard p) ending r' new left entry
-tried_with slots J p table table' left r r' bench mid new heard ending entry posed bench_is table_is tried =
-    subst (λ (t : List (Option Pending)). IsPosed slots J p (around_by t J heard) r mid → IsTried slots J p (around_by t J heard) (outcome_of slots J heard p) ending r' new left entry) table_is tried
-    (subst (λ (b : Bench). IsPosed slots J p (around_by table J heard) r b) (sym bench_is)
-    (posed_with slots J p table r bench posed heard))
-
--- the order of a posed program, over a desk that is made for it, and what is left of what was lent to that
-pub tried_so : (slots : List Slot) (J : List Entry) (p : ℕ) (around : Around) (r r' : Registers) (bench bench' : Bench) (table' : List (Option Pending)) (old new : Desk) (step : Step) (told : Option Entry)
-    → IsPosed slots J p around r bench → old.p ≡ p → old.bench.now ≡ bench → around_of old ≡ around → old.order ≡ r.ran + 1 → old.entry ≡ None
-    → HasObeyed old r new r' step told → bench' ≡ new.bench.now → table' ≡ new.table.now.places
-    → IsTried slots J p around (outcome_of slots J around.heard p) step r' bench' table' told
-tried_so slots J p around r r' bench bench' table' old new step told posed p_is bench_is around_is order entry obeyed bench_back table_back =
+-- the next order of a posed program, as it was tried, came out by its lone state
+pub tried_so : (slots : List Slot) (J : List Entry) (p : ℕ) (around : Around) (r left : Registers) (b bench : Bench)
+    (table : List (Option Pending)) (ended : Step) (told : Option Entry)
+    → IsPosed slots J p around r b → HasTried p around r b left bench table ended told
+    → IsTried slots J p around (outcome_of slots J around.heard p) ended left bench table told
+tried_so slots J p around r left b bench table ended told posed tried =
     record {
-      ending_is = obeyed.step ∙ ap (λ (o : Outcome). o.step) here;
+      ending_is = tried.ending_is ∙ ap (λ (o : Outcome). o.step) here;
       state =
-          ap₂ (λ (q : Registers) (k : Stock). state q k) (obeyed.registers ∙ ap (λ (o : Outcome). o.registers) here)
-          (ap stock_of bench_back ∙ acted.stock ∙ ap₂ at_once act stock);
-      table_is =
-          table_back
-          ∙ ap (λ (a : Around). a.table) acted.around
-          ∙ ap₂ (λ (q : ℕ) (a : Act). table_after q a (around_of old).table) p_is act
-          ∙ ap (λ (a : Around). table_after p (outcome_of slots J around.heard p).act a.table) around_is;
-      inside = subst IsInTable act acted.inside;
-      entry_is =
-          obeyed.told_is
-          ∙ acted.entry
-          ∙ ap₂ (λ (q : ℕ) (a : Act). entry_after q old.order a old.entry) p_is act
-          ∙ ap₂ (λ (k : ℕ) (e : Option Entry). entry_after p k (outcome_of slots J around.heard p).act e) (order ∙ ap (λ (q : Registers). q.ran + 1) own_registers) entry;
+          ap₂ (λ (q : Registers) (k : Stock). state q k) (tried.registers_are ∙ ap (λ (o : Outcome). o.registers) here)
+          (tried.stock_is ∙ ap₂ at_once act (ap (λ (s : State). s.stock) posed.own_is));
+      table_is = tried.table_is ∙ ap (λ (a : Act). table_after p a around.table) act;
+      inside = subst IsInTable act tried.inside;
+      entry_is = tried.told_is ∙ ap₂ (λ (k : ℕ) (a : Act). entry_after p k a None) (ap (λ (s : State). s.registers.ran + 1) posed.own_is) act;
     }
   where
     state : Registers → Stock → State
     state q k = record { registers = q; stock = k }
 
-    own_registers : r ≡ (own slots J p).registers
-    own_registers = ap (λ (s : State). s.registers) posed.own_is
+    here : outcome (shown_by p around (stock_of b)) r ≡ outcome_of slots J around.heard p
+    here = comes_so slots J p around r b posed
 
-    stock : stock_of old.bench.now ≡ (own slots J p).stock
-    stock = ap stock_of bench_is ∙ ap (λ (s : State). s.stock) posed.own_is
-
-    here : outcome (shown old) r ≡ outcome_of slots J around.heard p
-    here =
-        ap₂ (λ (q : ℕ) (a : Around). outcome (shown_by q a (stock_of old.bench.now)) r) p_is around_is
-        ∙ ap (λ b. outcome (shown_by p around (stock_of b)) r) bench_is
-        ∙ comes_so slots J p around r bench posed
-
-    act : (outcome (shown old) r).act ≡ (outcome_of slots J around.heard p).act
+    act : (outcome (shown_by p around (stock_of b)) r).act ≡ (outcome_of slots J around.heard p).act
     act = ap (λ (o : Outcome). o.act) here
 
-    acted : Acts old (outcome (shown old) r).act new
-    acted = obeyed.acted
-
--- what is left of what was lent where there was no memory
-pub left_so : (r r' : Registers) (bench bench' : Bench) (old new : Desk) → old.bench.now ≡ bench → r' ≡ r → Stays old new → bench' ≡ new.bench.now → state_with r' bench' ≡ state_with r bench
-left_so r r' bench bench' old new bench_is registers stays back =
-    ap₂ (λ (q : Registers) (k : Stock). state q k) registers (ap stock_of back ∙ stays.stock ∙ ap stock_of bench_is)
-  where
-    state : Registers → Stock → State
-    state q k = record { registers = q; stock = k }
+-- orders that were tried over a bench and a table that were looked at
+pub batch_over : (p : ℕ) (J : List Entry) (heard quiet : ℕ) (r left : Registers) (b mid bench : Bench) (places between table : List (Option Pending))
+    (ended : Step) (told : Option Entry) → mid ≡ b → between ≡ places
+    → HasBatch p (around_by between J heard) quiet r mid left bench table ended told
+    → HasBatch p (around_by places J heard) quiet r b left bench table ended told
+batch_over p J heard quiet r left b mid bench places between table ended told bench_is table_is batch =
+    subst (λ (k : Bench). HasBatch p (around_by places J heard) quiet r k left bench table ended told) bench_is
+    (subst (λ (t : List (Option Pending)). HasBatch p (around_by t J heard) quiet r mid left bench table ended told) table_is batch)

@@ -32,11 +32,23 @@ use Rattle.kdf_check.specs.Around.{Around}
 use Rattle.kdf_check.specs.declared.table.Pending.{Pending}
 use Rattle.kdf_check.specs.declared.program.Program.{Program}
 use Rattle.kdf_check.specs.Entered.{entered}
+use Rattle.kdf_check.specs.Keeps.{GoesOn}
 use Rattle.kdf_check.specs.Tracks.{Tells}
 use Rattle.kdf_check.specs.Tried.{lone_truth, outcome_by, outcome_of, step_by, step_of, IsTried}
-use Rattle.kdf_check.specs.Turned.{IsTurned}
 use Rattle.kdf_check.proofs.Entries.{held-entered, obeyed-entered, obeyed-free}
 use Rattle.kdf_check.proofs.Kept.{held_keeps, obeyed_keeps}
+
+-- the journal K answers a call more than J, in which it was the turn of program p: it keeps to K, the others stay, and the table tells what
+-- is pending
+pub record IsTurned (answers : ℕ → ℕ → Type 0) (slots : List Slot) (J : List Entry) (p : ℕ) (x : Program)
+    (table : List (Option Pending)) (K : List Entry) : Type 0 where
+  pub goes_on : GoesOn answers slots J AnOrder K
+  pub number : x.p ≡ p
+  pub own_is : state_with x.registers x.bench ≡ own slots K p
+  pub hold_is : x.hold ≡ option_map need_of (last_hold p K)
+  pub others : (q : ℕ) → p ≢ q → own slots K q ≡ own slots J q
+  pub other_holds : (q : ℕ) → p ≢ q → last_hold q K ≡ last_hold q J
+  pub tells : Tells slots K table
 
 -- what a turn leaves: the program's lone state by the journal with its step, the others', what holds each, and the table
 record IsTurn (slots : List Slot) (J : List Entry) (p : ℕ) (ending : Ending) (registers : Registers) (bench : Bench) (table : List (Option Pending)) (entry : Option Entry) (K : List Entry) : Type 0 where

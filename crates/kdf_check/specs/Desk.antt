@@ -8,11 +8,8 @@ use Rattle.kdf_journal.specs.declared.kind.Kind.{Kind}
 use Rattle.kdf_transfer.specs.AtOnce.{has_area}
 use Rattle.kdf_transfer.specs.Devices.{test_of}
 use Rattle.kdf_transfer.specs.declared.order.TransferOrder.{TransferOrder}
-use Rattle.kdf_processor.specs.declared.registers.Registers.{Registers}
-use Rattle.kdf_processor.specs.declared.step.Step.{Step as Ending}
 use Rattle.kdf_processor.specs.Claims.{taken}
 use Rattle.kdf_processor.specs.Effect.{Act, Starts, Asks, Releases, Question, IsBusy, IsOut, Time, FreeOf, OfService}
-use Rattle.kdf_processor.specs.Outcome.{outcome}
 use Rattle.kdf_processor.specs.Row.{at_once}
 use Rattle.kdf_processor.specs.State.{Claims, Stock, device_in, device_limit, word_in}
 use Rattle.kdf_processor.specs.View.{View, groups_of}
@@ -109,9 +106,9 @@ pub record Stays (old new : Desk) : Type 0 where
   pub p : new.p ≡ old.p
   pub order : new.order ≡ old.order
 
--- an order was obeyed at it, and so the journal tells of that
-pub record HasObeyed (old : Desk) (r : Registers) (new : Desk) (left : Registers) (ended : Ending) (told : Option Entry) : Type 0 where
-  pub step : ended ≡ (outcome (shown old) r).step
-  pub registers : left ≡ (outcome (shown old) r).registers
-  pub acted : Acts old (outcome (shown old) r).act new
-  pub told_is : told ≡ new.entry
+-- it is the same program's desk over the same bench and the same table, for the same order, and nothing else was heard
+pub record SameOrder (old new : Desk) : Type 0 where
+  pub same : SameDesk old new
+  pub p : new.p ≡ old.p
+  pub order : new.order ≡ old.order
+  pub around : around_of new ≡ record (around_of old) { table = new.table.now.places }

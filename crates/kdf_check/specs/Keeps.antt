@@ -1,12 +1,12 @@
 -- How programs that are followed, and the table beside them, keep to a journal. `answers n a` says that a is one of the service's
 -- answers to n.
-use Rattle.std.specs.Prelude.{◌≡◌, ℕ, ◌&&◌, not, Bool, true, false, List, length, Option, Some, None, is_some, slice_index_or}
+use Rattle.std.specs.Prelude.{◌≡◌, ℕ, zero, suc, ◌&&◌, not, Bool, true, false, List, length, Option, Some, None, is_some, slice_index_or}
 use Rattle.std.specs.Option.{option_map}
 use Rattle.kdf_journal.specs.declared.entry.Entry.{Entry}
 use Rattle.kdf_journal.specs.Counts.{last_hold}
 use Rattle.kdf_journal.specs.Steps.{Step, added}
 use Rattle.kdf_transfer.specs.Slots.{Slot}
-use Rattle.kdf_schedule.specs.Calls.{Call}
+use Rattle.kdf_schedule.specs.Calls.{Call, AnOrder}
 use Rattle.kdf_course.specs.Follows.{call_of}
 use Rattle.kdf_course.specs.Legal.{Noted}
 use Rattle.kdf_processor.specs.declared.step.Need.{Need}
@@ -14,6 +14,7 @@ use Rattle.kdf_processor.specs.Lone.{is_live}
 use Rattle.kdf_processor.specs.View.{is_pending}
 use Rattle.kdf_alone.specs.Bench.{state_with, stock_of}
 use Rattle.kdf_theory.specs.Legal.{IsLegal, Meets}
+use Rattle.kdf_theory.specs.Next.{any_live}
 use Rattle.kdf_theory.specs.Served.{is_true_for, IsTrueFor}
 use Rattle.kdf_theory.specs.Slots.{AreSlots, slot_of}
 use Rattle.kdf_theory.specs.ByJournal.{lone_world, own}
@@ -78,3 +79,9 @@ pub record GoesOn (answers : ℕ → ℕ → Type 0) (slots : List Slot) (J : Li
   pub meets : Meets (lone_world slots J) slots J heard step
   pub truly : Noted (is_true_for answers slots J) step
   pub entered : K ≡ added J step
+
+-- so it is with so many calls, one after another, each of which found a live program
+abbrev pub GoesOnFor : (answers : ℕ → ℕ → Type 0) → List Slot → ℕ → List Entry → List Entry → Type 0
+GoesOnFor answers slots zero J K = K ≡ J
+GoesOnFor answers slots (suc n) J K =
+    (between : List Entry) × GoesOnFor answers slots n J between × (any_live slots between ≡ true) × GoesOn answers slots between AnOrder K

@@ -3,6 +3,7 @@ pub mod Verdict
 pub mod Watching
 pub mod Around
 pub mod Desk
+pub mod Batches
 pub mod Tracks
 pub mod Tried
 pub mod Entered

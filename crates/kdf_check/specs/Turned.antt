@@ -1,23 +1,22 @@
--- What the turn of a program leaves.
+-- What turns of a program leave.
 use Rattle.std.specs.Prelude.{◌≡◌, ◌≢◌, ℕ, List, Option}
 use Rattle.std.specs.Option.{option_map}
 use Rattle.kdf_journal.specs.declared.entry.Entry.{Entry}
 use Rattle.kdf_journal.specs.Counts.{last_hold}
-use Rattle.kdf_schedule.specs.Calls.{AnOrder}
 use Rattle.kdf_transfer.specs.Slots.{Slot}
 use Rattle.kdf_alone.specs.Bench.{state_with}
 use Rattle.kdf_theory.specs.ByJournal.{own}
 use Rattle.kdf_theory.specs.World.{need_of}
 use Rattle.kdf_check.specs.declared.table.Pending.{Pending}
 use Rattle.kdf_check.specs.declared.program.Program.{Program}
-use Rattle.kdf_check.specs.Keeps.{GoesOn}
+use Rattle.kdf_check.specs.Keeps.{GoesOnFor}
 use Rattle.kdf_check.specs.Tracks.{Tells}
 
--- the journal K answers a call more than J, in which it was the turn of program p: it keeps to K, the others stay, and the table tells what
--- is pending
-pub record IsTurned (answers : ℕ → ℕ → Type 0) (slots : List Slot) (J : List Entry) (p : ℕ) (x : Program) (table : List (Option Pending))
-    (K : List Entry) : Type 0 where
-  pub goes_on : GoesOn answers slots J AnOrder K
+-- the journal K answers so many calls more than J, in each of which it was the turn of program p: it keeps to K, the others stay, and the table
+-- tells what is pending
+pub record AreTurned (answers : ℕ → ℕ → Type 0) (slots : List Slot) (made : ℕ) (J : List Entry) (p : ℕ) (x : Program)
+    (table : List (Option Pending)) (K : List Entry) : Type 0 where
+  pub goes_on : GoesOnFor answers slots made J K
   pub number : x.p ≡ p
   pub own_is : state_with x.registers x.bench ≡ own slots K p
   pub hold_is : x.hold ≡ option_map need_of (last_hold p K)

@@ -11,8 +11,8 @@ use kdf_transfer::TransferOrder;
 use kdf_word::Word;
 use std::alloc::AllocError;
 
-/// A program's bench, over which each transfer is made at once, and what stands around the program, for one order. All is lent but what the
-/// journal is to tell.
+/// A program's bench, over which each transfer is made at once, and what stands around the program, for one order after another. All is lent but
+/// what the journal is to tell.
 #[derive(Drop)]
 pub struct Desk<'a> {
     p: u8,
@@ -29,7 +29,7 @@ pub struct Desk<'a> {
 }
 
 impl<'a> Desk<'a> {
-    ghost use Rattle.std.specs.Prelude.{None};
+    ghost use Rattle.std.specs.Prelude.{◌+◌, ◌<◌, true, None};
     ghost use Rattle.kdf_check.specs.Around.{around_by};
     ghost use Rattle.kdf_check.specs.Desk.{around_of};
 
@@ -67,6 +67,23 @@ impl<'a> Desk<'a> {
         ensures { result ≡ self.now.entry }
     {
         self.entry
+    }
+
+    /// Whether the journal tells nothing else of the order.
+    #[inline(always)]
+    pub fn is_quiet(&self) -> bool
+        ensures { result ≡ true → self.now.entry ≡ None }
+    {
+        self.entry.is_none()
+    }
+
+    /// Goes on to the program's next own order.
+    #[inline(always)]
+    pub fn pass(&mut self)
+        requires { self.old.order < u32.MAX }
+        ensures { self.new ≡ record self.old { order = self.old.order + 1 } }
+    {
+        self.order += 1;
     }
 }
 

@@ -1,42 +1,60 @@
 //! What is entered of the turn of a program.
-ghost use Rattle.std.specs.Prelude.{◌≡◌, ◌<◌, ◌≤◌};
+ghost use Rattle.std.specs.Prelude.{◌≡◌, ◌+◌, ◌<◌, ◌≤◌};
 ghost use Rattle.kdf_journal.specs.Counts.{calls, moves};
 ghost use Rattle.kdf_journal.specs.declared.entry.Entry.TheVariants.{Ran};
 ghost use Rattle.kdf_journal.specs.Joined.{pushed};
 ghost use Rattle.kdf_journal.specs.Steps.{held};
 ghost use Rattle.kdf_director.specs.Fields.TurnTaken.{hold_left};
+ghost use Rattle.kdf_director.specs.Runs.{ran_on};
 ghost use Rattle.kdf_theory.specs.World.{hold_of};
 ghost use Rattle.kdf_check.specs.Entered.{entered, with_entry, IsNote};
 
 use kdf_journal::{CALL_LIMIT, Entry, Journal, MOVE_LIMIT};
 use kdf_processor::{Need, Step};
 
-/// Enters how the turn of program `p` ended; an entry tells of its order, if it isn't quiet.
-pub fn enter(journal: &mut Journal, p: u8, step: Step, entry: Option<Entry>)
+/// Enters that program `p` obeyed so many orders of which nothing else is told, and how its turn after them ended; an entry tells of its order, if
+/// that isn't quiet.
+pub fn enter(journal: &mut Journal, p: u8, quiet: u32, step: Step, entry: Option<Entry>)
     requires room { 2 ≤ journal.old.spare }
-    requires few_calls { calls journal.old.entries < CALL_LIMIT }
+    requires few_calls { calls journal.old.entries + quiet < CALL_LIMIT }
     requires few_moves { moves journal.old.entries ≤ MOVE_LIMIT }
     requires note { IsNote entry }
-    ensures { journal.new.entries ≡ entered journal.old.entries p step entry }
+    ensures { journal.new.entries ≡ entered (ran_on journal.old.entries p quiet) p step entry }
 {
     match step {
-        Step::Held(need) => journal.push(entry_of(p, need)),
-        Step::Done => write(journal, p, entry),
-        Step::Fails(kind) => write(journal, p, Some(Entry::Fail { p, kind })),
-        Step::Ends => write(journal, p, Some(Entry::Ended { p })),
+        Step::Held(need) => {
+            enter_quiet(journal, p, quiet);
+            journal.push(entry_of(p, need));
+        }
+        Step::Done => write(journal, p, quiet + 1, entry),
+        Step::Fails(kind) => write(journal, p, quiet + 1, Some(Entry::Fail { p, kind })),
+        Step::Ends => write(journal, p, quiet + 1, Some(Entry::Ended { p })),
     }
 }
 
-/// Counts an order of program `p`, with the entry that tells of it.
-fn write(journal: &mut Journal, p: u8, entry: Option<Entry>)
+/// Enters that program `p` obeyed so many orders of which nothing else is told.
+fn enter_quiet(journal: &mut Journal, p: u8, quiet: u32)
+    requires room { 1 ≤ journal.old.spare }
+    requires few_calls { calls journal.old.entries + quiet ≤ CALL_LIMIT }
+    requires few_moves { moves journal.old.entries ≤ MOVE_LIMIT }
+    ensures entries { journal.new.entries ≡ ran_on journal.old.entries p quiet }
+    ensures spare { journal.old.spare ≤ journal.new.spare + 1 }
+{
+    if quiet > 0 {
+        journal.push(Entry::Ran { p, n: quiet });
+    }
+}
+
+/// Counts so many orders of program `p`, with the entry that tells of the last.
+fn write(journal: &mut Journal, p: u8, n: u32, entry: Option<Entry>)
     requires room { 2 ≤ journal.old.spare }
-    requires few_calls { calls journal.old.entries < CALL_LIMIT }
+    requires few_calls { calls journal.old.entries + n ≤ CALL_LIMIT }
     requires few_moves { moves journal.old.entries ≤ MOVE_LIMIT }
     requires note { IsNote entry }
     ensures { journal.new.entries
-        ≡ with_entry (pushed journal.old.entries (Ran p 1)) entry }
+        ≡ with_entry (pushed journal.old.entries (Ran p n)) entry }
 {
-    journal.push(Entry::Ran { p, n: 1 });
+    journal.push(Entry::Ran { p, n });
     if let Some(entry) = entry {
         journal.push(entry);
     }

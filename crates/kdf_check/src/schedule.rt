@@ -18,7 +18,7 @@ use crate::next::is_any_on;
 use crate::program::Program;
 use crate::source::Source;
 use crate::table::Table;
-use crate::turns::order;
+use crate::turns::advance;
 use kdf_journal::{CALL_LIMIT, Entry, Journal, MOVE_LIMIT};
 use kdf_schedule::Event;
 use kdf_service::Service;
@@ -145,10 +145,13 @@ fn obey_orders<F: Fn(u64) -> u64>(
     ensures moves { OnOk result (moves journal.new.entries ≡ moves journal.old.entries) }
     ensures time { OnOk result (clock journal.new.entries ≡ clock journal.old.entries) }
 {
-    for _i in 0..n {
-        if !order(programs, table, journal, service)? {
+    let mut made = 0;
+    while made < n {
+        let more = advance(programs, table, journal, service, n - made)?;
+        if more == 0 {
             return Ok(());
         }
+        made += more;
     }
     Ok(())
 }

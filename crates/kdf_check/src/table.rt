@@ -62,7 +62,9 @@ impl Table {
         self.busy && self.is_covered(p, group)
     }
 
-    /// Whether a place has such a transfer.
+    /// Whether a place has such a transfer. A group is looked at for each word, and almost always nothing is pending: this stays out of the way
+    /// of that.
+    #[inline(never)]
     fn is_covered(&self, p: u8, group: u16) -> bool
         ensures { result ≡ is_out_in p self.now.places group }
     {

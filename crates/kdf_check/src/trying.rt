@@ -1,60 +1,133 @@
-//! Trying one order at a desk.
-ghost use Rattle.std.specs.Prelude.{◌≡◌, ◌<◌, List, IfOk, OnErr};
-ghost use Rattle.kdf_transfer.specs.Slots.{Slot};
-ghost use Rattle.kdf_alone.specs.Bench.{state_with, CanAsk};
+//! Trying orders at a desk.
+ghost use Rattle.std.specs.Prelude.{◌≡◌, ◌+◌, ◌<◌, ◌≤◌, None, IfNone, IfOk, IfSome, OnErr};
+ghost use Rattle.kdf_processor.specs.Buffered.{Agrees};
+ghost use Rattle.kdf_alone.specs.Bench.{stock_of, CanAsk};
 ghost use Rattle.kdf_check.specs.Around.{around_by};
-ghost use Rattle.kdf_check.specs.Desk.{HasObeyed, SameDesk, Stays};
-ghost use Rattle.kdf_check.specs.Tried.{outcome_of, IsPosed, IsTried};
+ghost use Rattle.kdf_check.specs.Batches.{HasBatch, HasStopped, HasTried};
+ghost use Rattle.kdf_check.specs.Desk.{around_of, shown, SameDesk, SameOrder};
 
 use crate::desk::Desk;
 use crate::table::Table;
 use kdf_alone::Bench;
 use kdf_journal::{Entry, Journal};
-use kdf_processor::{Life, Registers, Step, obey_with_room};
+use kdf_processor::{Buffer, Life, Registers, Step, obey_at_once, obey_in_general};
 use kdf_word::Word;
 use std::alloc::AllocError;
 
-/// Obeys the next order of a live program, or finds what holds it up. It is inlined, so what it answers goes through no memory.
+/// Obeys the next order of a live program the quick way, or answers None and changes nothing. It is inlined in the loop over the orders.
+#[inline(always)]
+fn obey_at_hand(
+    registers: &mut Registers,
+    desk: &mut Desk<'_>,
+    held: &mut Option<Buffer>,
+) -> Option<()>
+    requires ran { registers.old.ran < u32.MAX }
+    requires asked { CanAsk desk.old.bench.now }
+    requires order { desk.old.order ≡ registers.old.ran + 1 }
+    requires quiet { desk.old.entry ≡ None }
+    requires agrees { Agrees (shown desk.old) held.old }
+    ensures tried { IfSome result (λ _. HasTried desk.old.p (around_of desk.old) registers.old desk.old.bench.now
+        registers.new desk.new.bench.now desk.new.table.now.places Step.Done desk.new.entry) }
+    ensures left { IfNone result ((registers.new ≡ registers.old) × (desk.new ≡ desk.old)) }
+    ensures same { SameOrder desk.old desk.new }
+    ensures agrees { Agrees (shown desk.new) held.new }
+{
+    obey_at_once(registers, desk, held)
+}
+
+/// Obeys the next order of a live program the general way, or finds what holds it up.
 #[inline(always)]
 fn obey_next(
     registers: &mut Registers,
     desk: &mut Desk<'_>,
-) -> Result<(Step, Option<Entry>), AllocError>
+    held: &mut Option<Buffer>,
+) -> Result<Step, AllocError>
     requires live { registers.old.state ≡ Life.Live }
     requires ran { registers.old.ran < u32.MAX }
     requires asked { CanAsk desk.old.bench.now }
-    ensures obeyed { IfOk result
-        (λ x. HasObeyed desk.old registers.old desk.new registers.new x.0 x.1) }
-    ensures err { OnErr result ((registers.new ≡ registers.old) × Stays desk.old desk.new) }
-    ensures same { SameDesk desk.old desk.new }
+    requires order { desk.old.order ≡ registers.old.ran + 1 }
+    requires quiet { desk.old.entry ≡ None }
+    ensures tried { IfOk result (λ step. HasTried desk.old.p (around_of desk.old) registers.old desk.old.bench.now
+        registers.new desk.new.bench.now desk.new.table.now.places step desk.new.entry) }
+    ensures err { OnErr result ((registers.new ≡ registers.old)
+        × (stock_of desk.new.bench.now ≡ stock_of desk.old.bench.now)) }
+    ensures same { SameOrder desk.old desk.new }
+    ensures agrees { Agrees (shown desk.new) held.new }
 {
-    let step = obey_with_room(registers, desk)?;
-    Ok((step, desk.entry()))
+    let step = obey_in_general(registers, desk, held)?;
+    Ok(step)
 }
 
-/// Tries the next order of a live program by what stands around it, and tells what the journal is to tell of that. Where the journal so far
-/// tells what is pending, and the program has its lone state, it is held by the first of its needs that is pending, or comes to what it
-/// comes to by itself, truly answered.
+/// Obeys orders of a live program up to one of which an entry tells, that is held or that ends it, and at most so many. Answers how many were
+/// obeyed before the last, and how the last ended, with its entry. At Err that had no memory, and has changed nothing. It is inlined where the
+/// desk is made: passed on by its address, that would be read anew by each order.
 #[inline(always)]
-pub fn try_next(
+fn obey_quiet(
+    registers: &mut Registers,
+    desk: &mut Desk<'_>,
+    most: u32,
+) -> (u32, Result<(Step, Option<Entry>), AllocError>)
+    requires live { registers.old.state ≡ Life.Live }
+    requires some { 0 < most }
+    requires ran { registers.old.ran + most ≤ u32.MAX }
+    requires asked { CanAsk desk.old.bench.now }
+    requires order { desk.old.order ≡ registers.old.ran + 1 }
+    requires quiet { desk.old.entry ≡ None }
+    ensures tried { IfOk result.1 (λ x. HasBatch desk.old.p (around_of desk.old) result.0 registers.old desk.old.bench.now
+        registers.new desk.new.bench.now desk.new.table.now.places x.0 x.1) }
+    ensures err { OnErr result.1 (HasStopped desk.old.p (around_of desk.old) result.0 registers.old desk.old.bench.now
+        registers.new desk.new.bench.now) }
+    ensures within { result.0 < most }
+    ensures same { SameDesk desk.old desk.new }
+{
+    let mut done = 0;
+    let mut held = None;
+    loop {
+        match obey_at_hand(registers, desk, &mut held) {
+            Some(()) => {
+                if done + 1 == most || !desk.is_quiet() {
+                    return (done, Ok((Step::Done, desk.entry())));
+                }
+                done += 1;
+                desk.pass();
+            }
+            None => match obey_next(registers, desk, &mut held) {
+                Ok(Step::Done) => {
+                    if done + 1 == most || !desk.is_quiet() {
+                        return (done, Ok((Step::Done, desk.entry())));
+                    }
+                    done += 1;
+                    desk.pass();
+                }
+                Ok(step) => return (done, Ok((step, desk.entry()))),
+                Err(error) => return (done, Err(error)),
+            },
+        }
+    }
+}
+
+/// Tries orders of a live program by what stands around it, as `obey_quiet` does.
+#[inline(always)]
+pub fn try_orders(
     registers: &mut Registers,
     p: u8,
     bench: &mut Bench,
     table: &mut Table,
     journal: &Journal,
     heard: Word,
-) -> Result<(Step, Option<Entry>), AllocError>
+    most: u32,
+) -> (u32, Result<(Step, Option<Entry>), AllocError>)
     requires live { registers.old.state ≡ Life.Live }
-    requires ran { registers.old.ran < u32.MAX }
+    requires some { 0 < most }
+    requires ran { registers.old.ran + most ≤ u32.MAX }
     requires asked { CanAsk bench.old }
-    ensures tried { (slots : List Slot) → IsPosed slots journal.now.entries p
-        (around_by table.old.places journal.now.entries heard)
-        registers.old bench.old
-        → IfOk result (λ x. IsTried slots journal.now.entries p (around_by table.old.places journal.now.entries heard)
-        (outcome_of slots journal.now.entries heard p) x.0 registers.new bench.new table.new.places x.1) }
-    ensures err { OnErr result (state_with registers.new bench.new ≡ state_with registers.old bench.old) }
+    ensures tried { IfOk result.1 (λ x. HasBatch p (around_by table.old.places journal.now.entries heard) result.0
+        registers.old bench.old registers.new bench.new table.new.places x.0 x.1) }
+    ensures err { OnErr result.1 (HasStopped p (around_by table.old.places journal.now.entries heard) result.0
+        registers.old bench.old registers.new bench.new) }
+    ensures within { result.0 < most }
 {
     let order = registers.ran + 1;
     let mut desk = Desk::new(p, bench, table, journal, heard, order);
-    obey_next(registers, &mut desk)
+    obey_quiet(registers, &mut desk, most)
 }

@@ -1,27 +1,28 @@
-//! The programs of a job, followed call by call.
-ghost use Rattle.std.specs.Prelude.{◌≡◌, ◌<◌, ◌≤◌, List, Some, true, false, IfOk, OnOk};
+//! The programs of a job, followed run by run: the orders of one program, or idle calls.
+ghost use Rattle.std.specs.Prelude.{◌≡◌, ◌+◌, ◌<◌, ◌≤◌, if◌then◌else◌, List, Some, true, false, IfOk, OnOk};
+ghost use Rattle.std.specs.List.{list_any};
 ghost use Rattle.kdf_journal.specs.Counts.{calls, moves};
-ghost use Rattle.kdf_schedule.specs.Calls.{AnOrder};
 ghost use Rattle.kdf_transfer.specs.Slots.{Slot};
 ghost use Rattle.kdf_service.specs.Rules.{IsService};
 ghost use Rattle.kdf_processor.specs.Ahead.{act_word};
 ghost use Rattle.kdf_processor.specs.Outcome.{outcome};
-ghost use Rattle.kdf_alone.specs.Bench.{stock_of, CanAsk};
+ghost use Rattle.kdf_alone.specs.Bench.{claims_of, stock_of, CanAsk};
 ghost use Rattle.kdf_theory.specs.Next.{any_live, next};
 ghost use Rattle.kdf_director.specs.Fields.TurnTaken.{HasAsked};
+ghost use Rattle.kdf_director.specs.Runs.{waited_on};
 ghost use Rattle.kdf_theory.specs.ByJournal.{lone_world};
 ghost use Rattle.kdf_check.specs.Around.{around_by};
 ghost use Rattle.kdf_check.specs.Desk.{shown_by};
-ghost use Rattle.kdf_check.specs.Keeps.{GoesOn, Keeps};
+ghost use Rattle.kdf_check.specs.Keeps.{is_on, GoesOnFor, Keeps};
 ghost use Rattle.kdf_check.specs.Tried.{IsPosed};
-ghost use Rattle.kdf_check.specs.Turned.{IsTurned};
+ghost use Rattle.kdf_check.specs.Turned.{AreTurned};
 
 use crate::desk::Desk;
 use crate::entering::{enter, hold_left};
 use crate::next::{is_any_on, next_of};
 use crate::program::Program;
 use crate::table::Table;
-use crate::trying::try_next;
+use crate::trying::try_orders;
 use kdf_alone::Bench;
 use kdf_journal::{CALL_LIMIT, Entry, Journal, MOVE_LIMIT};
 use kdf_processor::{Life, Port, Registers, asks_ahead, word_ahead};
@@ -99,28 +100,44 @@ fn heard<F: Fn(u64) -> u64>(
     }
 }
 
-/// Tries the next order of the program whose turn it is, and enters how that ended. If its order asks the service, the answer is drawn
-/// before it.
+/// How many of so many orders of a program are tried with nothing heard between them. The service of one that is served may be heard before
+/// each.
+#[inline(always)]
+fn batch_of(bench: &Bench, most: u32) -> u32
+    requires { 0 < most }
+    ensures some { 0 < result }
+    ensures few { result ≤ most }
+    ensures served { (claims_of bench.now).served ≡ true → result ≡ 1 }
+{
+    if bench.served() { 1 } else { most }
+}
+
+/// Tries orders of the program whose turn it is, up to one of which an entry tells, that is held or that ends it, and at most so many, and enters how
+/// they ended. If one asks the service, the answer is drawn before it. Answers how many calls that were.
 fn turn<F: Fn(u64) -> u64>(
     program: &mut Program,
     table: &mut Table,
     journal: &mut Journal,
     service: &Service<F>,
-) -> Result<(), AllocError>
+    most: u32,
+) -> Result<u32, AllocError>
     ghost slots: { List Slot }
     requires service { IsService (F.pre service.now) (F.post service.now) }
     requires next { next (lone_world slots journal.old.entries) slots journal.old.entries ≡ Some program.old.p }
     requires posed { IsPosed slots journal.old.entries program.old.p (around_by table.old.places journal.old.entries 0)
         program.old.registers program.old.bench }
     requires live { program.old.registers.state ≡ Life.Live }
-    requires ran { program.old.registers.ran < u32.MAX }
+    requires some { 0 < most }
+    requires ran { program.old.registers.ran + most ≤ u32.MAX }
     requires asked { CanAsk program.old.bench }
     requires room { 2 ≤ journal.old.spare }
-    requires few_calls { calls journal.old.entries < CALL_LIMIT }
+    requires few_calls { calls journal.old.entries + most ≤ CALL_LIMIT }
     requires few_moves { moves journal.old.entries ≤ MOVE_LIMIT }
-    ensures { OnOk result (IsTurned (F.post service.now) slots journal.old.entries program.old.p program.new
+    ensures turned { IfOk result (λ made. AreTurned (F.post service.now) slots made journal.old.entries program.old.p program.new
         table.new.places
         journal.new.entries) }
+    ensures some { IfOk result (λ made. 0 < made) }
+    ensures within { IfOk result (λ made. made ≤ most) }
 {
     let p = program.p;
     let answer = heard(
@@ -132,72 +149,94 @@ fn turn<F: Fn(u64) -> u64>(
         service,
     );
     let heard = answer.unwrap_or(Word::default());
-    let (ending, entry) = try_next(
+    let batch = batch_of(&program.bench, most);
+    let (quiet, tried) = try_orders(
         &mut program.registers,
         p,
         &mut program.bench,
         table,
         journal,
         heard,
-    )?;
+        batch,
+    );
+    let (ending, entry) = tried?;
     program.hold = hold_left(ending);
-    enter(journal, p, ending, entry);
-    Ok(())
+    enter(journal, p, quiet, ending, entry);
+    Ok(quiet + 1)
 }
 
-/// Tries the next order of program `p`, whose turn it is, and enters how that ended.
+/// Tries orders of program `p`, whose turn it is, as `turn` does.
 fn take_turn<F: Fn(u64) -> u64>(
     programs: &mut Vec<Option<Program>>,
     table: &mut Table,
     journal: &mut Journal,
     p: u8,
     service: &Service<F>,
-) -> Result<(), AllocError>
+    most: u32,
+) -> Result<u32, AllocError>
     ghost slots: { List Slot }
     requires service { IsService (F.pre service.now) (F.post service.now) }
     requires next { next (lone_world slots journal.old.entries) slots journal.old.entries ≡ Some p }
     requires keeps { Keeps (F.post service.now) slots journal.old.entries table.old.places programs.old.items }
+    requires some { 0 < most }
     requires room { 2 ≤ journal.old.spare }
-    requires few_calls { calls journal.old.entries < CALL_LIMIT }
+    requires few_calls { calls journal.old.entries + most ≤ CALL_LIMIT }
     requires few_moves { moves journal.old.entries ≤ MOVE_LIMIT }
-    ensures goes_on { OnOk result (GoesOn (F.post service.now) slots journal.old.entries AnOrder journal.new.entries) }
+    ensures goes_on { IfOk result (λ made. GoesOnFor (F.post service.now) slots made journal.old.entries journal.new.entries) }
+    ensures some { IfOk result (λ made. 0 < made) }
+    ensures within { IfOk result (λ made. made ≤ most) }
     ensures keeps { OnOk result (Keeps (F.post service.now) slots journal.new.entries table.new.places
         programs.new.items) }
 {
     match &mut programs[usize::from(p)] {
-        Some(program) => turn(program, table, journal, service),
+        Some(program) => turn(program, table, journal, service, most),
         None => unreachable!(),
     }
 }
 
-/// One call, as a machine's: the program whose turn it is obeys or is held, or each live one is held; where none is live, nothing
-/// is entered. It tells whether one was live.
-pub fn order<F: Fn(u64) -> u64>(
+/// Enters that no program can go on, where one is live: so it is with all the calls that are left. Answers how many these are; none, where none is
+/// live.
+fn wait(programs: &[Option<Program>], journal: &mut Journal, most: u32) -> u32
+    requires some { 0 < most }
+    requires room { 1 ≤ journal.old.spare }
+    requires few_calls { calls journal.old.entries + most ≤ CALL_LIMIT }
+    requires few_moves { moves journal.old.entries ≤ MOVE_LIMIT }
+    ensures answer { result ≡ (if list_any is_on programs.now then most else 0) }
+    ensures entries { journal.new.entries ≡ waited_on journal.old.entries result }
+{
+    if is_any_on(programs) {
+        journal.push(Entry::Idle { n: most });
+        most
+    } else {
+        0
+    }
+}
+
+/// Some of these calls, one at least: the orders of the program whose turn it is, as far as it stays next, or all, where none can go on. Answers how
+/// many; none, where none is live.
+pub fn advance<F: Fn(u64) -> u64>(
     programs: &mut Vec<Option<Program>>,
     table: &mut Table,
     journal: &mut Journal,
     service: &Service<F>,
-) -> Result<bool, AllocError>
+    most: u32,
+) -> Result<u32, AllocError>
     ghost slots: { List Slot }
     requires service { IsService (F.pre service.now) (F.post service.now) }
     requires keeps { Keeps (F.post service.now) slots journal.old.entries table.old.places programs.old.items }
-    requires few_calls { calls journal.old.entries < CALL_LIMIT }
+    requires some { 0 < most }
+    requires few_calls { calls journal.old.entries + most ≤ CALL_LIMIT }
     requires few_moves { moves journal.old.entries ≤ MOVE_LIMIT }
-    ensures live { IfOk result (λ live. any_live slots journal.old.entries ≡ live) }
-    ensures goes_on { IfOk result (λ live. live ≡ true → GoesOn (F.post service.now) slots journal.old.entries AnOrder
-        journal.new.entries) }
-    ensures none { IfOk result (λ live. live ≡ false → journal.new.entries ≡ journal.old.entries) }
+    ensures goes_on { IfOk result (λ made. GoesOnFor (F.post service.now) slots made journal.old.entries journal.new.entries) }
+    ensures none { IfOk result (λ made. made ≡ 0 → any_live slots journal.old.entries ≡ false) }
+    ensures within { IfOk result (λ made. made ≤ most) }
     ensures keeps { OnOk result (Keeps (F.post service.now) slots journal.new.entries table.new.places
         programs.new.items) }
 {
-    if !is_any_on(programs) {
-        return Ok(false);
-    }
     journal.reserve(2)?;
     let priorities = journal.priorities();
     match next_of(table, journal, programs, &priorities) {
-        Some(p) => take_turn(programs, table, journal, p, service)?,
-        None => journal.push(Entry::Idle { n: 1 }),
+        Some(p) => take_turn(programs, table, journal, p, service, most),
+        None => Ok(wait(programs, journal, most)),
     }
-    Ok(true)
 }

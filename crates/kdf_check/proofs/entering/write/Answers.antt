@@ -7,9 +7,9 @@ use Rattle.kdf_check.proofs.entering.write.Goals as goal
 pub push-requires-in-Some-clause-few_calls : goal.push-requires-in-Some-clause-few_calls
 push-requires-in-Some-clause-few_calls c =
     let note = subst IsNote c.in-Some.is c.requires.note in
-    rw c.push.ensures.entries (omega (arith, note.0, calls-pushed c.args.journal.now.entries (Ran c.args.p 1), c.requires.few_calls))
+    rw c.push.ensures.entries (omega (arith, note.0, calls-pushed c.args.journal.now.entries (Ran c.args.p c.args.n), c.requires.few_calls))
 
 pub push-requires-in-Some-clause-few_moves : goal.push-requires-in-Some-clause-few_moves
 push-requires-in-Some-clause-few_moves c =
     let note = subst IsNote c.in-Some.is c.requires.note in
-    rw c.push.ensures.entries (omega (arith, note.1, moves-pushed c.args.journal.now.entries (Ran c.args.p 1), c.requires.few_moves))
+    rw c.push.ensures.entries (omega (arith, note.1, moves-pushed c.args.journal.now.entries (Ran c.args.p c.args.n), c.requires.few_moves))

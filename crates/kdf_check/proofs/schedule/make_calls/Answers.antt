@@ -9,7 +9,7 @@ use Rattle.kdf_schedule.specs.Events.{IsInRange}
 use Rattle.kdf_theory.specs.Follows.{IsRising}
 use Rattle.kdf_check.specs.declared.table.Pending.{Pending}
 use Rattle.kdf_check.specs.Keeps.{Keeps}
-use Rattle.kdf_check.proofs.Calls.{clock-keeps, end-keeps, event-on, move-keeps, swap-keeps}
+use Rattle.kdf_check.proofs.Events.{clock-keeps, end-keeps, event-on, move-keeps, swap-keeps}
 use Rattle.kdf_check.proofs.Pairs.{pair}
 use Rattle.kdf_check.proofs.schedule.make_calls.Goals as goal
 

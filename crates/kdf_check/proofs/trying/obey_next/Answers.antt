@@ -1,13 +1,13 @@
-use Rattle.kdf_check.proofs.Desks.{obeyed_by, same_same}
+use Rattle.kdf_check.proofs.Desks.{order_then, tried_by}
 use Rattle.kdf_check.proofs.trying.obey_next.Goals as goal
 
-pub returns-clause-obeyed : goal.returns-clause-obeyed
-returns-clause-obeyed c =
+pub returns-clause-tried : goal.returns-clause-tried
+returns-clause-tried c =
     let done = c.in_ok-step.ensures.obeyed in
-    obeyed_by c.args.desk.now done.kept c.obey_with_room.new.port c.args.registers.now c.obey_with_room.new.registers c.in_ok-step.step c.entry.result
-    done.stays done.obeyed.step done.obeyed.registers done.obeyed.acted c.entry.ensures
+    tried_by c.args.desk.now done.kept c.obey_in_general.new.port c.args.registers.now c.obey_in_general.new.registers c.in_ok-step.step
+    c.requires.order c.requires.quiet done.stays done.obeyed.step done.obeyed.registers done.obeyed.acted
 
 pub returns-clause-same : goal.returns-clause-same
 returns-clause-same c =
     let done = c.in_ok-step.ensures.obeyed in
-    same_same c.args.desk.now done.kept c.obey_with_room.new.port done.stays.same done.obeyed.acted.same
+    order_then c.args.desk.now done.kept c.obey_in_general.new.port _ done.stays done.obeyed.acted

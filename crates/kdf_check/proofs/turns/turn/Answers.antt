@@ -1,29 +1,46 @@
-use Rattle.std.proofs.Common.{refl, sym, ap, subst}
-use Rattle.kdf_check.specs.Around.{around_by}
+use Rattle.std.specs.Prelude.{IfOk}
+use Rattle.std.proofs.Common.{◌≡◌, ℕ, true, Ok, Result, refl, sym, ap, ◌∙◌, subst, arith}
+use Rattle.kdf_processor.specs.State.{State}
+use Rattle.kdf_alone.specs.declared.bench.Bench.{Bench}
+use Rattle.kdf_theory.specs.ByJournal.{own}
 use Rattle.kdf_check.specs.Entered.{IsNote}
 use Rattle.kdf_check.proofs.Entries.{note_is}
-use Rattle.kdf_check.proofs.Tries.{heard_with, tried_with}
-use Rattle.kdf_check.proofs.Turning.{turned}
+use Rattle.kdf_check.proofs.Running.{batch_turned}
+use Rattle.kdf_check.proofs.Tries.{batch_over, heard_with, posed_with}
 use Rattle.kdf_check.proofs.turns.turn.Goals as goal
+
+known : {A E : Type 0} (P : A → Type 0) (r : Result A E) (a : A) → r ≡ Ok a → IfOk r P → P a
+known P r a is h = subst (λ t. IfOk t P) is h
 
 pub enter-requires-clause-note : goal.enter-requires-clause-note
 enter-requires-clause-note g c =
-    let x = c.args.program.now in
-    let t = c.args.table.now.places in
-    let tried = tried_with g.slots c.args.journal.now.entries x.p t c.heard-answer.new.table.places c.try_next.new.table.places x.registers c.try_next.new.registers x.bench c.heard-answer.new.bench c.try_next.new.bench
-    c.unwrap_or-heard.result _ _ c.requires.1.1.1.0 c.heard-answer.ensures.bench (ap (λ u. u.places) c.heard-answer.ensures.table) (c.in_ok-ending.ensures.tried g.slots) in
-    subst IsNote (sym tried.entry_is) (note_is _ _ _)
+    let batch = known _ c.try_orders-quiet.result.1 (c.in_ok-ending.ending, c.in_ok-ending.entry) c.in_ok-ending.was c.try_orders-quiet.ensures.tried in
+    subst IsNote (sym batch.last.told_is) (note_is _ _ _)
 
-pub returns : goal.returns
-returns g c =
+pub returns-clause-turned : goal.returns-clause-turned
+returns-clause-turned g c =
+    let answers : ℕ → ℕ → Type 0 = λ n a. goal.F-post g c.args.service.now n a in
     let J = c.args.journal.now.entries in
     let x = c.args.program.now in
     let t = c.args.table.now.places in
-    let posed = c.requires.1.1.1.0 in
+    let heard = c.heard-answer in
     let h = c.unwrap_or-heard.result in
-    turned g.slots J x.p (around_by t J h) _ posed.are posed.legal c.requires.1.1.0 posed.around_is.tells (λ n a. goal.F-post g c.args.service.now n a)
-    (heard_with g.slots J x.p t x.registers x.bench posed (λ n a. goal.F-post g c.args.service.now n a) c.heard-answer.result h c.default.result c.unwrap_or-heard.ensures c.default.ensures c.heard-answer.ensures.asked)
-    _ c.try_next.new.table.places _ c.enter.new.journal.entries
-    (tried_with g.slots J x.p t c.heard-answer.new.table.places c.try_next.new.table.places x.registers c.try_next.new.registers x.bench c.heard-answer.new.bench c.try_next.new.bench
-    h _ _ posed c.heard-answer.ensures.bench (ap (λ u. u.places) c.heard-answer.ensures.table) (c.in_ok-ending.ensures.tried g.slots))
-    refl c.hold_left-program.ensures c.enter.ensures
+    let left = c.try_orders-quiet.new in
+    let quiet = c.try_orders-quiet.result.0 in
+    let posed = c.requires.1.1.1.0 in
+    let s : State = own g.slots J x.p in
+    let batch =
+    batch_over x.p J h quiet x.registers left.registers x.bench heard.new.bench left.bench t heard.new.table.places left.table.places
+    c.in_ok-ending.ending c.in_ok-ending.entry heard.ensures.bench (ap (λ u. u.places) heard.ensures.table)
+    (known _ c.try_orders-quiet.result.1 (c.in_ok-ending.ending, c.in_ok-ending.entry) c.in_ok-ending.was c.try_orders-quiet.ensures.tried) in
+    let served_is : heard.new.bench.served ≡ s.stock.claims.served =
+    ap (λ (k : Bench). k.served) heard.ensures.bench ∙ ap (λ (y : State). y.stock.claims.served) posed.own_is in
+    let few : s.stock.claims.served ≡ true → quiet ≡ 0 = λ served.
+    let one = c.batch_of-batch.ensures.served (served_is ∙ served) in
+    let less = c.try_orders-quiet.ensures.within in
+    omega (arith, one, less) in
+    batch_turned answers g.slots J x.p t h x.registers x.bench (posed_with g.slots J x.p t x.registers x.bench posed h) c.requires.1.1.0
+    quiet _ left.table.places c.in_ok-ending.ending c.in_ok-ending.entry c.enter.new.journal.entries
+    (heard_with g.slots J x.p t x.registers x.bench posed answers heard.result h c.default.result c.unwrap_or-heard.ensures c.default.ensures
+    heard.ensures.asked)
+    s.stock.claims.served refl few batch refl c.hold_left-program.ensures c.enter.ensures

@@ -1,4 +1,4 @@
-use Rattle.kdf_check.proofs.turns.order.Given as goal
+use Rattle.kdf_check.proofs.turns.advance.Given as goal
 
 abbrev pub ghost-take_turn : goal.ghost-take_turn
 ghost-take_turn g a = g.slots
