@@ -1,5 +1,5 @@
 -- The codes of a block, and its words.
-use Rattle.std.proofs.Common.{◌≡◌, ℕ, ◌+◌, ◌*◌, ◌/◌, ◌%◌, ◌<◌, ◌≤◌, List, length, drop, get_or, arith, sym}
+use Rattle.std.proofs.Common.{◌≡◌, ℕ, ◌+◌, ◌*◌, ◌/◌, ◌<◌, ◌≤◌, List, length, drop, get_or, arith, sym}
 use Rattle.kdf_word.specs.Characters.{codes_of_all, first_word, words_of}
 use Rattle.kdf_word.proofs.Packing.{codes_of_all-words_of, get_or-words_of, length-words_of}
 use Rattle.kdf_tape.specs.Tape.{IsWhole}

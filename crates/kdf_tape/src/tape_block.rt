@@ -2,6 +2,7 @@
 ghost use Rattle.std.specs.Prelude.{◌≡◌, ◌+◌, ◌*◌, ◌%◌, ◌<◌, ◌≤◌, All, length, slice_index, IfOk};
 ghost use Rattle.kdf_word.specs.Characters.{codes_of_all, words_of};
 ghost use Rattle.kdf_tape.specs.Tape.{IsWhole};
+ghost use Rattle.kdf_tape.specs.Blocks.{codes_in, mark_in};
 
 use kdf_word::Word;
 use std::alloc::{AllocError, Global};
@@ -11,19 +12,71 @@ use std::marker::Model;
 /// memory of its own.
 #[derive(Drop)]
 pub struct TapeBlock {
-    codes: Vec<u8>,
-    mark: bool,
+    kept: Kept,
+}
+
+/// What is kept of a block. The characters of a single word lie in the block itself: a tape of such blocks is the one that has most of them. Each kind has its mark, which takes
+/// no room there.
+#[derive(Drop)]
+enum Kept {
+    Word(bool, [u8; 8]),
+    Words(bool, Vec<u8>),
 }
 
 impl Model for TapeBlock {
     ghost use Rattle.kdf_word.specs.Characters.{words_of};
     ghost use Rattle.kdf_tape.specs.Tape.{Recorded, IsWhole};
+    ghost use Rattle.kdf_tape.specs.Blocks.{codes_in, mark_in};
 
     ghost Value = { Recorded };
 
-    ghost view = { λ b. record { words = words_of b.codes.items; mark = b.mark } };
+    ghost view = { λ b. record { words = words_of (codes_in b.kept); mark = mark_in b.kept } };
 
-    ghost invariant = { λ b. IsWhole b.codes.items };
+    ghost invariant = { λ b. IsWhole (codes_in b.kept) };
+}
+
+impl Kept {
+    /// Characters with a mark.
+    fn new(codes: Vec<u8>, mark: bool) -> Kept
+        ensures codes { codes_in result ≡ codes.items }
+        ensures mark { mark_in result ≡ mark }
+    {
+        if let [a, b, c, d, e, f, g, h] = *codes.as_slice() {
+            Kept::Word(mark, [a, b, c, d, e, f, g, h])
+        } else {
+            Kept::Words(mark, codes)
+        }
+    }
+
+    /// The characters.
+    fn codes(&self) -> &[u8]
+        ensures { result.now ≡ codes_in self.now }
+    {
+        match self {
+            Kept::Word(_, codes) => codes,
+            Kept::Words(_, codes) => codes,
+        }
+    }
+
+    /// The mark.
+    fn mark(&self) -> bool
+        ensures { result ≡ mark_in self.now }
+    {
+        match self {
+            Kept::Word(mark, _) | Kept::Words(mark, _) => *mark,
+        }
+    }
+
+    /// The same again.
+    fn copy(&self, alloc: Global) -> Result<Kept, AllocError>
+        ensures codes { IfOk result (λ k. codes_in k ≡ codes_in self.now) }
+        ensures mark { IfOk result (λ k. mark_in k ≡ mark_in self.now) }
+    {
+        match self {
+            Kept::Word(mark, codes) => Ok(Kept::Word(*mark, *codes)),
+            Kept::Words(mark, codes) => Ok(Kept::Words(*mark, Vec::from_slice(alloc, codes)?)),
+        }
+    }
 }
 
 impl TapeBlock {
@@ -33,7 +86,9 @@ impl TapeBlock {
         requires whole { length codes.items % 8 ≡ 0 }
         ensures { result ≡ record { words = words_of codes.items; mark = mark } }
     {
-        TapeBlock { codes, mark }
+        TapeBlock {
+            kept: Kept::new(codes, mark),
+        }
     }
 
     /// How many words it has.
@@ -41,7 +96,7 @@ impl TapeBlock {
     pub fn len(&self) -> usize
         ensures { result ≡ length self.now.words }
     {
-        self.codes.len() / 8
+        self.kept.codes().len() / 8
     }
 
     /// Word `i`.
@@ -49,7 +104,7 @@ impl TapeBlock {
         requires { i < length self.now.words }
         ensures { result ≡ slice_index self.now.words i }
     {
-        word_at(&self.codes, i)
+        word_at(self.kept.codes(), i)
     }
 
     /// The characters of its words, each below 64.
@@ -59,24 +114,22 @@ impl TapeBlock {
         ensures words { words_of result.now ≡ self.now.words }
         ensures below { All (λ c. c < 64) result.now }
     {
-        &self.codes
+        self.kept.codes()
     }
 
     /// Whether it has the last-block mark.
     pub fn mark(&self) -> bool
         ensures { result ≡ self.now.mark }
     {
-        self.mark
+        self.kept.mark()
     }
 
     /// Another block of the same words.
     pub(crate) fn copy(&self, alloc: Global) -> Result<TapeBlock, AllocError>
         ensures { IfOk result (λ b. b ≡ self.now) }
     {
-        let codes = Vec::from_slice(alloc, &self.codes)?;
         Ok(TapeBlock {
-            codes,
-            mark: self.mark,
+            kept: self.kept.copy(alloc)?,
         })
     }
 }
