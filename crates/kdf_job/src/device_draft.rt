@@ -15,7 +15,7 @@ use kdf_media::{Cards, Printer, Punch, Reader};
 use kdf_tape::MagTape;
 use kdf_transfer::Device;
 use kdf_word::Word;
-use std::alloc::Global;
+use std::alloc::{AllocError, Global};
 
 /// A medium, as far as it is read.
 #[derive(Drop)]
@@ -84,25 +84,25 @@ impl DeviceDraft {
     }
 
     /// The device with its number, before anything moves.
-    pub fn finish(self, alloc: Global) -> (u8, Device)
-        ensures { shown_device result ≡ shown_device_draft self }
+    pub fn finish(self, alloc: Global) -> Result<(u8, Device), AllocError>
+        ensures { IfOk result (λ x. shown_device x ≡ shown_device_draft self) }
     {
-        (self.d, self.medium.finish(alloc))
+        Ok((self.d, self.medium.finish(alloc)?))
     }
 }
 
 impl Medium {
     /// The device of this medium, before anything moves.
-    fn finish(self, alloc: Global) -> Device
-        ensures fixture { fixture_of result ≡ fixture_in self }
-        ensures progress { progress_of result ≡ at_start (blocks_in self) }
+    fn finish(self, alloc: Global) -> Result<Device, AllocError>
+        ensures fixture { IfOk result (λ device. fixture_of device ≡ fixture_in self) }
+        ensures progress { IfOk result (λ device. progress_of device ≡ at_start (blocks_in self)) }
     {
         match self {
-            Medium::Tr(paper) => Device::Tr(Reader::new(paper.codes)),
-            Medium::Tp => Device::Tp(Punch::new(alloc)),
-            Medium::Cr(stack) => Device::Cr(Cards::of_stack(stack.cards)),
-            Medium::Lp => Device::Lp(Printer::new(alloc)),
-            Medium::Mt(label, tape) => Device::Mt(MagTape::new(label, tape.blocks)),
+            Medium::Tr(paper) => Ok(Device::Tr(Reader::new(paper.codes))),
+            Medium::Tp => Ok(Device::Tp(Punch::new(alloc))),
+            Medium::Cr(stack) => Ok(Device::Cr(Cards::of_stack(stack.cards))),
+            Medium::Lp => Ok(Device::Lp(Printer::new(alloc))),
+            Medium::Mt(label, tape) => Ok(Device::Mt(MagTape::shared(alloc, label, tape.blocks)?)),
         }
     }
 }

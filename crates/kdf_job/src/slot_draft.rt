@@ -172,7 +172,7 @@ fn push_last(
         ≡ map shown_device devices.old.items ++ option_to_list (option_map shown_device_draft last)) }
 {
     if let Some(device) = last {
-        devices.push(device.finish(alloc))?;
+        devices.push(device.finish(alloc)?)?;
     }
     Ok(())
 }

@@ -1,4 +1,4 @@
--- What a block keeps of its words, and the blocks that a tape has alone or with others.
+-- What a block keeps of its words.
 use Rattle.std.specs.Prelude.{ℕ, Bool, List}
 use Rattle.kdf_tape.specs.declared.tape_block.Kept.{Kept}
 use Rattle.kdf_tape.specs.declared.tape_block.Kept.TheVariants.{Word, Words}

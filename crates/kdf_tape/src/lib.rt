@@ -4,6 +4,7 @@
 //! All characters are codes below 64.
 #![tactic(auto)]
 
+mod blocks;
 pub mod examples;
 mod tape;
 mod tape_block;

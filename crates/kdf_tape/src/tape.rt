@@ -1,9 +1,11 @@
 //! A tape.
 ghost use Rattle.std.specs.Prelude.{◌≡◌, ◌+◌, ◌^◌, ◌<◌, ◌≤◌, true, false, length, OnOk, OnErr, IfOk};
 ghost use Rattle.std.specs.Option.{option_copied};
+ghost use Rattle.kdf_tape.specs.Sharing.{blocks_in, room_in};
 ghost use Rattle.kdf_tape.specs.Tape.{after_skip, after_write, mark_of, nearest, rewound};
 
 use crate::TapeBlock;
+use crate::blocks::Blocks;
 use kdf_word::Word;
 use std::alloc::{AllocError, Global};
 use std::marker::Model;
@@ -12,29 +14,28 @@ use std::marker::Model;
 #[derive(Drop)]
 pub struct MagTape {
     label: Word,
-    blocks: Vec<TapeBlock>,
+    blocks: Blocks,
     place: usize,
     flag: bool,
     mark: bool,
 }
 
 impl Model for MagTape {
-    ghost use Rattle.std.specs.Prelude.{◌-◌, vec_len};
-    ghost use Rattle.std.specs.Vec.{vec_capacity};
+    ghost use Rattle.kdf_tape.specs.Sharing.{blocks_in, room_in};
     ghost use Rattle.kdf_tape.specs.Tape.{TapeState, IsInside};
 
     ghost Value = { TapeState };
 
     ghost view = { λ t. record {
       label = t.label;
-      blocks = t.blocks.items;
+      blocks = blocks_in t.blocks;
       place = t.place;
       flag = t.flag;
       mark = t.mark;
-      room = vec_capacity t.blocks - vec_len t.blocks;
+      room = room_in t.blocks;
     } };
 
-    ghost invariant = { λ t. IsInside t.blocks.items t.place };
+    ghost invariant = { λ t. IsInside (blocks_in t.blocks) t.place };
 }
 
 impl MagTape {
@@ -44,13 +45,16 @@ impl MagTape {
         ensures { result ≡
             record { label = label; blocks = blocks.items; place = 0; flag = false; mark = false; room = result.room } }
     {
-        MagTape {
-            label,
-            blocks,
-            place: 0,
-            flag: false,
-            mark: false,
-        }
+        at_begin(label, Blocks::Own(blocks))
+    }
+
+    /// The same, where copies share the blocks: one takes no memory for them before it is to be written.
+    pub fn shared(alloc: Global, label: Word, blocks: Vec<TapeBlock>) -> Result<MagTape, AllocError>
+        requires { length blocks.items < 2 ^ 32 }
+        ensures { IfOk result (λ t. t ≡
+            record { label = label; blocks = blocks.items; place = 0; flag = false; mark = false; room = t.room }) }
+    {
+        Ok(at_begin(label, Blocks::shared(alloc, blocks)?))
     }
 
     /// Its label.
@@ -87,20 +91,16 @@ impl MagTape {
     pub fn blocks(&self) -> &[TapeBlock]
         ensures { result.now ≡ self.now.blocks }
     {
-        &self.blocks
+        self.blocks.list()
     }
 
     /// Another tape in the same state.
     pub fn copy(&self, alloc: Global) -> Result<MagTape, AllocError>
         ensures { IfOk result (λ t. t ≡ record self.now { room = t.room }) }
     {
-        let mut blocks = Vec::new(alloc);
-        for block in self.blocks.iter() {
-            blocks.push(block.copy(alloc)?)?;
-        }
         Ok(MagTape {
             label: self.label,
-            blocks,
+            blocks: self.blocks.copy(alloc)?,
             place: self.place,
             flag: self.flag,
             mark: self.mark,
@@ -113,14 +113,14 @@ impl MagTape {
         ensures ok { OnOk result (0 < self.new.room) }
         ensures err { OnErr result (self.new ≡ self.old) }
     {
-        self.blocks.reserve(1)
+        self.blocks.reserve()
     }
 
     /// The block after the place.
     pub fn forward(&self) -> Option<&TapeBlock>
         ensures { option_copied result ≡ nearest true self.now }
     {
-        self.blocks[self.place..].first()
+        self.blocks.list()[self.place..].first()
     }
 
     /// The block before the place.
@@ -128,7 +128,7 @@ impl MagTape {
     pub fn backward(&self) -> Option<&TapeBlock>
         ensures { option_copied result ≡ nearest false self.now }
     {
-        self.blocks[..self.place].last()
+        self.blocks.list()[..self.place].last()
     }
 
     /// Its state after MFRQ, or MBRQ where not `forward`.
@@ -158,8 +158,7 @@ impl MagTape {
     {
         self.mark = block.mark();
         self.flag = false;
-        self.blocks.truncate(self.place);
-        self.blocks.push_reserved(block);
+        self.blocks.write(self.place, block);
         self.place += 1;
     }
 
@@ -177,7 +176,7 @@ impl MagTape {
     fn pass_forward(&mut self, count: usize)
         ensures { self.new ≡ after_skip true count self.old }
     {
-        let ahead = &self.blocks[self.place..];
+        let ahead = &self.blocks.list()[self.place..];
         let passed = &ahead[..count.min(ahead.len())];
         let (number, mark) = (passed.len(), mark_of(passed.last()));
         self.place += number;
@@ -189,12 +188,27 @@ impl MagTape {
     fn pass_backward(&mut self, count: usize)
         ensures { self.new ≡ after_skip false count self.old }
     {
-        let behind = &self.blocks[..self.place];
+        let behind = &self.blocks.list()[..self.place];
         let passed = &behind[behind.len().saturating_sub(count)..];
         let (number, mark) = (passed.len(), mark_of(passed.first()));
         self.place -= number;
         self.flag = number < count;
         self.mark = mark;
+    }
+}
+
+/// A tape of these blocks at its begin.
+fn at_begin(label: Word, blocks: Blocks) -> MagTape
+    requires { length (blocks_in blocks) < 2 ^ 32 }
+    ensures { result ≡
+        record { label = label; blocks = blocks_in blocks; place = 0; flag = false; mark = false; room = room_in blocks } }
+{
+    MagTape {
+        label,
+        blocks,
+        place: 0,
+        flag: false,
+        mark: false,
     }
 }
 

@@ -1,5 +1,0 @@
-use Rattle.std.proofs.Common.{◌≡◌, take}
-use Rattle.kdf_tape.proofs.tape.MagTape.copy.Given as goal
-
-abbrev pub invariant-loop-block : goal.invariant-loop-block
-invariant-loop-block l = l.blocks.items ≡ take l.block-index l.self-inside.blocks.items
