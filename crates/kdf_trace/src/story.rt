@@ -439,6 +439,7 @@ fn begun<F: Fn(u64) -> u64>(
     requires { IsService (F.pre service.now) (F.post service.now) }
 {
     let before = retrace.before_last(p, service)?;
+    retrace.catch_up(0, service)?;
     let at = before.map(|before| before.at);
     let q = match store_named(at, layout_of(world.decks, p)) {
         Some(q) => retrace.q_store(p, q),
