@@ -22,9 +22,14 @@ pub fn write_text(out: &mut String, bytes: &[u8]) -> Result<(), AllocError> {
     out.push('"')
 }
 
-/// Whether a byte stands for itself in a text in quotes.
+/// Whether a byte stands for itself in a text in quotes. Most are digits and capitals.
+#[inline(always)]
 fn is_plain(byte: u8) -> bool {
-    32 <= byte && byte <= 126 && byte != b'"' && byte != b'\\'
+    match byte {
+        b'#'..=b'[' => true,
+        b'"' | b'\\' => false,
+        _ => 32 <= byte && byte <= 126,
+    }
 }
 
 /// The bytes of a text from one offset to another.
