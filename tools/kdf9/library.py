@@ -18,7 +18,7 @@ NO_ROOM, NO_MEMORY = 6, 7
 
 # The bytes of the room for a text: as many as nearly every text has at most, so that its call is made once; what isn't written to takes no memory. Only where there
 # is no room for so many, as under a limit, there are few.
-ROOM, SMALL_ROOM = 1 << 28, 1 << 20
+FIRST_ROOM, LEAST_ROOM = 1 << 28, 1 << 20
 
 # What is said before the library is made.
 MADE_NOW = "facts come from the machine as a library, which is made now, this once; that takes about a minute where the program was built here"
@@ -177,9 +177,9 @@ def loaded(file: str, name: str = RUN) -> Callable[[Sequence[str], bytes], Answe
 def first_room() -> Any:
     """The room that is tried first for a text."""
     try:
-        return room_of(ROOM)
+        return room_of(FIRST_ROOM)
     except MemoryError:
-        return room_of(SMALL_ROOM)
+        return room_of(LEAST_ROOM)
 
 
 def room_of(most: int) -> Any:
