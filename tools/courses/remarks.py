@@ -7,7 +7,7 @@ from courses.taken import Taken
 from kdf9 import fault as faults
 from kdf9 import lives, told
 from kdf9.deck import Layout, place_at
-from kdf9.job import read_lines
+from kdf9.job import read_lines, read_slots
 from kdf9.program import BadInput
 from kdf9.runs import Run
 from kdf9.schedule import start_of
