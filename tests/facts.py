@@ -85,6 +85,14 @@ HINTS_OF_DECKS = [
     ("Y31; PROGRAM; FINISH;", {"name": "image_size", "words": "33 words", "store": 64}),
     ("Y8191; PROGRAM; FINISH;", {"name": "image_too_large", "most": 8192}),
     ("PROGRAM; NO FINISH HERE;", None),
+    ("PROGRAM; ERAZE; FINISH;", {"name": "meant", "names": "ERASE"}),
+    ("PROGRAM; FNISH; FINISH;", {"name": "meant", "names": "FINISH"}),
+    ("PROGRAM; DIV; FINISH;", {"name": "left_out", "nearest": "DIVI divides whole numbers", "names": "DIVI"}),
+    ("PROGRAM; =K2; FINISH;", {"name": "left_out", "nearest": "it belongs to Director, which isn't a program here", "names": "=Q2 or =C2 or =I2"}),
+    ("PROGRAM; BEGIN V3; FINISH;", {"name": "written_here", "said": "the main part begins with PROGRAM; or, if it has V-stores, with PROGRAM V0;"}),
+    ("PROGRAM; dup; FINISH;", {"name": "capitals", "text": "DUP"}),
+    ("PROGRAM; DUP (one) ERASE; FINISH;", {"name": "semicolon_lost", "place": "5:13", "text": "DUP"}),
+    ("PROGRAM; 12: DUP; FINISH;", {"name": "reference_form", "text": "12"}),
 ]
 
 # Jobs with a fault in a line, likewise.

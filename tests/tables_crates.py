@@ -82,6 +82,14 @@ def orders_are_those_of_the_crates(read: Read, tables: dict) -> Cases:
     yield "the orders on floating numbers", differs(table["floating"], floating)
 
 
+def forms_of_hints(read: Read, tables: dict) -> Cases:
+    """The forms among which a hint looks for the one that was meant: each of the table once."""
+    table, text = tables["orders"], read("crates/kdf_hints/src/form_names.rt")
+    forms = [form for order in table["orders"] for form in order["forms"]] + [row["form"] for row in table["statements"]]
+    tried = re.search(r'FORMS: &\[u8\] = b"(.*?)";', text, re.DOTALL)[1].replace("\\\n", " ").split()
+    yield "the forms that hints try", differs(list(dict.fromkeys(forms)), tried)
+
+
 def faults_are_those_of_the_crates(read: Read, tables: dict) -> Cases:
     """The names of faults in the sequence of their numbers."""
     for what, (file, name) in FAULTS_IN_CRATES.items():
@@ -129,4 +137,4 @@ def entries_are_those_of_the_crates(read: Read, tables: dict) -> Cases:
     yield "the entries of a journal", differs({row["entry"]: len(row["fields"]) for row in tables["entries"]}, due)
 
 
-CHECKS = (orders_are_those_of_the_crates, faults_are_those_of_the_crates, lines_are_those_of_the_crates, entries_are_those_of_the_crates)
+CHECKS = (orders_are_those_of_the_crates, forms_of_hints, faults_are_those_of_the_crates, lines_are_those_of_the_crates, entries_are_those_of_the_crates)

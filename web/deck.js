@@ -27,11 +27,6 @@ export function statementsOf(deck) {
   });
 }
 
-/** The statement at this offset of the deck, or undefined. */
-export function statementAt(deck, place) {
-  return statementsOf(deck).find(({ start, end }) => start <= place && place < end);
-}
-
 /** The line and the column of an offset in a text, both counted from 1. */
 export function lineAndColumn(text, place) {
   const before = text.slice(0, place);

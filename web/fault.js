@@ -3,11 +3,7 @@
 import { lineAndColumn, withoutComments } from "./deck.js";
 import { factsFor } from "./facts.js";
 import { frontOf, readJob } from "./job.js";
-import { hintOfStatement } from "./names.js";
 import { hint } from "./tables.js";
-
-/** The faults of a statement of which it is tried what may have been meant. */
-const HINTED_HERE = ["UnknownOrder", "ConstantRange"];
 
 /** Where the documents have the sentence of a fault. */
 const SOURCES = { job: () => "docs/JOB.md", snapshot: () => "docs/JOB.md", deck: ({ number }) => `docs/USERCODE.md, fault ${number}` };
@@ -37,6 +33,5 @@ export async function faultFound(ask, words, text) {
   if (facts.kind !== "fault" || facts.of === "text") return null;
   const fault = { ...facts, subject: subjectOf(facts), said: sentenceOf(facts) };
   const deck = facts.of === "deck" ? readJob(frontOf(text))?.slots.find(({ number }) => number === `${facts.slot}`)?.deck ?? "" : "";
-  if (HINTED_HERE.includes(facts.name)) return { ...fault, hint: await hintOfStatement(ask, facts, deck) };
   return { ...fault, hint: hintTold(facts, deck) };
 }

@@ -3,17 +3,6 @@
 const ORDERS = /* tables/orders.json */ null;
 const HINTS = /* tables/hints.json */ null;
 export const JOB = /* tables/job.json */ null;
-export const FAULTS = /* tables/faults.json */ null;
-
-const matching = ([names, said]) => [new RegExp(`^(?:${names})$`), said];
-const NAMES = /* tables/names.json */ null;
-
-/** What something is called on other machines, and how it is written here; and the orders of the KDF9 that this machine leaves out, besides floating point. */
-export const ELSEWHERE = NAMES.elsewhere.map(matching);
-export const LEFT_OUT = NAMES.left_out.map(matching);
-
-/** Every form of a statement whose operands are numbers, with a 0 for each of them. */
-export const FORMS = [...ORDERS.orders.flatMap(({ forms }) => Object.keys(forms)), ...ORDERS.statements.map(({ form }) => form)];
 
 /** The name of the order that each form of a statement means. */
 export const ENTRIES_OF_FORMS = Object.fromEntries(ORDERS.orders.flatMap(({ name, forms }) => Object.keys(forms).map((form) => [form, name])));

@@ -5,7 +5,7 @@ from typing import Dict, List
 from courses.runs import Missed
 from courses.taken import Taken
 from kdf9 import fault as faults
-from kdf9 import hints, lives, told
+from kdf9 import lives, told
 from kdf9.deck import Layout, place_at
 from kdf9.job import read_lines, read_slots
 from kdf9.program import BadInput
@@ -23,7 +23,7 @@ MOST_SENTENCES = 2
 def said_of_fault(job: str, taken: Taken) -> str:
     """What is wrong with a deck or a schedule that the machine refused: where, the name of the fault, what the documents say, and a hint."""
     fault = faults.fault_of(job, "run")
-    hint = hints.hint_of(fault, read_slots(read_lines(job))[fault.slot] if fault.of == "deck" else None)
+    hint = faults.told_hint(fault)
     head = f"{place(job, taken, fault.line)}, column {fault.column}: {fault.name}: {faults.brief(fault.subject)}"
     return joined([head, *(with_places(text, job, taken) for text in [fault.sentence, *([f"hint: {hint}"] if hint else [])])])
 

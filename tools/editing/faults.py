@@ -3,9 +3,8 @@ import re
 from typing import Iterator, List, NamedTuple, Optional, Tuple
 
 from kdf9 import fault as found_faults
-from kdf9 import hints, told
+from kdf9 import told
 from kdf9.deck import OPENING, without_comments
-from kdf9.hints import meant
 from kdf9.job import HEADER, Slot, read_lines
 from kdf9.program import BadInput
 from kdf9.statements import Statement, statement_at
@@ -21,7 +20,7 @@ from editing.texts import ABOVE, Deck, Text
 
 Edit = Tuple[int, int, str]
 
-# For how long a text hints are looked for, which may ask the machine several times.
+# For how long a text hints are told.
 LONGEST_HINTED = 100_000
 
 # The number of the last Q-store.
@@ -111,7 +110,7 @@ def hint_in(text: str, is_job: bool, fault: Fault) -> Optional[str]:
     if fault.deck:
         deck = text[fault.deck.start:fault.deck.end]
         slot = Slot(0, fault.deck.store, fault.deck.line + 1, deck if deck.endswith("\n") else f"{deck}\n", [])
-        return hints.hint_of(placed(fault.facts, slot), slot)
+        return found_faults.told_hint(placed(fault.facts, slot))
     return found_faults.told_hint(told.fault_in(fault.facts)) if is_job else None
 
 
@@ -192,8 +191,9 @@ def of_statement(deck: str, facts: dict, statement: Optional[Statement]) -> Offe
     if re.match(r"\d+:", statement.text):
         yield "Write ; for :", [(statement.start + text.index(":"), statement.start + text.index(":") + 1, ";")]
     if facts["name"] == "UnknownOrder":
-        elsewhere = [IN_HINT.match(said) for names, said in table("names")["elsewhere"] if re.fullmatch(names, statement.text)]
-        for other in [found[1].rstrip("; ") for found in elsewhere if found] + list(meant(statement.text))[:3]:
+        hint = facts["hint"] or {}
+        written_here, names = IN_HINT.match(hint.get("said", "")), hint.get("names")
+        for other in ([written_here[1].rstrip("; ")] if written_here else []) + (names.split(" or ") if names else []):
             yield f"Write {other}", [(statement.start, statement.end, other)]
     pieces = list(PIECE.finditer(without_comments(deck)[statement.start:statement.end]))[:MOST_PIECES]
     for piece in reversed(pieces[:-1]):

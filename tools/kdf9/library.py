@@ -16,9 +16,9 @@ VERSION = 1
 RUN, FACTS = "kdf9_run", "kdf9_facts"
 NO_ROOM, NO_MEMORY = 6, 7
 
-# The bytes of the room that is tried first for a text, the most that are because of earlier texts, and how many there are for each byte of the job: the facts of
-# a `*`, which is a statement by itself, have nearly so many. What had too little room is made again, so a run of many events would be made twice.
-FIRST_ROOM, MOST_ROOM, ROOM_BY_JOB = 1 << 16, 1 << 22, {RUN: 4, FACTS: 144}
+# The bytes of the room for a text: as many as nearly every text has at most, so that its call is made once; what isn't written to takes no memory. Only where there
+# is no room for so many, as under a limit, there are few.
+FIRST_ROOM, LEAST_ROOM = 1 << 28, 1 << 20
 
 # What is said before the library is made.
 MADE_NOW = "facts come from the machine as a library, which is made now, this once; that takes about a minute where the program was built here"
@@ -163,20 +163,23 @@ def loaded(file: str, name: str = RUN) -> Callable[[Sequence[str], bytes], Answe
     call.argtypes = [*piece, *piece, *piece, ctypes.POINTER(ctypes.c_uint64)]
     call.restype = ctypes.c_uint32
 
-    # The texts of a tool that runs many jobs are much alike: what was room enough for one is tried first for the next.
-    rooms = [FIRST_ROOM]
-
     def answer(words: Sequence[str], job: bytes) -> Answer:
-        asked, size, most = lines_of(words), ctypes.c_uint64(), max(rooms[0], ROOM_BY_JOB[name] * len(job))
+        asked, size, room = lines_of(words), ctypes.c_uint64(), first_room()
         while True:
-            room = room_of(most)
-            status = call(asked, len(asked), job, len(job), room, most, ctypes.byref(size))
+            status = call(asked, len(asked), job, len(job), room, len(room), ctypes.byref(size))
             if status != NO_ROOM:
                 return Answer(status, str(memoryview(room)[:size.value], ENCODING))
-            most = size.value
-            rooms[0] = min(MOST_ROOM, max(rooms[0], most + most // 4))
+            room = room_of(size.value)
 
     return answer
+
+
+def first_room() -> Any:
+    """The room that is tried first for a text."""
+    try:
+        return room_of(FIRST_ROOM)
+    except MemoryError:
+        return room_of(LEAST_ROOM)
 
 
 def room_of(most: int) -> Any:

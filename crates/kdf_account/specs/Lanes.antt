@@ -1,5 +1,5 @@
 -- A program over the moments of a run: what holds it, and what each call is for it.
-use Rattle.std.specs.Prelude.{ℕ, List, Bool, true, false, Option, Some, None, ◌==◌, ◌&&◌, ◌||◌, not, nat_lt, if◌then◌else◌, fold}
+use Rattle.std.specs.Prelude.{ℕ, List, Bool, false, Option, Some, None, ◌==◌, ◌&&◌, ◌||◌, not, nat_lt, if◌then◌else◌, fold}
 use Rattle.kdf_journal.specs.declared.entry.Entry.{Entry}
 use Rattle.kdf_journal.specs.declared.entry.Entry.TheVariants.{Ran, Fail, Ended, Lov, Busy, Wait, Idle, End}
 use Rattle.kdf_journal.specs.declared.kind.Kind.{Kind}

@@ -1,11 +1,11 @@
 //! The moments of a run as JSON.
-ghost use Rattle.std.specs.Prelude.{◌≡◌, ◌++◌, OnOk, string_bytes};
-ghost use Rattle.kdf_account.specs.Json.{call_json, entry_json, kind_json, moment_json, moments_json, one_json, rest_json, start_json, two_json};
+ghost use Rattle.std.specs.Prelude.{◌≡◌, ◌++◌, OnOk, decimal, string_bytes};
+ghost use Rattle.kdf_account.specs.Json.{call_json, entry_json, kind_json, moment_json, moments_json, number, one_json, rest_json, two_json};
 
 use crate::moment::Moment;
 use kdf_journal::Entry;
+use kdf_json::write_after;
 use std::alloc::AllocError;
-use std::fmt::Write;
 
 /// Writes the moments, with a comma between each two. Without memory nothing is said of `out`.
 pub fn write_moments(out: &mut String, moments: &[Moment]) -> Result<(), AllocError>
@@ -43,7 +43,7 @@ fn write_moment(out: &mut String, moment: &Moment) -> Result<(), AllocError>
 fn write_call(out: &mut String, call: u32) -> Result<(), AllocError>
     ensures { OnOk result (string_bytes out.new ≡ string_bytes out.old ++ call_json call) }
 {
-    write!(out, "{{\"call\":{call},\"entry\":")
+    write_between(out, "{\"call\":", call.into(), ",\"entry\":")
 }
 
 /// Writes the name of an entry and its members.
@@ -52,7 +52,17 @@ fn write_entry(out: &mut String, entry: &Entry) -> Result<(), AllocError>
 {
     match *entry {
         Entry::Ran { p, n } => write_two(out, "\"RAN\",\"slot\":", p, ",\"orders\":", n.into()),
-        Entry::Start { p, d, k } => write_start(out, p, d, k),
+        Entry::Start { p, d, k } => {
+            write_three(
+                out,
+                "\"START\",\"slot\":",
+                p,
+                ",\"device\":",
+                d,
+                ",\"order\":",
+                k,
+            )
+        }
         Entry::Answer { p, v } => write_two(out, "\"ANSWER\",\"slot\":", p, ",\"answer\":", v),
         Entry::Take { p, d } => write_two(out, "\"TAKE\",\"slot\":", p, ",\"device\":", d.into()),
         Entry::Give { p, d } => write_two(out, "\"GIVE\",\"slot\":", p, ",\"device\":", d.into()),
@@ -71,11 +81,19 @@ fn write_entry(out: &mut String, entry: &Entry) -> Result<(), AllocError>
     }
 }
 
+/// Writes a number between what stands before it and what stands after it.
+fn write_between(out: &mut String, front: &str, n: u64, rest: &str) -> Result<(), AllocError>
+    ensures { OnOk result (string_bytes out.new ≡ string_bytes out.old ++ number front.now n rest.now) }
+{
+    write_after(out, front, n)?;
+    out.push_str(rest)
+}
+
 /// Writes a number after what stands before it.
 fn write_one(out: &mut String, front: &str, n: u64) -> Result<(), AllocError>
     ensures { OnOk result (string_bytes out.new ≡ string_bytes out.old ++ one_json front.now n) }
 {
-    write!(out, "{front}{n}")
+    write_after(out, front, n)
 }
 
 /// Writes two numbers, each after what stands before it.
@@ -89,19 +107,35 @@ fn write_two(
     ensures { OnOk result (string_bytes out.new
         ≡ string_bytes out.old ++ two_json front.now first middle.now second) }
 {
-    write!(out, "{front}{first}{middle}{second}")
+    write_after(out, front, first.into())?;
+    write_after(out, middle, second)
 }
 
-/// Writes the begin of a transfer.
-fn write_start(out: &mut String, p: u8, d: u8, k: u32) -> Result<(), AllocError>
-    ensures { OnOk result (string_bytes out.new ≡ string_bytes out.old ++ start_json p d k) }
+/// Writes three numbers, each after what stands before it.
+fn write_three(
+    out: &mut String,
+    front: &str,
+    first: u8,
+    middle: &str,
+    second: u8,
+    last: &str,
+    third: u32,
+) -> Result<(), AllocError>
+    ensures { OnOk result (string_bytes out.new
+        ≡ string_bytes out.old ++ number front.now first (number middle.now second (last.now ++ decimal third))) }
 {
-    write!(out, "\"START\",\"slot\":{p},\"device\":{d},\"order\":{k}")
+    write_two(out, front, first, middle, second.into())?;
+    write_after(out, last, third.into())
 }
 
 /// Writes the name of an entry, a slot, and how its program failed or what kind of device it waits for.
 fn write_kind(out: &mut String, name: &str, p: u8, kind: &str) -> Result<(), AllocError>
     ensures { OnOk result (string_bytes out.new ≡ string_bytes out.old ++ kind_json name.now p kind.now) }
 {
-    write!(out, "\"{name}\",\"slot\":{p},\"kind\":\"{kind}\"")
+    out.push_str("\"")?;
+    out.push_str(name)?;
+    write_after(out, "\",\"slot\":", p.into())?;
+    out.push_str(",\"kind\":\"")?;
+    out.push_str(kind)?;
+    out.push_str("\"")
 }

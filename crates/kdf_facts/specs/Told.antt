@@ -1,5 +1,5 @@
 -- What is told of a job.
-use Rattle.std.specs.Prelude.{◌≡◌, ℕ, ◌≤◌, List, length, Option, Some, None}
+use Rattle.std.specs.Prelude.{◌≡◌, ℕ, ◌≤◌, List, length, Some, None}
 use Rattle.kdf_job.specs.Job.{Job}
 use Rattle.kdf_job.specs.Reading.{job, job_fault}
 use Rattle.kdf_job.specs.declared.fault.JobFault.{JobFault}

@@ -26,8 +26,8 @@ use kdf_listing::{Deck, lay_out};
 use kdf_place::Image;
 use kdf_service::Service;
 use kdf_trace::{
-    Retrace, Story, World, looks_for, orders_of_live, write_asks, write_flights, write_holds,
-    write_loans,
+    Past, Retrace, Story, World, keep_last, looks_for, orders_of_live, write_asks, write_flights,
+    write_holds, write_loans,
 };
 use std::alloc::{AllocError, Global};
 use std::fmt::Write;
@@ -53,18 +53,20 @@ pub fn run_facts<F: Fn(u64) -> u64>(
     requires images { HasImages (shown_job loaded.job.now).slots loaded.images.now }
     ensures { IfOk result (λ text. IsRunTold (F.post service.now) (shown_job loaded.entry.job.now) (string_bytes text)) }
 {
-    let machine = run_job(alloc, loaded.job, loaded.images, service)?;
-    let told = told_by(alloc, loaded, printed, &machine, service);
+    let mut pasts = Vec::new(alloc);
+    let machine = run_job(alloc, loaded.job, loaded.images, service, &mut pasts)?;
+    let told = told_by(alloc, loaded, printed, &machine, pasts, service);
     machine.close();
     told
 }
 
-/// The facts that a machine tells after its run. It has the program of each slot.
+/// The facts that a machine tells after its run, of which these last orders were noted. It has the program of each slot.
 pub fn told_by<F: Fn(u64) -> u64>(
     alloc: Global,
     loaded: Loaded<'_>,
     printed: Printed,
     machine: &Machine,
+    pasts: Vec<Past>,
     service: &Service<F>,
 ) -> Result<String, AllocError>
     requires service { IsService (F.pre service.now) (F.post service.now) }
@@ -75,13 +77,14 @@ pub fn told_by<F: Fn(u64) -> u64>(
     ensures { IfOk result (λ text. TellsRun (shown_job loaded.entry.job.now) machine.now.journal (string_bytes text)) }
 {
     let decks = decks_of(alloc, loaded.bytes, &loaded.job.slots)?;
+    let (pasts, live) = keep_last(alloc, pasts, orders_of_live(machine))?;
     let world = World {
         decks: &decks,
         pool: &loaded.job.pool,
-        live: orders_of_live(machine),
+        live,
     };
     let _all = machine.journal().calls();
-    let (story, account) = story_of(alloc, loaded, machine.journal(), world, service)?;
+    let (story, account) = story_of(alloc, loaded, machine.journal(), world, pasts, service)?;
     let mut rest = rest_text(alloc, loaded, machine, &story, &decks)?;
     write_printed(alloc, &mut rest, loaded, printed, machine)?;
     run_text(alloc, loaded.job, account.moments(), &rest)
@@ -160,6 +163,7 @@ fn story_of<F: Fn(u64) -> u64>(
     loaded: Loaded<'_>,
     journal: &Journal,
     world: World<'_, '_>,
+    pasts: Vec<Past>,
     service: &Service<F>,
 ) -> Result<(Story, Account), AllocError>
     requires service { IsService (F.pre service.now) (F.post service.now) }
@@ -172,7 +176,7 @@ fn story_of<F: Fn(u64) -> u64>(
         due: 0,
         looks: looks_for(journal.entries(), world.live),
     };
-    let gone = go_through(alloc, &mut retrace, journal, world, service);
+    let gone = go_through(alloc, &mut retrace, journal, world, pasts, service);
     retrace.close();
     gone
 }
@@ -183,12 +187,13 @@ fn go_through<F: Fn(u64) -> u64>(
     retrace: &mut Retrace,
     journal: &Journal,
     world: World<'_, '_>,
+    pasts: Vec<Past>,
     service: &Service<F>,
 ) -> Result<(Story, Account), AllocError>
     requires service { IsService (F.pre service.now) (F.post service.now) }
     ensures { IfOk result (λ x. entries_of x.1 ≡ journal.now.entries) }
 {
-    let mut story = Story::new(alloc, world.pool);
+    let mut story = Story::new(alloc, world.pool, pasts);
     let mut account = Account::new(alloc);
     let _all = journal.calls();
     for entry in journal.entries() {

@@ -7,10 +7,11 @@ ghost use Rattle.kdf_theory.specs.Shown.{ShowsSeen};
 ghost use Rattle.kdf_service.specs.Rules.{IsService};
 ghost use Rattle.kdf_top.specs.Loaded.{HasImages, slots_of};
 
-use kdf_director::{Machine, follow};
+use kdf_director::Machine;
 use kdf_job::Job;
 use kdf_place::Image;
 use kdf_service::Service;
+use kdf_trace::{Past, follow_noting};
 use kdf_watch::stops_at;
 use std::alloc::{AllocError, Global};
 
@@ -25,12 +26,13 @@ pub fn load_machine(alloc: Global, job: &Job, images: &[Image]) -> Result<Machin
     Machine::load(alloc, job, images)
 }
 
-/// Loads a job and makes the calls of its schedule; the service answers its programs.
+/// Loads a job and makes the calls of its schedule; the service answers its programs. Last orders of them are noted.
 pub fn run_job<F: Fn(u64) -> u64>(
     alloc: Global,
     job: &Job,
     images: &[Image],
     service: &Service<F>,
+    pasts: &mut Vec<Past>,
 ) -> Result<Machine, AllocError>
     requires service { IsService (F.pre service.now) (F.post service.now) }
     requires job { IsJob (shown_job job.now) }
@@ -41,7 +43,7 @@ pub fn run_job<F: Fn(u64) -> u64>(
     ensures seen { IfOk result ShowsSeen }
 {
     let mut machine = load_machine(alloc, job, images)?;
-    match follow(&mut machine, &job.events, service) {
+    match follow_noting(alloc, &mut machine, &job.events, service, pasts) {
         Ok(()) => Ok(machine),
         Err(error) => {
             machine.close();

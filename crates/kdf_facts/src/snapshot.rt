@@ -16,6 +16,7 @@ use kdf_json::{after, write_comma, write_text};
 use kdf_service::Service;
 use kdf_snapshot::dump;
 use kdf_text::{Lines, cut_word, number_in};
+use kdf_trace::Past;
 use std::alloc::{AllocError, Global};
 use std::fmt::Write;
 
@@ -35,8 +36,9 @@ pub fn snapshot_facts<F: Fn(u64) -> u64>(
     requires job { IsJob (shown_job loaded.job.now) }
     requires images { HasImages (shown_job loaded.job.now).slots loaded.images.now }
 {
-    let machine = run_job(alloc, loaded.job, loaded.images, service)?;
-    let told = told_after(alloc, loaded, &machine, service);
+    let mut pasts = Vec::new(alloc);
+    let machine = run_job(alloc, loaded.job, loaded.images, service, &mut pasts)?;
+    let told = told_after(alloc, loaded, &machine, pasts, service);
     machine.close();
     told
 }
@@ -46,6 +48,7 @@ fn told_after<F: Fn(u64) -> u64>(
     alloc: Global,
     loaded: Loaded<'_>,
     machine: &Machine,
+    pasts: Vec<Past>,
     service: &Service<F>,
 ) -> Result<String, AllocError>
     requires service { IsService (F.pre service.now) (F.post service.now) }
@@ -54,7 +57,7 @@ fn told_after<F: Fn(u64) -> u64>(
     requires images { HasImages (shown_job loaded.job.now).slots loaded.images.now }
     requires programs { All (HasProgram machine.now) (map shown_slot loaded.job.now.slots.items) }
 {
-    let run = told_by(alloc, loaded, Printed::Report, machine, service)?;
+    let run = told_by(alloc, loaded, Printed::Report, machine, pasts, service)?;
     let words = words_of(alloc, loaded.job, machine)?;
     snapshot_text(alloc, loaded, &words, &run)
 }

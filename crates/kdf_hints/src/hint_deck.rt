@@ -2,6 +2,7 @@
 
 use crate::hint::{write_begin, write_close, write_none, write_place, write_plain, write_value};
 use crate::hint_byte::write_byte_hint;
+use crate::hint_form::write_form_hint;
 use crate::hint_names::write_names_hint;
 use crate::hint_number::write_number_hint;
 use kdf_json::{Spot, before, from, length_of, spot_after};
@@ -41,6 +42,9 @@ pub fn write_deck_hint(
         DeckFault::BadByte => write_byte_hint(out, from(faulty.text, faulty.place)),
         DeckFault::Floating => write_plain(out, "floating"),
         DeckFault::NoSemicolon => write_semicolon_hint(out, faulty),
+        DeckFault::UnknownOrder | DeckFault::ConstantRange => {
+            write_form_hint(alloc, out, faulty, statement)
+        }
         DeckFault::BadNumber => write_number_hint(alloc, out, statement),
         DeckFault::TooLarge => write_size_hint(out, faulty.store, words),
         DeckFault::ReferenceTwice

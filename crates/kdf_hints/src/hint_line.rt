@@ -120,7 +120,7 @@ fn write_expected(
 }
 
 /// Whether a word is one of these.
-fn has(words: &[u8], word: &[u8]) -> bool {
+pub fn has(words: &[u8], word: &[u8]) -> bool {
     let mut rest = words;
     for _word in 0..words.len() {
         match cut_word(rest) {

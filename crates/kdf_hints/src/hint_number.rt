@@ -1,6 +1,7 @@
 //! What may have led to a number of a statement that is out of range.
 
 use crate::hint::{write_begin, write_close, write_none, write_value};
+use crate::hint_form::digits_of;
 use kdf_job::TEXT_LIMIT;
 use kdf_json::{before, count_of, from, squeezed};
 use kdf_usercode::{DeckError, DeckFault, read_deck};
@@ -114,18 +115,6 @@ fn is_wrong_deck(alloc: Global, deck: &[u8]) -> Result<bool, AllocError> {
         Err(DeckError::Memory) => Err(AllocError),
         Err(DeckError::Fault(fault, _)) => Ok(fault == DeckFault::BadNumber),
     }
-}
-
-/// How many digits a text begins with.
-fn digits_of(text: &[u8]) -> u32 {
-    let mut digits = 0u32;
-    for byte in text {
-        if !byte.is_ascii_digit() {
-            return digits;
-        }
-        digits = digits.saturating_add(1);
-    }
-    digits
 }
 
 /// The number that a text begins with, or the largest that one is taken for.

@@ -2,9 +2,11 @@
 #![tactic(auto)]
 
 mod fault_columns;
+mod form_names;
 mod hint;
 mod hint_byte;
 mod hint_deck;
+mod hint_form;
 mod hint_job;
 mod hint_line;
 mod hint_medium;

@@ -1,7 +1,7 @@
 //! JSON: texts in quotes, and what every text of facts begins with.
 
+use crate::decimals::write_decimal;
 use std::alloc::AllocError;
-use std::fmt::Write;
 
 const DIGITS: [char; 16] = [
     '0', '1', '2', '3', '4', '5', '6', '7', '8', '9', 'a', 'b', 'c', 'd', 'e', 'f',
@@ -22,9 +22,14 @@ pub fn write_text(out: &mut String, bytes: &[u8]) -> Result<(), AllocError> {
     out.push('"')
 }
 
-/// Whether a byte stands for itself in a text in quotes.
+/// Whether a byte stands for itself in a text in quotes. Most are digits and capitals.
+#[inline(always)]
 fn is_plain(byte: u8) -> bool {
-    32 <= byte && byte <= 126 && byte != b'"' && byte != b'\\'
+    match byte {
+        b'#'..=b'[' => true,
+        b'"' | b'\\' => false,
+        _ => 32 <= byte && byte <= 126,
+    }
 }
 
 /// The bytes of a text from one offset to another.
@@ -71,7 +76,7 @@ pub fn write_byte(out: &mut String, byte: u8) -> Result<(), AllocError> {
 /// Writes a number, or `null`.
 pub fn write_number(out: &mut String, number: Option<u32>) -> Result<(), AllocError> {
     match number {
-        Some(number) => write!(out, "{number}"),
+        Some(number) => write_decimal(out, number.into()),
         None => out.push_str("null"),
     }
 }

@@ -198,13 +198,14 @@ impl Layout<'_> {
         let mut low = 0;
         let mut high = self.orders.len();
         for _halving in 0..64 {
-            if low < high {
-                let middle = low + (high - low) / 2;
-                if self.is_before(middle, at) {
-                    low = middle + 1;
-                } else {
-                    high = middle;
-                }
+            if low >= high {
+                break;
+            }
+            let middle = low + (high - low) / 2;
+            if self.is_before(middle, at) {
+                low = middle + 1;
+            } else {
+                high = middle;
             }
         }
         self.orders.get(low).copied()

@@ -3,7 +3,7 @@
 use crate::layout::{Layout, Row, StatementKind};
 use crate::spots::{write_at, write_spot};
 use crate::stores::{write_parts, write_stores};
-use kdf_json::{length_of, write_comma, write_spaced, write_text};
+use kdf_json::{length_of, write_after, write_comma, write_spaced, write_text};
 use kdf_place::{Image, Label, listing, listing_absent};
 use kdf_text::write_octal;
 use kdf_word::Word;
@@ -102,20 +102,18 @@ fn write_statement(
     row: &Row,
     at: u64,
 ) -> Result<(), AllocError> {
-    let Row {
-        place,
-        size,
-        filled,
-        ..
-    } = *row;
     let text = layout.written(row);
-    let length = length_of(text);
-    let kind = name_of(row.kind);
-    write!(out, "{{\"offset\":{place},\"length\":{length},")?;
+    write_after(out, "{\"offset\":", row.place.into())?;
+    write_after(out, ",\"length\":", length_of(text).into())?;
+    out.push(',')?;
     write_spot(out, row.spot)?;
-    write!(out, ",\"kind\":\"{kind}\",\"at\":")?;
+    out.push_str(",\"kind\":\"")?;
+    out.push_str(name_of(row.kind))?;
+    out.push_str("\",\"at\":")?;
     write_at(out, at)?;
-    write!(out, ",\"syllables\":{size},\"filled\":{filled},\"text\":")?;
+    write_after(out, ",\"syllables\":", row.size)?;
+    write_after(out, ",\"filled\":", row.filled)?;
+    out.push_str(",\"text\":")?;
     write_text(out, text)?;
     out.push_str(",\"written\":")?;
     write_spaced(out, text)?;
@@ -140,7 +138,9 @@ fn write_references(out: &mut String, labels: &[Label]) -> Result<(), AllocError
     for (i, label) in labels.iter().enumerate() {
         write_comma(out, i)?;
         let Label { part, number, at } = *label;
-        write!(out, "{{\"part\":{part},\"reference\":{number},\"at\":")?;
+        write_after(out, "{\"part\":", part.into())?;
+        write_after(out, ",\"reference\":", number.into())?;
+        out.push_str(",\"at\":")?;
         write_at(out, u64::from(at))?;
         out.push_str("}")?;
     }

@@ -1,21 +1,21 @@
 //! Where a statement stands: in the job, in the store and in its deck.
 
 use crate::layout::Layout;
-use kdf_json::Spot;
+use kdf_json::{Spot, write_after};
 use std::alloc::AllocError;
-use std::fmt::Write;
 
 /// Writes a line and a column.
 pub fn write_spot(out: &mut String, spot: Spot) -> Result<(), AllocError> {
     let Spot { line, column } = spot;
-    write!(out, "\"line\":{line},\"column\":{column}")
+    write_after(out, "\"line\":", line.into())?;
+    write_after(out, ",\"column\":", column.into())
 }
 
 /// Writes a word and a syllable.
 pub fn write_at(out: &mut String, at: u64) -> Result<(), AllocError> {
-    let word = at / 6;
-    let syllable = at % 6;
-    write!(out, "[{word},{syllable}]")
+    write_after(out, "[", at / 6)?;
+    write_after(out, ",", at % 6)?;
+    out.push(']')
 }
 
 /// Writes where an order stands, in the store and in the deck.
@@ -36,8 +36,8 @@ pub fn write_order(
     };
     match row {
         Some(row) => {
-            let place = row.place;
-            write!(out, "{{\"offset\":{place},")?;
+            write_after(out, "{\"offset\":", row.place.into())?;
+            out.push(',')?;
             write_spot(out, row.spot)?;
             out.push_str("}")
         }

@@ -1,11 +1,10 @@
 //! The transfers of a run.
 
 use kdf_account::Unlocked;
-use kdf_json::{write_comma, write_number};
+use kdf_json::{write_after, write_comma, write_number};
 use kdf_listing::{Deck, layout_of, write_order};
 use kdf_qstore::Triple;
 use std::alloc::AllocError;
-use std::fmt::Write;
 
 /// A transfer: the program that began it by its own order `k`, its device, the calls with which it began and after which it ended, the syllable of
 /// its order, the parts of its Q-store, how many words it moves, how many of them were moved before its end, and what it locked out.
@@ -50,26 +49,38 @@ fn write_flight(out: &mut String, flight: &Flight) -> Result<(), AllocError> {
         moved,
         ..
     } = *flight;
-    write!(
-        out,
-        "{{\"slot\":{p},\"order\":{k},\"device\":{d},\"began\":{began},\"ended\":"
-    )?;
+    write_after(out, "{\"slot\":", p.into())?;
+    write_after(out, ",\"order\":", k.into())?;
+    write_after(out, ",\"device\":", d.into())?;
+    write_after(out, ",\"began\":", began.into())?;
+    out.push_str(",\"ended\":")?;
     write_number(out, ended)?;
-    write!(out, ",\"words\":{total},\"moved\":{moved}")
+    write_after(out, ",\"words\":", total.into())?;
+    write_after(out, ",\"moved\":", moved.into())
 }
 
 /// Writes the first and the last address of the area of a transfer, and its groups.
 fn write_area(out: &mut String, flight: &Flight) -> Result<(), AllocError> {
     match (flight.locked, flight.q) {
         (Some(groups), Some(q)) => {
-            let Triple { i, m, .. } = q;
-            let Unlocked { first, last, .. } = groups;
-            write!(out, ",\"area\":[{i},{m}],\"groups\":[{first},{last}]")
+            write_pair(out, ",\"area\":[", q.i, q.m)?;
+            write_pair(out, ",\"groups\":[", groups.first, groups.last)
         }
         (Some(groups), None) => {
-            let Unlocked { first, last, .. } = groups;
-            write!(out, ",\"area\":null,\"groups\":[{first},{last}]")
+            write_pair(
+                out,
+                ",\"area\":null,\"groups\":[",
+                groups.first,
+                groups.last,
+            )
         }
         (None, _) => out.push_str(",\"area\":null,\"groups\":null"),
     }
+}
+
+/// Writes the two items of a list that begins so.
+fn write_pair(out: &mut String, front: &str, first: u16, last: u16) -> Result<(), AllocError> {
+    write_after(out, front, first.into())?;
+    write_after(out, ",", last.into())?;
+    out.push(']')
 }

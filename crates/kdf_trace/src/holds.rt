@@ -2,10 +2,9 @@
 
 use crate::retrace::Before;
 use kdf_journal::Kind;
-use kdf_json::{write_comma, write_number};
+use kdf_json::{write_after, write_comma, write_decimal, write_number};
 use kdf_listing::{Deck, layout_of, write_order};
 use std::alloc::AllocError;
-use std::fmt::Write;
 
 /// What a program waits for.
 #[derive(Clone, Copy)]
@@ -57,7 +56,8 @@ pub fn write_holds(out: &mut String, holds: &[Hold]) -> Result<(), AllocError> {
 
 fn write_hold(out: &mut String, hold: &Hold) -> Result<(), AllocError> {
     let Hold { p, k, call, .. } = *hold;
-    write!(out, "{{\"slot\":{p},\"order\":{k},\"call\":{call},")?;
+    write_event(out, p, k, call)?;
+    out.push(',')?;
     write_cause(out, hold.cause)?;
     out.push_str(",\"transfer\":")?;
     write_number(out, hold.flight)?;
@@ -69,11 +69,12 @@ fn write_hold(out: &mut String, hold: &Hold) -> Result<(), AllocError> {
 /// Writes what a program waits for.
 pub fn write_cause(out: &mut String, cause: HeldBy) -> Result<(), AllocError> {
     match cause {
-        HeldBy::Group(group) => write!(out, "\"by\":\"group\",\"group\":{group}"),
-        HeldBy::Device(d) => write!(out, "\"by\":\"device\",\"device\":{d}"),
+        HeldBy::Group(group) => { write_after(out, "\"by\":\"group\",\"group\":", group.into()) }
+        HeldBy::Device(d) => write_after(out, "\"by\":\"device\",\"device\":", d.into()),
         HeldBy::Pool(kind) => {
-            let name = kind.name();
-            write!(out, "\"by\":\"pool\",\"pool\":\"{name}\"")
+            out.push_str("\"by\":\"pool\",\"pool\":\"")?;
+            out.push_str(kind.name())?;
+            out.push('"')
         }
     }
 }
@@ -99,10 +100,15 @@ fn write_ask(out: &mut String, ask: &Ask) -> Result<(), AllocError> {
         answer,
         ..
     } = *ask;
-    write!(
-        out,
-        "{{\"slot\":{p},\"order\":{k},\"call\":{call},\"answer\":{answer}"
-    )
+    write_event(out, p, k, call)?;
+    write_after(out, ",\"answer\":", answer)
+}
+
+/// Writes whose order an item is of, which of the program's own it is, and how many calls were before it.
+fn write_event(out: &mut String, p: u8, k: u32, call: u32) -> Result<(), AllocError> {
+    write_after(out, "{\"slot\":", p.into())?;
+    write_after(out, ",\"order\":", k.into())?;
+    write_after(out, ",\"call\":", call.into())
 }
 
 /// Writes the two top words of a nest, each without its sign.
@@ -110,12 +116,10 @@ fn write_operand(out: &mut String, before: Option<Before>) -> Result<(), AllocEr
     out.push_str(",\"nest\":[")?;
     if let Some(before) = before {
         if let Some(word) = before.top {
-            let bits = word.bits();
-            write!(out, "{bits}")?;
+            write_decimal(out, word.bits())?;
         }
         if let Some(word) = before.next {
-            let bits = word.bits();
-            write!(out, ",{bits}")?;
+            write_after(out, ",", word.bits())?;
         }
     }
     out.push_str("]")
@@ -126,10 +130,10 @@ pub fn write_loans(out: &mut String, loans: &[Loan]) -> Result<(), AllocError> {
     for (i, loan) in loans.iter().enumerate() {
         write_comma(out, i)?;
         let Loan { p, d, taken, given } = *loan;
-        write!(
-            out,
-            "{{\"device\":{d},\"slot\":{p},\"taken\":{taken},\"given\":"
-        )?;
+        write_after(out, "{\"device\":", d.into())?;
+        write_after(out, ",\"slot\":", p.into())?;
+        write_after(out, ",\"taken\":", taken.into())?;
+        out.push_str(",\"given\":")?;
         write_number(out, given)?;
         out.push_str("}")?;
     }

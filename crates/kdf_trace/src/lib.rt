@@ -6,9 +6,11 @@ mod holds;
 mod pasts;
 mod retrace;
 mod story;
+mod tail;
 
 pub use flights::{Flight, write_flights};
 pub use holds::{Ask, HeldBy, Hold, Loan, write_asks, write_holds, write_loans};
-pub use pasts::{Past, orders_of_live};
+pub use pasts::{Past, keep_last, orders_of_live};
 pub use retrace::{Before, Retrace};
 pub use story::{Story, World, is_none_free, looks_for};
+pub use tail::follow_noting;

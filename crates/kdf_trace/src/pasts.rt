@@ -3,9 +3,9 @@ ghost use Rattle.kdf_service.specs.Rules.{IsService};
 
 use crate::retrace::Retrace;
 use kdf_director::Machine;
-use kdf_processor::Life;
+use kdf_processor::{Life, Registers};
 use kdf_service::Service;
-use std::alloc::AllocError;
+use std::alloc::{AllocError, Global};
 
 /// A loop of so many orders at most is found.
 const LONGEST: u32 = 39;
@@ -47,6 +47,41 @@ fn orders_of(machine: &Machine, p: u8) -> u32 {
     }
 }
 
+/// What is noted of the last orders of programs of which it is noted of all, where programs that are live at the end obeyed so many orders; and how many
+/// the other programs obeyed that are live.
+pub fn keep_last(
+    alloc: Global,
+    pasts: Vec<Past>,
+    live: [u32; 4],
+) -> Result<(Vec<Past>, [u32; 4]), AllocError> {
+    let mut left = [0u32; 4];
+    for p in 0..4u8 {
+        if !has_all(&pasts, p, live_of(live, p)) {
+            left[usize::from(p)] = live_of(live, p);
+        }
+    }
+    let mut kept = Vec::new(alloc);
+    for past in pasts.iter() {
+        let all = live_of(live, past.p);
+        if live_of(left, past.p) == 0 && first_noted(all) <= past.k && past.k < all {
+            kept.push(*past)?;
+        }
+    }
+    Ok((kept, left))
+}
+
+/// Whether the last orders of a program that obeyed so many are all noted: they are noted one after another.
+fn has_all(pasts: &[Past], p: u8, all: u32) -> bool {
+    let first = first_noted(all);
+    notes_of(all) == 0 || pasts.iter().any(|past| past.p == p && past.k <= first)
+}
+
+/// How many orders the program of a slot obeys in all, if it is live at the end.
+pub fn live_of(live: [u32; 4], p: u8) -> u32 {
+    let slot = usize::from(p);
+    if slot < 4 { live[slot] } else { 0 }
+}
+
 /// Goes on by the orders of a program that obeys so many in all, and notes how it was before each of its last.
 pub fn go_on<F: Fn(u64) -> u64>(
     pasts: &mut Vec<Past>,
@@ -62,7 +97,9 @@ pub fn go_on<F: Fn(u64) -> u64>(
     for i in lead..stretch.n {
         retrace.go(service)?;
         let k = stretch.from.saturating_add(i);
-        note(pasts, &retrace.machine, stretch.p, k)?;
+        if let Some(registers) = retrace.machine.seen(stretch.p) {
+            note(pasts, registers, stretch.p, k)?;
+        }
         retrace.looked();
         retrace.owe(1);
     }
@@ -88,10 +125,7 @@ pub fn notes_of(all: u32) -> u32 {
 }
 
 /// Notes how a program is after its own order `k`.
-fn note(pasts: &mut Vec<Past>, machine: &Machine, p: u8, k: u32) -> Result<(), AllocError> {
-    let Some(registers) = machine.seen(p) else {
-        return Ok(());
-    };
+pub fn note(pasts: &mut Vec<Past>, registers: &Registers, p: u8, k: u32) -> Result<(), AllocError> {
     let mut counters = [0u16; 16];
     for q in 0..16u8 {
         counters[usize::from(q)] = registers.q.triple(q).c;

@@ -45,7 +45,7 @@ pub struct Going {
 
 impl Retrace {
     /// Makes the calls that are due, but for so many.
-    fn catch_up<F: Fn(u64) -> u64>(
+    pub fn catch_up<F: Fn(u64) -> u64>(
         &mut self,
         but: u32,
         service: &Service<F>,
@@ -66,7 +66,7 @@ impl Retrace {
         self.due = self.due.saturating_add(n);
     }
 
-    /// The program of a slot before the last of the calls that are due, which then are made.
+    /// The program of a slot before the last of the calls that are due, which stays so: most looks are at nothing behind it.
     pub fn before_last<F: Fn(u64) -> u64>(
         &mut self,
         p: u8,
@@ -75,10 +75,8 @@ impl Retrace {
         requires { IsService (F.pre service.now) (F.post service.now) }
     {
         self.catch_up(1, service)?;
-        let before = look(&self.machine, p);
-        self.catch_up(0, service)?;
         self.looked();
-        Ok(before)
+        Ok(look(&self.machine, p))
     }
 
     /// It was looked at once more.

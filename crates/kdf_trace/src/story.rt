@@ -3,7 +3,7 @@ ghost use Rattle.kdf_service.specs.Rules.{IsService};
 
 use crate::flights::Flight;
 use crate::holds::{Ask, HeldBy, Hold, Loan};
-use crate::pasts::{Past, Stretch, go_on, notes_of};
+use crate::pasts::{Past, Stretch, go_on, live_of, notes_of};
 use crate::retrace::{Before, Retrace};
 use kdf_account::{Free, Unlocked, free_of, with_one};
 use kdf_job::kind_lent;
@@ -13,7 +13,7 @@ use kdf_listing::{Deck, Layout, layout_of};
 use kdf_service::Service;
 use std::alloc::{AllocError, Global};
 
-/// What doesn't change in a run: its decks, its pool, and how many orders each program obeys that is live at the end.
+/// What doesn't change in a run: its decks, its pool, and how many orders each program obeys that is live at the end and whose last orders are to be noted.
 #[derive(Clone, Copy)]
 pub struct World<'a, 'b> {
     pub decks: &'a [Deck<'b>],
@@ -79,14 +79,14 @@ fn without_one(free: Free, kind: Kind) -> Free {
 }
 
 impl Story {
-    /// Before the first entry, where the pool has these devices.
-    pub fn new(alloc: Global, pool: &[(u8, Kind)]) -> Story {
+    /// Before the first entry, where the pool has these devices, and these last orders are known.
+    pub fn new(alloc: Global, pool: &[(u8, Kind)], pasts: Vec<Past>) -> Story {
         Story {
             flights: Vec::new(alloc),
             holds: Vec::new(alloc),
             asks: Vec::new(alloc),
             loans: Vec::new(alloc),
-            pasts: Vec::new(alloc),
+            pasts,
             open: [None; 16],
             going: 0,
             lent: [None; 16],
@@ -367,12 +367,6 @@ pub fn is_none_free(free: Free, kind: Kind) -> bool {
     }
 }
 
-/// How many orders the program of a slot obeys in all, if it is live at the end.
-fn live_of(live: [u32; 4], p: u8) -> u32 {
-    let slot = usize::from(p);
-    if slot < 4 { live[slot] } else { 0 }
-}
-
 /// The number that a table has for a device.
 fn number_at(table: &[Option<u32>; 16], d: u8) -> Option<u32> {
     let device = usize::from(d);
@@ -439,6 +433,7 @@ fn begun<F: Fn(u64) -> u64>(
     requires { IsService (F.pre service.now) (F.post service.now) }
 {
     let before = retrace.before_last(p, service)?;
+    retrace.catch_up(0, service)?;
     let at = before.map(|before| before.at);
     let q = match store_named(at, layout_of(world.decks, p)) {
         Some(q) => retrace.q_store(p, q),

@@ -3,4 +3,4 @@ use Rattle.kdf_account.proofs.moments.write_call.Goals as goal
 
 pub returns : goal.returns
 unfolding call_json
-returns c = c.write.ensures.bytes
+returns c = rw c.into.ensures at c.write_between.ensures

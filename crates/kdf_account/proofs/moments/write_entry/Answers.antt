@@ -35,3 +35,6 @@ returns-in-Clock c = rw c.in-Clock.is c.write_one-in-Clock.ensures
 
 pub returns-in-Swap : goal.returns-in-Swap
 returns-in-Swap c = rw c.in-Swap.is (rw c.into-in-Swap.ensures at c.write_two-in-Swap.ensures)
+
+pub returns-in-Start : goal.returns-in-Start
+returns-in-Start c = rw c.in-Start.is c.write_three.ensures

@@ -1,5 +1,4 @@
-use Rattle.std.proofs.Common.{ℕ, List, arith}
-use Rattle.kdf_job.specs.Shows.{shown_job}
+use Rattle.std.proofs.Common.{arith}
 use Rattle.kdf_top.proofs.Schedules.{entries_bound, rises}
 use Rattle.kdf_facts.proofs.running.stops_of.Goals as goal
 
