@@ -113,7 +113,7 @@ const FLOATING: &str =
     "This is a floating-point order of the KDF9, which this machine leaves out: `+F` `-F` `XF` `X+F` `DIVF` `NEGF` `ABSF` `MAXF` `SIGNF` `FLOAT` `FLOATD` `FIX` `ROUNDF` `ROUNDHF` `STAND` `+DF` `-DF` `XDF` `DIVDF` `NEGDF`.";
 
 const BAD_HEADING: &str =
-    "The statement isn't allowed here: it is out of sequence (\"The sequence of a deck\" above), or it declares `Y` or a `YL` for the second time.";
+    "The statement isn't allowed here: it is out of sequence, or it declares `Y` or a `YL` for the second time.";
 
 const VRANGE: &str =
     "The part doesn't declare this V-store, or the V-store already has a constant.";

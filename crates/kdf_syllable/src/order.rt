@@ -1,7 +1,7 @@
 //! The type of orders.
 use crate::amount::Amount;
 
-/// An order. Its codes are hexadecimal here, and the numbers `k` and `q` of Q-stores are below 16.
+/// An order. Its codes and conditions are hexadecimal here, and the numbers `k` and `q` of Q-stores are below 16.
 #[derive(Clone, Copy, PartialEq, Eq)]
 pub enum Order {
     /// One syllable, its code: 01 to 21, but not 13.
