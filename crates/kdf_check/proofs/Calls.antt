@@ -15,7 +15,7 @@ use Rattle.kdf_theory.specs.Next.{any_live, lone_dispatched}
 use Rattle.kdf_check.specs.Keeps.{GoesOn, GoesOnFor}
 use Rattle.kdf_theory.specs.Served.{IsTrueFor}
 use Rattle.kdf_theory.proofs.Course.WorldsJudged.{legal_added}
-use Rattle.kdf_director.proofs.Course.OneJournal.{true_for_added}
+use Rattle.kdf_theory.proofs.Course.OneJournal.{true_for_added}
 
 -- ---- what a step that answers an order counts
 

@@ -11,11 +11,11 @@ use Rattle.kdf_schedule.specs.Events.{IsInRange}
 use Rattle.kdf_job.specs.Job.{SlotJob}
 use Rattle.kdf_job.specs.WellFormed as job
 use Rattle.kdf_theory.specs.Follows.{IsRising}
-use Rattle.kdf_director.specs.Loading.{HaveImages, loads, slots_of}
+use Rattle.kdf_theory.specs.Loading.{HaveImages, loads, slots_of}
 use Rattle.kdf_theory.specs.Served.{IsJournalFor}
-use Rattle.kdf_director.proofs.Course.OneJournal.{true_for_nil}
+use Rattle.kdf_theory.proofs.Course.OneJournal.{true_for_nil}
 use Rattle.kdf_theory.proofs.Course.WorldsJudged.{legal_nil}
-use Rattle.kdf_director.proofs.Loading.JobsLoaded.{are_loads, are_slots}
+use Rattle.kdf_theory.proofs.JobsLoaded.{are_loads, are_slots}
 use Rattle.kdf_check.specs.declared.table.Pending.{Pending}
 use Rattle.kdf_check.specs.declared.program.Program.{Program}
 use Rattle.kdf_check.specs.declared.verdict.Verdict.{Verdict}

@@ -6,7 +6,7 @@ use Rattle.kdf_transfer.specs.Slots.{Slot}
 use Rattle.kdf_journal.specs.declared.entry.Entry.{Entry}
 use Rattle.kdf_schedule.specs.declared.event.Event.{Event}
 use Rattle.kdf_theory.specs.Served.{IsJournalFor}
-use Rattle.kdf_director.proofs.Course.OneJournal.{one_for}
+use Rattle.kdf_theory.proofs.Course.OneJournal.{one_for}
 use Rattle.kdf_check.specs.Differs.{IsDifference}
 use Rattle.kdf_check.specs.declared.verdict.Verdict.{Verdict}
 use Rattle.kdf_check.specs.declared.verdict.Verdict.TheVariants.{Yes, No}

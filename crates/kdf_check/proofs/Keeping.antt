@@ -23,7 +23,7 @@ use Rattle.kdf_theory.specs.Served.{is_true_for}
 use Rattle.kdf_theory.specs.Slots.{slot_of, start}
 use Rattle.kdf_theory.specs.ByJournal.{lone_world, own}
 use Rattle.kdf_theory.specs.World.{need_of}
-use Rattle.kdf_director.proofs.Course.OneJournal.{true_for_added, true_of_for}
+use Rattle.kdf_theory.proofs.Course.OneJournal.{true_for_added, true_of_for}
 use Rattle.kdf_theory.proofs.Course.WorldsJudged.{legal_added}
 use Rattle.kdf_theory.proofs.Course.OwnSteps.{asked-start, own-ran, own-same}
 use Rattle.kdf_theory.proofs.Course.Worlds.{next_on, next_slot}

@@ -5,7 +5,7 @@ use Rattle.std.proofs.lemmas.Bool.{cases_eq, eq-eqb, ne_eqb}
 use Rattle.std.proofs.lemmas.List.{get_or-set_same, get_or-set_other}
 use Rattle.kdf_transfer.specs.Slots.{Slot}
 use Rattle.kdf_job.specs.Job.{SlotJob}
-use Rattle.kdf_director.specs.Loading.{HaveImages, load_of, slot_of as slot_loaded, slots_of}
+use Rattle.kdf_theory.specs.Loading.{HaveImages, load_of, slot_of as slot_loaded, slots_of}
 use Rattle.kdf_theory.specs.Slots.{slot_of, start_of}
 use Rattle.kdf_theory.proofs.Course.OwnSteps.{own-nil}
 use Rattle.kdf_check.specs.declared.program.Program.{Program}

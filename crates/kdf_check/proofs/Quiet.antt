@@ -10,7 +10,7 @@ use Rattle.kdf_processor.specs.Effect.{IsBusy, IsOut, Time, FreeOf, OfService}
 use Rattle.kdf_processor.specs.Row.{at_once}
 use Rattle.kdf_processor.specs.State.{Stock}
 use Rattle.kdf_alone.specs.Bench.{stock_of, CanAsk}
-use Rattle.kdf_director.proofs.Turns.Batching.{GoesOn, goes_on}
+use Rattle.kdf_theory.proofs.GoingOn.{GoesOn, goes_on}
 use Rattle.kdf_check.specs.Around.{Around}
 use Rattle.kdf_check.specs.Batches.{AreQuiet, HasBatch, HasStopped, HasTried, outcome_at}
 use Rattle.kdf_check.specs.declared.desk.Desk.{Desk}

@@ -15,18 +15,17 @@ use Rattle.kdf_alone.specs.Bench.{state_with}
 use Rattle.kdf_theory.specs.Legal.{IsLegal, IsTrue}
 use Rattle.kdf_course.specs.World as course
 use Rattle.kdf_theory.specs.Next.{any_live, next, there_in}
-use Rattle.kdf_theory.specs.World.{World, first_need}
+use Rattle.kdf_theory.specs.World.{World, first_need, hold_left}
 use Rattle.kdf_theory.specs.Slots.{slot_of, start}
 use Rattle.kdf_theory.specs.ByJournal.{lone_world, own}
 use Rattle.kdf_theory.proofs.Course.StillNext.{still_next}
 use Rattle.kdf_theory.proofs.Course.Worlds.{next_on, next_slot}
 use Rattle.kdf_theory.proofs.Course.WorldsJudged.{legal_added, true_added}
-use Rattle.kdf_director.specs.Advance.{IsHeard}
-use Rattle.kdf_director.specs.Fields.TurnTaken.{hold_left}
-use Rattle.kdf_director.specs.Runs.{ran_on}
-use Rattle.kdf_director.proofs.Calls.FoundLive.{next_four}
-use Rattle.kdf_director.proofs.Calls.OrdersInARow.{clock-ran_on, holder-ran_on}
-use Rattle.kdf_director.proofs.Turns.HeardWords.{none_heard}
+use Rattle.kdf_theory.specs.Asked.{IsHeard}
+use Rattle.kdf_theory.specs.InARow.{ran_on}
+use Rattle.kdf_theory.proofs.Course.NextLives.{next_four}
+use Rattle.kdf_theory.proofs.Course.OrdersInARow.{clock-ran_on, holder-ran_on}
+use Rattle.kdf_theory.proofs.Course.HeardWords.{none_heard}
 use Rattle.kdf_check.specs.Around.{Around, around_by}
 use Rattle.kdf_check.specs.Batches.{AreQuiet, HasBatch, HasTried}
 use Rattle.kdf_check.specs.declared.table.Pending.{Pending}

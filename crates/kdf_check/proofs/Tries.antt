@@ -15,11 +15,10 @@ use Rattle.kdf_processor.specs.View.{View, by_itself}
 use Rattle.kdf_processor.proofs.Words.{done_word}
 use Rattle.kdf_alone.specs.declared.bench.Bench.{Bench}
 use Rattle.kdf_alone.specs.Bench.{stock_of}
-use Rattle.kdf_director.specs.Advance.{IsHeard}
-use Rattle.kdf_director.specs.Fields.TurnTaken.{HasAsked}
+use Rattle.kdf_theory.specs.Asked.{HasAsked, IsHeard}
 use Rattle.kdf_theory.specs.ByJournal.{lone_world, own}
 use Rattle.kdf_theory.specs.World.{first_need}
-use Rattle.kdf_director.proofs.Turns.HeardWords.{heard_so, heard_then}
+use Rattle.kdf_theory.proofs.Course.HeardWords.{heard_so, heard_then}
 use Rattle.kdf_check.specs.Around.{Around, around_by}
 use Rattle.kdf_check.specs.declared.table.Pending.{Pending}
 use Rattle.kdf_check.specs.Batches.{HasBatch, HasTried}

@@ -16,15 +16,14 @@ use Rattle.kdf_processor.specs.declared.step.Step.{Step as Ending}
 use Rattle.kdf_processor.specs.State.{State}
 use Rattle.kdf_alone.specs.declared.bench.Bench.{Bench}
 use Rattle.kdf_alone.specs.Bench.{state_with}
-use Rattle.kdf_director.specs.Advance.{IsHeard}
+use Rattle.kdf_theory.specs.Asked.{IsHeard}
 use Rattle.kdf_theory.specs.Legal.{note_of, IsLegal, Meets}
 use Rattle.kdf_theory.specs.Next.{next}
 use Rattle.kdf_theory.specs.Served.{is_true_for}
 use Rattle.kdf_theory.specs.Slots.{AreSlots}
-use Rattle.kdf_director.specs.Fields.TurnTaken.{hold_left}
 use Rattle.kdf_theory.specs.ByJournal.{lone_world, own}
-use Rattle.kdf_theory.specs.World.{first_need, hold_of, need_of}
-use Rattle.kdf_director.proofs.Course.OneJournal.{heard_note}
+use Rattle.kdf_theory.specs.World.{first_need, hold_left, hold_of, need_of}
+use Rattle.kdf_theory.proofs.Course.OneJournal.{heard_note}
 use Rattle.kdf_theory.proofs.Course.WorldsJudged.{need_again}
 use Rattle.kdf_theory.proofs.Course.OrdersObeyed.{obeys-others, obeys-own}
 use Rattle.kdf_theory.proofs.Course.OwnSteps.{own-same}

@@ -14,8 +14,8 @@ use Rattle.kdf_theory.specs.Legal.{IsAnswer}
 use Rattle.kdf_theory.specs.Served.{is_served, is_true_for, IsJournalFor}
 use Rattle.kdf_theory.specs.Slots.{NoneServed}
 use Rattle.kdf_theory.specs.ByJournal.{own}
-use Rattle.kdf_director.proofs.Course.OneJournal.{own_unserved}
-use Rattle.kdf_director.proofs.Turns.HeardWords.{none_asked}
+use Rattle.kdf_theory.proofs.Course.OneJournal.{own_unserved}
+use Rattle.kdf_theory.proofs.Course.HeardWords.{none_asked}
 use Rattle.kdf_check.specs.declared.verdict.Verdict.{Verdict}
 use Rattle.kdf_check.specs.declared.verdict.Verdict.TheVariants.{Yes, No}
 use Rattle.kdf_check.specs.Report.{head_line, told_lines, IsCheck, IsJudged}

@@ -6,8 +6,8 @@ use Rattle.kdf_journal.proofs.Added.{clock-added, holder-quiet}
 use Rattle.kdf_transfer.specs.Slots.{Slot}
 use Rattle.kdf_theory.specs.Next.{any_live, next}
 use Rattle.kdf_theory.specs.ByJournal.{lone_world}
-use Rattle.kdf_director.specs.Runs.{waited_on}
-use Rattle.kdf_director.proofs.Calls.OrdersInARow.{priorities-waited_on}
+use Rattle.kdf_theory.specs.InARow.{waited_on}
+use Rattle.kdf_theory.proofs.Course.OrdersInARow.{priorities-waited_on}
 use Rattle.kdf_check.specs.Around.{around_by}
 use Rattle.kdf_check.specs.declared.table.Pending.{Pending}
 use Rattle.kdf_check.specs.declared.program.Program.{Program}

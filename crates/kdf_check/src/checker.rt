@@ -4,7 +4,7 @@ ghost use Rattle.kdf_job.specs.Shows.{shown_job, shown_slot};
 ghost use Rattle.kdf_job.specs.WellFormed.{IsJob};
 ghost use Rattle.kdf_place.specs.declared.image.Image.{Image};
 ghost use Rattle.kdf_service.specs.Rules.{IsService};
-ghost use Rattle.kdf_director.specs.Loading.{HaveImages, slots_of};
+ghost use Rattle.kdf_theory.specs.Loading.{HaveImages, slots_of};
 ghost use Rattle.kdf_theory.specs.Served.{unasked};
 ghost use Rattle.kdf_theory.specs.Slots.{NoneServed};
 ghost use Rattle.kdf_check.specs.Report.{verdict_at, IsCheck};

@@ -4,9 +4,8 @@ ghost use Rattle.kdf_journal.specs.Counts.{calls, moves};
 ghost use Rattle.kdf_journal.specs.declared.entry.Entry.TheVariants.{Ran};
 ghost use Rattle.kdf_journal.specs.Joined.{pushed};
 ghost use Rattle.kdf_journal.specs.Steps.{held};
-ghost use Rattle.kdf_director.specs.Fields.TurnTaken.{hold_left};
-ghost use Rattle.kdf_director.specs.Runs.{ran_on};
-ghost use Rattle.kdf_theory.specs.World.{hold_of};
+ghost use Rattle.kdf_theory.specs.InARow.{ran_on};
+ghost use Rattle.kdf_theory.specs.World.{hold_left, hold_of};
 ghost use Rattle.kdf_check.specs.Entered.{entered, with_entry, IsNote};
 
 use kdf_journal::{CALL_LIMIT, Entry, Journal, MOVE_LIMIT};

@@ -4,7 +4,7 @@ ghost use Rattle.kdf_job.specs.Shows.{shown_slot};
 ghost use Rattle.kdf_job.specs.WellFormed.{AreSlots};
 ghost use Rattle.kdf_place.specs.declared.image.Image.{Image};
 ghost use Rattle.kdf_alone.specs.Program.{IsApart};
-ghost use Rattle.kdf_director.specs.Loading.{HaveImages, load_of, slot_of, slots_of};
+ghost use Rattle.kdf_theory.specs.Loading.{HaveImages, load_of, slot_of, slots_of};
 ghost use Rattle.kdf_check.specs.Begun.{IsBegun};
 ghost use Rattle.kdf_check.specs.Keeps.{place_at, IsKeptAt};
 

@@ -8,6 +8,5 @@ pub mod Halting
 pub mod NoneGoesOn
 pub mod OneCall
 pub mod OnlyCall
-pub mod OrdersInARow
 pub mod OrdersPassed
 pub mod ProgramGoesOn

@@ -2,7 +2,6 @@
 pub mod BeforeOrders
 pub mod DevicesByNumber
 pub mod ImagesLoaded
-pub mod JobsLoaded
 pub mod LoadedMachine
 pub mod OneMoreLoaded
 pub mod PlacesLoaded

@@ -1,10 +1,8 @@
 -- What one call of a machine does.
-use Rattle.std.specs.Prelude.{◌≡◌, ◌<◌, ◌^◌, ℕ, ◌==◌, List, ◌∷◌, Some, None, IfSome, true, false, if◌then◌else◌}
+use Rattle.std.specs.Prelude.{◌≡◌, ℕ, ◌==◌, List, ◌∷◌, Some, None, true, false, if◌then◌else◌}
 use Rattle.kdf_journal.specs.Counts.{pending}
 use Rattle.kdf_journal.specs.Steps.{Note, Quiet, Began, Answered, Took, Gave, Failed, Finished, Step, Obeys, Holds, Waits, added}
-use Rattle.kdf_processor.specs.Ahead.{word_asked}
 use Rattle.kdf_processor.specs.Effect.{Question}
-use Rattle.kdf_processor.specs.Needs.{next_effect}
 use Rattle.kdf_transfer.specs.Slots.{Slot}
 use Rattle.kdf_processor.specs.State.{State}
 use Rattle.kdf_processor.specs.declared.step.Need.{Need}
@@ -21,6 +19,7 @@ use Rattle.kdf_theory.specs.Shown.{Shown, entered, state_at, state_of, world_of}
 use Rattle.kdf_theory.specs.ByJournal.{is_of}
 use Rattle.kdf_theory.specs.True.{truth}
 use Rattle.kdf_theory.specs.World.{first_need, hold_of}
+use Rattle.kdf_theory.specs.Asked.{IsHeard}
 
 -- the states after program p obeyed its next order, by which a transfer only begins, and which was answered so, if it
 -- asked
@@ -61,11 +60,7 @@ Advance heard old new (progress.Held p need) = HeldUp old new p need
 Advance heard old new progress.Idle = Waited old new
 Advance heard old new progress.AllEnded = (any_live old.slots old.journal ≡ false) × (new ≡ old)
 
--- if the order of program p asks the service of a word, this is one of its answers to the word
-abbrev pub IsHeard : (answers : ℕ → ℕ → Type 0) → State → (heard : ℕ) → Type 0
-IsHeard answers s heard = IfSome (word_asked (next_effect s)) (λ word. (word < 2 ^ 48) × answers word heard)
-
--- so it is of the order that a call obeyed
+-- where a call obeyed an order that asks the service of a word, this is one of its answers to the word
 abbrev pub HasHeard : (answers : ℕ → ℕ → Type 0) → Shown → (heard : ℕ) → Progress → Type 0
 HasHeard answers old heard (progress.Ran p) = IsHeard answers (state_at old p) heard
 HasHeard answers old heard other = Unit {0}

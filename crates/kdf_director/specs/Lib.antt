@@ -4,7 +4,6 @@ pub mod Examples
 pub mod Fields
 pub mod Halts
 pub mod Lends
-pub mod Loading
 pub mod Orders
 pub mod Progressed
 pub mod Rows

@@ -2,7 +2,7 @@
 use Rattle.std.specs.Prelude.{◌≡◌, ◌<◌, ◌≤◌, ◌+◌, ◌++◌, ◌⊎◌, ℕ, zero, suc, true, false, List, Option, None, Result, Ok, Err, replicate, unwrap_or}
 use Rattle.kdf_journal.specs.declared.entry.Entry.{Entry}
 use Rattle.kdf_journal.specs.Counts.{calls, clock}
-use Rattle.kdf_journal.specs.Steps.{Step as Told, Obeys, Quiet, Waits, added, steps}
+use Rattle.kdf_journal.specs.Steps.{Step as Told, added, steps}
 use Rattle.kdf_processor.specs.declared.step.Need.{Need}
 use Rattle.kdf_processor.specs.declared.step.Step.{Step}
 use Rattle.kdf_schedule.specs.Calls.{AnOrder}
@@ -20,20 +20,13 @@ use Rattle.kdf_director.specs.Progressed.{found_live}
 use Rattle.kdf_theory.specs.Served.{IsAnswered, IsTrueFor}
 use Rattle.kdf_director.specs.Fields.Shared.{moment}
 use Rattle.kdf_theory.specs.Shown.{Shown}
-use Rattle.kdf_director.specs.Fields.TurnTaken.{HasAsked, hold_left, progress_of, step_told}
+use Rattle.kdf_theory.specs.InARow.{ran_on}
+use Rattle.kdf_theory.specs.Asked.{HasAsked}
+use Rattle.kdf_theory.specs.World.{hold_left}
+use Rattle.kdf_director.specs.Fields.TurnTaken.{progress_of, step_told}
 use Rattle.kdf_director.specs.Fields.Turned.{word_over, HasTurned}
 
--- the journal after program p obeyed so many orders of which nothing is noted
-abbrev pub ran_on : List Entry → (p : ℕ) → ℕ → List Entry
-ran_on J p zero = J
-ran_on J p (suc n) = added (ran_on J p n) (Obeys p Quiet)
-
--- and after so many calls that found no program that could go on
-abbrev pub waited_on : List Entry → ℕ → List Entry
-waited_on J zero = J
-waited_on J (suc n) = added (waited_on J n) Waits
-
--- what holds a program after so many such orders
+-- what holds a program after so many orders of which nothing is noted
 abbrev pub held_after : ℕ → Option Need → Option Need
 held_after zero hold = hold
 held_after (suc n) hold = None

@@ -6,9 +6,10 @@ ghost use Rattle.kdf_journal.specs.Joined.{pushed};
 ghost use Rattle.kdf_journal.specs.Steps.{added, noted, Holds};
 ghost use Rattle.kdf_director.specs.Advance.{note_beside, note_told};
 ghost use Rattle.kdf_director.specs.Fields.Parts.{seat_of};
-ghost use Rattle.kdf_director.specs.Runs.{held_after, ran_on};
-ghost use Rattle.kdf_director.specs.Fields.TurnTaken.{hold_left, progress_of, step_told};
-ghost use Rattle.kdf_theory.specs.World.{hold_of};
+ghost use Rattle.kdf_director.specs.Runs.{held_after};
+ghost use Rattle.kdf_theory.specs.InARow.{ran_on};
+ghost use Rattle.kdf_director.specs.Fields.TurnTaken.{progress_of, step_told};
+ghost use Rattle.kdf_theory.specs.World.{hold_left, hold_of};
 
 use crate::{Note, Program, Progress};
 use kdf_journal::{CALL_LIMIT, Entry, Journal, MOVE_LIMIT};

@@ -4,7 +4,7 @@ ghost use Rattle.kdf_service.specs.Rules.{IsService};
 ghost use Rattle.kdf_director.specs.Fields.CanTurn.{CanTurn};
 ghost use Rattle.kdf_director.specs.Fields.Parts.{reach_of, seat_of};
 ghost use Rattle.kdf_places.specs.Shared.{shared_in};
-ghost use Rattle.kdf_director.specs.Fields.TurnTaken.{HasAsked};
+ghost use Rattle.kdf_theory.specs.Asked.{HasAsked};
 ghost use Rattle.kdf_director.specs.Fields.Turned.{word_over};
 ghost use Rattle.kdf_director.specs.Fields.Yards.{registers_in, word_in};
 

@@ -16,7 +16,7 @@ ghost use Rattle.kdf_director.specs.Advance.{AdvanceWith, Enters, OthersStay};
 ghost use Rattle.kdf_theory.specs.Legal.{IsLegal, IsTrue};
 ghost use Rattle.kdf_director.specs.Lends.{IsLent, IsStored, window_in};
 ghost use Rattle.kdf_director.specs.Halts.{HasMadeButTo, HasMadeTo};
-ghost use Rattle.kdf_director.specs.Loading.{HaveImages, slots_of};
+ghost use Rattle.kdf_theory.specs.Loading.{HaveImages, slots_of};
 ghost use Rattle.kdf_director.specs.Fields.Agrees.{IsReady};
 ghost use Rattle.kdf_director.specs.Fields.Standing.{shown_of};
 ghost use Rattle.kdf_theory.specs.Next.{any_live};

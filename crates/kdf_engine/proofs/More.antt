@@ -7,7 +7,7 @@ use Rattle.kdf_transfer.specs.Slots.{Slot}
 use Rattle.kdf_job.specs.Job.{Job}
 use Rattle.kdf_theory.specs.Served.{IsJournalFor}
 use Rattle.kdf_theory.specs.Shown.{Shown}
-use Rattle.kdf_director.proofs.Course.OneJournal.{true_for_more}
+use Rattle.kdf_theory.proofs.Course.OneJournal.{true_for_more}
 use Rattle.kdf_check.specs.Report.{IsCheck, IsJudged, head_line, told_lines}
 use Rattle.kdf_check.specs.Verdict.{CanGoOn, IsFirstWrong, IsVerdict, TellJournal}
 use Rattle.kdf_check.specs.declared.verdict.Verdict.{Verdict}

@@ -11,10 +11,10 @@ use Rattle.kdf_place.specs.Placement.{Picture, picture_of, placed, sized, verdic
 use Rattle.kdf_job.specs.Job.{SlotJob}
 use Rattle.kdf_job.specs.Reading.{job, job_fault}
 use Rattle.kdf_job.specs.WellFormed.{AreSlots}
-use Rattle.kdf_director.specs.Loading as loading
-use Rattle.kdf_director.specs.Loading.{HaveImages, SlotLoad, load_of, loads}
+use Rattle.kdf_theory.specs.Loading as loading
+use Rattle.kdf_theory.specs.Loading.{HaveImages, SlotLoad, load_of, loads}
 use Rattle.kdf_theory.specs.Slots as director
-use Rattle.kdf_director.proofs.Loading.JobsLoaded.{are_loads, are_slots}
+use Rattle.kdf_theory.proofs.JobsLoaded.{are_loads, are_slots}
 use Rattle.kdf_report.specs.Loaded.{images_of, slots_of}
 use Rattle.kdf_report.proofs.FaultlessJobs.{bare, faultless}
 

@@ -12,8 +12,8 @@ use Rattle.kdf_processor.specs.State.{State}
 use Rattle.kdf_job.specs.Job.{Job, SlotJob}
 use Rattle.kdf_job.specs.WellFormed.{AreRising, AreSlots, IsSlot}
 use Rattle.kdf_theory.specs.Flights.{Flight}
-use Rattle.kdf_director.specs.Loading as loading
-use Rattle.kdf_director.specs.Loading.{HaveImages, load_of, slots_of}
+use Rattle.kdf_theory.specs.Loading as loading
+use Rattle.kdf_theory.specs.Loading.{HaveImages, load_of, slots_of}
 use Rattle.kdf_theory.specs.Seen.{seen}
 use Rattle.kdf_theory.specs.Shown.{Shown, ShowsSeen, state_at, state_in, state_of}
 use Rattle.kdf_theory.specs.Slots.{slot_of, start_of}

@@ -15,8 +15,8 @@ use Rattle.kdf_job.specs.Reading.{job, job_fault}
 use Rattle.kdf_job.specs.SlotLines.{pool_lines, slot_lines}
 use Rattle.kdf_job.proofs.SlotReadings.{slots_told_alike}
 use Rattle.kdf_theory.specs.Legal.{IsLegal}
-use Rattle.kdf_director.specs.Loading as loading
-use Rattle.kdf_director.specs.Loading.{load_of}
+use Rattle.kdf_theory.specs.Loading as loading
+use Rattle.kdf_theory.specs.Loading.{load_of}
 use Rattle.kdf_theory.specs.Slots.{AreSlots, slot_of, start, start_of}
 use Rattle.kdf_theory.specs.ByJournal.{own, seen_of}
 use Rattle.kdf_theory.proofs.Course.FlightsOnCourse.{legal-course}

@@ -3,7 +3,7 @@ use Rattle.std.specs.Prelude.{ℕ, ◌==◌, List, find, map, Option}
 use Rattle.kdf_place.specs.Assembled.{image_words}
 use Rattle.kdf_transfer.specs.Slots.{Slot}
 use Rattle.kdf_job.specs.Job.{Job, SlotJob}
-use Rattle.kdf_director.specs.Loading as loading
+use Rattle.kdf_theory.specs.Loading as loading
 
 -- the words of the images of these slots' decks
 abbrev pub images_of : List SlotJob → List (List ℕ)

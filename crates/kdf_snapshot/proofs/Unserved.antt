@@ -6,11 +6,11 @@ use Rattle.kdf_journal.specs.declared.entry.Entry.{Entry}
 use Rattle.kdf_schedule.specs.declared.event.Event.{Event}
 use Rattle.kdf_job.specs.Job.{SlotJob}
 use Rattle.kdf_theory.specs.Follows.{IsRising}
-use Rattle.kdf_director.specs.Loading.{slots_of}
+use Rattle.kdf_theory.specs.Loading.{slots_of}
 use Rattle.kdf_theory.specs.Served.{unasked, IsJournalFor}
 use Rattle.kdf_theory.specs.Shown.{Shown}
 use Rattle.kdf_theory.specs.Slots.{NoneServed}
-use Rattle.kdf_director.proofs.Course.OneJournal.{a_journal_for, one_for, true_for_more}
+use Rattle.kdf_theory.proofs.Course.OneJournal.{a_journal_for, one_for, true_for_more}
 use Rattle.kdf_snapshot.specs.Rebuilt.{IsRefused}
 use Rattle.kdf_snapshot.specs.declared.rebuilt.RebuildError.{RebuildError}
 use Rattle.kdf_snapshot.specs.declared.rebuilt.RebuildError.TheVariants.{Differs, Memory}

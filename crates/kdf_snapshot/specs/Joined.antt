@@ -3,7 +3,7 @@ use Rattle.std.specs.Prelude.{ℕ, List, ◌++◌}
 use Rattle.kdf_schedule.specs.declared.event.Event.{Event}
 use Rattle.kdf_journal.specs.declared.entry.Entry.{Entry}
 use Rattle.kdf_job.specs.Job.{Job}
-use Rattle.kdf_director.specs.Loading.{slots_of}
+use Rattle.kdf_theory.specs.Loading.{slots_of}
 use Rattle.kdf_theory.specs.Served.{IsJournalFor}
 
 -- the job whose schedule is that of the front job, and these events after it

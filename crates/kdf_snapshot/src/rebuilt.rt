@@ -6,7 +6,7 @@ ghost use Rattle.kdf_job.specs.Shows.{shown_job, shown_slot};
 ghost use Rattle.kdf_job.specs.WellFormed.{IsJob};
 ghost use Rattle.kdf_place.specs.declared.image.Image.{Image};
 ghost use Rattle.kdf_theory.specs.Follows.{entries_in};
-ghost use Rattle.kdf_director.specs.Loading.{HaveImages, slots_of};
+ghost use Rattle.kdf_theory.specs.Loading.{HaveImages, slots_of};
 ghost use Rattle.kdf_theory.specs.Served.{unasked, IsJournalFor};
 ghost use Rattle.kdf_theory.specs.Shown.{ShowsSeen};
 ghost use Rattle.kdf_snapshot.specs.Rebuilt.{DiffersFrom, IsRefused};

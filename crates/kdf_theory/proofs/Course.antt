@@ -1,10 +1,15 @@
 -- What a journal tells of the programs, and what its steps make of that.
 pub mod CountsBounded
 pub mod DevicesHeld
+pub mod EventsInTurn
 pub mod FlightsAdded
 pub mod FlightsOnCourse
+pub mod HeardWords
 pub mod LegalFacts
 pub mod LoneRuns
+pub mod NextLives
+pub mod OneJournal
+pub mod OrdersInARow
 pub mod OrdersObeyed
 pub mod OwnSteps
 pub mod SeenJournals

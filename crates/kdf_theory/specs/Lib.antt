@@ -1,10 +1,13 @@
+pub mod Asked
 pub mod ByJournal
 pub mod Course
 pub mod Flights
 pub mod Flying
 pub mod Follows
 pub mod Holders
+pub mod InARow
 pub mod Legal
+pub mod Loading
 pub mod Next
 pub mod Seen
 pub mod Served

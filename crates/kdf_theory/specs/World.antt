@@ -1,11 +1,13 @@
 -- What a journal is judged by.
-use Rattle.std.specs.Prelude.{ℕ, List, Bool, Option, find}
+use Rattle.std.specs.Prelude.{ℕ, List, Bool, Option, find, Some, None}
 use Rattle.kdf_journal.specs.declared.kind.Kind.{Kind}
 use Rattle.kdf_journal.specs.Counts.{Hold, ByGroup, ByDevice, ByPool}
 use Rattle.kdf_processor.specs.declared.step.Need.{Need}
 use Rattle.kdf_processor.specs.declared.step.Need.TheVariants.{Group, Device, Pool}
 use Rattle.kdf_processor.specs.Needs.{needs}
 use Rattle.kdf_processor.specs.State.{State}
+use Rattle.kdf_processor.specs.declared.step.Step.{Step as Ending}
+use Rattle.kdf_processor.specs.declared.step.Step.TheVariants as ending
 
 -- the state of each program, what of it is pending, the devices on which it has a transfer, rising, and the least
 -- device of a kind in the pool that no program has
@@ -30,3 +32,8 @@ abbrev pub need_of : Hold → Need
 need_of (ByGroup g) = Group g
 need_of (ByDevice d) = Device d
 need_of (ByPool kind) = Pool kind
+
+-- what holds a program whose turn ended so
+abbrev pub hold_left : Ending → Option Need
+hold_left (ending.Held need) = Some need
+hold_left ended = None

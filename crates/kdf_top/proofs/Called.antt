@@ -5,7 +5,7 @@ use Rattle.kdf_job.specs.Front.{front_job}
 use Rattle.kdf_job.specs.Job.{Job}
 use Rattle.kdf_theory.specs.Served.{IsJournalFor}
 use Rattle.kdf_theory.specs.Shown.{Shown}
-use Rattle.kdf_director.proofs.Course.OneJournal.{one_for}
+use Rattle.kdf_theory.proofs.Course.OneJournal.{one_for}
 use Rattle.kdf_text.specs.Lines.{is_text, line, lines}
 use Rattle.kdf_text.specs.Text.{text}
 use Rattle.kdf_transfer.specs.Slots.{Slot}

@@ -9,7 +9,7 @@ use Rattle.kdf_job.specs.Shows.{shown_slot}
 use Rattle.kdf_job.specs.WellFormed.{AreSlots, IsSlot}
 use Rattle.kdf_alone.specs.Program.{IsApart}
 use Rattle.kdf_alone.proofs.Apart.{slot_apart}
-use Rattle.kdf_director.specs.Loading.{HaveImages}
+use Rattle.kdf_theory.specs.Loading.{HaveImages}
 use Rattle.kdf_top.specs.Loaded.{HasImages, IsFound, images_of, slot_numbered}
 use Rattle.kdf_top.proofs.LoadedDecks.{picture_due, pictured, same_pictures, words_due}
 

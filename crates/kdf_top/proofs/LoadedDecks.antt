@@ -9,7 +9,7 @@ use Rattle.kdf_job.specs.declared.job.Job.{Job as ReadJob}
 use Rattle.kdf_job.specs.declared.job.SlotJob.{SlotJob as ReadSlot}
 use Rattle.kdf_job.specs.Shows.{shown_job, shown_slot}
 use Rattle.kdf_job.specs.WellFormed.{IsJob, IsSlot}
-use Rattle.kdf_director.specs.Loading.{HaveImages}
+use Rattle.kdf_theory.specs.Loading.{HaveImages}
 use Rattle.kdf_place.specs.Assembled.{assembled, image_words, words_or_none}
 use Rattle.kdf_top.specs.Deck.{first_of, deck_fault, IsDeck}
 use Rattle.kdf_top.specs.Loaded.{HasImages, images_of, pictures_of}

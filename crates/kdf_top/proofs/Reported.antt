@@ -5,11 +5,11 @@ use Rattle.kdf_job.specs.Job.{Job}
 use Rattle.kdf_job.specs.Reading.{job}
 use Rattle.kdf_job.specs.WellFormed.{AreSlots}
 use Rattle.kdf_theory.specs.Served.{IsJournalFor}
-use Rattle.kdf_director.specs.Loading.{HaveImages}
+use Rattle.kdf_theory.specs.Loading.{HaveImages}
 use Rattle.kdf_theory.specs.Shown.{Shown, ShowsSeen, state_at}
 use Rattle.kdf_theory.specs.Slots as director
 use Rattle.kdf_theory.specs.ByJournal.{seen_of}
-use Rattle.kdf_director.proofs.Loading.JobsLoaded.{are_loads, are_slots}
+use Rattle.kdf_theory.proofs.JobsLoaded.{are_loads, are_slots}
 use Rattle.kdf_theory.proofs.Course.FlightsOnCourse.{legal-course}
 use Rattle.kdf_report.specs.MadeFrom.{HasProgram}
 use Rattle.kdf_report.specs.Text.{journal_lines, report_text}

@@ -13,10 +13,10 @@ use Rattle.kdf_job.specs.Reading.{job, job_fault}
 use Rattle.kdf_job.specs.WellFormed as well
 use Rattle.kdf_job.proofs.JoinedJobs.{joined_fault, joined_job}
 use Rattle.kdf_theory.specs.Follows.{IsWhole}
-use Rattle.kdf_director.specs.Loading as loading
+use Rattle.kdf_theory.specs.Loading as loading
 use Rattle.kdf_theory.specs.Served.{IsJournalFor}
 use Rattle.kdf_theory.specs.Shown.{Shown}
-use Rattle.kdf_director.proofs.Course.OneJournal.{one_for}
+use Rattle.kdf_theory.proofs.Course.OneJournal.{one_for}
 use Rattle.kdf_report.specs.Text.{report_lines}
 use Rattle.kdf_report.proofs.FaultlessJobs.{bare, faultless}
 use Rattle.kdf_report.proofs.LoadedJobs.{loaded_slots}

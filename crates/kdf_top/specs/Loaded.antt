@@ -10,7 +10,7 @@ use Rattle.kdf_job.specs.Job.{Job, SlotJob}
 use Rattle.kdf_job.specs.Shows.{shown_job, shown_slot}
 use Rattle.kdf_job.specs.WellFormed.{IsJob, IsSlot}
 use Rattle.kdf_alone.specs.Program.{IsApart}
-use Rattle.kdf_director.specs.Loading.{HaveImages}
+use Rattle.kdf_theory.specs.Loading.{HaveImages}
 use Rattle.kdf_top.specs.Deck.{deck_fault}
 pub use Rattle.kdf_report.specs.Loaded.{images_of, slot_numbered, slots_of}
 

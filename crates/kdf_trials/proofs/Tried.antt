@@ -12,7 +12,7 @@ use Rattle.kdf_job.specs.WellFormed.{IsJob, IsSchedule, IsSlot}
 use Rattle.kdf_schedule.specs.declared.event.Event.{Event}
 use Rattle.kdf_top.proofs.Schedules.{rises}
 use Rattle.kdf_watch.specs.Cursors.{KeepsLimits}
-use Rattle.kdf_director.specs.Loading.{slots_of}
+use Rattle.kdf_theory.specs.Loading.{slots_of}
 use Rattle.kdf_theory.specs.Slots.{NoneServed}
 
 -- each of the slots is well formed

@@ -2,7 +2,7 @@
 //! with the answers that the journal tells.
 ghost use Rattle.std.specs.Prelude.{◌≡◌, ◌<◌, ◌≤◌, [], IfOk, length, map};
 ghost use Rattle.kdf_place.specs.declared.image.Image.{Image as Made};
-ghost use Rattle.kdf_director.specs.Loading.{HaveImages, slots_of};
+ghost use Rattle.kdf_theory.specs.Loading.{HaveImages, slots_of};
 ghost use Rattle.kdf_job.specs.Shows.{shown_job, shown_slot};
 ghost use Rattle.kdf_job.specs.WellFormed.{IsJob, IsSlot};
 ghost use Rattle.kdf_alone.specs.Program.{IsApart};

@@ -1,7 +1,7 @@
 //! What needs no service: a call of a machine, a run that is made again, and the check of a report.
 ghost use Rattle.std.specs.Prelude.{◌≡◌, All, IfOk, false, map, true};
 ghost use Rattle.kdf_place.specs.declared.image.Image.{Image as Made};
-ghost use Rattle.kdf_director.specs.Loading.{HaveImages, slots_of};
+ghost use Rattle.kdf_theory.specs.Loading.{HaveImages, slots_of};
 ghost use Rattle.kdf_theory.specs.Slots.{NoneServed};
 ghost use Rattle.kdf_job.specs.Job.{SlotJob as Shown};
 ghost use Rattle.kdf_job.specs.Shows.{shown_job, shown_slot};

@@ -4,7 +4,7 @@ ghost use Rattle.kdf_theory.specs.Follows.{entries_in};
 ghost use Rattle.kdf_watch.specs.Cursors.{KeepsLimits};
 ghost use Rattle.kdf_place.specs.declared.image.Image.{Image as Made};
 ghost use Rattle.kdf_service.specs.Rules.{IsService};
-ghost use Rattle.kdf_director.specs.Loading.{HaveImages, slots_of};
+ghost use Rattle.kdf_theory.specs.Loading.{HaveImages, slots_of};
 ghost use Rattle.kdf_job.specs.Shows.{shown_job, shown_slot};
 ghost use Rattle.kdf_job.specs.WellFormed.{IsJob};
 ghost use Rattle.kdf_watch.specs.Rules.{IsWatch};

@@ -20,7 +20,7 @@ use Rattle.kdf_theory.specs.Legal.{EachMeets, IsLegal}
 use Rattle.kdf_theory.specs.Next.{lone_dispatched}
 use Rattle.kdf_theory.specs.Served.{IsTrueFor}
 use Rattle.kdf_theory.specs.Shown.{Shown}
-use Rattle.kdf_director.proofs.Course.OneJournal.{true_for_nil}
+use Rattle.kdf_theory.proofs.Course.OneJournal.{true_for_nil}
 use Rattle.kdf_theory.specs.Slots.{start}
 use Rattle.kdf_theory.specs.ByJournal.{own, own_after}
 use Rattle.kdf_theory.proofs.Course.LegalFacts.{legal_asked}

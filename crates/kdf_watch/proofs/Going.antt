@@ -21,7 +21,7 @@ use Rattle.kdf_theory.specs.Follows.{Follows, IsRising, IsWhole, entries_in, tim
 use Rattle.kdf_theory.specs.Legal.{IsLegal}
 use Rattle.kdf_theory.specs.Next.{any_live, lone_dispatched}
 use Rattle.kdf_theory.specs.Shown.{Shown}
-use Rattle.kdf_director.proofs.Course.EventsInTurn.{rises-first, rises-from, rises-rest}
+use Rattle.kdf_theory.proofs.Course.EventsInTurn.{rises-first, rises-from, rises-rest}
 use Rattle.kdf_watch.specs.declared.cursor.Cursor.{Cursor}
 use Rattle.kdf_watch.specs.Called.{HasMoved}
 use Rattle.kdf_watch.specs.Cursors.{event_at, calls_left}

@@ -13,7 +13,7 @@ use Rattle.kdf_theory.specs.Follows.{IsWhole}
 use Rattle.kdf_theory.specs.Legal.{IsLegal}
 use Rattle.kdf_theory.specs.Served.{IsTrueFor}
 use Rattle.kdf_theory.specs.Shown.{Shown}
-use Rattle.kdf_director.proofs.Course.OneJournal.{true_entered}
+use Rattle.kdf_director.proofs.Calls.OneCall.{true_entered}
 use Rattle.kdf_watch.specs.declared.look.Look.{Look}
 use Rattle.kdf_watch.specs.declared.stop.Stop.{Stop}
 use Rattle.kdf_watch.specs.declared.stop.Stop.TheVariants.{Watched, Finished}

@@ -14,7 +14,7 @@ use Rattle.kdf_theory.specs.Follows.{IsRising, IsWhole}
 use Rattle.kdf_theory.specs.Legal.{IsLegal}
 use Rattle.kdf_theory.specs.Shown.{Shown}
 use Rattle.kdf_theory.proofs.Course.CountsBounded.{few-calls, rising-on}
-use Rattle.kdf_director.proofs.Course.EventsInTurn.{order_count-append}
+use Rattle.kdf_theory.proofs.Course.EventsInTurn.{order_count-append}
 use Rattle.kdf_watch.specs.declared.cursor.Cursor.{Cursor}
 use Rattle.kdf_watch.specs.Cursors.{IsUpTo, KeepsLimits, calls_left}
 use Rattle.kdf_watch.specs.Onward.{IsAt}

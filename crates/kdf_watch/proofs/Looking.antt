@@ -26,7 +26,8 @@ use Rattle.kdf_theory.specs.True.{truth}
 use Rattle.kdf_theory.specs.World.{hold_of}
 use Rattle.kdf_director.proofs.Calls.OneCall.{calls-took, clock-took}
 use Rattle.kdf_theory.proofs.Course.LegalFacts.{legal_alive}
-use Rattle.kdf_director.proofs.Calls.FoundLive.{found_is, next_four}
+use Rattle.kdf_director.proofs.Calls.FoundLive.{found_is}
+use Rattle.kdf_theory.proofs.Course.NextLives.{next_four}
 use Rattle.kdf_theory.proofs.Course.Worlds.{next_slot}
 use Rattle.kdf_watch.specs.declared.look.Look.{Look}
 use Rattle.kdf_watch.specs.Called.{IsBlind, Tells}

@@ -24,7 +24,7 @@ use Rattle.kdf_theory.specs.Shown.{Shown, state_at, world_of}
 use Rattle.kdf_theory.specs.True.{truth}
 use Rattle.kdf_theory.specs.World.{hold_of}
 use Rattle.kdf_director.proofs.Calls.OneCall.{calls-took, clock-took}
-use Rattle.kdf_director.proofs.Course.OneJournal.{true_for_answered}
+use Rattle.kdf_theory.proofs.Course.OneJournal.{true_for_answered}
 use Rattle.kdf_director.proofs.Calls.FoundLive.{found_is}
 
 -- the step of a call that found a live program

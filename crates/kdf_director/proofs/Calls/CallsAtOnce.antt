@@ -1,7 +1,8 @@
 -- A yard and its journal after calls that are made at once.
-use Rattle.std.specs.Prelude.{Result, Ok, Err, OnOk, OnErr, IfOk}
+use Rattle.std.specs.Prelude.{Result, Ok, Err, OnErr, IfOk}
 use Rattle.std.specs.List.{list_any}
-use Rattle.std.proofs.Common.{◌≡◌, ℕ, zero, suc, ◌+◌, ◌<◌, ◌≤◌, Bool, true, false, ◌||◌, List, [], ◌∷◌, get_or, map, set, Option, Some, None, cond, refl, sym, ap, ap₂, ◌∙◌, subst, arith}
+use Rattle.std.proofs.Common.{◌≡◌, ℕ, zero, suc, ◌+◌, ◌<◌, ◌≤◌, Bool, true, false, ◌||◌, List, [], ◌∷◌, get_or, map, set, Option, Some, None, cond, refl, sym}
+use Rattle.std.proofs.Common.{ap, ap₂, ◌∙◌, subst, arith}
 use Rattle.std.proofs.lemmas.Bool.{false≢true}
 use Rattle.std.proofs.lemmas.List.{set-get_or}
 use Rattle.kdf_journal.specs.Counts.{calls, clock, moves, priorities}
@@ -28,10 +29,12 @@ use Rattle.kdf_director.specs.Halts.{is_at, place_for, ArePassed, HasMadeSomePas
 use Rattle.kdf_director.specs.Fields.Batches.{of_seats, AreQuiet, HasBatch, HasTriedOn, Passes}
 use Rattle.kdf_director.specs.Fields.Parts.{Seat}
 use Rattle.kdf_director.specs.Fields.Standing.{Standing, shown_of, IsSameYard}
-use Rattle.kdf_director.specs.Fields.TurnTaken.{hold_left, step_told}
+use Rattle.kdf_theory.specs.World.{hold_left}
+use Rattle.kdf_director.specs.Fields.TurnTaken.{step_told}
 use Rattle.kdf_director.specs.Fields.Yards.{any_in, first_in, hold_in, number_in, registers_in, AreLentIn, AreNear, AreOfFour, HasTriedIn, HasTriedQuietly}
 use Rattle.kdf_theory.specs.Next.{any_live}
-use Rattle.kdf_director.specs.Runs.{HasEntered, HasMadeOn, IsEntered, held_after, ran_on, waited_on}
+use Rattle.kdf_director.specs.Runs.{HasEntered, HasMadeOn, IsEntered, held_after}
+use Rattle.kdf_theory.specs.InARow.{ran_on, waited_on}
 use Rattle.kdf_theory.specs.Shown.{Shown, state_at}
 use Rattle.kdf_places.specs.Shared.{Shared}
 use Rattle.kdf_director.proofs.Calls.CallsAfterCalls.{made_none}
@@ -41,7 +44,7 @@ use Rattle.kdf_director.proofs.Calls.OrdersPassed.{passing_further, passing_one}
 use Rattle.kdf_director.proofs.Turns.Batching.{quiet_map}
 use Rattle.kdf_director.proofs.Calls.NoneGoesOn.{waiting, waiting_some}
 use Rattle.kdf_director.proofs.Calls.OneCall.{moves-took}
-use Rattle.kdf_director.proofs.Calls.OrdersInARow.{calls-ran_on, holder-ran_on, moves-ran_on, moves-waited_on, some-waited_on}
+use Rattle.kdf_theory.proofs.Course.OrdersInARow.{calls-ran_on, holder-ran_on, moves-ran_on, moves-waited_on, some-waited_on}
 use Rattle.kdf_director.proofs.Calls.ProgramGoesOn.{IsGoingOn, advanced_on, few_on, going_on, held_on, live_on, made_some}
 use Rattle.kdf_director.proofs.Linking.NextPrograms.{any_same, is_next, near_holds, of_four}
 use Rattle.kdf_director.proofs.Linking.TurnTaken.{all_ended, holds_in, shown}
@@ -61,11 +64,6 @@ all_err (Err e) P p = p
 pub at_four : {A B C D : Type 0} (P : A → B → C → D → Type 0) {a k : A} {b l : B} {c m : C} {d n : D} → a ≡ k → b ≡ l → c ≡ m → d ≡ n → P a b c d → P k l m n
 at_four P {a} {k} {b} {l} {c} {m} {d} {n} one two three four p =
     subst (λ w. P w l m n) one (subst (λ x. P a x m n) two (subst (λ y. P a b y n) three (subst (λ z. P a b c z) four p)))
-
--- what is known of each value holds of all
-pub on_ok : {A E : Type 0} (r : Result A E) (P : A → Type 0) (Q : Type 0) → ((a : A) → P a → Q) → IfOk r P → OnOk r Q
-on_ok (Ok a) P Q f p = f a p
-on_ok (Err e) P Q f p = tt
 
 -- no more calls are answered than are left: those that were entered, and those that wait
 pub entered_within : {E F : Type 0} (J K : List Entry) (p quiet ran most : ℕ) (hold held : Option Need) (tried : Result (Step × Note) E) (answer : Result (ℕ × Progress) F) → HasEntered J p quiet ran hold tried K held answer → quiet < most → IfOk answer (λ x. x.0 ≤ most)

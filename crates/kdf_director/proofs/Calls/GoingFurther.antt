@@ -9,7 +9,7 @@ use Rattle.kdf_places.specs.Shared.{Shared}
 use Rattle.kdf_director.specs.Fields.Standing.{Standing}
 use Rattle.kdf_director.specs.Fields.Yards.{number_in}
 use Rattle.kdf_director.proofs.Calls.ProgramGoesOn.{IsGoingOn, going_on}
-use Rattle.kdf_director.proofs.Calls.OrdersInARow.{calls-ran_on}
+use Rattle.kdf_theory.proofs.Course.OrdersInARow.{calls-ran_on}
 
 module _ (service : ℕ → ℕ → Type 0) (y : Standing) (J : List Entry) (room i : ℕ) where
   abbrev Goes : ℕ → List Seat → Shared → Type 0

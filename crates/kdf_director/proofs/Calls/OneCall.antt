@@ -1,32 +1,22 @@
 -- What one call of a machine makes of its journal.
-use Rattle.std.specs.Prelude.{replicate}
-use Rattle.std.proofs.Common.{◌≡◌, ℕ, ◌+◌, ◌-◌, ◌≤◌, List, [], ◌∷◌, ◌++◌, true, false, ◌∙◌, ap, arith, subst}
-use Rattle.std.proofs.lemmas.List.{replicate-append-replicate}
-use Rattle.kdf_journal.specs.declared.entry.Entry.{Entry}
+use Rattle.std.proofs.Common.{◌≡◌, ℕ, ◌+◌, ◌-◌, ◌≤◌, [], ◌∷◌, true, ◌∙◌, ap, arith, subst, sym}
 use Rattle.kdf_journal.specs.Counts.{calls, clock, moves}
-use Rattle.kdf_journal.specs.Steps.{Step, Obeys, Holds, Waits, journal_of, steps}
+use Rattle.kdf_journal.specs.Steps.{Step, Obeys, Holds, Waits, steps}
 use Rattle.kdf_journal.proofs.Added.{calls_by, calls-added, moves-added, clock_by, clock-added}
-use Rattle.kdf_schedule.specs.Calls.{Call, AnOrder}
+use Rattle.kdf_schedule.specs.Calls.{Call}
 use Rattle.kdf_course.specs.Follows.{call_of, Reaches}
-use Rattle.kdf_course.proofs.Reaching.{reach-added, reach-dead, reach-nil}
-use Rattle.kdf_transfer.specs.Slots.{Slot}
+use Rattle.kdf_course.proofs.Reaching.{reach-added, reach-nil}
+use Rattle.kdf_course.specs.Legal as course
 use Rattle.kdf_director.specs.declared.machine.Progress.{Progress}
 use Rattle.kdf_director.specs.declared.machine.Progress.TheVariants as progress
 use Rattle.kdf_director.specs.Advance.{Advance, Enters}
+use Rattle.kdf_theory.proofs.Course.OneJournal.{true_for_added}
 use Rattle.kdf_theory.specs.Legal.{note_of, IsLegal}
 use Rattle.kdf_theory.specs.Next.{lone_dispatched, any_live}
 use Rattle.kdf_theory.specs.Shown.{Shown, state_at, world_of}
 use Rattle.kdf_theory.specs.True.{truth}
 use Rattle.kdf_theory.specs.World.{hold_of}
-
--- the orders are over before their end, where no program is live
-pub rested : (slots slots0 : List Slot) (J : List Entry) (P : List Step) (i n : ℕ) → IsLegal slots J → slots ≡ slots0 → Reaches (lone_dispatched slots0) P (replicate i AnOrder) (steps J) → any_live slots J ≡ false → i ≤ n
-    → Reaches (lone_dispatched slots0) P (replicate n AnOrder) (steps J)
-rested slots slots0 J P i n l same taken dead le =
-    let whole : replicate i AnOrder ++ replicate (n - i) AnOrder ≡ replicate n AnOrder = replicate-append-replicate i (n - i) AnOrder ∙ ap (λ (k : ℕ). replicate k AnOrder) (omega arith) in
-    let none : any_live slots0 (journal_of (steps J)) ≡ false = rw (l.in_form, ← same) dead in
-    subst (λ (cs : List Call). Reaches (lone_dispatched slots0) P cs (steps J)) whole
-    (reach-dead (lone_dispatched slots0) P (steps J) (replicate i AnOrder) (replicate (n - i) AnOrder) taken none)
+use Rattle.kdf_theory.specs.Served.{is_true_for, IsTrueFor}
 
 pub calls-took : (heard : ℕ) (m n : Shown) (r : Progress) → Advance heard m n r → calls n.journal ≤ calls m.journal + 1
 calls-took heard m n progress.AllEnded took = omega (arith, ap (λ (x : Shown). calls x.journal) took.1)
@@ -60,3 +50,8 @@ module _ (m n : Shown) (s : Step) (e : Enters m n s) where
 
   pub room-entered : n.room ≡ m.room - 1
   room-entered = ap (λ (x : Shown). x.room) e
+
+-- an event that is entered has no answer
+pub true_entered : (answers : ℕ → ℕ → Type 0) (m n : Shown) (s : Step) → IsLegal m.slots m.journal → IsTrueFor answers m.slots m.journal → course.Noted (is_true_for answers m.slots m.journal) s → Enters m n s → IsTrueFor answers n.slots n.journal
+true_entered answers m n s l truly noted is =
+    subst (λ (x : Shown). IsTrueFor answers x.slots x.journal) (sym is) (true_for_added answers m.slots m.journal s l truly noted)

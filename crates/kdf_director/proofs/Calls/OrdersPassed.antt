@@ -20,12 +20,13 @@ use Rattle.kdf_director.specs.Fields.Running.{own_state, seat_at, IsRunning}
 use Rattle.kdf_director.specs.Fields.Standing.{Standing}
 use Rattle.kdf_director.specs.Fields.Yards.{number_in}
 use Rattle.kdf_director.specs.Halts.{halts, is_at, place_for, stops, ArePassed, HasPassed, IsPassed}
-use Rattle.kdf_director.specs.Runs.{HasTriedAt, ran_on}
+use Rattle.kdf_director.specs.Runs.{HasTriedAt}
+use Rattle.kdf_theory.specs.InARow.{ran_on}
 use Rattle.kdf_places.specs.Shared.{Shared}
 use Rattle.kdf_theory.specs.Shown.{Shown}
 use Rattle.kdf_director.proofs.Calls.CallsAfterCalls.{made_one}
 use Rattle.kdf_director.proofs.Calls.GoingFurther.{going_further}
-use Rattle.kdf_director.proofs.Calls.OrdersInARow.{calls-ran_on}
+use Rattle.kdf_theory.proofs.Course.OrdersInARow.{calls-ran_on}
 use Rattle.kdf_director.proofs.Calls.ProgramGoesOn.{IsGoingOn, next_advanced, number_on}
 use Rattle.kdf_director.proofs.Linking.EventsEntered.{shows}
 use Rattle.kdf_director.proofs.Linking.OwnStates.{state_is}

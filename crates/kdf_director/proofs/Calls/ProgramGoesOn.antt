@@ -25,15 +25,17 @@ use Rattle.kdf_director.specs.Progressed.{found_live}
 use Rattle.kdf_director.specs.Fields.Running.{seat_at, IsRunning}
 use Rattle.kdf_director.specs.declared.halt.Halt.{Halt}
 use Rattle.kdf_director.specs.Halts.{ArePassed, HasMadeSomePast}
-use Rattle.kdf_director.specs.Runs.{HasMadeOn, HasTriedAt, ran_on}
+use Rattle.kdf_director.specs.Runs.{HasMadeOn, HasTriedAt}
+use Rattle.kdf_theory.specs.InARow.{ran_on}
 use Rattle.kdf_director.specs.Fields.Shared.{moment}
 use Rattle.kdf_theory.specs.Shown.{Shown, state_at, world_of}
 use Rattle.kdf_director.specs.Fields.Standing.{Standing}
-use Rattle.kdf_director.specs.Fields.TurnTaken.{HasTaken, hold_left, progress_of, step_told}
+use Rattle.kdf_director.specs.Fields.TurnTaken.{HasTaken, progress_of, step_told}
+use Rattle.kdf_theory.specs.World.{hold_left}
 use Rattle.kdf_director.specs.Fields.Turned.{HasTurned}
 use Rattle.kdf_director.proofs.Calls.CallsAfterCalls.{made_more}
 use Rattle.kdf_director.proofs.Linking.NextPrograms.{few_ran, live_same}
-use Rattle.kdf_director.proofs.Calls.OrdersInARow.{clock-ran_on}
+use Rattle.kdf_theory.proofs.Course.OrdersInARow.{clock-ran_on}
 use Rattle.kdf_theory.proofs.Course.StillNext.{still_next}
 use Rattle.kdf_director.proofs.Linking.TurnTaken.{HasAdvanced, holds_in, shown, taken}
 use Rattle.kdf_theory.proofs.Course.Worlds.{next_on, next_slot}

@@ -12,8 +12,8 @@ use Rattle.kdf_theory.specs.Legal.{IsAnswer}
 use Rattle.kdf_theory.specs.Served.{is_served, is_true_for, IsTrueFor}
 use Rattle.kdf_theory.specs.Slots.{NoneServed}
 use Rattle.kdf_director.specs.Unasked.{asks_none, AsksNone}
-use Rattle.kdf_director.proofs.Course.OneJournal.{own_unserved}
-use Rattle.kdf_director.proofs.Turns.HeardWords.{none_asked}
+use Rattle.kdf_theory.proofs.Course.OneJournal.{own_unserved}
+use Rattle.kdf_theory.proofs.Course.HeardWords.{none_asked}
 
 module _ (answers more : ℕ → ℕ → Type 0) (slots : List Slot) where
   by_effect : (J : List Entry) (p : ℕ) (e : Effect) (v : ℕ) → word_asked e ≡ None → IsAnswer e (is_served answers slots J p) v → IsAnswer e (is_served more slots J p) v

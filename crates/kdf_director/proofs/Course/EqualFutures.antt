@@ -37,7 +37,7 @@ use Rattle.kdf_theory.specs.Served.{is_served, is_true_for, IsJournalFor}
 use Rattle.kdf_theory.specs.Slots.{start}
 use Rattle.kdf_theory.specs.True.{known}
 use Rattle.kdf_theory.specs.World.{World}
-use Rattle.kdf_director.proofs.Course.OneJournal.{resumed_for}
+use Rattle.kdf_theory.proofs.Course.OneJournal.{resumed_for}
 
 -- ---- the holders of the pool's devices with a step more
 

@@ -12,7 +12,7 @@ use Rattle.kdf_schedule.specs.Events.{IsInRange}
 use Rattle.kdf_schedule.proofs.Schedules.{calls_made-append, calls_made-one, calls_made-nil, order_count-drop}
 use Rattle.kdf_theory.specs.Follows.{IsRising, entries_in}
 use Rattle.kdf_director.specs.Rows.{IsOfOrders, IsRow}
-use Rattle.kdf_director.proofs.Course.EventsInTurn.{order_count-append, rest-is}
+use Rattle.kdf_theory.proofs.Course.EventsInTurn.{order_count-append, rest-is}
 
 -- what events of orders come to
 orders_made : (es : List Event) → All IsOfOrders es → calls_made es ≡ replicate (order_count es) AnOrder

@@ -17,7 +17,8 @@ use Rattle.kdf_processor.specs.Row.{done_by}
 use Rattle.kdf_processor.specs.Outcome.{Outcome}
 use Rattle.kdf_transfer.specs.Slots.{Slot}
 use Rattle.kdf_processor.specs.State.{State}
-use Rattle.kdf_director.specs.Advance.{Obeyed, note_told, states_after, IsHeard}
+use Rattle.kdf_director.specs.Advance.{Obeyed, note_told, states_after}
+use Rattle.kdf_theory.specs.Asked.{HasAsked, IsHeard}
 use Rattle.kdf_director.specs.Fields.Agrees.{Agrees, AreLent}
 use Rattle.kdf_director.specs.Fields.Following.{asked_at}
 use Rattle.kdf_theory.specs.Legal.{Meets, note_for, note_of, note_of_outcome}
@@ -48,10 +49,10 @@ use Rattle.kdf_theory.proofs.Course.FlightsOnCourse.{apart-mine, free as calm, l
 use Rattle.kdf_theory.proofs.Course.SeenJournals.{same-need, same-note}
 use Rattle.kdf_theory.proofs.Course.Worlds.{next-world, next_on, next_slot}
 use Rattle.kdf_director.specs.Fields.Shared.{moment}
-use Rattle.kdf_director.specs.Fields.TurnTaken.{HasAsked}
 use Rattle.kdf_theory.proofs.Seen.OrdersSeen.{same_next}
 use Rattle.kdf_processor.specs.Lone.{is_live}
-use Rattle.kdf_director.proofs.Turns.HeardWords.{heard_so, word_is}
+use Rattle.kdf_theory.proofs.Course.HeardWords.{heard_so}
+use Rattle.kdf_director.proofs.Turns.HeardWords.{word_is}
 
 -- ---- states by slots
 

@@ -21,7 +21,8 @@ use Rattle.kdf_director.specs.Fields.Following.{asked_at}
 use Rattle.kdf_places.specs.Spots.{IsDeviceOf, Spot, no_spot, spot_at}
 use Rattle.kdf_director.specs.Fields.Owners.{IsDeviceOwned, is_claimed_by, owner_in}
 use Rattle.kdf_transfer.specs.ByNumber.{by_number, device_count}
-use Rattle.kdf_director.specs.Fields.Parts.{Reach, Seat, has_device, in_pool, numbers, own_claims, own_fixture, owns, pool_kind, reach_of}
+use Rattle.kdf_director.specs.Fields.Parts.{Reach, Seat, has_device, in_pool, numbers, own_claims, own_fixture, pool_kind, reach_of}
+use Rattle.kdf_theory.specs.Loading.{owns}
 use Rattle.kdf_places.specs.Shared.{Shared}
 use Rattle.kdf_director.specs.Fields.Running.{own_state, part_at, reach_at, reaches_in, seat_at}
 use Rattle.kdf_theory.specs.Shown.{IsDeviceAt, Shown, state_of}

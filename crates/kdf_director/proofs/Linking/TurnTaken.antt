@@ -38,10 +38,10 @@ use Rattle.kdf_director.specs.Fields.Viewed.{states_in}
 use Rattle.kdf_theory.specs.Slots.{slot_of}
 use Rattle.kdf_places.specs.Spots.{spot_at}
 use Rattle.kdf_director.specs.Fields.Standing.{Standing}
-use Rattle.kdf_director.specs.Fields.TurnTaken.{HasTaken, hold_left, progress_of, step_told}
+use Rattle.kdf_director.specs.Fields.TurnTaken.{HasTaken, progress_of, step_told}
 use Rattle.kdf_theory.specs.ByJournal.{flights_of, lone_world, own, seen_of}
 use Rattle.kdf_theory.specs.True.{truth}
-use Rattle.kdf_theory.specs.World.{first_need, need_of}
+use Rattle.kdf_theory.specs.World.{first_need, hold_left, need_of}
 use Rattle.kdf_theory.specs.World as world
 use Rattle.kdf_director.proofs.Linking.OrdersEntered.{agrees_obeyed, need_is, shows_obeyed, told, lone_heard, state_heard}
 use Rattle.kdf_director.proofs.Linking.EventsEntered.{shows}
@@ -57,7 +57,7 @@ use Rattle.kdf_processor.specs.Lone.{is_live}
 use Rattle.kdf_director.proofs.Linking.NextPrograms.{live_same}
 use Rattle.kdf_course.specs.World as course
 use Rattle.kdf_theory.specs.Served.{IsAnswered}
-use Rattle.kdf_director.proofs.Course.OneJournal.{heard_note}
+use Rattle.kdf_theory.proofs.Course.OneJournal.{heard_note}
 
 -- ---- an order that was obeyed isn't held
 

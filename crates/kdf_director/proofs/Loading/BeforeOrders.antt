@@ -16,7 +16,7 @@ use Rattle.kdf_director.specs.Fields.Agrees.{Agrees, IsReady}
 use Rattle.kdf_director.specs.Fields.Standing.{Standing}
 use Rattle.kdf_theory.specs.Flights.{Flight}
 use Rattle.kdf_director.specs.Fields.Following.{AreFollowing, Linked}
-use Rattle.kdf_director.specs.Loading.{SlotLoad, slot_of}
+use Rattle.kdf_theory.specs.Loading.{SlotLoad, slot_of}
 use Rattle.kdf_director.specs.Fields.Begun.{IsLoaded}
 use Rattle.kdf_director.specs.Fields.Filled.{first_seat}
 use Rattle.kdf_director.specs.Fields.Parts.{Part, Seat}
@@ -29,7 +29,7 @@ use Rattle.kdf_theory.specs.ByJournal.{seen_of}
 use Rattle.kdf_theory.specs.World.{need_of}
 use Rattle.kdf_director.proofs.Linking.EventsEntered.{map_twice}
 use Rattle.kdf_theory.proofs.Course.WorldsJudged.{legal_nil, true_nil}
-use Rattle.kdf_director.proofs.Loading.JobsLoaded.{no_load}
+use Rattle.kdf_theory.proofs.JobsLoaded.{no_load}
 use Rattle.kdf_theory.proofs.Course.FlightsOnCourse.{none-first}
 use Rattle.kdf_theory.proofs.Course.OwnSteps.{own-nil}
 use Rattle.kdf_theory.proofs.Seen.SeenStates.{seen_nothing}

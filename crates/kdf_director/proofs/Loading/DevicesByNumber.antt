@@ -1,5 +1,6 @@
 -- The devices of the slots that are loaded, by number.
-use Rattle.std.proofs.Common.{◌≡◌, ◌≢◌, ℕ, zero, suc, ◌<◌, ◌≤◌, Bool, true, false, cond, eqb, ◌||◌, List, [], ◌∷◌, length, get_or, Option, Some, None, is_some, refl, sym, ap, ◌∙◌, subst, ⊎_elim, arith}
+use Rattle.std.proofs.Common.{◌≡◌, ◌≢◌, ℕ, zero, suc, ◌<◌, ◌≤◌, Bool, true, false, eqb, ◌||◌, List, [], ◌∷◌, length, get_or, Option, Some, None, is_some, refl}
+use Rattle.std.proofs.Common.{sym, ap, ◌∙◌, subst, ⊎_elim, arith}
 use Rattle.std.proofs.lemmas.Bool.{cases_eq, cases_lt, ne_eqb}
 use Rattle.std.proofs.lemmas.List.{ext_get_or}
 use Rattle.kdf_journal.specs.declared.kind.Kind.{Kind}
@@ -8,31 +9,15 @@ use Rattle.kdf_transfer.proofs.Numbers.{length-numbers, limit_is, number_at}
 use Rattle.std.specs.List.{AllPairs}
 use Rattle.kdf_job.specs.Job.{JobDevice}
 use Rattle.kdf_job.specs.Slots.{fixture_on, numbered, progress_on}
-use Rattle.kdf_director.specs.Loading.{SlotLoad}
-use Rattle.kdf_director.specs.Fields.Filled.{AreApart, first_own, has, numbers_in, pool_spot, spot_or}
-use Rattle.kdf_director.specs.Fields.Parts.{owns}
+use Rattle.kdf_theory.specs.Loading.{AreApart, SlotLoad, has, owns}
+use Rattle.kdf_director.specs.Fields.Filled.{first_own, pool_spot, spot_or}
 use Rattle.kdf_places.specs.Spots.{Spot}
+use Rattle.kdf_theory.proofs.JobsLoaded.{found, missing}
 
 -- the place of a slot's device
 pub record IsOwnSpot (o : Option JobDevice) (x : Spot) : Type 0 where
   pub fixture : x.fixture ≡ fixture_on o
   pub progress : x.progress ≡ progress_on o
-
-some_or : (b : Bool) (x : JobDevice) (o : Option JobDevice) → is_some (cond b (Some x) o) ≡ (b || is_some o)
-some_or true x o = refl
-some_or false x o = refl
-
--- the device of a number is there where the slot has one
-pub found : (devices : List JobDevice) (d : ℕ) → is_some (numbered devices d) ≡ owns (numbers_in devices) d
-found [] d = refl
-found (x ∷ devices) d = some_or (eqb x.d d) x (numbered devices d) ∙ ap (λ b. eqb x.d d || b) (found devices d)
-
-pub missing : (devices : List JobDevice) (d : ℕ) → owns (numbers_in devices) d ≡ false → numbered devices d ≡ None
-missing devices d not = none (numbered devices d) (found devices d ∙ not)
-  where
-    none : (o : Option JobDevice) → is_some o ≡ false → o ≡ None
-    none None is = refl
-    none (Some x) is = cc
 
 -- the place of a number of a slot's, with one of them or with something else
 pub own_one : (o : Option JobDevice) (other : Spot) → is_some o ≡ true → IsOwnSpot o (spot_or o other)

@@ -5,11 +5,11 @@ use Rattle.std.proofs.lemmas.List.{get_or_past, get_or_append_left, get_or-appen
 use Rattle.kdf_lockout.specs.Groups.{Cells}
 use Rattle.kdf_relocate.specs.declared.window.Window.{Window}
 use Rattle.kdf_processor.specs.State.{filled}
-use Rattle.kdf_director.specs.Loading.{SlotLoad}
+use Rattle.kdf_theory.specs.Loading.{SlotLoad}
 use Rattle.kdf_director.specs.Fields.Filled.{with_images, with_words}
 use Rattle.kdf_director.specs.Fields.Parts.{window_at}
 use Rattle.kdf_director.proofs.Loading.StoreFilled.{IsStore, word_there, words_other, words_store, words_there, zeros}
-use Rattle.kdf_director.proofs.Loading.JobsLoaded.{no_load}
+use Rattle.kdf_theory.proofs.JobsLoaded.{no_load}
 
 -- a place that none of a slot's words has
 abbrev pub IsOutside : List Window → ℕ → SlotLoad → Type 0

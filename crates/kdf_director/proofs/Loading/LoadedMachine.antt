@@ -15,10 +15,11 @@ use Rattle.kdf_director.specs.declared.program.Program.{Program}
 use Rattle.kdf_director.specs.declared.slot.Loaded.{Loaded}
 use Rattle.kdf_job.specs.Slots.{fixture_on, lent_kind, numbered, progress_on}
 use Rattle.kdf_journal.specs.declared.kind.Kind.{Kind}
-use Rattle.kdf_director.specs.Loading.{SlotLoad, slot_of}
+use Rattle.kdf_theory.specs.Loading.{AreLoads, IsLoad, SlotLoad, has, lends, numbers_in, owns, slot_of}
 use Rattle.kdf_director.specs.Fields.Begun.{IsLoaded}
-use Rattle.kdf_director.specs.Fields.Filled.{AreLoads, IsLoad, first_seat, has, idle_spot, lends, loaded, numbers_in, pool_in, pool_spot, sizes_of, with_images, zero_cells}
-use Rattle.kdf_director.specs.Fields.Parts.{Part, Reach, Seat, borrower, has_device, in_pool, pool_kind, own_fixture, own_progress, own_stock, owns, part_in, reach_of, seat_of, window_at}
+use Rattle.kdf_director.specs.Fields.Filled.{first_seat, idle_spot, loaded, pool_in, pool_spot, sizes_of, with_images, zero_cells}
+use Rattle.kdf_director.specs.Fields.Parts.{Part, Reach, Seat, borrower, has_device, in_pool, pool_kind, own_fixture, own_progress, own_stock, part_in}
+use Rattle.kdf_director.specs.Fields.Parts.{reach_of, seat_of, window_at}
 use Rattle.kdf_places.specs.Shared.{Shared, shared_in, IsSound}
 use Rattle.kdf_transfer.specs.ByNumber.{by_number, device_count}
 use Rattle.kdf_places.specs.declared.place.Place.{Place}
@@ -32,8 +33,8 @@ use Rattle.kdf_places.specs.Spots.{AreDry, Spot, lease_held, leases_of, no_spot,
 use Rattle.kdf_director.proofs.Linking.EventsEntered.{map_twice}
 use Rattle.kdf_director.proofs.Loading.StoreFilled.{IsStore, none_lent, word_there, zero_store, zero_there}
 use Rattle.kdf_director.proofs.Loading.ImagesLoaded.{IsOutside, IsWithin, filled_at, images_store, images_there}
-use Rattle.kdf_director.proofs.Loading.JobsLoaded.{are_slots, no_load}
-use Rattle.kdf_director.proofs.Loading.DevicesByNumber.{IsOwnSpot, apart_both, found, idle_flight, missing, numbers_same, picked, pool_flight, small_of, unpicked}
+use Rattle.kdf_theory.proofs.JobsLoaded.{are_slots, found, missing, no_load}
+use Rattle.kdf_director.proofs.Loading.DevicesByNumber.{IsOwnSpot, apart_both, idle_flight, numbers_same, picked, pool_flight, small_of, unpicked}
 use Rattle.kdf_transfer.proofs.Numbers.{length-numbers, limit_is, number_at, number_past}
 use Rattle.kdf_director.proofs.Loading.SizesLoaded.{IsWindow, size_is, window_of}
 

@@ -8,7 +8,7 @@ use Rattle.kdf_job.specs.declared.job.SlotJob.{SlotJob}
 use Rattle.kdf_job.specs.Shows.{shown_slot}
 use Rattle.kdf_place.specs.declared.image.Image.{Image}
 use Rattle.kdf_director.specs.declared.slot.Loaded.{Loaded}
-use Rattle.kdf_director.specs.Loading.{SlotLoad, load_of, loads}
+use Rattle.kdf_theory.specs.Loading.{SlotLoad, load_of, loads}
 use Rattle.kdf_director.specs.Fields.Filled.{kept_word, loaded, with_images, with_words}
 use Rattle.kdf_director.specs.Fields.Parts.{window_at}
 

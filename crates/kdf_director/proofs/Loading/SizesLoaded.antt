@@ -7,8 +7,8 @@ use Rattle.std.proofs.lemmas.List.Elements.{All-cons, All-head, All-nil, All-tai
 use Rattle.std.proofs.lemmas.List.Sums.{list_all-from_AllPass, sum_by-cons}
 use Rattle.kdf_relocate.specs.declared.window.Window.{Window}
 use Rattle.kdf_relocate.specs.Windows.{have_windows, windows_from}
-use Rattle.kdf_director.specs.Loading.{SlotLoad}
-use Rattle.kdf_director.specs.Fields.Filled.{IsBelow, size_at, sizes_of}
+use Rattle.kdf_theory.specs.Loading.{IsBelow, SlotLoad}
+use Rattle.kdf_director.specs.Fields.Filled.{size_at, sizes_of}
 use Rattle.kdf_director.specs.Fields.Parts.{window_at}
 
 -- a size in one of four places at most

@@ -17,7 +17,8 @@ use Rattle.kdf_processor.specs.Effect.{Writes, Starts}
 use Rattle.kdf_places.specs.Spots.{Spot, no_spot, spot_at, lease_held, leases_of, fixture_or}
 use Rattle.kdf_director.specs.Fields.Stints.{left_in, stint_of}
 use Rattle.kdf_places.specs.Shared.{Shared, IsSound}
-use Rattle.kdf_director.specs.Fields.Parts.{Part, has_device, owns, own_fixture, own_progress, own_stock, own_claims}
+use Rattle.kdf_director.specs.Fields.Parts.{Part, has_device, own_fixture, own_progress, own_stock, own_claims}
+use Rattle.kdf_theory.specs.Loading.{owns}
 use Rattle.kdf_lockout.specs.Groups.{touched}
 use Rattle.kdf_places.specs.Transfers.{start_lease, start_spot, IsFreeArea}
 use Rattle.kdf_director.specs.Fields.Shared.{after_act}

@@ -19,7 +19,8 @@ use Rattle.kdf_transfer.specs.declared.wanted.Wanted.{Wanted}
 use Rattle.kdf_transfer.specs.declared.wanted.Wanted.TheVariants.{Kinded, Labelled}
 use Rattle.kdf_director.specs.Fields.Keeping.{IsActive, IsKept}
 use Rattle.kdf_places.specs.Shared.{Shared}
-use Rattle.kdf_director.specs.Fields.Parts.{Part, owns, fixture_owned, own_stock, own_fixture, own_progress, own_claims, has_device, pool_kind}
+use Rattle.kdf_director.specs.Fields.Parts.{Part, fixture_owned, own_stock, own_fixture, own_progress, own_claims, has_device, pool_kind}
+use Rattle.kdf_theory.specs.Loading.{owns}
 use Rattle.kdf_director.specs.Fields.Stints.{left_in, lends}
 use Rattle.kdf_transfer.proofs.Numbers.{limit_is, number_at}
 

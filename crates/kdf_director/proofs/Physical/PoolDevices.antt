@@ -16,7 +16,8 @@ use Rattle.kdf_processor.specs.Effect.{Releases}
 use Rattle.kdf_processor.specs.Row.{handed, taking}
 use Rattle.kdf_processor.specs.State.{Stint, Stock}
 use Rattle.kdf_director.specs.Fields.Keeping.{IsActive, IsKept}
-use Rattle.kdf_director.specs.Fields.Parts.{Part, back_from, has_device, in_pool, own_claims, own_fixture, own_progress, own_stock, owns, pool_kind}
+use Rattle.kdf_director.specs.Fields.Parts.{Part, back_from, has_device, in_pool, own_claims, own_fixture, own_progress, own_stock, pool_kind}
+use Rattle.kdf_theory.specs.Loading.{owns}
 use Rattle.kdf_places.specs.Shared.{Shared, IsSound}
 use Rattle.kdf_places.specs.Words.{has_group, own_words}
 use Rattle.kdf_theory.specs.Seen.{begun}

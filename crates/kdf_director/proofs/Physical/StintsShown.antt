@@ -14,7 +14,8 @@ use Rattle.kdf_processor.specs.State.{device_in, lending_of, lendings}
 use Rattle.kdf_processor.specs.Stints.{IsStint}
 use Rattle.kdf_director.specs.Fields.Keeping.{IsKept}
 use Rattle.kdf_director.specs.Fields.Owners.{IsTold, fixture_told, progress_told}
-use Rattle.kdf_director.specs.Fields.Parts.{Part, in_pool, own_progress, own_stock, owns, pool_kind}
+use Rattle.kdf_director.specs.Fields.Parts.{Part, in_pool, own_progress, own_stock, pool_kind}
+use Rattle.kdf_theory.specs.Loading.{owns}
 use Rattle.kdf_places.specs.Shared.{Shared}
 use Rattle.kdf_places.specs.Spots.{fixture_or, spot_at}
 use Rattle.kdf_director.specs.Fields.Stints.{Keeping, IsOfKind, Loan, Lent, Left, Back, is_left, is_lent, is_open, kept_by, left_in, lends, no_keeping, progress_back, progress_left, stint_of}

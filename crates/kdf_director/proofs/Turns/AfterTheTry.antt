@@ -1,8 +1,9 @@
 -- What a try of one order leaves of the machine.
-use Rattle.std.specs.Prelude.{Result, Ok, Err, OnOk, OnErr, IfOk, find, not, unwrap_or}
+use Rattle.std.specs.Prelude.{find, not, unwrap_or}
 use Rattle.std.specs.List.{range_with_len}
 use Rattle.std.proofs.Math.Path.{fun_ext}
-use Rattle.std.proofs.Common.{◌≡◌, ◌≢◌, ℕ, ◌+◌, ◌<◌, ◌&&◌, ◌||◌, Bool, true, false, List, length, get_or, map, set, Option, Some, None, is_some, cond, refl, sym, ap, ap₂, ◌∙◌, subst, ⊎_elim, arith}
+use Rattle.std.proofs.Common.{◌≡◌, ◌≢◌, ℕ, ◌+◌, ◌<◌, ◌&&◌, ◌||◌, Bool, true, false, List, length, get_or, map, set, Option, Some, None, is_some, cond, refl}
+use Rattle.std.proofs.Common.{sym, ap, ap₂, ◌∙◌, subst, ⊎_elim, arith}
 use Rattle.std.proofs.lemmas.Bool.{cases_Bool, cases_eq, or_right}
 use Rattle.std.proofs.lemmas.List.{get_or-set_other, get_or-set_same, length-set, set-get_or, set-set}
 use Rattle.kdf_processor.specs.declared.step.Need.{Need}
@@ -208,21 +209,3 @@ unturned seats p new same = ap (set seats p) same ∙ set-get_or seats p no_seat
 pub word_shown : (reaches : List Reach) (seats : List Seat) (s : Shared) (n i a : ℕ) → a < (reach_at reaches i).size → word_at_place s.cells (leases_of s.spots) ((reach_at reaches i).base + a) ≡ word_at (own_state reaches seats s n i) a
 unfolding own_state
 word_shown reaches seats s n i a lt = sym (own_word (part_at reaches seats i) n s a lt)
-
--- what a fact at Ok or at Err gives
-pub on_ok : {A E : Type 0} (r : Result A E) (P Q : Type 0) → (P → Q) → OnOk r P → OnOk r Q
-on_ok (Ok a) P Q f h = f h
-on_ok (Err e) P Q f h = tt
-
-pub on_err : {A E : Type 0} (r : Result A E) (P Q : Type 0) → (P → Q) → OnErr r P → OnErr r Q
-on_err (Ok a) P Q f h = tt
-on_err (Err e) P Q f h = f h
-
-pub if_ok : {A E : Type 0} (r : Result A E) (P Q : A → Type 0) → ((a : A) → P a → Q a) → IfOk r P → IfOk r Q
-if_ok (Ok a) P Q f h = f a h
-if_ok (Err e) P Q f h = tt
-
--- either is known
-pub on_either : {A E : Type 0} (r : Result A E) (P : A → Type 0) (Q R : Type 0) → IfOk r P → OnErr r Q → ((a : A) → P a → R) → (Q → R) → R
-on_either (Ok a) P Q R p q f g = f a p
-on_either (Err e) P Q R p q f g = g q

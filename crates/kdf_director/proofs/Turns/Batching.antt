@@ -1,60 +1,32 @@
 -- Orders of one program that are tried one after the other, of which nothing is noted.
 use Rattle.std.specs.Prelude.{unwrap_or}
-use Rattle.std.proofs.Common.{◌≡◌, ℕ, zero, suc, ◌+◌, ◌<◌, Bool, true, false, List, length, set, Option, Some, None, refl, sym, ap, ◌∙◌, subst, arith}
+use Rattle.std.proofs.Common.{◌≡◌, ℕ, zero, suc, ◌<◌, Bool, true, false, List, length, set, Option, Some, None, refl, sym, ap, ◌∙◌, subst, arith}
 use Rattle.std.proofs.lemmas.List.{get_or-set_same, length-set, set-get_or, set-set}
-use Rattle.kdf_processor.specs.declared.registers.Registers.{Registers}
-use Rattle.kdf_processor.specs.declared.step.Need.{Need}
 use Rattle.kdf_processor.specs.declared.step.Step.{Step}
 use Rattle.kdf_processor.specs.declared.step.Step.TheVariants as step
-use Rattle.kdf_processor.specs.Effect.{Effect, Failing, Ending, Changing, Fetching, Keeping, Testing, Starting, Asking, Claiming, Returning, Spooling}
 use Rattle.kdf_processor.specs.Lone.{is_live}
-use Rattle.kdf_processor.specs.Needs.{effect_at, needs_at}
-use Rattle.kdf_processor.specs.Outcome.{Outcome, done, held_or, outcome}
-use Rattle.kdf_processor.specs.View.{View, first_pending}
+use Rattle.kdf_processor.specs.Outcome.{Outcome}
 use Rattle.kdf_director.specs.declared.moment.Moment.{Moment}
 use Rattle.kdf_director.specs.declared.note.Note.{Note}
 use Rattle.kdf_director.specs.declared.note.Note.TheVariants as note
 use Rattle.kdf_director.specs.Fields.Batches.{of_seat, of_seats, AreQuiet, HasBatch, HasTriedOn, HasTurnedOn, Passes}
 use Rattle.kdf_director.specs.Halts.{is_at}
 use Rattle.kdf_theory.specs.Holders.{held_by}
+use Rattle.kdf_theory.proofs.GoingOn.{GoesOn, goes_on}
 use Rattle.kdf_director.specs.Fields.Agrees.{AreHeld}
 use Rattle.kdf_director.specs.Fields.Parts.{Part, Reach, Seat, part_in}
 use Rattle.kdf_places.specs.Shared.{Shared}
 use Rattle.kdf_director.specs.Fields.Running.{no_seat, reach_at, seat_at, IsRunning}
 use Rattle.kdf_director.specs.Fields.Settled.{Both, both_of, settled}
 use Rattle.kdf_director.specs.Fields.Shared.{moment, view}
-use Rattle.kdf_director.specs.Fields.TurnTaken.{HasAsked}
+use Rattle.kdf_theory.specs.Asked.{HasAsked}
 use Rattle.kdf_director.specs.declared.turn.Turn.{Turn}
 use Rattle.kdf_director.specs.Fields.Turn.{held_in, reach_in, SameProgram}
 use Rattle.kdf_director.specs.Fields.Turned.{both_after, outcome_over, told, word_over, HasRun, HasTried, HasTurned}
-use Rattle.kdf_director.proofs.Turns.HeardWords.{has_none, none_served}
+use Rattle.kdf_theory.proofs.Course.HeardWords.{has_none}
+use Rattle.kdf_director.proofs.Turns.HeardWords.{none_served}
 use Rattle.kdf_director.proofs.Turns.DevicesLeave.{run_by, settled_on}
 use Rattle.kdf_director.proofs.Turns.AfterTheTry.{turned, turned_running}
-
--- registers after an order that was obeyed: the program goes on, and the order is counted
-pub record GoesOn (before after : Registers) : Type 0 where
-  pub state : after.state ≡ before.state
-  pub ran : after.ran ≡ before.ran + 1
-
-done_on : (v : View) (r : Registers) (e : Effect) → (done v r e).step ≡ step.Done → GoesOn r (done v r e).registers
-done_on v r (Failing kind) is = cc
-done_on v r (Ending after) is = cc
-done_on v r (Changing after) is = record { state = refl; ran = refl }
-done_on v r (Fetching a after) is = record { state = refl; ran = refl }
-done_on v r (Keeping a w after) is = record { state = refl; ran = refl }
-done_on v r (Testing d what after) is = record { state = refl; ran = refl }
-done_on v r (Starting d o first last after) is = record { state = refl; ran = refl }
-done_on v r (Asking q after) is = record { state = refl; ran = refl }
-done_on v r (Claiming d after) is = record { state = refl; ran = refl }
-done_on v r (Returning pooled d after) is = record { state = refl; ran = refl }
-done_on v r (Spooling stream first last after) is = record { state = refl; ran = refl }
-
-held_on : (v : View) (r : Registers) (o : Option Need) (e : Effect) → (held_or r o (done v r e)).step ≡ step.Done → GoesOn r (held_or r o (done v r e)).registers
-held_on v r (Some need) e is = cc
-held_on v r None e is = done_on v r e is
-
-pub goes_on : (v : View) (r : Registers) → (outcome v r).step ≡ step.Done → GoesOn r (outcome v r).registers
-goes_on v r is = held_on v r (first_pending v (needs_at v.claims v.word r v.mine)) (effect_at v.claims v.word r) is
 
 module _ (reach : Reach) (held : ℕ → Option ℕ) (m : Moment) where
   abbrev Tries : Seat → Shared → Seat → Shared → Step → Note → Type 0

@@ -2,7 +2,8 @@
 use Rattle.std.proofs.Common.{◌≡◌, ◌≢◌, ℕ, zero, suc, ◌<◌, Bool, true, false, List, [], ◌∷◌, length, Option, Some, None, cond, refl, sym, ap, ap₂, ◌∙◌, ⊎_elim, arith}
 use Rattle.std.proofs.lemmas.Bool.{cases_eq, eq-eqb, ne_eqb, or_parts, or_right}
 use Rattle.kdf_theory.specs.Holders.{is_taker}
-use Rattle.kdf_director.specs.Fields.Parts.{Reach, Seat, borrower, owns}
+use Rattle.kdf_director.specs.Fields.Parts.{Reach, Seat, borrower}
+use Rattle.kdf_theory.specs.Loading.{owns}
 use Rattle.kdf_places.specs.Shared.{Shared}
 use Rattle.kdf_director.specs.Fields.Running.{reach_at, seat_at, IsRunning, IsUnlent}
 use Rattle.kdf_director.specs.Fields.Stints.{lends}

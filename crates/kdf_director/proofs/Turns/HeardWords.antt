@@ -1,6 +1,6 @@
--- What was heard of the service is its answer to the word of which an order asks it.
-use Rattle.std.proofs.Common.{◌≡◌, ℕ, ◌<◌, ◌^◌, ◌||◌, not, Bool, true, false, List, [], ◌∷◌, length, get_or, Option, Some, None, cond, refl, sym, ap, ◌∙◌, subst}
-use Rattle.std.specs.Prelude.{IfSome, find, is_some, unwrap_or}
+-- The word of which a program's order asks the service, over the fields of the machine.
+use Rattle.std.proofs.Common.{◌≡◌, ℕ, ◌<◌, ◌||◌, not, Bool, true, false, List, [], ◌∷◌, length, get_or, Option, Some, None, cond, refl, sym, ap, ◌∙◌}
+use Rattle.std.specs.Prelude.{find, is_some}
 use Rattle.std.specs.List.{range_with_len}
 use Rattle.std.proofs.lemmas.Bool.{and_from, and_parts}
 use Rattle.kdf_journal.specs.declared.kind.Kind.{Kind}
@@ -13,40 +13,17 @@ use Rattle.kdf_processor.specs.View.{first_pending, is_pending}
 use Rattle.kdf_processor.specs.Ahead.{act_word, word_ahead, word_asked}
 use Rattle.kdf_processor.specs.Needs.{needs, next_effect}
 use Rattle.kdf_processor.specs.Outcome.{done, held_or}
-use Rattle.kdf_processor.specs.State.{State, word_at}
-use Rattle.kdf_processor.proofs.Words.{done_word, next_told, unserved_word, untold_word}
-use Rattle.kdf_director.specs.Advance.{IsHeard}
+use Rattle.kdf_processor.proofs.Words.{done_word, unserved_word, untold_word}
 use Rattle.kdf_theory.specs.Holders.{held_by}
 use Rattle.kdf_director.specs.Fields.Parts.{Part, Reach, Seat, in_pool, is_lent_by, part_in}
 use Rattle.kdf_places.specs.Shared.{Shared}
 use Rattle.kdf_director.specs.Fields.Running.{hold_of, own_state, part_at, reach_at, seat_at, IsRunning}
 use Rattle.kdf_places.specs.Spots.{own_from}
 use Rattle.kdf_director.specs.Fields.Shared.{Setting, free_in, is_free_in, is_pool_taken, is_taken_by, moment, view}
-use Rattle.kdf_director.specs.Fields.TurnTaken.{HasAsked}
 use Rattle.kdf_director.specs.Fields.Turned.{told, word_over}
 use Rattle.kdf_director.proofs.Turns.Borrowers.{has_now}
 use Rattle.kdf_director.proofs.Turns.OneOrder as turn
 use Rattle.kdf_director.proofs.Turns.OrdersTried.{kind_some}
-
--- what was heard answers the word
-pub heard_so : (answers : ℕ → ℕ → Type 0) (asked heard : Option ℕ) → HasAsked answers asked heard → IfSome asked (λ word. (word < 2 ^ 48) × answers word (unwrap_or heard 0))
-heard_so answers (Some word) (Some answer) has = has
-heard_so answers (Some word) None has = absurd has
-heard_so answers None heard has = tt
-
--- what a moment has of it
-pub heard_then : (heard : Option ℕ) (h d : ℕ) → h ≡ unwrap_or heard d → d ≡ 0 → h ≡ unwrap_or heard 0
-heard_then heard h d is none = is ∙ ap (unwrap_or heard) none
-
-pub none_if : (o : Option ℕ) → is_some o ≡ false → o ≡ None
-none_if None is = refl
-none_if (Some word) is = cc
-
-pub has_none : (answers : ℕ → ℕ → Type 0) (asked : Option ℕ) → asked ≡ None → HasAsked answers asked None
-has_none answers asked is = subst (λ o. HasAsked answers o None) (sym is) tt
-
-pub has_answer : (answers : ℕ → ℕ → Type 0) (asked : Option ℕ) (word answer : ℕ) → asked ≡ Some word → word < 2 ^ 48 → answers word answer → HasAsked answers asked (Some answer)
-has_answer answers asked word answer is small has = subst (λ o. HasAsked answers o (Some answer)) (sym is) (small, has)
 
 -- the order of a program that isn't served asks nothing, nor does one that no word on top tells
 pub none_served : (x : Seat) (r : Reach) (s : Shared) → r.served ≡ false → word_over x r s ≡ None
@@ -114,14 +91,3 @@ word_is reaches seats s i run lt live free n =
     claimed_taken : (d : ℕ) → in_pool (part_at reaches seats i) d ≡ true → is_taken_by (seat_at seats i).claimed (held_by []) d ≡ true → is_lent_by seats d ≡ true
     claimed_taken d pooled is =
         ap is_some (has_now reaches seats s run i lt d (sym ((run.active i lt live).marks d pooled) ∙ marked (get_or (seat_at seats i).claimed d false) is))
-
--- a program that isn't served asks nothing
-pub none_asked : (s : State) → s.stock.claims.served ≡ false → word_asked (next_effect s) ≡ None
-none_asked s unserved = by_word (word_asked (next_effect s)) refl
-  where
-    by_word : (o : Option ℕ) → word_asked (next_effect s) ≡ o → o ≡ None
-    by_word None is = refl
-    by_word (Some word) is = cc (sym unserved ∙ (next_told s.stock.claims (word_at s) s.registers).served word is)
-
-pub none_heard : (answers : ℕ → ℕ → Type 0) (heard : ℕ) (s : State) → s.stock.claims.served ≡ false → IsHeard answers s heard
-none_heard answers heard s unserved = subst (λ o. IfSome o (λ word. (word < 2 ^ 48) × answers word heard)) (sym (none_asked s unserved)) tt

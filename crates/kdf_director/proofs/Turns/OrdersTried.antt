@@ -24,7 +24,9 @@ use Rattle.kdf_processor.proofs.Fit.{found}
 use Rattle.kdf_theory.proofs.Seen.EffectsChecked.{IsLawful}
 use Rattle.kdf_director.specs.Fields.Keeping.{IsActive, IsKept}
 use Rattle.kdf_places.specs.Spots.{Spot, blank_spot, fixture_or, no_spot, spot_at}
-use Rattle.kdf_director.specs.Fields.Parts.{Part, back_from, has_device, in_pool, lent_to, own_fixture, own_stock, own_claims, own_text, owns, part_after, asked_after}
+use Rattle.kdf_director.specs.Fields.Parts.{Part, back_from, has_device, in_pool, lent_to, own_fixture, own_stock, own_claims, own_text, part_after}
+use Rattle.kdf_director.specs.Fields.Parts.{asked_after}
+use Rattle.kdf_theory.specs.Loading.{owns}
 use Rattle.kdf_places.specs.Shared.{Shared, IsSound}
 use Rattle.kdf_director.specs.Fields.Shared.{Setting, view, is_free_in, free_in, is_out_of, after_act}
 use Rattle.kdf_places.specs.Transfers.{start_cells, start_spot, IsFreeArea}

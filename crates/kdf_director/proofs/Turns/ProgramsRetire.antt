@@ -13,7 +13,8 @@ use Rattle.kdf_journal.specs.declared.kind.Kind.{Kind}
 use Rattle.kdf_processor.specs.declared.registers.Registers.{Registers}
 use Rattle.kdf_places.specs.Shared.{is_busy_in, Shared}
 use Rattle.kdf_director.specs.Fields.Shared.{Setting, view}
-use Rattle.kdf_director.specs.Fields.Parts.{Part, Reach, Seat, borrower, has_device, in_pool, own_stock, owns, part_in, pool_kind}
+use Rattle.kdf_director.specs.Fields.Parts.{Part, Reach, Seat, borrower, has_device, in_pool, own_stock, part_in, pool_kind}
+use Rattle.kdf_theory.specs.Loading.{owns}
 use Rattle.kdf_director.specs.Fields.Running.{no_seat, own_state, part_at, reach_at, seat_at, IsHeld, IsRunning, IsUnlent}
 use Rattle.kdf_director.specs.Fields.Settled.{Both, both_of, holder_over, kept_from, keeping_at, retired, retired_at, settled}
 use Rattle.kdf_places.specs.Spots.{Held, Spot, blank_spot, can_leave, fixture_or, is_of, no_spot, own_from, spot_at}

@@ -31,12 +31,13 @@ use Rattle.kdf_director.specs.Fields.Parts.{Part, Reach, Seat, in_pool, is_lent_
 use Rattle.kdf_director.specs.Fields.Running.{no_seat, part_at, reach_at, reaches_in, seat_at, seats_in, IsRunning}
 use Rattle.kdf_director.specs.Fields.Standing.{Standing, standing, IsSameYard, IsYard}
 use Rattle.kdf_director.specs.Fields.Turned.{word_over, HasRun}
-use Rattle.kdf_director.specs.Fields.TurnTaken.{HasAsked}
+use Rattle.kdf_theory.specs.Asked.{HasAsked}
 use Rattle.kdf_director.specs.Fields.Yards.{goes_in, hold_in, number_in, registers_in, word_in, AreLentIn, AreNear, HasTurnedIn, HasTurnedQuietly}
 use Rattle.kdf_director.specs.Runs.{HasEntered}
 use Rattle.kdf_director.proofs.Turns.AfterTheTry.{free_alike}
 use Rattle.kdf_director.proofs.Turns.Batching.{still_running, turns_by, turns_on}
-use Rattle.kdf_director.proofs.Turns.HeardWords.{has_none, none_served}
+use Rattle.kdf_theory.proofs.Course.HeardWords.{has_none}
+use Rattle.kdf_director.proofs.Turns.HeardWords.{none_served}
 
 -- how things stand by the fields of a yard
 abbrev pub stands : Inside → Standing

@@ -2,11 +2,11 @@
 use Rattle.std.specs.Prelude.{◌≡◌, ℕ, ◌<◌, List, length, map, None, slice_index_or}
 use Rattle.kdf_processor.specs.State.{begin}
 use Rattle.kdf_places.specs.Spots.{spot_at}
-use Rattle.kdf_director.specs.Fields.Filled.{AreLoads, first_seat}
+use Rattle.kdf_theory.specs.Loading.{AreLoads, SlotLoad, slot_of}
+use Rattle.kdf_director.specs.Fields.Filled.{first_seat}
 use Rattle.kdf_director.specs.Fields.Parts.{borrower}
 use Rattle.kdf_director.specs.Fields.Running.{IsRunning, own_state}
 use Rattle.kdf_director.specs.Fields.Standing.{Standing}
-use Rattle.kdf_director.specs.Loading.{SlotLoad, slot_of}
 use Rattle.kdf_theory.specs.Slots.{AreSlots}
 
 -- it was loaded with these slots: each program is at its start, no device has a transfer, and none of the pool is lent

@@ -1,6 +1,5 @@
 -- How what is loaded fills the fields of a yard: the store, the programs and the places of the devices.
-use Rattle.std.specs.Prelude.{◌≡◌, ℕ, Bool, true, false, sum_by, ◌+◌, ◌%◌, ◌/◌, ◌<◌, ◌≤◌, ◌==◌, List, [], ◌∷◌, length, map, replicate, Option, Some, None, is_some, if◌then◌else◌}
-use Rattle.std.specs.List.{All, AllPairs}
+use Rattle.std.specs.Prelude.{ℕ, ◌+◌, ◌/◌, ◌==◌, List, [], ◌∷◌, map, replicate, Option, Some, None, if◌then◌else◌}
 use Rattle.kdf_lockout.specs.Groups.{Cells, is_out, with_word}
 use Rattle.kdf_relocate.specs.declared.window.Window.{Window}
 use Rattle.kdf_journal.specs.declared.kind.Kind.{Kind}
@@ -12,46 +11,10 @@ use Rattle.kdf_processor.specs.State.{new_registers, unclaimed}
 use Rattle.kdf_places.specs.declared.place.Place.{Place}
 use Rattle.kdf_places.specs.declared.place.Place.TheVariants.{Absent, Idle}
 use Rattle.kdf_director.specs.declared.slot.Loaded.{Loaded}
-use Rattle.kdf_director.specs.Fields.Parts.{Seat, owns, window_at}
+use Rattle.kdf_director.specs.Fields.Parts.{Seat, window_at}
 use Rattle.kdf_places.specs.Spots.{Spot, no_spot}
 use Rattle.kdf_job.specs.Slots.{lent_kind, numbered}
-use Rattle.kdf_director.specs.Loading.{SlotLoad}
-
--- the numbers of a slot's devices, and whether one of them has this number
-abbrev pub numbers_in : List JobDevice → List ℕ
-numbers_in devices = map (λ (x : JobDevice). x.d) devices
-
-abbrev pub has : SlotLoad → ℕ → Bool
-has l d = owns (numbers_in l.devices) d
-
--- no device number is in both
-abbrev pub AreApart : SlotLoad → SlotLoad → Type 0
-AreApart a b = (d : ℕ) → has a d ≡ true → has b d ≡ false
-
--- each slot's number is below those of the later ones
-abbrev pub IsBelow : SlotLoad → SlotLoad → Type 0
-IsBelow a b = a.p < b.p
-
--- a device of the pool has this number
-abbrev pub lends : SlotLoad → ℕ → Bool
-lends l d = is_some (lent_kind l.pool d)
-
--- one of four slots: whole groups, which the words fit, and devices of sixteen, of which none is the pool's
-pub record IsLoad (l : SlotLoad) : Type 0 where
-  pub number : l.p < 4
-  pub groups : l.size % 32 ≡ 0
-  pub fits : length l.words ≤ l.size
-  pub below : All (λ n. n < 16) (numbers_in l.devices)
-  pub few : (d : ℕ) → lends l d ≡ true → d < 16
-  pub owned : (d : ℕ) → has l d ≡ true → lends l d ≡ false
-
--- the numbers of the slots rise, their stores fit together, no device's number is of two slots, and the pool is common
-pub record AreLoads (slots : List SlotLoad) : Type 0 where
-  pub each : All IsLoad slots
-  pub rising : AllPairs IsBelow slots
-  pub total : sum_by (λ (l : SlotLoad). l.size) slots ≤ 31744
-  pub apart : AllPairs AreApart slots
-  pub common : AllPairs (λ (a b : SlotLoad). a.pool ≡ b.pool) slots
+use Rattle.kdf_theory.specs.Loading.{SlotLoad}
 
 -- what was loaded
 abbrev pub loaded : Loaded → SlotLoad

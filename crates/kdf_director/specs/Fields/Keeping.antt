@@ -9,7 +9,8 @@ use Rattle.kdf_places.specs.declared.place.Place.{Place}
 use Rattle.kdf_director.specs.declared.stint.Stint.{Stint as KeptStint}
 use Rattle.kdf_relocate.specs.declared.window.Window.{Window}
 use Rattle.kdf_director.specs.declared.slot.Loaded.{Loaded}
-use Rattle.kdf_director.specs.Fields.Parts.{Part, in_pool, owns, part_with, pool_kind}
+use Rattle.kdf_director.specs.Fields.Parts.{Part, in_pool, part_with, pool_kind}
+use Rattle.kdf_theory.specs.Loading.{owns}
 use Rattle.kdf_places.specs.Shared.{Shared, shared_in}
 use Rattle.kdf_places.specs.Spots.{spot_at}
 use Rattle.kdf_director.specs.Fields.Stints.{IsOfKind, Keeping, is_left, is_open, lends}

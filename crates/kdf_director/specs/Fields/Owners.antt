@@ -9,7 +9,8 @@ use Rattle.kdf_journal.specs.Counts.{holder}
 use Rattle.kdf_job.specs.Slots.{lent_kind}
 use Rattle.kdf_processor.specs.State.{device_limit}
 use Rattle.kdf_director.specs.declared.slot.Loaded.{Loaded}
-use Rattle.kdf_director.specs.Fields.Parts.{Seat, numbers, owns}
+use Rattle.kdf_director.specs.Fields.Parts.{Seat, numbers}
+use Rattle.kdf_theory.specs.Loading.{owns}
 use Rattle.kdf_director.specs.Fields.Running.{seat_at}
 use Rattle.kdf_places.specs.Spots.{Spot, fixture_or, spot_at, IsDeviceOf}
 use Rattle.kdf_director.specs.Fields.Stints.{Keeping, Loan, Lent, Left, Back, is_lent, is_open}

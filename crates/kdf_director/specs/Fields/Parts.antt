@@ -1,6 +1,5 @@
 -- A program's part of the machine, and what it has of its own beside its registers.
-use Rattle.std.specs.Prelude.{ℕ, ◌+◌, ◌==◌, ◌||◌, Bool, true, false, if◌then◌else◌, List, ◌∷◌, [], ◌++◌, map, Option, Some, None, is_some, slice_index_or, slice_set}
-use Rattle.std.specs.List.{list_any}
+use Rattle.std.specs.Prelude.{ℕ, ◌+◌, ◌||◌, Bool, true, false, if◌then◌else◌, List, ◌∷◌, [], ◌++◌, map, Option, Some, None, is_some, slice_index_or, slice_set}
 use Rattle.kdf_word.specs.Characters.{codes_of_all}
 use Rattle.kdf_media.specs.Media.{through_end}
 use Rattle.kdf_relocate.specs.declared.window.Window.{Window}
@@ -22,6 +21,7 @@ use Rattle.kdf_transfer.specs.ByNumber.{by_number}
 use Rattle.kdf_places.specs.Spots.{Spot, fixture_or, spot_at, leases_of}
 use Rattle.kdf_director.specs.Fields.Stints.{Keeping, Loan, Lent, Back, keeping_of, left_in, lends, stint_of, with_loan}
 use Rattle.kdf_places.specs.Shared.{Shared}
+use Rattle.kdf_theory.specs.Loading.{owns}
 
 -- what contracts see of a program: its slot, its registers, which devices it claimed, what it spooled, and its stints
 pub record Seat : Type 0 where
@@ -117,10 +117,6 @@ part_with p window slot claimed spooled stints =
       spooled = spooled;
       stints = map keeping_of stints;
     }
-
--- one of these devices has the number
-abbrev pub owns : List ℕ → ℕ → Bool
-owns devices d = list_any (λ n. n == d) devices
 
 -- what the device of this number is, where it is one of these
 abbrev pub fixture_owned : List ℕ → List Spot → ℕ → Option Fixture

@@ -15,7 +15,8 @@ use Rattle.kdf_director.specs.declared.moment.Moment.{Moment}
 use Rattle.kdf_director.specs.declared.program.Program.{Program}
 use Rattle.kdf_director.specs.declared.slot.Loaded.{Loaded}
 use Rattle.kdf_director.specs.Fields.Keeping.{IsActive, IsKept}
-use Rattle.kdf_director.specs.Fields.Parts.{Part, Seat, Reach, has_device, in_pool, is_lent_by, seat_of, reach_of, part_in, own_stock, owns}
+use Rattle.kdf_director.specs.Fields.Parts.{Part, Seat, Reach, has_device, in_pool, is_lent_by, seat_of, reach_of, part_in, own_stock}
+use Rattle.kdf_theory.specs.Loading.{owns}
 use Rattle.kdf_places.specs.Shared.{Shared, IsSound}
 use Rattle.kdf_director.specs.Fields.Shared.{answer_in, moment, setting, view}
 use Rattle.kdf_director.specs.Fields.Stints.{lends}

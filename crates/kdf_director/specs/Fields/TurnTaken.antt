@@ -1,5 +1,5 @@
 -- What a call makes of the program whose turn it is.
-use Rattle.std.specs.Prelude.{◌≡◌, ◌<◌, ◌^◌, ℕ, List, Option, Some, None, slice_set, unwrap_or}
+use Rattle.std.specs.Prelude.{◌≡◌, ℕ, List, Option, slice_set, unwrap_or}
 use Rattle.kdf_journal.specs.declared.entry.Entry.{Entry}
 use Rattle.kdf_journal.specs.Counts.{clock}
 use Rattle.kdf_journal.specs.Steps.{Step, Obeys, Holds, added}
@@ -15,12 +15,8 @@ use Rattle.kdf_places.specs.Shared.{Shared}
 use Rattle.kdf_director.specs.Fields.Running.{reach_at, seat_at}
 use Rattle.kdf_director.specs.Fields.Shared.{moment}
 use Rattle.kdf_director.specs.Fields.Turned.{word_over, HasTurned}
-use Rattle.kdf_theory.specs.World.{hold_of}
-
--- what holds a program whose turn ended so
-abbrev pub hold_left : Ending → Option Need
-hold_left (ending.Held need) = Some need
-hold_left ended = None
+use Rattle.kdf_theory.specs.World.{hold_left, hold_of}
+use Rattle.kdf_theory.specs.Asked.{HasAsked}
 
 -- the step of program p that is entered: that it was held, or that it obeyed its own order k, with the note
 abbrev pub step_told : ℕ → ℕ → Ending → Noted → Step
@@ -31,13 +27,6 @@ step_told p k ended beside = Obeys p (note_told k ended beside)
 abbrev pub progress_of : ℕ → Ending → Progress
 progress_of p (ending.Held need) = progress.Held p need
 progress_of p ended = progress.Ran p
-
--- where an order asks the service of a word, this is one of its answers to that; where it asks nothing, nothing was
--- heard
-abbrev pub HasAsked : (answers : ℕ → ℕ → Type 0) → (asked heard : Option ℕ) → Type 0
-HasAsked answers (Some word) (Some answer) = (word < 2 ^ 48) × answers word answer
-HasAsked answers None None = Unit {0}
-HasAsked answers asked heard = ⊥
 
 -- program i of all had its turn, at a moment at which the service was heard where its order asked it, and the journal
 -- and its hold tell how that ended

@@ -1,5 +1,5 @@
 use Rattle.kdf_theory.specs.Served.{unasked}
-use Rattle.kdf_director.proofs.Turns.AfterTheTry.{if_ok}
+use Rattle.kdf_theory.proofs.Results.{if_ok}
 use Rattle.kdf_check.proofs.Unserved.{check-same}
 use Rattle.kdf_check.proofs.checker.check.Goals as goal
 

@@ -5,7 +5,7 @@ use Rattle.kdf_job.specs.WellFormed.{AreSlots}
 use Rattle.kdf_place.specs.declared.image.Image.{Image}
 use Rattle.kdf_schedule.specs.Calls.{order_count}
 use Rattle.kdf_text.specs.Ahead.{ahead}
-use Rattle.kdf_director.specs.Loading.{HaveImages, slots_of}
+use Rattle.kdf_theory.specs.Loading.{HaveImages, slots_of}
 use Rattle.kdf_check.specs.declared.table.Pending.{Pending}
 use Rattle.kdf_check.specs.Keeps.{place_at, IsKeptAt, Keeps}
 use Rattle.kdf_check.proofs.Checking.{a-report, no-report, rises, start-keeps}

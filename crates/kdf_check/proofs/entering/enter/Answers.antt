@@ -6,8 +6,8 @@ use Rattle.kdf_journal.specs.declared.entry.Entry.TheVariants.{Ran, Fail, Ended}
 use Rattle.kdf_journal.specs.Joined.{pushed}
 use Rattle.kdf_processor.specs.declared.step.Need.{Need}
 use Rattle.kdf_processor.specs.declared.step.Need.TheVariants.{Group, Device, Pool}
-use Rattle.kdf_director.specs.Runs.{ran_on}
-use Rattle.kdf_director.proofs.Calls.OrdersInARow.{calls-ran_on, last-ran_on, moves-ran_on}
+use Rattle.kdf_theory.specs.InARow.{ran_on}
+use Rattle.kdf_theory.proofs.Course.OrdersInARow.{calls-ran_on, last-ran_on, moves-ran_on}
 use Rattle.kdf_theory.specs.World.{hold_of}
 use Rattle.kdf_check.specs.Entered.{with_entry}
 use Rattle.kdf_check.proofs.entering.enter.Goals as goal

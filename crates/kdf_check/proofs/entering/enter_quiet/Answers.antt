@@ -1,5 +1,5 @@
 use Rattle.std.proofs.Common.{◌∙◌}
-use Rattle.kdf_director.proofs.Calls.OrdersInARow.{some-ran_on}
+use Rattle.kdf_theory.proofs.Course.OrdersInARow.{some-ran_on}
 use Rattle.kdf_check.proofs.entering.enter_quiet.Goals as goal
 
 pub returns-then-quiet-gt0-clause-entries : goal.returns-then-quiet-gt0-clause-entries

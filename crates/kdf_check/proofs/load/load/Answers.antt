@@ -8,7 +8,7 @@ use Rattle.kdf_job.specs.declared.job.SlotJob.{SlotJob as ReadSlot}
 use Rattle.kdf_place.specs.declared.image.Image.{Image}
 use Rattle.kdf_alone.specs.Program.{IsApart}
 use Rattle.kdf_alone.proofs.Apart.{slot_apart}
-use Rattle.kdf_director.specs.Loading.{HaveImages, load_of, slot_of, slots_of}
+use Rattle.kdf_theory.specs.Loading.{HaveImages, load_of, slot_of, slots_of}
 use Rattle.kdf_check.specs.declared.program.Program.{Program}
 use Rattle.kdf_check.specs.Begun.{IsBegun}
 use Rattle.kdf_check.specs.Keeps.{place_at, IsKeptAt}

@@ -1,7 +1,7 @@
 use Rattle.std.proofs.Common.{◌≡◌, ◌≤◌, ℕ, [], drop, length, map}
 use Rattle.kdf_job.specs.Shows.{shown_slot}
 use Rattle.kdf_place.specs.declared.image.Image.{Image}
-use Rattle.kdf_director.specs.Loading.{slots_of}
+use Rattle.kdf_theory.specs.Loading.{slots_of}
 use Rattle.kdf_check.specs.Keeps.{place_at, IsKeptAt}
 use Rattle.kdf_check.proofs.load.load.Given as goal
 

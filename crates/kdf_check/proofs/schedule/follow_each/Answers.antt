@@ -6,7 +6,7 @@ use Rattle.kdf_schedule.specs.declared.event.Event.TheVariants.{Orders}
 use Rattle.kdf_schedule.specs.Calls.{calls_made, calls_of, orders_in}
 use Rattle.kdf_schedule.proofs.Schedules.{calls_made-one, order_count-drop}
 use Rattle.kdf_theory.specs.Follows.{IsRising}
-use Rattle.kdf_director.proofs.Course.EventsInTurn.{ended_early, ended_late, no_calls, rises-first, rises-rest, some_more}
+use Rattle.kdf_theory.proofs.Course.EventsInTurn.{ended_early, ended_late, no_calls, rises-first, rises-rest, some_more}
 use Rattle.kdf_check.proofs.Nexts.{live-so}
 use Rattle.kdf_check.proofs.Pairs.{pair}
 use Rattle.kdf_check.proofs.schedule.follow_each.Goals as goal

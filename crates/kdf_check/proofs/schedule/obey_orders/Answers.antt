@@ -7,7 +7,7 @@ use Rattle.kdf_schedule.specs.Calls.{AnOrder}
 use Rattle.kdf_course.specs.Follows.{Reaches}
 use Rattle.kdf_course.proofs.Reaching.{reach-nil}
 use Rattle.kdf_theory.specs.Next.{lone_dispatched}
-use Rattle.kdf_director.proofs.Calls.OneCall.{rested}
+use Rattle.kdf_theory.proofs.Course.EventsInTurn.{rested}
 use Rattle.kdf_check.specs.Keeps.{GoesOnFor}
 use Rattle.kdf_check.proofs.Calls.{calls-on, moves-on, reach-on, time-on}
 use Rattle.kdf_check.proofs.Pairs.{pair}

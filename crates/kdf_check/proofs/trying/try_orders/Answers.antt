@@ -1,5 +1,5 @@
 use Rattle.std.proofs.Common.{◌≡◌, ℕ, List, Option, sym, ap, subst, ◌∙◌}
-use Rattle.kdf_director.proofs.Turns.AfterTheTry.{if_ok, on_err}
+use Rattle.kdf_theory.proofs.Results.{if_ok, on_err}
 use Rattle.kdf_alone.specs.declared.bench.Bench.{Bench}
 use Rattle.kdf_check.specs.Around.{Around}
 use Rattle.kdf_check.specs.Batches.{HasBatch, HasStopped}

@@ -3,7 +3,7 @@ use Rattle.std.specs.List.{list_any}
 use Rattle.kdf_journal.specs.declared.entry.Entry.{Entry}
 use Rattle.kdf_journal.specs.Counts.{calls, moves}
 use Rattle.kdf_theory.specs.Next.{any_live}
-use Rattle.kdf_director.proofs.Turns.AfterTheTry.{if_ok}
+use Rattle.kdf_theory.proofs.Results.{if_ok}
 use Rattle.kdf_check.specs.Around.{around_by}
 use Rattle.kdf_check.specs.Keeps.{is_on, GoesOnFor, Keeps}
 use Rattle.kdf_check.proofs.Nexts.{around_is, found-next, on-same}

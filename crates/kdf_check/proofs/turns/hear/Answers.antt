@@ -4,8 +4,8 @@ use Rattle.kdf_processor.specs.Ahead.{act_word}
 use Rattle.kdf_processor.specs.Outcome.{outcome}
 use Rattle.kdf_processor.proofs.Words.{untold_word}
 use Rattle.kdf_alone.specs.Bench.{stock_of}
-use Rattle.kdf_director.specs.Fields.TurnTaken.{HasAsked}
-use Rattle.kdf_director.proofs.Turns.HeardWords.{has_none, none_if}
+use Rattle.kdf_theory.specs.Asked.{HasAsked}
+use Rattle.kdf_theory.proofs.Course.HeardWords.{has_none, none_if}
 use Rattle.kdf_check.specs.Around.{around_by}
 use Rattle.kdf_check.specs.Desk.{shown_by}
 use Rattle.kdf_check.proofs.turns.hear.Goals as goal

@@ -1,7 +1,6 @@
 use Rattle.std.proofs.Common.{Some, None, set, refl, sym, ap, ◌∙◌, ℕ, subst, arith, ◌<◌, ◌≤◌, ◌+◌}
 use Rattle.kdf_journal.specs.Counts.{calls}
-use Rattle.kdf_director.proofs.Turns.AfterTheTry.{if_ok}
-use Rattle.kdf_director.proofs.Calls.CallsAtOnce.{on_ok}
+use Rattle.kdf_theory.proofs.Results.{if_ok, on_ok}
 use Rattle.kdf_check.specs.Around.{around_by}
 use Rattle.kdf_check.specs.Keeps.{Keeps}
 use Rattle.kdf_check.specs.Turned.{AreTurned}

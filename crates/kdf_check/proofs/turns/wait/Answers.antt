@@ -1,5 +1,5 @@
 use Rattle.std.proofs.Common.{◌∙◌}
-use Rattle.kdf_director.proofs.Calls.OrdersInARow.{some-waited_on}
+use Rattle.kdf_theory.proofs.Course.OrdersInARow.{some-waited_on}
 use Rattle.kdf_check.proofs.turns.wait.Goals as goal
 
 pub returns-then-is_any_on-clause-entries : goal.returns-then-is_any_on-clause-entries

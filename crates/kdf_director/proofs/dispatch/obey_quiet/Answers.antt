@@ -9,7 +9,8 @@ use Rattle.kdf_director.specs.Fields.Batches.{of_seat, AreQuiet, Passes}
 use Rattle.kdf_director.specs.Halts.{is_at}
 use Rattle.kdf_director.specs.Fields.Turn.{held_in, reach_in, seat_in, shared, SameProgram}
 use Rattle.kdf_director.specs.Fields.Turned.{HasTried}
-use Rattle.kdf_director.proofs.Turns.Batching.{last_by, tried_over, went_on, GoesOn}
+use Rattle.kdf_director.proofs.Turns.Batching.{last_by, tried_over, went_on}
+use Rattle.kdf_theory.proofs.GoingOn.{GoesOn}
 use Rattle.kdf_director.proofs.Turns.TurnsShow.{program_then}
 use Rattle.kdf_director.proofs.dispatch.obey_quiet.Goals as goal
 

@@ -4,7 +4,7 @@ use Rattle.kdf_director.specs.Fields.Parts.{Seat, reach_of, seat_of}
 use Rattle.kdf_theory.specs.Holders.{held_by}
 use Rattle.kdf_places.specs.Shared.{Shared, shared_in}
 use Rattle.kdf_director.proofs.Turns.Batching.{runs_by, runs_still}
-use Rattle.kdf_director.proofs.Turns.AfterTheTry.{if_ok, on_err}
+use Rattle.kdf_theory.proofs.Results.{if_ok, on_err}
 use Rattle.kdf_director.proofs.dispatch.run.Goals as goal
 use Rattle.kdf_director.proofs.dispatch.run.Given.{Over}
 use Rattle.kdf_director.proofs.dispatch.run.Goals.{After-settle}

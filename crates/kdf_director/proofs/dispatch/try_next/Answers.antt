@@ -3,7 +3,7 @@ use Rattle.kdf_director.specs.Fields.Batches.{of_seat, AreQuiet, HasBatch, Passe
 use Rattle.kdf_director.specs.Fields.Parts.{reach}
 use Rattle.kdf_director.specs.Fields.Turned.{HasTried}
 use Rattle.kdf_theory.specs.Holders.{held_by}
-use Rattle.kdf_director.proofs.Turns.AfterTheTry.{if_ok, on_err}
+use Rattle.kdf_theory.proofs.Results.{if_ok, on_err}
 use Rattle.kdf_director.proofs.Turns.TurnsShow.{lent_over, seat_back, shared_back}
 use Rattle.kdf_director.proofs.dispatch.try_next.Goals as goal
 

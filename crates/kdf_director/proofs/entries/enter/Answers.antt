@@ -4,8 +4,8 @@ use Rattle.kdf_journal.specs.Steps.{added, noted}
 use Rattle.kdf_processor.specs.declared.step.Step.{Step}
 use Rattle.kdf_processor.specs.declared.step.Step.TheVariants.{Done, Ends, Fails}
 use Rattle.kdf_director.specs.Advance.{note_told}
-use Rattle.kdf_director.specs.Runs.{ran_on}
-use Rattle.kdf_director.proofs.Calls.OrdersInARow.{calls-ran_on, last-ran_on, moves-ran_on}
+use Rattle.kdf_theory.specs.InARow.{ran_on}
+use Rattle.kdf_theory.proofs.Course.OrdersInARow.{calls-ran_on, last-ran_on, moves-ran_on}
 use Rattle.kdf_director.proofs.Linking.TurnTaken.{IsNotHeld, hold_free, progress_free, step_free}
 use Rattle.kdf_director.proofs.entries.enter.Goals as goal
 

@@ -3,7 +3,8 @@ use Rattle.std.proofs.Common.{sym, ap, ◌∙◌, arith}
 use Rattle.kdf_director.specs.Fields.Parts.{reach_of, seat_of}
 use Rattle.kdf_places.specs.Shared.{shared_in}
 use Rattle.kdf_director.specs.Fields.Turned.{word_over}
-use Rattle.kdf_director.proofs.Turns.HeardWords.{has_answer, has_none, none_if, none_told}
+use Rattle.kdf_theory.proofs.Course.HeardWords.{has_answer, has_none, none_if}
+use Rattle.kdf_director.proofs.Turns.HeardWords.{none_told}
 use Rattle.kdf_director.proofs.hearing.hear.Goals as goal
 
 pub returns-then-is_none-clause-asked : goal.returns-then-is_none-clause-asked

@@ -1,7 +1,7 @@
 use Rattle.std.proofs.Common.{◌≡◌, ◌++◌, map, drop}
 use Rattle.kdf_job.specs.Shows.{shown_slot}
 use Rattle.kdf_place.specs.declared.image.Image.{Image}
-use Rattle.kdf_director.specs.Loading.{loads}
+use Rattle.kdf_theory.specs.Loading.{loads}
 use Rattle.kdf_director.specs.Fields.Filled.{loaded}
 use Rattle.kdf_director.proofs.load.load_slots.Given as goal
 

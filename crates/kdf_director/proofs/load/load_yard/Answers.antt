@@ -2,8 +2,8 @@ use Rattle.std.proofs.Common.{map, sym, ◌∙◌, subst}
 use Rattle.std.proofs.lemmas.List.{length-map}
 use Rattle.kdf_job.specs.Shows.{shown_slot}
 use Rattle.kdf_place.specs.declared.image.Image.{Image}
-use Rattle.kdf_director.specs.Fields.Filled.{AreLoads}
-use Rattle.kdf_director.proofs.Loading.JobsLoaded.{are_loads, one_each}
+use Rattle.kdf_theory.specs.Loading.{AreLoads}
+use Rattle.kdf_theory.proofs.JobsLoaded.{are_loads, one_each}
 use Rattle.kdf_director.proofs.load.load_yard.Goals as goal
 
 pub load_slots-requires : goal.load_slots-requires

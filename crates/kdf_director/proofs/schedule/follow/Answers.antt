@@ -1,4 +1,4 @@
-use Rattle.kdf_director.proofs.Course.EventsInTurn.{no-events}
+use Rattle.kdf_theory.proofs.Course.EventsInTurn.{no-events}
 use Rattle.kdf_director.proofs.schedule.follow.Goals as goal
 
 pub follow_on-requires-clause-followed : goal.follow_on-requires-clause-followed

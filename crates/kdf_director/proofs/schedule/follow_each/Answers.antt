@@ -1,7 +1,7 @@
 use Rattle.std.proofs.Common.{◌+◌, refl, sym, ◌∙◌, arith, drop}
 use Rattle.kdf_journal.specs.Counts.{clock}
 use Rattle.kdf_journal.specs.Steps.{steps}
-use Rattle.kdf_director.proofs.Course.EventsInTurn.{no_calls, ended_early, ended_late, some_more, rises-first, rises-rest}
+use Rattle.kdf_theory.proofs.Course.EventsInTurn.{no_calls, ended_early, ended_late, some_more, rises-first, rises-rest}
 use Rattle.kdf_director.proofs.Course.Rows.{calls_split, entries_split, orders_split, rises_split}
 use Rattle.kdf_director.proofs.schedule.follow_each.Goals as goal
 

@@ -11,7 +11,7 @@ use Rattle.kdf_theory.specs.Follows.{IsRising, entries_in}
 use Rattle.kdf_theory.specs.Legal.{IsLegal}
 use Rattle.kdf_theory.specs.Next.{lone_dispatched}
 use Rattle.kdf_theory.proofs.Course.CountsBounded.{few-calls, rising-on}
-use Rattle.kdf_director.proofs.Course.EventsInTurn.{order_count-append, rest-is, went-on}
+use Rattle.kdf_theory.proofs.Course.EventsInTurn.{order_count-append, rest-is, went-on}
 use Rattle.kdf_director.proofs.schedule.follow_on.Goals as goal
 use Rattle.kdf_theory.specs.Served.{IsJournalFor, IsTrueFor}
 

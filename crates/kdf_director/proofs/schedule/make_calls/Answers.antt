@@ -5,9 +5,8 @@ use Rattle.kdf_schedule.specs.Calls.{AMove, AnEnd, AClock, ASwap, orders_in}
 use Rattle.kdf_schedule.specs.Events.{IsInRange}
 use Rattle.kdf_theory.specs.Follows.{entries_in}
 use Rattle.kdf_theory.specs.Shown.{Shown}
-use Rattle.kdf_director.proofs.Calls.OneCall.{entered_on, calls-entered, clock-entered}
+use Rattle.kdf_director.proofs.Calls.OneCall.{entered_on, calls-entered, clock-entered, true_entered}
 use Rattle.kdf_director.proofs.schedule.make_calls.Goals as goal
-use Rattle.kdf_director.proofs.Course.OneJournal.{true_entered}
 
 pub returns-in-Move-clause-steps : goal.returns-in-Move-clause-steps
 returns-in-Move-clause-steps g c = rw c.in-Move.is (entered_on c.args.machine.now c.move_words.new.self (AMove c.in-Move.d c.in-Move.n) (Moves c.in-Move.d c.in-Move.n) c.requires.legal c.requires.live refl c.move_words.ensures.entered)

@@ -1,6 +1,6 @@
 use Rattle.std.proofs.Common.{ℕ, List, ap, ◌∙◌}
 use Rattle.kdf_job.specs.Shows.{shown_job}
-use Rattle.kdf_director.specs.Loading as loading
+use Rattle.kdf_theory.specs.Loading as loading
 use Rattle.kdf_top.proofs.LoadedDecks.{fitting_images, same_words}
 use Rattle.kdf_top.proofs.MadeTexts.{map_ok}
 use Rattle.kdf_facts.proofs.running.load_machine.Goals as goal

@@ -1,5 +1,5 @@
-use Rattle.kdf_director.specs.Loading.{slots_of}
-use Rattle.kdf_director.proofs.Course.OneJournal.{resumed_for}
+use Rattle.kdf_theory.specs.Loading.{slots_of}
+use Rattle.kdf_theory.proofs.Course.OneJournal.{resumed_for}
 use Rattle.kdf_snapshot.proofs.laws.resumed.Goals as goal
 
 pub returns : goal.returns

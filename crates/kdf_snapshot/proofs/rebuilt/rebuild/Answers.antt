@@ -2,7 +2,7 @@ use Rattle.std.proofs.Common.{List, map, rules, take, ℕ}
 use Rattle.kdf_place.specs.declared.image.Image.{Image}
 use Rattle.kdf_job.specs.Job.{SlotJob}
 use Rattle.kdf_job.specs.Shows.{shown_slot}
-use Rattle.kdf_director.specs.Loading.{slots_of}
+use Rattle.kdf_theory.specs.Loading.{slots_of}
 use Rattle.kdf_snapshot.proofs.Fronts.{rising-front}
 use Rattle.kdf_snapshot.proofs.Unserved.{unserved-err, unserved-loaded, unserved-ok}
 use Rattle.kdf_snapshot.proofs.rebuilt.rebuild.Goals as goal

@@ -1,6 +1,6 @@
 use Rattle.std.proofs.Common.{ap, List, ℕ}
 use Rattle.kdf_job.specs.Shows.{shown_job}
-use Rattle.kdf_director.specs.Loading as loading
+use Rattle.kdf_theory.specs.Loading as loading
 use Rattle.kdf_top.proofs.LoadedDecks.{fitting_images, same_words}
 use Rattle.kdf_top.proofs.Verdicts.{verdict_on}
 use Rattle.kdf_top.proofs.checking.verdict_on.Goals as goal

@@ -1,5 +1,5 @@
 use Rattle.kdf_watch.specs.Cursors.{calls_left}
-use Rattle.kdf_director.proofs.Course.OneJournal.{stopped_for}
+use Rattle.kdf_theory.proofs.Course.OneJournal.{stopped_for}
 use Rattle.kdf_watch.proofs.laws.stopped_run.Goals as goal
 
 pub returns : goal.returns

@@ -1,5 +1,5 @@
 use Rattle.kdf_theory.specs.Served.{unasked}
-use Rattle.kdf_director.proofs.Course.OneJournal.{a_journal_for}
+use Rattle.kdf_theory.proofs.Course.OneJournal.{a_journal_for}
 use Rattle.kdf_director.proofs.laws.journals.a_journal.Goals as goal
 
 pub returns : goal.returns

@@ -1,4 +1,4 @@
-use Rattle.kdf_director.proofs.Course.OneJournal.{journal_for_cut, true_for_cut, whole_for_cut}
+use Rattle.kdf_theory.proofs.Course.OneJournal.{journal_for_cut, true_for_cut, whole_for_cut}
 use Rattle.kdf_theory.proofs.Course.WorldsJudged.{legal_cut}
 use Rattle.kdf_director.proofs.laws.served.cut.Goals as goal
 

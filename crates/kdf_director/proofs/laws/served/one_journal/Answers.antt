@@ -1,4 +1,4 @@
-use Rattle.kdf_director.proofs.Course.OneJournal.{one_for}
+use Rattle.kdf_theory.proofs.Course.OneJournal.{one_for}
 use Rattle.kdf_director.proofs.laws.served.one_journal.Goals as goal
 
 pub returns : goal.returns

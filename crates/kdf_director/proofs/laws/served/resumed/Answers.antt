@@ -1,4 +1,4 @@
-use Rattle.kdf_director.proofs.Course.OneJournal.{resumed_for}
+use Rattle.kdf_theory.proofs.Course.OneJournal.{resumed_for}
 use Rattle.kdf_director.proofs.laws.served.resumed.Goals as goal
 
 pub returns : goal.returns

@@ -1,4 +1,4 @@
-use Rattle.kdf_director.proofs.Course.OneJournal.{stopped_for}
+use Rattle.kdf_theory.proofs.Course.OneJournal.{stopped_for}
 use Rattle.kdf_director.proofs.laws.served.stopped_run.Goals as goal
 
 pub returns : goal.returns

@@ -1,5 +1,5 @@
 use Rattle.kdf_theory.specs.Served.{unasked}
-use Rattle.kdf_director.proofs.Course.OneJournal.{answered_more, true_for_added, true_for_answered, true_for_more, true_for_nil, true_of_for}
+use Rattle.kdf_theory.proofs.Course.OneJournal.{answered_more, true_for_added, true_for_answered, true_for_more, true_for_nil, true_of_for}
 use Rattle.kdf_director.proofs.laws.served.true_step.Goals as goal
 
 pub returns-clause-empty : goal.returns-clause-empty

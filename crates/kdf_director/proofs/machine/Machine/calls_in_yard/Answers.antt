@@ -8,7 +8,7 @@ use Rattle.kdf_theory.specs.Shown.{Shown}
 use Rattle.kdf_director.proofs.Calls.CallsAtOnce.{at_four}
 use Rattle.kdf_director.proofs.Calls.CallsInTurn.{lived}
 use Rattle.kdf_director.proofs.Linking.MachineLends.{windows_same}
-use Rattle.kdf_director.proofs.Turns.AfterTheTry.{if_ok, on_either, on_err}
+use Rattle.kdf_theory.proofs.Results.{if_ok, on_either, on_err}
 use Rattle.kdf_director.proofs.machine.Machine.calls_in_yard.Given.{Over}
 use Rattle.kdf_director.proofs.machine.Machine.calls_in_yard.Goals as goal
 

@@ -1,5 +1,5 @@
 use Rattle.kdf_director.proofs.Calls.Halting.{at_most_of, but_fewer_of}
-use Rattle.kdf_director.proofs.Turns.AfterTheTry.{if_ok, on_err}
+use Rattle.kdf_theory.proofs.Results.{if_ok, on_err}
 use Rattle.kdf_director.proofs.machine.Machine.calls_with.Goals as goal
 
 pub returns-clause-made : goal.returns-clause-made

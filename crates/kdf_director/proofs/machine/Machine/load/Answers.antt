@@ -5,7 +5,7 @@ use Rattle.kdf_job.specs.Shows.{shown_slot}
 use Rattle.kdf_place.specs.declared.image.Image.{Image}
 use Rattle.kdf_processor.specs.State.{begin}
 use Rattle.kdf_director.specs.Fields.Viewed.{states_in}
-use Rattle.kdf_director.specs.Loading.{slots_of}
+use Rattle.kdf_theory.specs.Loading.{slots_of}
 use Rattle.kdf_theory.specs.Shown.{Shown}
 use Rattle.kdf_director.proofs.Loading.BeforeOrders.{is_ready, states_start}
 use Rattle.kdf_director.proofs.machine.Machine.load.Goals as goal

@@ -1,6 +1,7 @@
 use Rattle.kdf_theory.specs.Served.{unasked}
-use Rattle.kdf_director.proofs.Course.OneJournal.{advance_unserved, answered_unserved}
-use Rattle.kdf_director.proofs.Turns.AfterTheTry.{if_ok}
+use Rattle.kdf_director.proofs.Course.UnservedMachines.{advance_unserved}
+use Rattle.kdf_theory.proofs.Course.OneJournal.{answered_unserved}
+use Rattle.kdf_theory.proofs.Results.{if_ok}
 use Rattle.kdf_director.proofs.machine.Machine.order.Goals as goal
 
 pub returns-clause-took : goal.returns-clause-took

@@ -1,6 +1,6 @@
 use Rattle.kdf_director.proofs.Calls.CallsInTurn.{lived_of}
 use Rattle.kdf_director.proofs.Calls.OnlyCall.{not_answered, not_made, only_answered, only_call}
-use Rattle.kdf_director.proofs.Turns.AfterTheTry.{if_ok, on_either, on_err}
+use Rattle.kdf_theory.proofs.Results.{if_ok, on_either, on_err}
 use Rattle.kdf_director.proofs.machine.Machine.order_with.Goals as goal
 
 pub returns-clause-took : goal.returns-clause-took

@@ -1,7 +1,6 @@
 use Rattle.std.proofs.Common.{arith}
-use Rattle.kdf_director.proofs.Calls.CallsAtOnce.{on_ok}
+use Rattle.kdf_theory.proofs.Results.{if_ok, on_either, on_err, on_ok}
 use Rattle.kdf_director.proofs.Calls.CallsInTurn.{all_of, lived_of, only_made, reached_of}
-use Rattle.kdf_director.proofs.Turns.AfterTheTry.{if_ok, on_either, on_err}
 use Rattle.kdf_director.proofs.machine.Machine.orders_with.Goals as goal
 
 pub returns-clause-made : goal.returns-clause-made

@@ -2,7 +2,8 @@ use Rattle.std.proofs.Common.{get_or, map, false, ap₂, ◌∙◌}
 use Rattle.std.specs.Prelude.{◌&&◌, not}
 use Rattle.kdf_transfer.specs.Devices.{is_wanted}
 use Rattle.kdf_places.specs.Spots.{spot_at, spot_of}
-use Rattle.kdf_director.specs.Fields.Parts.{numbers, owns}
+use Rattle.kdf_director.specs.Fields.Parts.{numbers}
+use Rattle.kdf_theory.specs.Loading.{owns}
 use Rattle.kdf_director.specs.Fields.Turn.{part_of, shared}
 use Rattle.kdf_director.proofs.Physical.PartsShow.{free_shown}
 use Rattle.kdf_director.proofs.Turns.TurnsKeep.{kept_in}

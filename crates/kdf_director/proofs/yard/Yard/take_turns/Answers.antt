@@ -4,7 +4,7 @@ use Rattle.std.specs.Prelude.{IfOk, OnErr}
 use Rattle.kdf_director.specs.Halts.{is_at}
 use Rattle.kdf_director.specs.Fields.Yards.{registers_in, AreLentIn, HasTriedIn, HasTriedQuietly}
 use Rattle.kdf_director.proofs.Calls.CallsAtOnce.{all_err, begun, ends, entered_within, fewer, going_more, kept, lent, live, ran}
-use Rattle.kdf_director.proofs.Turns.AfterTheTry.{on_err}
+use Rattle.kdf_theory.proofs.Results.{on_err}
 use Rattle.kdf_director.proofs.yard.Yard.take_turns.Goals as goal
 
 pub loop-quiet-init : goal.loop-quiet-init

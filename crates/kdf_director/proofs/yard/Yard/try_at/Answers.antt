@@ -3,9 +3,9 @@ use Rattle.kdf_director.specs.Fields.Running.{reach_at}
 use Rattle.kdf_director.specs.Fields.Shared.{moment}
 use Rattle.kdf_director.specs.Fields.Standing.{Standing, IsSameYard}
 use Rattle.kdf_director.specs.Fields.Yards.{AreLentIn, registers_in, HasTurnedIn, HasTurnedQuietly}
-use Rattle.kdf_director.proofs.Turns.AfterTheTry.{if_ok, on_err}
+use Rattle.kdf_theory.proofs.Results.{if_ok, on_err}
 use Rattle.kdf_director.proofs.Turns.Batching.{told_by, told_still}
-use Rattle.kdf_director.proofs.Turns.HeardWords.{heard_then}
+use Rattle.kdf_theory.proofs.Course.HeardWords.{heard_then}
 use Rattle.kdf_director.proofs.yard.Yard.try_at.Goals as goal
 
 pub turn-requires-clause-live : goal.turn-requires-clause-live

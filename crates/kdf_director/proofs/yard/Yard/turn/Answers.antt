@@ -1,5 +1,5 @@
 use Rattle.kdf_director.specs.Fields.Shared.{moment}
-use Rattle.kdf_director.proofs.Turns.AfterTheTry.{if_ok, on_err, on_either}
+use Rattle.kdf_theory.proofs.Results.{if_ok, on_err, on_either}
 use Rattle.kdf_director.proofs.Turns.YardTurns.{can_turn, many, runs_still, runs_then, same_yard, still_in, turned_in, yard_then}
 use Rattle.kdf_director.proofs.yard.Yard.turn.Goals as goal
 

@@ -1,20 +1,22 @@
 -- The events of a schedule, one after another.
-use Rattle.std.proofs.Common.{◌≡◌, ℕ, ◌+◌, ◌-◌, ◌<◌, ◌≤◌, List, [], ◌∷◌, ◌++◌, Bool, true, false, refl, sym, ◌∙◌, ap, length, get_or, take, drop, drop-cons, add-one, subst, arith, length-drop, take-add}
-use Rattle.std.proofs.lemmas.List.{take_all, take-append-drop}
+use Rattle.std.proofs.Common.{◌≡◌, ℕ, ◌+◌, ◌-◌, ◌<◌, ◌≤◌, List, [], ◌∷◌, ◌++◌, Bool, true, false, refl, sym, ◌∙◌, ap, length, get_or, take, drop, drop-cons}
+use Rattle.std.proofs.Common.{add-one, subst, arith, length-drop, take-add}
+use Rattle.std.proofs.lemmas.List.{take_all, take-append-drop, replicate-append-replicate}
+use Rattle.std.specs.Prelude.{replicate}
 use Rattle.kdf_transfer.specs.Slots.{Slot}
 use Rattle.kdf_journal.specs.declared.entry.Entry.{Entry}
 use Rattle.kdf_journal.specs.Steps.{Step, journal_of, steps}
 use Rattle.kdf_journal.proofs.Steps.{steps-nil}
 use Rattle.kdf_schedule.specs.declared.event.Event.{Event}
 use Rattle.kdf_schedule.specs.declared.event.Event.TheVariants.{Orders, Move, End, Clock, Swap}
-use Rattle.kdf_schedule.specs.Calls.{Call, calls_of, calls_made, order_count}
+use Rattle.kdf_schedule.specs.Calls.{Call, calls_of, calls_made, order_count, AnOrder}
 use Rattle.kdf_schedule.proofs.Schedules.{calls_made-append, calls_made-nil}
 use Rattle.kdf_course.specs.Follows.{Reaches}
 use Rattle.kdf_course.proofs.Reaching.{reach-append, reach-dead, reach-nil, reach-whole, whole-on}
 use Rattle.kdf_theory.specs.Next.{lone_dispatched, any_live}
 use Rattle.kdf_theory.specs.Legal.{IsLegal}
 use Rattle.kdf_theory.specs.Follows.{IsRising, IsWhole, time_behind}
-use Rattle.kdf_director.proofs.Course.OneJournal.{true_for_nil}
+use Rattle.kdf_theory.proofs.Course.OneJournal.{true_for_nil}
 use Rattle.kdf_theory.proofs.Course.WorldsJudged.{legal_nil}
 use Rattle.kdf_theory.specs.Served.{IsJournalFor, IsTrueFor}
 
@@ -96,3 +98,12 @@ rises-rest t (Move d n) es rises = rises
 rises-rest t (End d) es rises = rises
 rises-rest t (Clock u) es rises = rises.1
 rises-rest t (Swap p q) es rises = rises.2
+
+-- the orders are over before their end, where no program is live
+pub rested : (slots slots0 : List Slot) (J : List Entry) (P : List Step) (i n : ℕ) → IsLegal slots J → slots ≡ slots0 → Reaches (lone_dispatched slots0) P (replicate i AnOrder) (steps J) → any_live slots J ≡ false → i ≤ n
+    → Reaches (lone_dispatched slots0) P (replicate n AnOrder) (steps J)
+rested slots slots0 J P i n l same taken dead le =
+    let whole : replicate i AnOrder ++ replicate (n - i) AnOrder ≡ replicate n AnOrder = replicate-append-replicate i (n - i) AnOrder ∙ ap (λ (k : ℕ). replicate k AnOrder) (omega arith) in
+    let none : any_live slots0 (journal_of (steps J)) ≡ false = rw (l.in_form, ← same) dead in
+    subst (λ (cs : List Call). Reaches (lone_dispatched slots0) P cs (steps J)) whole
+    (reach-dead (lone_dispatched slots0) P (steps J) (replicate i AnOrder) (replicate (n - i) AnOrder) taken none)

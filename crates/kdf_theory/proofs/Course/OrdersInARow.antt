@@ -7,7 +7,7 @@ use Rattle.kdf_journal.specs.Counts.{calls, clock, holder, moves, priorities}
 use Rattle.kdf_journal.specs.Joined.{joined, pushed}
 use Rattle.kdf_journal.specs.Steps.{Quiet, Obeys, Waits}
 use Rattle.kdf_journal.proofs.Added.{calls-added, clock-added, holder-quiet, moves-added, priorities-added}
-use Rattle.kdf_director.specs.Runs.{ran_on, waited_on}
+use Rattle.kdf_theory.specs.InARow.{ran_on, waited_on}
 
 -- ---- what was pushed isn't empty
 record HasFirst (es : List Entry) : Type 0 where

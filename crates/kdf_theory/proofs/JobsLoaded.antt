@@ -1,5 +1,6 @@
 -- What is loaded of a job that is well formed.
-use Rattle.std.proofs.Common.{◌≡◌, ◌≢◌, ◌⊎◌, inl, inr, ℕ, suc, ◌+◌, ◌<◌, ◌≤◌, Bool, true, false, ◌||◌, List, [], ◌∷◌, ◌++◌, length, get_or, map, Option, Some, None, is_some, refl, sym, ap, ◌∙◌, subst, ⊎_elim, arith}
+use Rattle.std.proofs.Common.{◌≡◌, ◌≢◌, ◌⊎◌, inl, inr, ℕ, suc, ◌+◌, ◌<◌, ◌≤◌, Bool, true, false, ◌||◌, List, [], ◌∷◌, ◌++◌, length, get_or, map, Option, Some}
+use Rattle.std.proofs.Common.{None, is_some, refl, sym, ap, ◌∙◌, subst, ⊎_elim, arith, cond, eqb}
 use Rattle.std.specs.Prelude.{sum_by, nat_eq}
 use Rattle.std.specs.List.{All, AllPairs, IsDistinct}
 use Rattle.std.proofs.lemmas.Bool.{cases_eq, cases_lt, ne_eqb}
@@ -7,23 +8,34 @@ use Rattle.std.proofs.lemmas.List.{get_or-map, length-map}
 use Rattle.std.proofs.lemmas.List.Elements.{All-cons, All-head, All-map, All-nil, All-tail}
 use Rattle.std.proofs.lemmas.List.Kept.{AllPairs-cons}
 use Rattle.std.proofs.lemmas.List.Sums.{sum_by-cons}
-use Rattle.kdf_job.specs.Draft.{numbers_of, words_in}
-use Rattle.kdf_job.specs.Draft.{numbers_in as pool_numbers}
-use Rattle.kdf_job.specs.Job.{SlotJob}
-use Rattle.kdf_job.proofs.Numbers.{distinct_rest, has_left, has_right, lacks_left, lacks_right, lent, numbers_cons}
-use Rattle.kdf_job.proofs.Numbers.{apart as numbers_apart}
+use Rattle.kdf_job.specs.Draft.{numbers_in as pool_numbers, numbers_of, words_in}
+use Rattle.kdf_job.specs.Job.{JobDevice, SlotJob}
+use Rattle.kdf_job.proofs.Numbers.{apart as numbers_apart, distinct_rest, has_left, has_right, lacks_left, lacks_right, lent, numbers_cons}
 use Rattle.kdf_job.specs.WellFormed.{AreRising, AreSlots, IsLent, IsSlot}
 use Rattle.kdf_journal.specs.declared.kind.Kind.{Kind}
 use Rattle.kdf_job.specs.Slots.{fixture_on, lent_kind, numbered, progress_on}
-use Rattle.kdf_director.specs.Loading.{HaveImages, SlotLoad, load_of, loads, slot_of}
-use Rattle.kdf_director.specs.Fields.Filled.{AreApart, AreLoads, IsBelow, IsLoad, has, numbers_in}
+use Rattle.kdf_theory.specs.Loading.{AreApart, AreLoads, HaveImages, IsBelow, IsLoad, SlotLoad, has, load_of, loads, numbers_in, owns, slot_of}
 use Rattle.kdf_transfer.specs.ByNumber.{by_number}
 use Rattle.kdf_transfer.specs.Slots.{Slot}
-use Rattle.kdf_director.specs.Fields.Parts.{owns}
-use Rattle.kdf_theory.specs.Slots as director
+use Rattle.kdf_theory.specs.Slots as theory
 use Rattle.kdf_theory.specs.Slots.{HaveOwnDevices}
 use Rattle.kdf_transfer.proofs.Numbers.{length-numbers, limit_is, number_at, number_past}
-use Rattle.kdf_director.proofs.Loading.DevicesByNumber.{missing}
+
+some_or : (b : Bool) (x : JobDevice) (o : Option JobDevice) → is_some (cond b (Some x) o) ≡ (b || is_some o)
+some_or true x o = refl
+some_or false x o = refl
+
+-- the device of a number is there where the slot has one
+pub found : (devices : List JobDevice) (d : ℕ) → is_some (numbered devices d) ≡ owns (numbers_in devices) d
+found [] d = refl
+found (x ∷ devices) d = some_or (eqb x.d d) x (numbered devices d) ∙ ap (λ b. eqb x.d d || b) (found devices d)
+
+pub missing : (devices : List JobDevice) (d : ℕ) → owns (numbers_in devices) d ≡ false → numbered devices d ≡ None
+missing devices d not = none (numbered devices d) (found devices d ∙ not)
+  where
+    none : (o : Option JobDevice) → is_some o ≡ false → o ≡ None
+    none None is = refl
+    none (Some x) is = cc
 
 -- an image for each
 pub one_each : (jobs : List SlotJob) (images : List (List ℕ)) → HaveImages jobs images → length jobs ≡ length images
@@ -193,7 +205,7 @@ pool_apart l is d = by_has (has l d) refl
         (λ (past : 16 ≤ d). number_past (lent_kind l.pool) d None (let e = limit_is in omega arith))
         (cases_lt d 16))
 
-is_slot : (l : SlotLoad) → IsLoad l → director.IsSlot (slot_of l)
+is_slot : (l : SlotLoad) → IsLoad l → theory.IsSlot (slot_of l)
 is_slot l is =
     record {
       fits = is.fits;
@@ -216,10 +228,10 @@ pairs_map R xs all i j d less lt =
 below_ne : (a b : SlotLoad) → IsBelow a b → a.p ≢ b.p
 below_ne a b less e = omega arith
 
-pub are_slots : (xs : List SlotLoad) → AreLoads xs → director.AreSlots (map slot_of xs)
+pub are_slots : (xs : List SlotLoad) → AreLoads xs → theory.AreSlots (map slot_of xs)
 are_slots xs are =
     record {
-      each = All-map director.IsSlot slot_of xs (λ i l lt. is_slot (get_or xs i l) (are.each i l lt));
+      each = All-map theory.IsSlot slot_of xs (λ i l lt. is_slot (get_or xs i l) (are.each i l lt));
       numbers = pairs_map (λ (a b : Slot). a.p ≢ b.p) xs (λ i j d less lt. below_ne (get_or xs i d) (get_or xs j d) (are.rising i j d less lt));
       devices = pairs_map HaveOwnDevices xs (λ i j d less lt. own_devices (get_or xs i d) (get_or xs j d) (are.apart i j d less lt));
       pool = pairs_map (λ (a b : Slot). a.pool ≡ b.pool) xs (λ i j d less lt. ap (λ ps. by_number (lent_kind ps)) (are.common i j d less lt));

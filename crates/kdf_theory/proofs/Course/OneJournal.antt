@@ -1,7 +1,7 @@
 -- For one service, the slots have one journal under a schedule; and one that is cut. Slots of which none is served have
 -- one for each.
-use Rattle.std.specs.Prelude.{IfSome, unwrap_or}
-use Rattle.std.proofs.Common.{◌≡◌, ℕ, ◌<◌, ◌^◌, inl, inr, Bool, true, false, cond, eqb, List, [], ◌∷◌, ◌++◌, length, map, Option, Some, None, refl, sym, ap, ◌∙◌, subst}
+use Rattle.std.specs.Prelude.{IfSome}
+use Rattle.std.proofs.Common.{◌≡◌, ℕ, ◌<◌, ◌^◌, inl, inr, Bool, true, false, cond, eqb, List, [], ◌∷◌, ◌++◌, length, Option, Some, None, refl, sym, ◌∙◌, subst}
 use Rattle.std.proofs.lemmas.List.Elements.{All-head, All-tail}
 use Rattle.kdf_processor.specs.Effect.{Question, IsBusy, IsOut, Time, FreeOf, OfService, Effect, Asking}
 use Rattle.kdf_transfer.specs.Slots.{Slot}
@@ -24,16 +24,12 @@ use Rattle.kdf_processor.specs.Ahead.{word_asked}
 use Rattle.kdf_processor.specs.Needs.{next_effect}
 use Rattle.kdf_processor.proofs.RowFacts.{served_lone}
 use Rattle.kdf_journal.specs.Counts.{answers, ran}
-use Rattle.kdf_director.specs.Advance.{IsHeard, Enters, HasHeard, AdvanceWith}
+use Rattle.kdf_theory.specs.Asked.{IsHeard}
 use Rattle.kdf_theory.specs.Slots.{NoneServed, slot_of, start, start_of}
-use Rattle.kdf_theory.specs.ByJournal.{lone_world, own, seen_of}
+use Rattle.kdf_theory.specs.ByJournal.{lone_world, own}
 use Rattle.kdf_theory.specs.True.{truth}
-use Rattle.kdf_director.proofs.Turns.HeardWords.{none_heard, none_asked}
+use Rattle.kdf_theory.proofs.Course.HeardWords.{none_heard, none_asked}
 use Rattle.kdf_course.proofs.OneJournal.{a_journal_lem as any-some}
-use Rattle.kdf_theory.specs.Shown.{Shown, ShowsSeen, state_at, state_in}
-use Rattle.kdf_director.specs.declared.machine.Progress.{Progress}
-use Rattle.kdf_director.specs.declared.machine.Progress.TheVariants as progress
-use Rattle.kdf_processor.specs.State.{State}
 
 -- a program that isn't served at its start never is
 unserved_one : (b : Bool) (x : Slot) (rest : Option Slot) → x.served ≡ false → (start_of rest).stock.claims.served ≡ false → (start_of (cond b (Some x) rest)).stock.claims.served ≡ false
@@ -92,25 +88,6 @@ unserved_within answers more slots none J p n is = tt
 pub answered_unserved : (answers more : ℕ → ℕ → Type 0) (slots : List Slot) → NoneServed slots → (J K : List Entry) → IsAnswered answers slots J K → IsAnswered more slots J K
 answered_unserved answers more slots none J K (inl same) = inl same
 answered_unserved answers more slots none J K (inr x) = inr (x.0, x.1, noted-within (is_true_for answers slots J) (is_true_for more slots J) (unserved_within answers more slots none J) x.0 x.2)
-
--- the states that a machine shows of such slots aren't those of served programs
-unserved_state : (b : Bool) (x : State) (rest : Option State) → x.stock.claims.served ≡ false → (unwrap_or rest (start_of None)).stock.claims.served ≡ false → (unwrap_or (cond b (Some x) rest) (start_of None)).stock.claims.served ≡ false
-unserved_state true x rest this others = this
-unserved_state false x rest this others = others
-
-unserved_in : (g : ℕ → State) → ((p : ℕ) → (g p).stock.claims.served ≡ false) → (slots : List Slot) (p : ℕ) → (unwrap_or (state_in slots (map (λ (x : Slot). g x.p) slots) p) (start_of None)).stock.claims.served ≡ false
-unserved_in g each [] p = refl
-unserved_in g each (x ∷ slots) p = unserved_state (eqb x.p p) (g x.p) (state_in slots (map (λ (y : Slot). g y.p) slots) p) (each x.p) (unserved_in g each slots p)
-
-heard_unserved : (answers : ℕ → ℕ → Type 0) (m : Shown) (heard : ℕ) (r : Progress) → NoneServed m.slots → ShowsSeen m → HasHeard answers m heard r
-heard_unserved answers m heard (progress.Ran p) none seen =
-    none_heard answers heard (state_at m p)
-    (ap (λ (xs : List State). (unwrap_or (state_in m.slots xs p) (start_of None)).stock.claims.served) seen
-    ∙ unserved_in (seen_of m.slots m.journal) (λ q. own_unserved m.slots none m.journal q) m.slots p)
-heard_unserved answers m heard r none seen = tt
-
-pub advance_unserved : (answers more : ℕ → ℕ → Type 0) (m n : Shown) (r : Progress) → NoneServed m.slots → ShowsSeen m → AdvanceWith answers m n r → AdvanceWith more m n r
-advance_unserved answers more m n r none seen took = record { heard = took.heard; is_heard = heard_unserved more m took.heard r none seen; advance = took.advance }
 
 -- a journal that is true for a service is true
 truth_within : (answers : ℕ → ℕ → Type 0) (slots : List Slot) (J : List Entry) (p : ℕ) (q : Question) (v : ℕ) → is_served answers slots J p q v → is_truth slots J p q v
@@ -203,8 +180,3 @@ module _ (answers : ℕ → ℕ → Type 0) (slots : List Slot) where
     stopped_for events left J K l truly f k =
         any-stopped (lone_dispatched slots) admitted events left J K one_note_for
         (legal-both (lone_dispatched slots) (any_answer slots) (is_true_for answers slots) J l truly) f (to_any events K k)
-
--- an event that is entered has no answer
-pub true_entered : (answers : ℕ → ℕ → Type 0) (m n : Shown) (s : Step) → IsLegal m.slots m.journal → IsTrueFor answers m.slots m.journal → course.Noted (is_true_for answers m.slots m.journal) s → Enters m n s → IsTrueFor answers n.slots n.journal
-true_entered answers m n s l truly noted is =
-    subst (λ (x : Shown). IsTrueFor answers x.slots x.journal) (sym is) (true_for_added answers m.slots m.journal s l truly noted)
