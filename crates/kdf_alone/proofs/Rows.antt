@@ -1,16 +1,12 @@
 -- A program by itself is never held up, so its next order is its row.
-use Rattle.std.proofs.Common.{◌≡◌, ℕ, ap, ap₂, ◌∙◌}
+use Rattle.std.proofs.Common.{◌≡◌, ℕ, ap, ◌∙◌}
 use Rattle.kdf_processor.specs.declared.registers.Registers.{Registers}
 use Rattle.kdf_processor.specs.Outcome.{Outcome, outcome}
 use Rattle.kdf_processor.specs.Row.{row, next_of}
 use Rattle.kdf_processor.proofs.ByItself.{state, outcome_alone, row_alone}
 use Rattle.kdf_alone.specs.declared.bench.Bench.{Bench}
-use Rattle.kdf_alone.specs.Bench.{given, stock_of, state_with, shown, shown_with, Acts, Stays}
+use Rattle.kdf_alone.specs.Bench.{given, stock_of, state_with, shown, Acts}
 use Rattle.kdf_alone.proofs.Takings.{row_given, step_given}
-
--- what is shown stays
-pub shown_stays : (old new : Bench) → Stays old new → shown new ≡ shown old
-shown_stays old new s = ap₂ shown_with s.stock s.answer
 
 -- how the next order ends over a bench that shows this state, and is answered so
 pub step_over : (old b : Bench) (answer : ℕ) (r : Registers) → stock_of b ≡ stock_of old → b.answer ≡ answer → (outcome (shown b) r).step ≡ (next_of (state_with r old) (λ _. answer)).step

@@ -1,6 +1,5 @@
 -- The programs that are loaded keep to the empty journal.
 use Rattle.std.proofs.Common.{◌≡◌, ◌≢◌, ℕ, zero, suc, ◌+◌, ◌-◌, ◌<◌, ◌≤◌, List, [], ◌∷◌, length, drop, drop-cons, add-one, get_or, set, Option, Some, None, is_some, cond, refl, sym, ap, ap₂, ◌∙◌, subst, ⊎_elim, arith}
-use Rattle.std.proofs.Math.ListN.{drop_of_length-le}
 use Rattle.std.proofs.lemmas.Bool.{cases_eq, eq-eqb, ne_eqb}
 use Rattle.std.proofs.lemmas.List.{get_or-set_same, get_or-set_other}
 use Rattle.kdf_transfer.specs.Slots.{Slot}
@@ -74,13 +73,6 @@ fits_at (s ∷ jobs) (words ∷ images) zero j w have lt = have.0
 fits_at (s ∷ jobs) (words ∷ images) (suc i) j w have lt = fits_at jobs images i j w have.1 (omega arith)
 
 module _ (jobs : List SlotJob) (images : List (List ℕ)) (same : length jobs ≡ length images) where
-  -- before the first that is loaded
-  pub loaded-start : (i : ℕ) → i ≡ length jobs → (p : ℕ) → IsKeptAt (slots_of (drop i jobs) (drop i images)) [] p (place_at (None ∷ None ∷ None ∷ None ∷ []) p)
-  loaded-start i is = subst (λ (ss : List Slot). (p : ℕ) → IsKeptAt ss [] p (place_at (None ∷ None ∷ None ∷ None ∷ []) p)) (sym none) none_kept
-    where
-      none : slots_of (drop i jobs) (drop i images) ≡ []
-      none = ap₂ slots_of (drop_of_length-le jobs (omega (arith, is))) (drop_of_length-le images (omega (arith, is, same)))
-
   -- one more
   pub loaded-more : (i : ℕ) (programs : List (Option Program)) (j : SlotJob) (w : List ℕ) (x : Program) → 0 < i → i ≤ length jobs → j ≡ get_or jobs (i - 1) j → w ≡ get_or images (i - 1) w
       → ((p : ℕ) → IsKeptAt (slots_of (drop i jobs) (drop i images)) [] p (place_at programs p)) → IsBegun (slot_loaded (load_of j w)) x → j.p < length programs

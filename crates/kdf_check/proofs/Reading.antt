@@ -1,7 +1,7 @@
 -- Lines that are compared with entries, one after another.
-use Rattle.std.proofs.Common.{◌≡◌, ◌≢◌, ℕ, suc, ◌+◌, ◌<◌, ◌≤◌, Bool, false, cond, List, [], ◌∷◌, ◌++◌, length, length-take, get_or, take, drop, drop-cons, Option, Some, None, sym, ap, ap₂, ◌∙◌, subst, arith, append-nil, append_assoc}
+use Rattle.std.proofs.Common.{◌≡◌, ◌≢◌, ℕ, suc, ◌+◌, ◌<◌, ◌≤◌, Bool, false, cond, List, [], ◌∷◌, ◌++◌, length, length-take, get_or, take, drop, drop-cons, Option, Some, None, sym, ap, ◌∙◌, subst, arith, append_assoc}
 use Rattle.std.specs.Prelude.{IfNone, IfSome}
-use Rattle.std.proofs.lemmas.List.{map-append, length-map, take-append-drop, take_all, take_more}
+use Rattle.std.proofs.lemmas.List.{map-append, length-map, take-append-drop, take_more}
 use Rattle.kdf_text.specs.Lines.{line}
 use Rattle.kdf_journal.specs.declared.entry.Entry.{Entry}
 use Rattle.kdf_journal.specs.Printed.{entry_in}
@@ -50,7 +50,3 @@ module _ (es : List Entry) (all rest : List (Option Entry)) (i : ℕ) (alike : a
       ∙ ap (λ (xs : List (Option Entry)). told (take i es) ++ xs) (is ∙ ap (λ (x : Entry). Some x ∷ more) (sym here))
       ∙ sym (append_assoc (told (take i es)) (Some (get_or es i d) ∷ []) more)
       ∙ ap (λ (xs : List (Option Entry)). xs ++ more) (sym (ap told (take_more es i d lt) ∙ map-append (λ (e : Entry). Some e) (take i es) (get_or es i d ∷ [])))
-
-  -- they are over together
-  pub alike-whole : length es ≤ i → rest ≡ [] → all ≡ told es
-  alike-whole le none = alike ∙ ap₂ (λ (fs : List Entry) (xs : List (Option Entry)). told fs ++ xs) (take_all i es le) none ∙ append-nil (told es)

@@ -1,18 +1,16 @@
 -- Facts are handed out whole, or their size is told.
 use Rattle.std.proofs.Common.{◌≡◌, ◌≢◌, ℕ, ◌<◌, ◌≤◌, inl, inr, List, length, take, drop, Bool, true, false, Some, refl, sym, ap, subst, ◌∙◌}
 use Rattle.kdf_facts.specs.Run.{IsRunTold}
-use Rattle.kdf_facts.specs.Told.{IsAnswer, OfJob, TellsDeck, TellsFault, TellsJob, called_over}
-use Rattle.kdf_journal.specs.declared.entry.Entry.{Entry}
+use Rattle.kdf_facts.specs.Told.{IsAnswer, OfJob, TellsJob, called_over}
 use Rattle.kdf_job.specs.Job.{Job}
 use Rattle.kdf_job.specs.Reading.{job}
 use Rattle.kdf_top.specs.Answers.{IsCalledBy, IsCalledFor}
 use Rattle.kdf_command.specs.Commands.{command, is_command}
-use Rattle.kdf_command.specs.declared.command.Command.{Command}
 use Rattle.kdf_command.specs.declared.command.Command.TheVariants.{Run}
 use Rattle.kdf_top.specs.declared.status.Status.{Status}
 use Rattle.kdf_top.specs.declared.status.Status.TheVariants as status
 use Rattle.kdf_engine.specs.Service.{exchanged}
-use Rattle.kdf_engine.specs.Told.{AreFacts, IsTold, TellsRun}
+use Rattle.kdf_engine.specs.Told.{AreFacts, IsTold}
 use Rattle.kdf_engine.proofs.Called.{answers_called}
 use Rattle.kdf_engine.proofs.Handed.{either}
 use Rattle.kdf_engine.proofs.More.{journal_more}
@@ -67,19 +65,6 @@ module _ (words : List (List ℕ)) (job before after text : List ℕ) where
     memory = λ e. absurd (cc);
     beyond = ap (drop (length text)) same;
   }
-
--- where there are none
-pub no_facts : (words : List (List ℕ)) (job room : List ℕ) → IsTold words job room room status.Memory 0
-no_facts words job room = record {
-  answer = λ run. tt {0};
-  usage = λ is e. absurd (cc);
-  read = λ e. absurd (cc);
-  facts = λ h. absurd (h refl);
-  short = λ e. absurd (cc);
-  short_writes = λ e. absurd (cc);
-  memory = λ e. (refl, refl);
-  beyond = refl;
-}
 
 -- in either case
 pub told : (words : List (List ℕ)) (job before after text : List ℕ) (called given : Status) (size : ℕ)

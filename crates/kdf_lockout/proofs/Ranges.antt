@@ -3,7 +3,7 @@ use Rattle.std.proofs.Common.{◌≡◌, ℕ, zero, suc, ◌+◌, ◌-◌, ◌/�
 use Rattle.std.specs.Prelude.{find}
 use Rattle.std.specs.List.{range_with_len, refill}
 use Rattle.std.proofs.lemmas.Bool.{cases_Bool}
-use Rattle.std.proofs.lemmas.List.{set-append_right, set_at, drop_more, length-take-le, take-set-le, drop-set, map-set, get_or-map, take_at, get_or_default, take_more, get_or-append_right, get_or-take, get_or-drop, replicate_more, length-replicate, length-map}
+use Rattle.std.proofs.lemmas.List.{set-append_right, set_at, drop_more, length-take-le, map-set, get_or-map, take_at, get_or_default, take_more, get_or-append_right, get_or-take, get_or-drop, replicate_more, length-replicate, length-map}
 use Rattle.kdf_lockout.specs.Groups.{Cells, Lent, is_out, words_in, AreAllHere, with_lent_word, with_groups, lent_groups, without_groups}
 
 -- one more element of the part
@@ -34,15 +34,6 @@ spliced_past xs ys from k d counted lt =
     ∙ get_or-drop (from + k) xs 0 d
     ∙ ap (λ n. get_or xs n d) (add-zero (from + k))
 
--- the last element is put in
-pub put_last : {X : Type 0} (xs ys : List X) (from k : ℕ) (y : X) → length ys ≡ k → from + k < length xs → take from (set xs (from + k) y) ++ (ys ++ drop (from + k) (set xs (from + k) y)) ≡ take from xs ++ ((ys ++ y ∷ []) ++ drop (from + (k + 1)) xs)
-put_last xs ys from k y counted lt =
-    let low : from ≤ from + k = omega arith in
-    let j : from + k + 1 ≡ from + (k + 1) = omega arith in
-    ap₂ (λ a b. a ++ (ys ++ b)) (take-set-le from xs (from + k) y low) (drop-set xs (from + k) y lt)
-    ∙ ap (λ n. take from xs ++ (ys ++ y ∷ drop n xs)) j
-    ∙ ap (λ zs. take from xs ++ zs) (sym (append_assoc ys (y ∷ []) (drop (from + (k + 1)) xs)))
-
 find_cons : {X : Type 0} (p : ℕ → Bool) (a : ℕ) (x o : Option X) → p a ≡ false → cond (p a) x o ≡ o
 find_cons p a x o e = ap (λ b. cond b x o) e
 
@@ -54,13 +45,6 @@ find_step p first k n lt not =
     ap (λ m. find p (range_with_len (first + k) m)) e
     ∙ find_cons p (first + k) (Some (first + k)) _ not
     ∙ ap (λ q. find p (range_with_len q (n - (k + 1)))) g
-
--- the first one that is
-pub find_here : (p : ℕ → Bool) (first k n : ℕ) → k < n → p (first + k) ≡ true → find p (range_with_len (first + k) (n - k)) ≡ Some (first + k)
-find_here p first k n lt is =
-    let e : n - k ≡ suc (n - (k + 1)) = omega arith in
-    ap (λ m. find p (range_with_len (first + k) m)) e
-    ∙ ap (λ b. cond b (Some (first + k)) (find p (range_with_len (first + k + 1) (n - (k + 1))))) is
 
 -- where none is found, none is
 pub none_in_range : (p : ℕ → Bool) (first n i : ℕ) → find p (range_with_len first n) ≡ None → i < n → p (first + i) ≡ false

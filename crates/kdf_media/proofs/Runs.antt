@@ -1,9 +1,9 @@
 -- The cut of a printer, character by character.
-use Rattle.std.proofs.Common.{◌≡◌, ℕ, zero, suc, ◌+◌, ◌-◌, ◌<◌, ◌≤◌, true, false, cond, eqb, List, [], ◌∷◌, ◌++◌, Option, Some, None, length, take, drop, map, set, get_or, arith, refl, sym, ap, ◌∙◌, ⊎_elim, append_assoc, subst}
+use Rattle.std.proofs.Common.{◌≡◌, ℕ, zero, suc, ◌+◌, ◌-◌, ◌<◌, ◌≤◌, true, false, cond, eqb, List, [], ◌∷◌, ◌++◌, Option, Some, None, length, take, drop, map, arith, refl, sym, ap, ◌∙◌, ⊎_elim, subst}
 use Rattle.std.specs.List.{All, slice_split, onto_first, join_with_byte}
 use Rattle.std.specs.Option.{option_map_or}
 use Rattle.std.proofs.lemmas.Bool.{cases_Bool, eqb-true, ne_eqb}
-use Rattle.std.proofs.lemmas.List.{length-set, drop_more, take_more_set, drop-set-lt, drop_all, append-nil}
+use Rattle.std.proofs.lemmas.List.{drop_all, append-nil}
 use Rattle.std.proofs.lemmas.List.Splits.{slice_split-cons_yes, slice_split-cons_no, length-slice_split}
 use Rattle.std.proofs.lemmas.List.Elements.{All-head, All-tail, All-cons}
 use Rattle.kdf_media.specs.Media.{printed}
@@ -100,41 +100,10 @@ pub record IsCut (kept i room end : ℕ) (items block : List ℕ) : Type 0 where
   pub many : length items ≡ end
   pub comes : take kept items ++ printed_from room (drop i items) ≡ printed_from 160 block
 
--- a character that is printed, and one that isn't
-pub cut_kept : (kept i room end left c : ℕ) (items block : List ℕ) → IsCut kept i room end items block → i < end → c ≡ get_or items i 0 → Some left ≡ room_behind c room → IsCut (kept + 1) (i + 1) left end (set items kept c) block
-cut_kept kept i room end left c items block h lt is some =
-    let l = length-set items kept c in
-    let within : i < length items = omega (arith, h.many) in
-    let inside : kept < length items = omega (arith, h.many, h.before) in
-    let behind : kept < i + 1 = omega (arith, h.before) in
-    let rest : drop i items ≡ c ∷ drop (i + 1) items = drop_more items i 0 within ∙ ap (λ x. x ∷ drop (i + 1) items) (sym is) in
-    let step : printed_from room (drop i items) ≡ c ∷ printed_from left (drop (i + 1) items) =
-    ap (printed_from room) rest ∙ sym (ap (λ o. option_map_or (λ n. c ∷ printed_from n (drop (i + 1) items)) o (printed_from room (drop (i + 1) items))) some) in
-    record {
-      before = omega (arith, h.before);
-      many = l ∙ h.many;
-      comes =
-          ap (λ xs. xs ++ printed_from left (drop (i + 1) (set items kept c))) (take_more_set items kept c inside) ∙
-          ap (λ xs. (take kept items ++ c ∷ []) ++ printed_from left xs) (drop-set-lt (i + 1) items kept c behind) ∙
-          append_assoc (take kept items) (c ∷ []) (printed_from left (drop (i + 1) items)) ∙
-          sym (ap (λ xs. take kept items ++ xs) step) ∙ h.comes;
-    }
-
-pub cut_dropped : (kept i room end c : ℕ) (items block : List ℕ) → IsCut kept i room end items block → i < end → c ≡ get_or items i 0 → None ≡ room_behind c room → IsCut kept (i + 1) room end items block
-cut_dropped kept i room end c items block h lt is none =
-    let within : i < length items = omega (arith, h.many) in
-    let rest : drop i items ≡ c ∷ drop (i + 1) items = drop_more items i 0 within ∙ ap (λ x. x ∷ drop (i + 1) items) (sym is) in
-    let step : printed_from room (drop i items) ≡ printed_from room (drop (i + 1) items) =
-    ap (printed_from room) rest ∙ sym (ap (λ o. option_map_or (λ n. c ∷ printed_from n (drop (i + 1) items)) o (printed_from room (drop (i + 1) items))) none) in
-    record { before = omega (arith, h.before); many = h.many; comes = sym (ap (λ xs. take kept items ++ xs) step) ∙ h.comes }
-
 pub cut_all : (kept i room end : ℕ) (items block : List ℕ) → IsCut kept i room end items block → end ≤ i → take kept items ≡ printed block
 cut_all kept i room end items block h le =
     let none : drop i items ≡ [] = drop_all i items (omega (arith, h.many)) in
     sym (append-nil (take kept items)) ∙ sym (ap (λ xs. take kept items ++ printed_from room xs) none) ∙ h.comes ∙ printed-is block
-
-pub cut_none : (end : ℕ) (items : List ℕ) → length items ≡ end → IsCut 0 0 160 end items items
-cut_none end items many = record { before = omega arith; many = many; comes = refl }
 
 -- what is printed is of the same kind as all
 All-from : (P : ℕ → Type 0) (room : ℕ) (cs : List ℕ) → All P cs → All P (printed_from room cs)

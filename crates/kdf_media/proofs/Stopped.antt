@@ -209,6 +209,3 @@ by_words (suc n) codes le small =
     let F : List ℕ → Type 0 = λ xs. words_of (through_end xs) ≡ ended_words (words_of xs) in
     subst F (sym e) nothing)
     (cases_lt 0 (length codes))
-
-pub words_of-through_end : (codes : List ℕ) → All (λ c. c < 64) codes → words_of (through_end codes) ≡ ended_words (words_of codes)
-words_of-through_end codes small = by_words (length codes) codes (omega arith) small

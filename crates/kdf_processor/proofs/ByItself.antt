@@ -1,6 +1,6 @@
 -- A program by itself is never held up, so the outcome of its next order is its row; what a port shows of a program's state;
 -- and which answer an order takes.
-use Rattle.std.proofs.Common.{◌≡◌, ◌≢◌, ℕ, Bool, Option, Some, None, List, [], ◌∷◌, refl, sym, ap, ◌∙◌, subst}
+use Rattle.std.proofs.Common.{◌≡◌, ◌≢◌, ℕ, Bool, Option, Some, None, List, [], ◌∷◌, refl, ap, ◌∙◌}
 use Rattle.std.specs.Prelude.{find}
 use Rattle.kdf_journal.specs.declared.kind.Kind.{Kind}
 use Rattle.kdf_processor.specs.declared.step.Need.{Need}
@@ -8,7 +8,7 @@ use Rattle.kdf_processor.specs.declared.step.Need.TheVariants.{Group, Device, Po
 use Rattle.kdf_processor.specs.declared.registers.Registers.{Registers}
 use Rattle.kdf_processor.specs.declared.step.Step.TheVariants.{Held}
 use Rattle.kdf_processor.specs.Effect.{Act, Asks, Question, Effect, Failing, Ending, Changing, Fetching, Keeping, Testing, Starting, Asking, Claiming, Returning, Spooling}
-use Rattle.kdf_processor.specs.Needs.{needs, needs_at, next_effect}
+use Rattle.kdf_processor.specs.Needs.{needs_at, next_effect}
 use Rattle.kdf_processor.specs.Outcome.{Outcome, outcome, held_or, went}
 use Rattle.kdf_processor.specs.Row.{at_once, taken, next_of, done_by, row}
 use Rattle.kdf_processor.specs.State.{Stock, State}
@@ -65,10 +65,6 @@ row_alone k k' answer r r' registers stock =
 abbrev pub among : Stock → (Question → ℕ) → (out busy : ℕ → Bool) → (taken : Kind → Bool) → List ℕ → View
 among k answer out busy taken mine = record (by_itself answer k) { is_out = out; is_busy = busy; is_taken = taken; mine = mine }
 
--- over such a port the next order is held by the first pending need of the state, or does what it does by itself
-pub outcome_among : (k : Stock) (answer : Question → ℕ) (out busy : ℕ → Bool) (taken : Kind → Bool) (mine : List ℕ) (r : Registers) → outcome (among k answer out busy taken mine) r ≡ held_or r (first_pending (among k answer out busy taken mine) (needs (state r k) mine)) (next_of (state r k) answer)
-outcome_among k answer out busy taken mine r = refl
-
 -- ---- answers
 
 -- what an effect asks
@@ -92,25 +88,6 @@ next_same answer other s same = done_same answer other (next_effect s) s same
 pub row_same : (answer other : Question → ℕ) (s : State) → IsSameAnswer answer other (question_of (next_effect s)) → row s answer ≡ row s other
 row_same answer other s same = ap (λ o. taken o s) (next_same answer other s same)
 
--- an order that asks takes this answer
-pub next_asking : (answer : Question → ℕ) (s : State) (question : Question) (after : ℕ → Registers) (a : ℕ) → next_effect s ≡ Asking question after → answer question ≡ a → next_of s answer ≡ next_of s (λ _. a)
-next_asking answer s question after a asking is =
-    next_same answer (λ _. a) s (subst (λ e. IsSameAnswer answer (λ _. a) (question_of e)) (sym asking) is)
-
-pub row_asking : (answer : Question → ℕ) (s : State) (question : Question) (after : ℕ → Registers) (a : ℕ) → next_effect s ≡ Asking question after → answer question ≡ a → row s answer ≡ row s (λ _. a)
-row_asking answer s question after a asking is = ap (λ o. taken o s) (next_asking answer s question after a asking is)
-
--- and one that asks nothing takes none
-pub next_silent : (answer other : Question → ℕ) (s : State) → question_of (next_effect s) ≡ None → next_of s answer ≡ next_of s other
-next_silent answer other s none = next_same answer other s (subst (IsSameAnswer answer other) (sym none) tt)
-
-pub row_silent : (answer other : Question → ℕ) (s : State) → question_of (next_effect s) ≡ None → row s answer ≡ row s other
-row_silent answer other s none = ap (λ o. taken o s) (next_silent answer other s none)
-
--- the act of an order that asks has the question and its answer
-pub act_asking : (answer : Question → ℕ) (s : State) (question : Question) (after : ℕ → Registers) → next_effect s ≡ Asking question after → (next_of s answer).act ≡ Asks question (answer question)
-act_asking answer s question after asking = ap (λ e. (done_by answer e s).act) asking
-
 -- what an act asks, and the answer that it took
 abbrev pub asked_in : Act → Option Question
 asked_in (Asks question a) = Some question
@@ -124,10 +101,6 @@ done_asks : (answer : Question → ℕ) (e : Effect) (s : State) → asked_in (d
 done_asks answer (Asking question after) s = refl
 done_asks answer e s = refl
 
--- an act asks what the order asks
-pub act_asks : (answer : Question → ℕ) (s : State) → asked_in (next_of s answer).act ≡ question_of (next_effect s)
-act_asks answer s = done_asks answer (next_effect s) s
-
 told_same : (answer : Question → ℕ) (e : Effect) (s : State) → IsSameAnswer answer (λ _. told_in (done_by answer e s).act) (question_of e)
 told_same answer (Asking question after) s = refl
 told_same answer e s = tt
@@ -135,6 +108,3 @@ told_same answer e s = tt
 -- and the answer that it took is all that counts
 pub next_told : (answer : Question → ℕ) (s : State) → next_of s answer ≡ next_of s (λ _. told_in (next_of s answer).act)
 next_told answer s = next_same answer (λ _. told_in (next_of s answer).act) s (told_same answer (next_effect s) s)
-
-pub row_told : (answer : Question → ℕ) (s : State) → row s answer ≡ row s (λ _. told_in (next_of s answer).act)
-row_told answer s = ap (λ o. taken o s) (next_told answer s)

@@ -1,12 +1,9 @@
 -- A pool without devices: nothing can be taken from it.
-use Rattle.std.proofs.Common.{◌≡◌, ℕ, Bool, false, List, [], ◌∷◌, Option, Some, None, is_some, cond, get_or, refl, ap, ◌∙◌}
-use Rattle.std.specs.Prelude.{find, not, ◌&&◌}
-use Rattle.std.specs.List.{range_with_len}
+use Rattle.std.proofs.Common.{◌≡◌, ℕ, Bool, false, List, [], ◌∷◌, Option, Some, None, cond, get_or, refl, ap, ◌∙◌}
+use Rattle.std.specs.Prelude.{find, ◌&&◌}
 use Rattle.kdf_journal.specs.declared.kind.Kind.{Kind}
 use Rattle.kdf_journal.specs.declared.kind.Kind.TheVariants.{Tr, Tp, Cr, Lp, Mt}
 use Rattle.kdf_transfer.specs.Devices.{is_kind}
-use Rattle.kdf_processor.specs.Claims.{least_pooled, is_claimed, may_take}
-use Rattle.kdf_processor.specs.State.{Claims}
 
 -- a pool without devices has none of a kind
 pub none_of_kind : (k : Kind) → is_kind k None ≡ false
@@ -21,8 +18,3 @@ none_of_pool k pool test none [] = refl
 none_of_pool k pool test none (d ∷ ds) =
     ap (λ b. cond (b && test d) (Some d) (find (λ x. is_kind k (get_or pool x None) && test x) ds)) (ap (λ (ps : List (Option Kind)). is_kind k (get_or ps d None)) none ∙ none_of_kind k)
     ∙ none_of_pool k pool test none ds
-
--- so nothing can be taken from it
-pub none_taken : (c : Claims) (k : Kind) → c.pool ≡ [] → may_take c k ≡ false
-unfolding least_pooled
-none_taken c k none = ap is_some (none_of_pool k c.pool (λ d. not (is_claimed c d)) none (range_with_len 0 16))

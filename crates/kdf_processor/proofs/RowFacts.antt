@@ -124,10 +124,6 @@ devices_perform answer (Asking question after) s = answered_devices question (an
 devices_perform answer (Returning pooled d after) s = released_devices pooled d s.stock
 devices_perform answer e s = refl
 
--- and of its devices
-pub devices_row : (answer : Question → ℕ) (s : State) → length (row s answer).stock.devices ≡ length s.stock.devices
-devices_row answer s = devices_perform answer (next_effect s) s
-
 -- the life after an order that went so
 abbrev pub life_after : Step → Life → Life
 life_after Done before = before
@@ -143,10 +139,6 @@ life_perform answer e s = refl
 -- how an order ends tells the life after it
 pub life_row : (answer : Question → ℕ) (s : State) → (row s answer).registers.state ≡ life_after (next_of s answer).step s.registers.state
 life_row answer s = life_perform answer (next_effect s) s
-
--- the row has the registers of the next order's outcome
-pub registers_row : (answer : Question → ℕ) (s : State) → (row s answer).registers ≡ (next_of s answer).registers
-registers_row answer s = refl
 
 -- the answer that a lone run gives next
 abbrev pub next_answer : List ℕ → State → Question → ℕ

@@ -1,6 +1,6 @@
 -- Orders that neither begin a transfer nor spool, by their first syllable.
-use Rattle.std.proofs.Common.{◌≡◌, ◌≢◌, ℕ, zero, suc, ◌+◌, ◌<◌, ◌^◌, ◌%◌, Bool, true, false, cond, eqb, ltb, ◌||◌, List, [], ◌∷◌, ◌++◌, length, get_or, Option, Some, None, refl, sym, ap, subst, ◌∙◌, arith}
-use Rattle.std.specs.Int.{IsInRange, is_in_range}
+use Rattle.std.proofs.Common.{◌≡◌, ◌≢◌, ℕ, zero, suc, ◌+◌, ◌<◌, ◌^◌, ◌%◌, Bool, true, false, cond, eqb, ltb, List, [], ◌∷◌, ◌++◌, length, get_or, Option, Some, None, refl, sym, ap, subst, ◌∙◌, arith}
+use Rattle.std.specs.Int.{IsInRange}
 use Rattle.std.specs.List.{All}
 use Rattle.std.proofs.lemmas.Bool.{ne_eqb}
 use Rattle.std.proofs.lemmas.Bool.Decides.{nat_tests}
@@ -186,13 +186,6 @@ three_bytes a b d ha hb hd zero e k = ha
 three_bytes a b d ha hb hd (suc zero) e k = hb
 three_bytes a b d ha hb hd (suc (suc zero)) e k = hd
 three_bytes a b d ha hb hd (suc (suc (suc i))) e k = absurd (omega arith)
-
--- no syllable but that of OUT or of a transfer begins an order that acts so
-pub small_spelt : (v : View) (r : Registers) (a b d : ℕ) → a < 2 ^ 8 → b < 2 ^ 8 → d < 2 ^ 8 → (eqb a 0x21 || is_in_range 0x70 0x7D a) ≡ false → IsSmall (try_decoded v r (first_decoded (a ∷ b ∷ d ∷ []))).act
-small_spelt v r a b d ha hb hd test =
-    let out : a ≢ 0x21 = grind (arith, nat_tests) in
-    let transfer : IsInRange 0x70 0x7D a → ⊥ = λ is. grind (arith, nat_tests) in
-    option_small v r a b d (first_decoded (a ∷ b ∷ d ∷ [])) (three_bytes a b d ha hb hd) refl out transfer
 
 none_mild : (c : Claims) (r : Registers) (a b d : ℕ) (x : Option Order) → All (λ y. y < 2 ^ 8) (a ∷ b ∷ d ∷ []) → first_decoded (a ∷ b ∷ d ∷ []) ≡ x → a ≢ 0x21 → (IsInRange 0x70 0x7D a → ⊥) → IsMild (effect_or_liv c r x)
 none_mild c r a b d None bytes e out transfer = tt

@@ -1,6 +1,6 @@
 -- Lines that are read one after the other.
 use Rattle.std.proofs.Common.{◌≡◌, ℕ, zero, suc, ◌+◌, ◌<◌, ◌≤◌, true, false, cond, eqb, List, [], ◌∷◌, ◌++◌, length, take, drop, Some, Result, Ok, Err, refl, sym, ap, ◌∙◌, arith, append_assoc, length-append, length-drop}
-use Rattle.std.proofs.lemmas.List.{append-nil, drop-drop, drop-take, take-append-drop, take-take}
+use Rattle.std.proofs.lemmas.List.{drop-drop, drop-take, take-append-drop, take-take}
 use Rattle.std.proofs.lemmas.Bool.Decides.{nat_tests}
 use Rattle.kdf_text.specs.Ahead.{ahead}
 use Rattle.kdf_text.specs.Lines.{is_text, line, lines}
@@ -80,12 +80,6 @@ pub entry-read : (read : List Entry) (n m : ℕ) (ls ks : List (List ℕ)) (l : 
     → is_text seal_line l ≡ false → entry_in l ≡ Some e → after read (entries_from n ls) ≡ after (read ++ e ∷ []) (entries_from m ks)
 entry-read read n m ls ks l e some here rest next isnt is =
     ap (after read) (next-entry n ls some) ∙ rw (← here, ← rest, ← next, isnt, is) (after-one read n e (entries_from m ks))
-
--- SEAL
-pub entries-read : (read : List Entry) (n : ℕ) (ls : List (List ℕ)) (l : List ℕ) → 0 < length ls → l ≡ line ls 1
-    → is_text seal_line l ≡ true → after read (entries_from n ls) ≡ Ok read
-entries-read read n ls l some here is =
-    ap (after read) (next-entry n ls some) ∙ rw (← here, is) (ap Ok (append-nil read))
 
 -- the offset after a line stays in its range: a line's end that the text lacks is one more, and so is the number of the line
 pub bounded : (high offset line old new number next : ℕ) → offset + old ≤ high + number → line ≤ old → (0 < new → line + 1 + new ≤ old) → next ≡ number + 1

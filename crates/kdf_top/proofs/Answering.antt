@@ -113,19 +113,6 @@ refused c told t o n is e added stays falls = record {
   never_falls = falls;
 }
 
--- or it didn't
-pub refused_front : (c : Option Command) (told : Status) (t : List ℕ) (o n : Outlet) → t ≡ refusal c told → HasRisen o.faults n.faults
-    → AddedFront o.written t n.written → ¬ (length t ≤ o.room) → o.faults ≤ n.faults → IsRefused c told status.WriteFault o n
-refused_front c told t o n e rose front long falls = record {
-  answer = rose;
-  undone = refl;
-  wrote = tt;
-  front = λ _. subst (λ x. AddedFront o.written x n.written) e front;
-  room_writes = λ fits. absurd (long (subst (λ x. length x ≤ o.room) (sym e) fits));
-  room_count = λ fits. absurd (long (subst (λ x. length x ≤ o.room) (sym e) fits));
-  never_falls = falls;
-}
-
 -- or there was no memory for it
 pub refused_memory : (c : Option Command) (told : Status) (o : Outlet) → IsRefused c told status.Memory o o
 refused_memory c told o = record {

@@ -21,9 +21,6 @@ pub record SameSoFar (these those : List (List ℕ)) (n : ℕ) (this that : List
   pub these_left : drop n these ≡ this
   pub those_left : drop n those ≡ that
 
-pub none_so_far : (these those : List (List ℕ)) → SameSoFar these those 0 these those
-none_so_far these those = record { alike = refl; these_left = refl; those_left = refl }
-
 -- a line more
 module _ (these those : List (List ℕ)) (n : ℕ) (this that : List (List ℕ)) (so : SameSoFar these those n this that) where
   pub one_more : (x : List ℕ) (this' that' : List (List ℕ)) → this ≡ x ∷ this' → that ≡ x ∷ that' → SameSoFar these those (n + 1) this' that'

@@ -1,5 +1,5 @@
 -- What a command makes, from its text and the machine that it keeps.
-use Rattle.std.proofs.Common.{◌≡◌, ℕ, List, [], Vec, Global, Option, Some, None, Result, Ok, Err, IfOk, true, false, sym, subst}
+use Rattle.std.proofs.Common.{◌≡◌, ℕ, List, Vec, Global, Option, Some, None, Result, Ok, Err, IfOk, true, sym, subst}
 use Rattle.kdf_theory.specs.Shown.{Shown}
 use Rattle.kdf_command.specs.declared.command.Command.{Command}
 use Rattle.kdf_top.specs.declared.making.Made.{Made}
@@ -32,7 +32,3 @@ module _ (answers : ℕ → ℕ → Type 0) (c : Command) (bytes : List ℕ) (fa
   pub made_with : (m : Shown) → kept ≡ Some m → keeps_machine c ≡ true → IsMachineOf answers (job_of c bytes) m → IsTextFrom answers c bytes m.journal t → IsMade answers c bytes t kept
   made_with m is runs machine text = subst (IsMade answers c bytes t) (sym is)
       (record { faultless = faultless; assembles = assembles; trusted = trusted; keeps = (runs, machine); text_is = text })
-
-  pub made_without : kept ≡ None → keeps_machine c ≡ false → IsTextFrom answers c bytes [] t → IsMade answers c bytes t kept
-  made_without is rests text = subst (IsMade answers c bytes t) (sym is)
-      (record { faultless = faultless; assembles = assembles; trusted = trusted; keeps = rests; text_is = text })

@@ -1,15 +1,14 @@
 -- Words that are written into a list, and words of a list that go out.
-use Rattle.std.proofs.Common.{◌≡◌, ℕ, ◌+◌, ◌-◌, ◌<◌, ◌≤◌, ◌++◌, true, false, List, [], ◌∷◌, length, get_or, take, drop, cond, refl, sym, ap, ◌∙◌, arith, length-take, ◌*◌}
+use Rattle.std.proofs.Common.{◌≡◌, ℕ, ◌+◌, ◌-◌, ◌<◌, ◌≤◌, ◌++◌, true, List, [], ◌∷◌, length, get_or, take, cond, refl, sym, ap, ◌∙◌, arith, length-take, ◌*◌}
 use Rattle.std.specs.Prelude.{slice_set}
 use Rattle.std.proofs.lemmas.List.{take_all}
 use Rattle.kdf_word.specs.Characters.{codes_of_all}
 use Rattle.kdf_transfer.specs.declared.order.TransferOrder.{TransferOrder}
 use Rattle.kdf_transfer.specs.Devices.{Fixture, Progress}
-use Rattle.kdf_transfer.specs.AtOnce.{is_input, is_output, area_len, given, stopped, offered, moves, addressed, place_of, written, words_out, order_words, stored}
+use Rattle.kdf_transfer.specs.AtOnce.{is_input, is_output, area_len, given, stopped, offered, addressed, place_of, written, order_words, stored}
 use Rattle.kdf_transfer.proofs.Addresses.{addressed-drop, length-addressed, take_two}
-use Rattle.kdf_transfer.proofs.Areas.{input_has, output_has, len_is}
+use Rattle.kdf_transfer.proofs.Areas.{input_has, len_is}
 use Rattle.kdf_transfer.proofs.Codes.{length-codes}
-use Rattle.kdf_transfer.proofs.Stopping.{stopped_end}
 
 written-append : (xs ys : List (ℕ × ℕ)) (ws : List ℕ) → written (xs ++ ys) ws ≡ written ys (written xs ws)
 written-append [] ys ws = refl
@@ -36,28 +35,6 @@ pub stored_input : (o : TransferOrder) (first last : ℕ) (ws : List ℕ) (f : F
 unfolding offered
 stored_input o first last ws f p is =
     sym (ap (λ b. cond b (written (addressed o first last (stopped o (cond b (take (last + 1 - first) (given o f p)) (cond (is_output o) (order_words o first last ws) [])))) ws) ws) is)
-
-pub stored_other : (o : TransferOrder) (first last : ℕ) (ws : List ℕ) (f : Fixture) (p : Progress) → is_input o ≡ false → ws ≡ stored o first last ws f p
-stored_other o first last ws f p not =
-    sym (ap (λ b. cond b (written (moves o first last (order_words o first last ws) f p) ws) ws) not)
-
--- the characters that go out
-pub block_input : (o : TransferOrder) (ws : List ℕ) → is_input o ≡ true → [] ≡ codes_of_all (words_out o ws)
-block_input o ws is = sym (ap (λ b. codes_of_all (cond b [] (stopped o (cond (is_output o) ws [])))) is)
-
-pub block_output : (o : TransferOrder) (first last : ℕ) (ws : List ℕ) → is_input o ≡ false → is_output o ≡ true → codes_of_all (stopped o (take (last + 1 - first) (drop first ws))) ≡ codes_of_all (words_out o (order_words o first last ws))
-block_output o first last ws not is =
-    sym
-    (ap (λ b. codes_of_all (cond b [] (stopped o (cond (is_output o) (order_words o first last ws) [])))) not
-    ∙ ap (λ b. codes_of_all (stopped o (cond b (order_words o first last ws) []))) is
-    ∙ ap (λ b. codes_of_all (stopped o (cond b (take (last + 1 - first) (drop first ws)) []))) (output_has o is))
-
-pub block_none : (o : TransferOrder) (ws : List ℕ) → is_input o ≡ false → is_output o ≡ false → [] ≡ codes_of_all (words_out o ws)
-block_none o ws not nor =
-    sym
-    (ap (λ b. codes_of_all (cond b [] (stopped o (cond (is_output o) ws [])))) not
-    ∙ ap (λ b. codes_of_all (stopped o (cond b ws []))) nor
-    ∙ ap codes_of_all (stopped_end o))
 
 -- how many words are written, by the number of words of the area
 pub counted : (o : TransferOrder) (first last n t : ℕ) (g : List ℕ) → is_input o ≡ true → n ≡ area_len o first last → t ≡ length (stopped o (take n g)) → t ≡ length (stopped o (take (last + 1 - first) g))

@@ -103,9 +103,6 @@ module _ (o : TransferOrder) (first last : ℕ) (l : Option Lent) (f : Fixture) 
       ∙ sym (slice_get-get_or (map (lent_at l) (range_with_len first (last + 1 - first))) i 0 (omega arith))
       ∙ ap (λ ws. slice_get ws i) (sym (output_offer not is))
 
-  pub offer_none : (i : ℕ) → is_input o ≡ false → is_output o ≡ false → None ≡ slice_get offer i
-  offer_none i not nor = sym (slice_get_past offer i (omega (arith, ap length (no_offer not nor))))
-
   -- a word that is moved
   pub word_there : (i : ℕ) → i < length words → slice_get offer i ≡ Some (get_or offer i 0)
   word_there i lt = slice_get-get_or offer i 0 (omega (arith, ap length words_are, stopped-le o offer))

@@ -36,9 +36,6 @@ use Rattle.kdf_usercode.proofs.Ranges.{nil-append, ranges-apart}
 
 -- ---- one number
 
-pub capped-same : (n : ℕ) → n < 2 ^ 48 → capped n ≡ n
-capped-same n h = omega arith
-
 pub fault-capped : (r : Range) (n : ℕ) → r.high < 2 ^ 48 → range_fault r (capped n) ≡ range_fault r n
 fault-capped r n h = grind (arith, nat_tests)
 

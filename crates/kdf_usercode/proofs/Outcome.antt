@@ -1,5 +1,5 @@
 -- One statement, or one byte, on the way through a deck.
-use Rattle.std.proofs.Common.{◌≡◌, ℕ, ◌+◌, ◌<◌, length, get_or, drop, true, false, eqb, List, [], ◌∷◌, ◌++◌, Option, Some, None, Ok, refl, sym, ap, ◌∙◌, append_assoc}
+use Rattle.std.proofs.Common.{◌≡◌, ℕ, ◌+◌, ◌<◌, length, get_or, drop, false, eqb, List, [], ◌∷◌, ◌++◌, Option, Some, None, Ok, refl, sym, ap, ◌∙◌, append_assoc}
 use Rattle.std.proofs.lemmas.List.{append-nil, at_drop_more}
 use Rattle.std.proofs.lemmas.List.Concat.{flat_map-cons}
 use Rattle.std.specs.List.{flat_map}
@@ -94,11 +94,6 @@ onto-nil (p ∷ ps) tail = refl
 pub in_front-push : (piece : List ByteAt) (k : ByteAt) (c : Cut) → eqb k.byte 59 ≡ false
     → in_front (piece ++ k ∷ []) c ≡ in_front piece (cut_before k c)
 in_front-push piece k c e = rw e (sym (onto-onto piece (k ∷ []) c.pieces c.tail))
-
--- a `;` ends the begun statement
-pub in_front-end : (piece : List ByteAt) (k : ByteAt) (c : Cut) → eqb k.byte 59 ≡ true
-    → in_front piece (cut_before k c) ≡ record { pieces = piece ∷ c.pieces; tail = c.tail }
-in_front-end piece k c e = rw (e, append-nil piece) refl
 
 pub in_front-nil : (c : Cut) → in_front [] c ≡ c
 in_front-nil c = onto-nil c.pieces c.tail

@@ -1,5 +1,5 @@
 -- What stays of a deck, as the reader goes past a byte or a comment.
-use Rattle.std.proofs.Common.{◌≡◌, ℕ, zero, suc, ◌+◌, ◌<◌, length, get_or, drop, Bool, true, false, not, ◌&&◌, ◌||◌, cond, eqb, nat_lt, List, [], ◌∷◌, ◌++◌, Some, None, is_some, refl, sym, ap, ◌∙◌, subst, ⊎_elim, arith}
+use Rattle.std.proofs.Common.{◌≡◌, ℕ, zero, suc, ◌+◌, ◌<◌, length, get_or, drop, Bool, true, false, not, ◌&&◌, ◌||◌, cond, eqb, nat_lt, List, [], ◌∷◌, Some, None, is_some, refl, sym, ap, ◌∙◌, subst, ⊎_elim, arith}
 use Rattle.std.specs.List.{position, position_from, position_or_len}
 use Rattle.std.proofs.lemmas.Bool.{cases_Bool}
 use Rattle.std.proofs.lemmas.Iterator.Adapters.{position_from-zero}
@@ -84,12 +84,3 @@ blank : (s l : Bool) (b : ByteAt) → cond (not s && not l) (b ∷ []) [] ≡ co
 blank true l b = refl
 blank false true b = refl
 blank false false b = refl
-
--- a byte that begins no comment stays, but for a space and a line end
-pub byte-passed : (at : ℕ) (bytes : List ℕ) → 0 < length bytes → (eqb (get_or bytes 0 0) 40 && closes bytes) ≡ false
-    → kept_from false at bytes ≡ cond (eqb (get_or bytes 0 0) 32 || eqb (get_or bytes 0 0) 10) [] (record { at = at; byte = get_or bytes 0 0 } ∷ []) ++ kept_from false (at + 1) (drop 1 bytes)
-byte-passed at [] some e = absurd (omega arith)
-byte-passed at (b ∷ bytes) some e =
-    let none : (eqb b 40 && closes bytes) ≡ false = and-or (eqb b 40) (is_closing b) (closes bytes) e in
-    let here : kept_from false at (b ∷ bytes) ≡ cond (not (eqb b 32) && not (eqb b 10)) (record { at = at; byte = b } ∷ []) [] ++ kept_from false (at + 1) bytes = rw none refl in
-    here ∙ ap (λ (x : List ByteAt). x ++ kept_from false (at + 1) bytes) (blank (eqb b 32) (eqb b 10) (record { at = at; byte = b }))

@@ -21,7 +21,7 @@ use Rattle.kdf_theory.specs.Follows.{Follows, IsRising, IsWhole, entries_in, tim
 use Rattle.kdf_theory.specs.Legal.{IsLegal}
 use Rattle.kdf_theory.specs.Next.{any_live, lone_dispatched}
 use Rattle.kdf_theory.specs.Shown.{Shown}
-use Rattle.kdf_theory.proofs.Course.EventsInTurn.{rises-first, rises-from, rises-rest}
+use Rattle.kdf_theory.proofs.Course.EventsInTurn.{rises-from, rises-rest}
 use Rattle.kdf_watch.specs.declared.cursor.Cursor.{Cursor}
 use Rattle.kdf_watch.specs.Called.{HasMoved}
 use Rattle.kdf_watch.specs.Cursors.{event_at, calls_left}
@@ -45,12 +45,6 @@ module _ (es : List Event) (c : Cursor) (m : Shown) (at : IsAt es c m) (lt : c.e
 
   rises-here : IsRising (clock m.journal) (event_at es c.event ∷ drop (c.event + 1) es)
   rises-here = rises-from es c.event (clock m.journal) lt at.rises
-
-  pub rises_first : IsRising (clock m.journal) (event_at es c.event ∷ [])
-  rises_first = rises-first (clock m.journal) (event_at es c.event) (drop (c.event + 1) es) rises-here
-
-  pub room_here : entries_in (event_at es c.event) ≤ m.room
-  room_here = omega (arith, at.room, entries-here)
 
   rises-after : IsRising (time_behind (clock m.journal) (event_at es c.event)) (drop (c.event + 1) es)
   rises-after = rises-rest (clock m.journal) (event_at es c.event) (drop (c.event + 1) es) rises-here

@@ -48,9 +48,6 @@ module _ (m n : Shown) (s : Step) (e : Enters m n s) where
   pub clock-entered : clock n.journal ≡ clock_by (clock m.journal) s
   clock-entered = ap (λ (x : Shown). clock x.journal) e ∙ clock-added m.journal s
 
-  pub room-entered : n.room ≡ m.room - 1
-  room-entered = ap (λ (x : Shown). x.room) e
-
 -- an event that is entered has no answer
 pub true_entered : (answers : ℕ → ℕ → Type 0) (m n : Shown) (s : Step) → IsLegal m.slots m.journal → IsTrueFor answers m.slots m.journal → course.Noted (is_true_for answers m.slots m.journal) s → Enters m n s → IsTrueFor answers n.slots n.journal
 true_entered answers m n s l truly noted is =

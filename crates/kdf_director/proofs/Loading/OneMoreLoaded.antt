@@ -2,15 +2,12 @@
 use Rattle.std.proofs.Common.{◌≡◌, ℕ, suc, ◌+◌, ◌<◌, List, [], ◌∷◌, ◌++◌, length, get_or, map, take, drop, sym, ap, ap₂, ◌∙◌, append_assoc, arith}
 use Rattle.std.proofs.Math.Seq.{drop-cons}
 use Rattle.std.proofs.lemmas.List.{map_more, map_push}
-use Rattle.kdf_lockout.specs.Groups.{Cells}
-use Rattle.kdf_relocate.specs.declared.window.Window.{Window}
 use Rattle.kdf_job.specs.declared.job.SlotJob.{SlotJob}
 use Rattle.kdf_job.specs.Shows.{shown_slot}
 use Rattle.kdf_place.specs.declared.image.Image.{Image}
 use Rattle.kdf_director.specs.declared.slot.Loaded.{Loaded}
 use Rattle.kdf_theory.specs.Loading.{SlotLoad, load_of, loads}
-use Rattle.kdf_director.specs.Fields.Filled.{kept_word, loaded, with_images, with_words}
-use Rattle.kdf_director.specs.Fields.Parts.{window_at}
+use Rattle.kdf_director.specs.Fields.Filled.{loaded}
 
 -- what is left begins with the element that is next
 drop_at : {X : Type 0} (xs : List X) (i : ℕ) (x : X) → i < length xs → x ≡ get_or xs i x → drop i xs ≡ x ∷ drop (i + 1) xs
@@ -36,15 +33,3 @@ loads_more jobs images i s image before after x all lt lt' here there push is so
     (ap (λ l. l ∷ rest jobs images (i + 1)) is
     ∙ sym (ap₂ (λ js ms. loads (map shown_slot js) (map (λ (m : Image). m.words.items) ms)) (drop_at jobs i s lt here) (drop_at images i image lt' there)))
     ∙ so
-
--- one word more is written
-pub words_step : (cells after : Cells) (place i w : ℕ) (words : List ℕ) → i < length words → w ≡ get_or words i w → after ≡ kept_word cells (place + i) w → with_words after (place + (i + 1)) (drop (i + 1) words) ≡ with_words cells (place + i) (drop i words)
-words_step cells after place i w words lt here is =
-    ap₂ (λ k n. with_words k n (drop (i + 1) words)) is (let e : place + (i + 1) ≡ place + i + 1 = omega arith in e)
-    ∙ sym (ap (with_words cells (place + i)) (drop_at words i w lt here))
-
--- and those of one slot more
-pub images_step : (windows : List Window) (cells after : Cells) (ls : List Loaded) (k : ℕ) (l : Loaded) (base : ℕ) (words : List ℕ) → k < length ls → l ≡ get_or ls k l → base ≡ (window_at windows l.p).base → words ≡ l.words.items → after ≡ with_words cells base words → with_images windows after (map loaded (drop (k + 1) ls)) ≡ with_images windows cells (map loaded (drop k ls))
-images_step windows cells after ls k l base words lt here at same is =
-    ap (λ c. with_images windows c (map loaded (drop (k + 1) ls))) (is ∙ ap₂ (with_words cells) at same)
-    ∙ sym (ap (λ xs. with_images windows cells (map loaded xs)) (drop_at ls k l lt here))

@@ -1,7 +1,7 @@
 -- The devices of the pool that aren't taken.
 use Rattle.std.specs.Prelude.{find, not, unwrap_or}
 use Rattle.std.specs.List.{range_with_len}
-use Rattle.std.proofs.Common.{◌≡◌, ℕ, ◌<◌, ◌&&◌, ◌||◌, ltb, Bool, true, false, List, get_or, Option, Some, None, is_some, is_none, cond, refl, sym, ap, ap₂, ◌∙◌, arith}
+use Rattle.std.proofs.Common.{◌≡◌, ℕ, ◌<◌, ◌&&◌, ltb, Bool, true, false, List, get_or, Option, Some, None, is_some, is_none, cond, refl, sym, ap, ap₂, ◌∙◌, arith}
 use Rattle.std.proofs.lemmas.Bool.{and_from, and_parts, lt-ltb, or_parts}
 use Rattle.kdf_journal.specs.declared.kind.Kind.{Kind}
 use Rattle.kdf_journal.specs.declared.kind.Kind.TheVariants as kind
@@ -46,12 +46,6 @@ pub free_one : (pool : List (Option Kind)) (taken : ℕ → Bool) (kind : Kind) 
 free_one pool taken kind d is =
     let parts = and_parts _ _ (found (is_free_in pool taken kind) (range_with_len 0 16) d (least_free pool taken kind ∙ is)) in
     (exact kind (get_or pool d None) parts.0, not_so (taken d) parts.1)
-
--- one that the program has claimed isn't
-pub unclaimed_and : (m k h : Bool) → (not m && (k && not h)) ≡ (k && not (m || h))
-unclaimed_and true true h = refl
-unclaimed_and true false h = refl
-unclaimed_and false k h = refl
 
 -- a device without a transfer can leave its place
 pub leave_is : (x : Spot) (f : Fixture) → x.fixture ≡ Some f → x.flight ≡ None → can_leave x ≡ true

@@ -127,10 +127,6 @@ module _ (q : Part) (n : ℕ) (s : Shared) (kept : IsKept q s) (i : ℕ) (lt : i
   not_own : owns q.devices x.device ≡ false
   not_own = ⊎_elim (λ (own : owns q.devices x.device ≡ true). cc (sym (kept.apart x.device own) ∙ pooled)) (λ (not_so : owns q.devices x.device ≡ false). not_so) (cases_Bool (owns q.devices x.device))
 
-  -- the place of a device that is lent
-  pub there_lent : is_lent x.loan ≡ true → is_some (spot_at s.spots x.device).fixture ≡ true
-  there_lent lent = ap is_some (kept.there x.device kind.0 kind.1)
-
   in_place : is_lent x.loan ≡ true → own_progress q s.spots x.device ≡ (spot_at s.spots x.device).progress
   in_place lent = ap (λ b. cond b (spot_at s.spots x.device).progress (left_in q.stints x.device)) (or_right (owns q.devices x.device) (lends q.stints x.device) (lent_at q.stints i lt lent))
 

@@ -5,7 +5,7 @@ use Rattle.std.proofs.Math.Path.{fun_ext}
 use Rattle.std.proofs.Common.{◌≡◌, ◌≢◌, ℕ, ◌+◌, ◌<◌, ◌&&◌, ◌||◌, Bool, true, false, List, length, get_or, map, set, Option, Some, None, is_some, cond, refl}
 use Rattle.std.proofs.Common.{sym, ap, ap₂, ◌∙◌, subst, ⊎_elim, arith}
 use Rattle.std.proofs.lemmas.Bool.{cases_Bool, cases_eq, or_right}
-use Rattle.std.proofs.lemmas.List.{get_or-set_other, get_or-set_same, length-set, set-get_or, set-set}
+use Rattle.std.proofs.lemmas.List.{get_or-set_other, get_or-set_same, length-set, set-set}
 use Rattle.kdf_processor.specs.declared.step.Need.{Need}
 use Rattle.kdf_processor.specs.declared.step.Step.{Step}
 use Rattle.kdf_processor.specs.declared.step.Need.TheVariants.{Device}
@@ -200,10 +200,6 @@ module _ (reaches : List Reach) (seats : List Seat) (t : Moment) (s : Shared) (p
 
     pub turned_running : IsRunning reaches (set seats p new) s'
     turned_running = subst (λ xs. IsRunning reaches xs s') seats_are gone.running
-
--- one that had no memory
-pub unturned : (seats : List Seat) (p : ℕ) (new : Seat) → new ≡ seat_at seats p → set seats p new ≡ seats
-unturned seats p new same = ap (set seats p) same ∙ set-get_or seats p no_seat
 
 -- a word of a program, here or out
 pub word_shown : (reaches : List Reach) (seats : List Seat) (s : Shared) (n i a : ℕ) → a < (reach_at reaches i).size → word_at_place s.cells (leases_of s.spots) ((reach_at reaches i).base + a) ≡ word_at (own_state reaches seats s n i) a

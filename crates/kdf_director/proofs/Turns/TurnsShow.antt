@@ -113,10 +113,6 @@ tried_by old mid new r left ended quiet stays step registers acted =
       shared = done.shared;
     }
 
--- one that had no memory
-pub untried : (old new : Turn) (r left : Registers) → left ≡ r → Stays old new → (seat_in new left ≡ seat_in old r) × (shared new ≡ shared old)
-untried old new r left same stays = (ap₂ seat_from stays.part same, stays.shared)
-
 abbrev pub share : Cells → List Spot → Shared
 share c s = record { cells = c; spots = s }
 

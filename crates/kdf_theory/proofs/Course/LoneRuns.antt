@@ -1,13 +1,12 @@
 -- A live program's next order, by itself: what its note tells.
-use Rattle.std.proofs.Common.{◌≡◌, ℕ, ◌+◌, List, [], ◌∷◌, ◌++◌, length, get_or, Bool, true, false, Option, Some, None, refl, ap, add-one}
+use Rattle.std.proofs.Common.{◌≡◌, ℕ, ◌+◌, List, [], ◌∷◌, ◌++◌, length, get_or, Bool, true, false, Option, Some, None, refl, add-one}
 use Rattle.std.proofs.Math.Seq.{get_or-append_seam}
 use Rattle.kdf_processor.specs.Effect.{Question, Effect, Failing, Ending as Finishing, Asking, FreeOf, Returning}
 use Rattle.kdf_processor.specs.Lone.{is_live, lone_step, lone}
 use Rattle.kdf_processor.specs.Needs.{next_effect}
-use Rattle.kdf_processor.specs.Row.{done_by, next_of, perform, row, taken}
-use Rattle.kdf_processor.specs.Outcome.{Outcome}
+use Rattle.kdf_processor.specs.Row.{done_by, next_of, perform, row}
 use Rattle.kdf_processor.specs.State.{State}
-use Rattle.kdf_processor.proofs.ByItself.{IsSameAnswer, question_of, next_same}
+use Rattle.kdf_processor.proofs.ByItself.{IsSameAnswer, question_of}
 use Rattle.kdf_processor.proofs.RowFacts.{asks}
 use Rattle.kdf_journal.specs.Steps.{Note, Quiet, Began, Answered, Took, Gave, Failed, Finished}
 use Rattle.kdf_journal.proofs.Added.{answer_in_note}
@@ -61,13 +60,6 @@ told_next answer given s last = told_done answer given s.stock.asked (next_effec
 same_at : (answer other : Question → ℕ) → ((q : Question) → answer q ≡ other q) → (o : Option Question) → IsSameAnswer answer other o
 same_at answer other same None = tt
 same_at answer other same (Some q) = same q
-
--- equal answers come to the same
-pub next_equal : (answer other : Question → ℕ) (s : State) → ((q : Question) → answer q ≡ other q) → next_of s answer ≡ next_of s other
-next_equal answer other s same = next_same answer other s (same_at answer other same (question_of (next_effect s)))
-
-pub row_equal : (answer other : Question → ℕ) (s : State) → ((q : Question) → answer q ≡ other q) → row s answer ≡ row s other
-row_equal answer other s same = ap (λ (o : Outcome). taken o s) (next_equal answer other s same)
 
 pub lone-more : (start : State) (answers : List ℕ) (n : ℕ) → lone start answers (n + 1) ≡ lone_step answers (lone start answers n)
 lone-more start answers n = rw add-one refl

@@ -11,11 +11,10 @@ use Rattle.kdf_processor.specs.State.{State}
 use Rattle.kdf_journal.specs.declared.entry.Entry.{Entry}
 use Rattle.kdf_journal.specs.Counts.{Hold}
 use Rattle.kdf_journal.specs.Steps.{Note, Quiet, Began, Answered, Took, Gave, Failed, Finished, Step, Obeys, Holds, Waits, Moves, Ends, Sets, Swaps, added, journal_of}
-use Rattle.kdf_journal.proofs.Steps.{steps-journal_of}
 use Rattle.kdf_course.specs.Legal as course
 use Rattle.kdf_course.specs.Cut.{cut}
 use Rattle.kdf_course.proofs.Steps.{meets-noted, meets-within, noted-added, noted-nil, noted-within, legal-added, legal-before, legal-nil}
-use Rattle.kdf_course.proofs.Cuts.{legal-cut, noted-cut}
+use Rattle.kdf_course.proofs.Cuts.{legal-cut}
 use Rattle.kdf_theory.specs.Legal.{any_answer, lone_note, note_of_act, note_of_outcome, is_true, is_truth, IsLegal, IsTrue, IsAnswer, answers_by, Meets}
 use Rattle.kdf_theory.specs.Next.{lone_dispatched}
 use Rattle.kdf_theory.specs.ByJournal.{lone_world, own}
@@ -169,13 +168,5 @@ true_added slots J heard s l truly m = noted-added (is_true slots) J s l.in_form
 pub legal_before : (slots : List Slot) (s : Step) (P : List Step) → IsLegal slots (journal_of (s ∷ P)) → IsLegal slots (journal_of P)
 legal_before slots s P l = legal-before (lone_dispatched slots) (any_answer slots) s P l
 
-pub true_before : (slots : List Slot) (s : Step) (P : List Step) → IsTrue slots (journal_of (s ∷ P)) → IsTrue slots (journal_of P)
-true_before slots s P truly =
-    let each : course.EachNoted (is_true slots) (s ∷ P) = subst (course.EachNoted (is_true slots)) (steps-journal_of (s ∷ P)) truly in
-    subst (course.EachNoted (is_true slots)) (sym (steps-journal_of P)) each.0
-
 pub legal_cut : (slots : List Slot) (n : ℕ) (J : List Entry) → IsLegal slots J → IsLegal slots (cut n J)
 legal_cut slots n J l = legal-cut (lone_dispatched slots) (any_answer slots) n J l
-
-pub true_cut : (slots : List Slot) (n : ℕ) (J : List Entry) → IsTrue slots J → IsTrue slots (cut n J)
-true_cut slots n J truly = noted-cut (is_true slots) n J truly
